@@ -1,0 +1,212 @@
+-- Histories: for every list of calls from a fresh store, the store is sound and shows what the machine has.
+-- Assumes nothing.
+use Prim.Native.Nat.{ℕ, zero, suc, _+_, _*_, _≤_, _<_}
+use native.Mathlib.Omega.{arith}
+use mathlib.Core.Bool.{Bool, true, false, _&&_, _||_, not}
+use mathlib.Core.Option.{Option, none, some}
+use mathlib.Core.Path.{_≡_, refl, ap, ap₂, sym, _∙_, subst}
+use mathlib.Core.Logic.{_⊎_, inl, inr, _≢_}
+use mathlib.Core.List.{List, [], _∷_, _++_, map}
+use lib.Dec.{T, leb, ltb, eqb}
+use lib.ListN.{length}
+use borrow.Author.Tests.{leb-true, leb-false, ltb-true, ltb-false, eqb-true, eqb-false, le-leb, lt-ltb, eq-eqb, ne-eqb, not-true, not-false}
+use Rattle.model.specs.Basic.{all, has, pick, those}
+use Rattle.model.specs.declared.Pair.{Pair}
+use Rattle.model.specs.Entry.{pair, enterPair}
+use Rattle.model.specs.Page.{Page, Change, free}
+use Rattle.model.specs.declared.Slot.{Slot}
+use Rattle.model.specs.Store.{Store, next, lastOf, last, fresh}
+use Rattle.model.specs.Walk.{settings, lookup, find, keyLimit}
+use Rattle.model.specs.Sound.{sound}
+use Rattle.model.specs.Rules.{Result, done, refused}
+use Rattle.model.specs.Calls.{rule, insert, delete, begin, commit, abandon, abandoned}
+use Rattle.model.specs.Histories.{Call, begins, commits, abandons, inserts, deletes, callBy}
+use Rattle.model.specs.Settings.{Machine, start, put, edited, step, Both, onward, together, fits, isEdit}
+use Rattle.model.proofs.Lists.{both-true, both-intro, all-cons}
+use Rattle.model.proofs.Members.{holds-true, true-holds, not-both, bool-cases}
+use Rattle.model.proofs.Local.{applied}
+use Rattle.model.proofs.Given.{Sound, from-tests, to-tests}
+use Rattle.model.proofs.Main.{Changed}
+use Rattle.model.proofs.Undo.{Undone}
+use Rattle.model.proofs.Edit.{keep-all}
+use Rattle.model.proofs.Fits.{numbered-by, insert-by, delete-by, insert-changes, delete-changes, insert-undone, delete-undone}
+use Rattle.model.proofs.Lookups.{lookup-is}
+use Rattle.model.proofs.Preserve.{Follows, Sounds, insert-keeps, delete-keeps}
+use Rattle.model.proofs.Turns.{store, commit-sound, begin-sound, begin-shows, fresh-sound, fresh-shows}
+use Rattle.model.proofs.Abandon.{abandon-sound, settings-kept}
+
+-- the store is sound and shows what the machine has
+pub record Agrees (least : ℕ) (b : Both) : Type 0 where
+  pub is-sound : Sound least (b .store)
+  pub current : b .store .current ≡ b .machine .current
+  pub opened : b .store .opened ≡ b .machine .opened
+  pub shows : (v : ℕ) → v ≤ last (b .store) → settings (b .store) v ≡ b .machine .shows v
+
+put-here : (w v : ℕ) (us : List Pair) (f : ℕ → List Pair) → v ≡ w → put w us f v ≡ us
+put-here w v us f e = ap (λ (b : Bool). pick b us (f v)) (eq-eqb v w e)
+
+put-away : (w v : ℕ) (us : List Pair) (f : ℕ → List Pair) → v ≢ w → put w us f v ≡ f v
+put-away w v us f e = ap (λ (b : Bool). pick b us (f v)) (ne-eqb v w e)
+
+module _ (least : ℕ) (four : 4 ≤ least) (b : Both) (a : Agrees least b) where
+  abbrev s : Store
+  s = b .store
+
+  abbrev m : Machine
+  m = b .machine
+
+  two : 2 ≤ least
+  two = omega arith
+
+  abbrev d : Sound least s
+  d = a .is-sound
+
+  abbrev Then : Call → Result → Type 0
+  Then c r = Agrees least (onward b c r)
+
+  last-open : s .opened ≡ true → last s ≡ suc (s .current)
+  last-open o = ap (λ (q : Bool). lastOf q (s .current)) o
+
+  last-shut : s .opened ≡ false → last s ≡ s .current
+  last-shut o = ap (λ (q : Bool). lastOf q (s .current)) o
+
+  begins-then : Then begins (begin s)
+  unfolding begin
+  begins-then =
+      numbered-by (Then begins) (rule 8 (s .opened) ∷ rule 9 (leb 1048574 (s .current)) ∷ []) (done (record { current = s .current; opened = true; slots = s .slots; pages = s .pages })) (λ n. a)
+      (λ f. go (f .0) (leb-false 1048574 (s .current) (f .1 .0)))
+    where
+      go : s .opened ≡ false → s .current < 1048574 → Agrees least (record { store = record { current = s .current; opened = true; slots = s .slots; pages = s .pages }; machine = step m begins })
+      go o h =
+          let e : Sound least (store (s .current) false (s .slots) (s .pages)) = subst (λ (q : Bool). Sound least (store (s .current) q (s .slots) (s .pages))) o d in
+          record { is-sound = begin-sound least (s .current) (s .slots) (s .pages) e h; current = a .current; opened = refl; shows = λ v z. at v z e (bool-cases (leb v (s .current))) }
+        where
+          at : (v : ℕ) → v ≤ suc (s .current) → Sound least (store (s .current) false (s .slots) (s .pages)) → (leb v (s .current) ≡ true) ⊎ (leb v (s .current) ≡ false)
+              → settings (record { current = s .current; opened = true; slots = s .slots; pages = s .pages }) v ≡ put (suc (m .current)) (m .shows (m .current)) (m .shows) v
+          at v z e (inl q) =
+              let le : v ≤ s .current = leb-true v (s .current) q in
+              a .shows v (omega (arith, last-shut o)) ∙ sym (put-away (suc (m .current)) v (m .shows (m .current)) (m .shows) (λ (y : v ≡ suc (m .current)). omega (arith, a .current)))
+          at v z e (inr q) =
+              let is : v ≡ suc (s .current) = omega (arith, leb-false v (s .current) q) in
+              ap (settings (record { current = s .current; opened = true; slots = s .slots; pages = s .pages })) is ∙ begin-shows least (s .current) (s .slots) (s .pages) e h
+              ∙ a .shows (s .current) (omega (arith, last-shut o)) ∙ ap (m .shows) (a .current) ∙ sym (put-here (suc (m .current)) v (m .shows (m .current)) (m .shows) (omega (arith, a .current)))
+
+  commits-then : Then commits (commit s)
+  unfolding commit
+  commits-then =
+      numbered-by (Then commits) (rule 7 (not (s .opened)) ∷ []) (done (record { current = next s; opened = false; slots = s .slots; pages = s .pages })) (λ n. a) (λ f. go (not-false (s .opened) (f .0)))
+    where
+      go : s .opened ≡ true → Agrees least (record { store = record { current = next s; opened = false; slots = s .slots; pages = s .pages }; machine = step m commits })
+      go o = record {
+        is-sound = commit-sound least (s .current) (s .slots) (s .pages) (subst (λ (q : Bool). Sound least (store (s .current) q (s .slots) (s .pages))) o d);
+        current = ap suc (a .current);
+        opened = refl;
+        shows = λ v z. a .shows v (omega (arith, last-open o));
+      }
+
+  abandons-then : Then abandons (abandon s)
+  unfolding abandon abandoned
+  abandons-then = numbered-by (Then abandons) (rule 7 (not (s .opened)) ∷ []) (done (abandoned s)) (λ n. a) (λ f. go (not-false (s .opened) (f .0)))
+    where
+      go : s .opened ≡ true → Agrees least (record { store = abandoned s; machine = step m abandons })
+      go o = record { is-sound = abandon-sound least two s d o; current = a .current; opened = refl; shows = λ v z. settings-kept least two s d o v (omega arith) ∙ a .shows v (omega (arith, last-open o)) }
+
+  -- an edit
+  edit-then : (o : s .opened ≡ true) (c : Call) (ch : Change) (g : List Pair → List Pair) → ((us : List Pair) → applied ch us ≡ g us) → ((n : Machine) → step n c ≡ edited g n) → (r : Result) → Sounds least four s d o r → Changed s ch r → Then c r
+  edit-then o c ch g same is (refused n) f e = a
+  edit-then o c ch g same is (done t) f e = subst (λ (n : Machine). Agrees least (record { store = t; machine = n })) (sym (is m)) (record {
+    is-sound = f .sound-now;
+    current = f .current ∙ a .current;
+    opened = f .opened ∙ a .opened;
+    shows = λ v z. at v z (bool-cases (ltb v (next s)));
+  })
+    where
+      last-t : last t ≡ suc (s .current)
+      last-t = ap₂ lastOf (f .opened ∙ o) (f .current)
+
+      w-shows : settings s (next s) ≡ m .shows (suc (m .current))
+      w-shows = a .shows (next s) (omega (arith, last-open o)) ∙ ap (λ (n : ℕ). m .shows (suc n)) (a .current)
+
+      at : (v : ℕ) → v ≤ last t → (ltb v (next s) ≡ true) ⊎ (ltb v (next s) ≡ false) → settings t v ≡ put (suc (m .current)) (g (m .shows (suc (m .current)))) (m .shows) v
+      at v z (inl q) =
+          let less : v < next s = ltb-true v (next s) q in
+          f .past v less ∙ a .shows v (omega (arith, last-open o)) ∙ sym (put-away (suc (m .current)) v (g (m .shows (suc (m .current)))) (m .shows) (λ (y : v ≡ suc (m .current)). omega (arith, a .current)))
+      at v z (inr q) =
+          let eq : v ≡ next s = omega (arith, ltb-false v (next s) q, last-t) in
+          ap (settings t) eq ∙ e ∙ ap (applied ch) w-shows ∙ same (m .shows (suc (m .current))) ∙ sym (put-here (suc (m .current)) v (g (m .shows (suc (m .current)))) (m .shows) (omega (arith, a .current)))
+
+  sure : T (sound least s)
+  sure = true-holds (sound least s) (to-tests least s d)
+
+  insert-same : (k x : ℕ) (us : List Pair) → applied (record { drop = []; take = pair k x ∷ [] }) us ≡ enterPair (pair k x) us
+  insert-same k x us = ap (enterPair (pair k x)) (keep-all us)
+
+  or-false : (q : Bool) → (q || false) ≡ q
+  or-false true = refl
+  or-false false = refl
+
+  delete-same : (k : ℕ) (us : List Pair) → applied (record { drop = k ∷ []; take = [] }) us ≡ those (λ (y : Pair). not (eqb (y .key) k)) us
+  delete-same k us = λ i. those (λ (y : Pair). not (or-false (eqb (y .key) k) i)) us
+
+  inserts-then : (k x : ℕ) → x < 4294967296 → Then (inserts k x) (insert least s k x)
+  inserts-then k x h = at (bool-cases (s .opened))
+    where
+      at : (s .opened ≡ true) ⊎ (s .opened ≡ false) → Then (inserts k x) (insert least s k x)
+      at (inl o) = edit-then o (inserts k x) (record { drop = []; take = pair k x ∷ [] }) (enterPair (pair k x)) (insert-same k x) (λ n. refl) (insert least s k x) (insert-keeps least four s d o k x h) (insert-changes least two s sure k x)
+      at (inr o) = insert-by (Then (inserts k x)) least s k x (λ n. a) (λ y low z. absurd (not-both (s .opened) y o))
+
+  deletes-then : (k : ℕ) → Then (deletes k) (delete least s k)
+  deletes-then k = at (bool-cases (s .opened))
+    where
+      at : (s .opened ≡ true) ⊎ (s .opened ≡ false) → Then (deletes k) (delete least s k)
+      at (inl o) = edit-then o (deletes k) (record { drop = k ∷ []; take = [] }) (those (λ (y : Pair). not (eqb (y .key) k))) (delete-same k) (λ n. refl) (delete least s k) (delete-keeps least four s d o k) (delete-changes least two s sure k)
+      at (inr o) = delete-by (Then (deletes k)) least s k (λ n. a) (λ y low z. absurd (not-both (s .opened) y o))
+
+  pub one-call : (c : Call) → fits c ≡ true → Then c (callBy least s c)
+  one-call begins h = begins-then
+  one-call commits h = commits-then
+  one-call abandons h = abandons-then
+  one-call (inserts k x) h = inserts-then k x (ltb-true x 4294967296 h)
+  one-call (deletes k) h = deletes-then k
+
+-- From a store that agrees, every list of calls leads to one that agrees.
+pub many-calls : (least : ℕ) → 4 ≤ least → (cs : List Call) → all fits cs ≡ true → (b : Both) → Agrees least b → Agrees least (together least b cs)
+many-calls least four [] h b a = a
+many-calls least four (c ∷ cs) h b a =
+    let (x, y) = all-cons fits c cs h in
+    many-calls least four cs y (onward b c (callBy least (b .store) c)) (one-call least four b a c x)
+
+abbrev pub beginning : ℕ → Both
+beginning n = record { store = fresh n; machine = start }
+
+pub fresh-agrees : (least : ℕ) → 4 ≤ least → (n : ℕ) → 6 ≤ n → n ≤ 4096 → Agrees least (beginning n)
+fresh-agrees least four n six most = record {
+  is-sound = fresh-sound least (omega arith) n six most;
+  current = refl;
+  opened = refl;
+  shows = λ v z. at v z;
+}
+  where
+    at : (v : ℕ) → v ≤ 0 → settings (fresh n) v ≡ []
+    at v z = subst (λ (u : ℕ). settings (fresh n) u ≡ []) (the v z) (fresh-shows least (omega arith) n six most)
+      where
+        the : (u : ℕ) → u ≤ 0 → 0 ≡ u
+        the u y = omega arith
+
+-- The history theorem.
+pub history : (least : ℕ) → 4 ≤ least → (n : ℕ) → 6 ≤ n → n ≤ 4096 → (cs : List Call) → all fits cs ≡ true → Agrees least (together least (beginning n) cs)
+history least four n six most cs h = many-calls least four cs h (beginning n) (fresh-agrees least four n six most)
+
+-- and in the words of the tests
+pub history-sound : (least : ℕ) → 4 ≤ least → (n : ℕ) → 6 ≤ n → n ≤ 4096 → (cs : List Call) → T (all fits cs) → T (sound least (together least (beginning n) cs .store))
+history-sound least four n six most cs h = true-holds _ (to-tests least _ (history least four n six most cs (holds-true (all fits cs) h) .is-sound))
+
+pub history-shows : (least : ℕ) → 4 ≤ least → (n : ℕ) → 6 ≤ n → n ≤ 4096 → (cs : List Call) → T (all fits cs) → (v : ℕ) → v ≤ last (together least (beginning n) cs .store)
+    → settings (together least (beginning n) cs .store) v ≡ together least (beginning n) cs .machine .shows v
+history-shows least four n six most cs h v z = history least four n six most cs (holds-true (all fits cs) h) .shows v z
+
+pub history-lookup : (least : ℕ) → 4 ≤ least → (n : ℕ) → 6 ≤ n → n ≤ 4096 → (cs : List Call) → T (all fits cs) → (k v : ℕ) → k < keyLimit → v ≤ last (together least (beginning n) cs .store)
+    → lookup (together least (beginning n) cs .store) k v ≡ find k (together least (beginning n) cs .machine .shows v)
+history-lookup least four n six most cs h k v low z =
+    let a = history least four n six most cs (holds-true (all fits cs) h) in
+    lookup-is least (omega arith) (together least (beginning n) cs .store) (a .is-sound) k v low z ∙ ap (find k) (a .shows v z)

@@ -1,0 +1,57 @@
+-- Facts on the lists of the specification.
+-- Assumes nothing.
+use Prim.Native.Nat.{ℕ, zero, suc, _+_, _≤_, _<_}
+use mathlib.Core.Bool.{Bool, true, false, _&&_, _||_, not}
+use mathlib.Core.Path.{_≡_, refl, ap, sym, _∙_, subst}
+use mathlib.Core.List.{List, [], _∷_, _++_, map}
+use lib.Dec.{eqb}
+use Rattle.model.specs.Basic.{keep, those, all}
+use Rattle.model.specs.declared.Entry.{Entry}
+use Rattle.model.specs.declared.Pair.{Pair}
+use Rattle.model.specs.Entry.{before, placed, enter, endOne, endThose, endedAt}
+
+pub both-true : (a b : Bool) → (a && b) ≡ true → (a ≡ true) × (b ≡ true)
+both-true true b e = (refl, e)
+both-true false b e = (e, cc)
+
+module _ {A B : Type 0} where
+  pub map-keep : (f : A → B) (b : Bool) (x : A) (xs : List A) → map f (keep b x xs) ≡ keep b (f x) (map f xs)
+  map-keep f true x xs = refl
+  map-keep f false x xs = refl
+
+pub all-cons : {A : Type 0} (f : A → Bool) (x : A) (xs : List A) → all f (x ∷ xs) ≡ true → (f x ≡ true) × (all f xs ≡ true)
+all-cons f x xs h = both-true (f x) (all f xs) h
+
+-- an entry that a test leaves out may be put in
+pub those-enter : (f : Entry → Bool) (e : Entry) → f e ≡ false → (es : List Entry) → those f (enter e es) ≡ those f es
+those-enter f e n [] = rw n
+those-enter f e n (x ∷ xs) = at (before e x) (those-enter f e n xs)
+  where
+    at : (b : Bool) → those f (enter e xs) ≡ those f xs → those f (placed b e x xs (enter e xs)) ≡ keep (f x) x (those f xs)
+    at true ih = rw n
+    at false ih = ap (keep (f x) x) ih
+
+pub both-intro : (a b : Bool) → a ≡ true → b ≡ true → (a && b) ≡ true
+both-intro a b p q = rw p q
+
+pub all-enter : (f : Entry → Bool) (e : Entry) → f e ≡ true → (es : List Entry) → all f es ≡ true → all f (enter e es) ≡ true
+all-enter f e y [] ok = both-intro (f e) true y refl
+all-enter f e y (x ∷ xs) ok =
+    let (here, rest) = all-cons f x xs ok in
+    at (before e x) here rest (all-enter f e y xs rest)
+  where
+    at : (b : Bool) → f x ≡ true → all f xs ≡ true → all f (enter e xs) ≡ true → all f (placed b e x xs (enter e xs)) ≡ true
+    at true here rest ih = both-intro (f e) _ y (both-intro (f x) _ here rest)
+    at false here rest ih = both-intro (f x) _ here ih
+
+pub all-end : (f g : Entry → Bool) (w : ℕ) → ((e : Entry) → f e ≡ true → f (endedAt w e) ≡ true) → (es : List Entry) → all f es ≡ true
+    → all f (endThose g w es) ≡ true
+all-end f g w y [] ok = refl
+all-end f g w y (e ∷ es) ok =
+    let (here, rest) = all-cons f e es ok in
+    at (g e) (eqb (e .start) w) here (all-end f g w y es rest)
+  where
+    at : (b c : Bool) → f e ≡ true → all f (endThose g w es) ≡ true → all f (endOne b c w e (endThose g w es)) ≡ true
+    at false c here ih = both-intro (f e) _ here ih
+    at true true here ih = ih
+    at true false here ih = both-intro (f (endedAt w e)) _ (y e here) ih

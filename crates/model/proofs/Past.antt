@@ -1,0 +1,193 @@
+-- Older versions: pages that abandon leaves alike live alike then, and walks see the same.
+-- Assumes nothing.
+use Prim.Native.Nat.{ℕ, zero, suc, _+_, _*_, _≤_, _<_}
+use native.Mathlib.Omega.{arith}
+use mathlib.Core.Bool.{Bool, true, false, _&&_, _||_, not}
+use mathlib.Core.Path.{_≡_, refl, ap, ap₂, sym, _∙_, subst}
+use mathlib.Core.Logic.{_⊎_, inl, inr, _≢_}
+use mathlib.Core.List.{List, [], _∷_, _++_, map}
+use lib.Dec.{leb, ltb, eqb}
+use lib.ListN.{length, getD, List·getD-map}
+use borrow.Author.Tests.{ltb-true, leb-true, eqb-true, eqb-false, lt-ltb, le-leb, lt-leb, eq-eqb, ne-eqb, not-true}
+use Rattle.model.specs.Basic.{all, those, keep, pick}
+use Rattle.model.specs.declared.Pair.{Pair}
+use Rattle.model.specs.Entry.{alive, within}
+use Rattle.model.specs.Page.{Page, free, isFree, active, pairsAt}
+use Rattle.model.specs.declared.Slot.{Slot}
+use Rattle.model.specs.Store.{Store, page}
+use Rattle.model.specs.Walk.{rootFrom, rootAt, Around, around, wayDown, way, Seen, seenAs, seenUnder, seenBelow, spread}
+use Rattle.model.specs.Basic.{inOrder}
+use Rattle.model.specs.Sound.{firstVersion}
+use Rattle.model.specs.Rules
+use Rattle.model.specs.Calls.{revivedEnd, restored, backBy, back}
+use Rattle.model.proofs.Lists.{both-true, both-intro, all-cons}
+use Rattle.model.proofs.Members.{not-both, bool-cases, In, all-in, all-by, in-those, in-append}
+use Rattle.model.proofs.Given.{livesAt}
+
+module _ (v w : ℕ) (old : v < w) (lim : w < alive) where
+  and-false : (b c : Bool) → c ≡ false → (b && c) ≡ false
+  and-false true c e = e
+  and-false false c e = refl
+
+  -- a page that starts at w does not live before
+  pub young-dead : (p : Page) → p .start ≡ w → livesAt v p ≡ false
+  young-dead p e = and-false (not (isFree p)) (within (p .start) (p .end) v) (rw (lt-leb (p .start) v (omega arith)))
+
+  revived-within : (n : ℕ) → ltb v (revivedEnd w n) ≡ ltb v n
+  revived-within n = at (eqb n w) refl
+    where
+      at : (b : Bool) → eqb n w ≡ b → ltb v (pick b alive n) ≡ ltb v n
+      at true e = lt-ltb v alive (omega arith) ∙ sym (lt-ltb v n (omega (arith, eqb-true n w e)))
+      at false e = refl
+
+  pub back-lives : (p : Page) → livesAt v (back w p) ≡ livesAt v p
+  back-lives p = at (active w p) refl
+    where
+      at : (b : Bool) → active w p ≡ b → livesAt v (backBy b w p) ≡ livesAt v p
+      at true e = sym (young-dead p (eqb-true (p .start) w e))
+      at false e = ap (λ (b : Bool). not (isFree p) && (leb (p .start) v && b)) (revived-within (p .end))
+
+  pub back-level : (p : Page) → livesAt v p ≡ true → back w p .level ≡ p .level
+  back-level p h = at (active w p) refl
+    where
+      at : (b : Bool) → active w p ≡ b → backBy b w p .level ≡ p .level
+      at true e = absurd (not-both (livesAt v p) h (young-dead p (eqb-true (p .start) w e)))
+      at false e = refl
+
+-- pages left alike by abandon
+module _ (w : ℕ) (lim : w < alive) (ps qs : List Page) (same : map (back w) qs ≡ map (back w) ps) where
+  back-page : (n : ℕ) → back w free ≡ free → back w (page qs n) ≡ back w (page ps n)
+  back-page n z = sym (List·getD-map (back w) qs n free) ∙ ap (λ (xs : List Page). getD xs n (back w free)) same ∙ List·getD-map (back w) ps n free
+
+  module _ (z : back w free ≡ free) (v : ℕ) (old : v < w) where
+    pub lives-alike : (n : ℕ) → livesAt v (page qs n) ≡ livesAt v (page ps n)
+    lives-alike n = sym (back-lives v w old lim (page qs n)) ∙ ap (livesAt v) (back-page n z) ∙ back-lives v w old lim (page ps n)
+
+    pub level-alike : (n : ℕ) → livesAt v (page ps n) ≡ true → page qs n .level ≡ page ps n .level
+    level-alike n h = sym (back-level v w old lim (page qs n) (lives-alike n ∙ h)) ∙ ap (λ (p : Page). p .level) (back-page n z) ∙ back-level v w old lim (page ps n) h
+
+-- walks over pages that show the same
+spread-cong : {A : Type 0} (f g : ℕ → ℕ → ℕ → List A) → ((a b n : ℕ) → f a b n ≡ g a b n) → (xs : List Pair) (hi : ℕ) → spread f xs hi ≡ spread g xs hi
+spread-cong f g h [] hi = refl
+spread-cong f g h (x ∷ []) hi = h (x .key) hi (x .value)
+spread-cong f g h (x ∷ y ∷ zs) hi = ap₂ _++_ (h (x .key) (y .key) (x .value)) (spread-cong f g h (y ∷ zs) hi)
+
+module _ (ps qs : List Page) (u v : ℕ) (same : (n : ℕ) → pairsAt v (page qs n) ≡ pairsAt u (page ps n)) where
+  as-same : (l : ℕ) (b : Bool) (lo hi n : ℕ) → seenAs l qs v b lo hi n ≡ seenAs l ps u b lo hi n
+  as-same l b lo hi n = ap (λ (xs : List Pair). record { number = n; up = l; isRoot = b; low = lo; high = hi; pairs = xs }) (same n)
+
+  under-same : (l hi n : ℕ) → seenUnder l qs v hi n ≡ seenUnder l ps u hi n
+  under-same zero hi n = refl
+  under-same (suc l) hi n =
+      spread-cong (λ (a b i : ℕ). seenAs l qs v false a b i ∷ seenUnder l qs v b i) (λ (a b i : ℕ). seenAs l ps u false a b i ∷ seenUnder l ps u b i)
+      (λ a b i. ap₂ {C = List Seen} (λ (x : Seen) (xs : List Seen). x ∷ xs) (as-same l false a b i) (under-same l b i)) (pairsAt v (page qs n)) hi
+      ∙ ap (λ (xs : List Pair). spread (λ (a b i : ℕ). seenAs l ps u false a b i ∷ seenUnder l ps u b i) xs hi) (same n)
+
+  pub below-same : (l : ℕ) (b : Bool) (lo hi n : ℕ) → seenBelow l qs v b lo hi n ≡ seenBelow l ps u b lo hi n
+  below-same l b lo hi n = ap₂ {C = List Seen} (λ (x : Seen) (xs : List Seen). x ∷ xs) (as-same l b lo hi n) (under-same l hi n)
+
+-- ways down over pages that show the same
+module _ (ps qs : List Page) (u v : ℕ) (same : (n : ℕ) → pairsAt v (page qs n) ≡ pairsAt u (page ps n)) where
+  pub down-same : (l k n : ℕ) (acc : List Around) → wayDown l qs v k n acc ≡ wayDown l ps u k n acc
+  down-same zero k n acc = refl
+  down-same (suc l) k n acc =
+      ap (λ (us : List Pair). wayDown l qs v k (around k us .own .value) (around k us ∷ acc)) (same n)
+      ∙ down-same l k (around k (pairsAt u (page ps n)) .own .value) (around k (pairsAt u (page ps n)) ∷ acc)
+
+-- a lookup at version v visits the same pages: the root, and the way down for each key
+pub record Steady (s t : Store) (v : ℕ) : Type 0 where
+  pub root : rootAt (t .slots) v ≡ rootAt (s .slots) v
+  pub ways : (k : ℕ) → way t v k ≡ way s v k
+
+pub steady-trans : (s t u : Store) (v : ℕ) → Steady s t v → Steady t u v → Steady s u v
+steady-trans s t u v a b = record { root = b .root ∙ a .root; ways = λ k. b .ways k ∙ a .ways k }
+
+-- the directory
+abbrev pub bySlot : Slot → Slot → Bool
+bySlot x y = ltb (x .version) (y .version)
+
+root-above : (v r : ℕ) (xs : List Slot) → all (λ (x : Slot). ltb v (x .version)) xs ≡ true → rootFrom r xs v ≡ r
+root-above v r [] h = refl
+root-above v r (x ∷ xs) h =
+    let (a, b) = all-cons (λ (y : Slot). ltb v (y .version)) x xs h in
+    ap (λ (b : Bool). rootFrom (pick b (x .root) r) xs v) (lt-leb (x .version) v (ltb-true v (x .version) a)) ∙ root-above v r xs b
+
+-- each slot's root is the root of its version
+pub root-slot : (r : ℕ) (xs : List Slot) → inOrder bySlot xs ≡ true → (x : Slot) → In x xs → rootFrom r xs (x .version) ≡ x .root
+root-slot r [] o x i = absurd i
+root-slot r (y ∷ xs) o x (inl e) =
+    let (a, b) = both-true (all (bySlot y) xs) (inOrder bySlot xs) o in
+    subst (λ (z : Slot). rootFrom r (y ∷ xs) (z .version) ≡ z .root) (sym e)
+    (ap (λ (b : Bool). rootFrom (pick b (y .root) r) xs (y .version)) (le-leb (y .version) (y .version) (omega arith)) ∙ root-above (y .version) (y .root) xs a)
+root-slot r (y ∷ xs) o x (inr i) = root-slot _ xs (both-true (all (bySlot y) xs) (inOrder bySlot xs) o .1) x i
+
+module _ (w : ℕ) where
+  abbrev pub older : Slot → Bool
+  older x = not (eqb (x .version) w)
+
+  root-those : (v r : ℕ) → v < w → (xs : List Slot) → rootFrom r (those older xs) v ≡ rootFrom r xs v
+  root-those v r h [] = refl
+  root-those v r h (x ∷ xs) = at (eqb (x .version) w) refl (λ q. root-those v q h xs)
+    where
+      at : (b : Bool) → eqb (x .version) w ≡ b → ((q : ℕ) → rootFrom q (those older xs) v ≡ rootFrom q xs v) → rootFrom r (keep (not b) x (those older xs)) v ≡ rootFrom (pick (leb (x .version) v) (x .root) r) xs v
+      at true e ih = ih r ∙ ap (λ (b : Bool). rootFrom (pick b (x .root) r) xs v) (sym (lt-leb (x .version) v (omega (arith, eqb-true (x .version) w e))))
+      at false e ih = ih _
+
+  root-snoc : (v r n : ℕ) → v < w → (xs : List Slot) → rootFrom r (xs ++ (record { version = w; root = n } ∷ [])) v ≡ rootFrom r xs v
+  root-snoc v r n h [] = ap (λ (b : Bool). pick b n r) (lt-leb w v h)
+  root-snoc v r n h (x ∷ xs) = root-snoc v _ n h xs
+
+  pub root-past : (v n : ℕ) → v < w → (xs : List Slot) → rootAt (Rules.putSlot w n xs) v ≡ rootAt xs v
+  unfolding Rules.putSlot
+  root-past v n h xs = root-snoc v 0 n h (those older xs) ∙ root-those v 0 h xs
+
+  pub root-kept : (v : ℕ) → v < w → (xs : List Slot) → rootAt (those older xs) v ≡ rootAt xs v
+  root-kept v h xs = root-those v 0 h xs
+
+  -- rule 2 of the slots left, and with the new one
+  pub those-rise : (xs : List Slot) → inOrder bySlot xs ≡ true → inOrder bySlot (those older xs) ≡ true
+  those-rise [] o = refl
+  those-rise (x ∷ xs) o =
+      let (a, b) = both-true (all (bySlot x) xs) (inOrder bySlot xs) o in
+      at (older x) (all-by (bySlot x) (those older xs) (λ y i. all-in (bySlot x) y xs a (in-those older y xs i .1))) (those-rise xs b)
+    where
+      at : (b : Bool) → all (bySlot x) (those older xs) ≡ true → inOrder bySlot (those older xs) ≡ true → inOrder bySlot (keep b x (those older xs)) ≡ true
+      at true a ih = both-intro _ _ a ih
+      at false a ih = ih
+
+  snoc-rise : (n : ℕ) (xs : List Slot) → inOrder bySlot xs ≡ true → all (λ (x : Slot). ltb (x .version) w) xs ≡ true → inOrder bySlot (xs ++ (record { version = w; root = n } ∷ [])) ≡ true
+  snoc-rise n [] o h = refl
+  snoc-rise n (x ∷ xs) o h =
+      let (a, b) = both-true (all (bySlot x) xs) (inOrder bySlot xs) o in
+      let (c, d) = all-cons (λ (y : Slot). ltb (y .version) w) x xs h in
+      both-intro _ _ (package.Rattle.model.proofs.Local.all-append (bySlot x) xs (record { version = w; root = n } ∷ []) a (both-intro _ _ c refl)) (snoc-rise n xs b d)
+
+  pub put-rise : (n : ℕ) (xs : List Slot) → inOrder bySlot xs ≡ true → all (λ (x : Slot). leb (x .version) w) xs ≡ true → inOrder bySlot (Rules.putSlot w n xs) ≡ true
+  unfolding Rules.putSlot
+  put-rise n xs o h = snoc-rise n (those older xs) (those-rise xs o) (all-by (λ (x : Slot). ltb (x .version) w) (those older xs) (λ x i. at x (in-those older x xs i)))
+    where
+      at : (x : Slot) → (older x ≡ true) × In x xs → ltb (x .version) w ≡ true
+      at x z = let ne : x .version ≡ w → ⊥ = eqb-false (x .version) w (not-true (eqb (x .version) w) (z .0)) in let le : x .version ≤ w = leb-true (x .version) w (all-in (λ (y : Slot). leb (y .version) w) x xs h (z .1)) in lt-ltb (x .version) w (omega arith)
+
+  -- a test on slots
+  pub put-all : (f : Slot → Bool) (n : ℕ) (xs : List Slot) → f (record { version = w; root = n }) ≡ true → ((x : Slot) → In x xs → x .version ≢ w → f x ≡ true) → all f (Rules.putSlot w n xs) ≡ true
+  unfolding Rules.putSlot
+  put-all f n xs h g = all-by f (those older xs ++ (record { version = w; root = n } ∷ [])) (λ x i. at x (in-append x (those older xs) (record { version = w; root = n } ∷ []) i))
+    where
+      at : (x : Slot) → In x (those older xs) ⊎ In x (record { version = w; root = n } ∷ []) → f x ≡ true
+      at x (inl i) = let (a, b) = in-those older x xs i in g x b (eqb-false (x .version) w (not-true (eqb (x .version) w) a))
+      at x (inr (inl e)) = ap f e ∙ h
+      at x (inr (inr e)) = absurd e
+
+  pub those-all-of : (f : Slot → Bool) (xs : List Slot) → ((x : Slot) → In x xs → x .version ≢ w → f x ≡ true) → all f (those older xs) ≡ true
+  those-all-of f xs g = all-by f (those older xs) (λ x i. let (a, b) = in-those older x xs i in g x b (eqb-false (x .version) w (not-true (eqb (x .version) w) a)))
+
+  -- the first slot, of version 0, stays
+  pub put-first : (n : ℕ) (xs : List Slot) → 0 < w → firstVersion xs ≡ 0 → firstVersion (Rules.putSlot w n xs) ≡ 0
+  unfolding Rules.putSlot
+  put-first n [] h e = absurd (omega arith)
+  put-first n (x ∷ xs) h e = ap (λ (b : Bool). firstVersion (keep (not b) x (those older xs) ++ (record { version = w; root = n } ∷ []))) (ne-eqb (x .version) w (λ (z : x .version ≡ w). omega arith)) ∙ e
+
+  pub those-first : (xs : List Slot) → 0 < w → firstVersion xs ≡ 0 → firstVersion (those older xs) ≡ 0
+  those-first [] h e = absurd (omega arith)
+  those-first (x ∷ xs) h e = ap (λ (b : Bool). firstVersion (keep (not b) x (those older xs))) (ne-eqb (x .version) w (λ (z : x .version ≡ w). omega arith)) ∙ e

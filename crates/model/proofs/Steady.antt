@@ -1,0 +1,81 @@
+-- For a committed version, the pages that a lookup visits are the same after any later calls.
+-- Assumes nothing.
+use Prim.Native.Nat.{ℕ, zero, suc, _+_, _*_, _≤_, _<_}
+use native.Mathlib.Omega.{arith}
+use mathlib.Core.Bool.{Bool, true, false, _&&_, _||_, not}
+use mathlib.Core.Path.{_≡_, refl, ap, sym, _∙_, subst}
+use mathlib.Core.Logic.{_⊎_, inl, inr}
+use mathlib.Core.List.{List, [], _∷_, _++_, map}
+use lib.Dec.{T, leb, ltb, eqb}
+use borrow.Author.Tests.{ltb-true, not-false}
+use Rattle.model.specs.Basic.{all}
+use Rattle.model.specs.Store.{Store, next}
+use Rattle.model.specs.Sound.{sound}
+use Rattle.model.specs.Rules.{Result, done, refused}
+use Rattle.model.specs.Calls.{rule, insert, delete, begin, commit, abandon, abandoned}
+use Rattle.model.specs.Histories.{Call, begins, commits, abandons, inserts, deletes, callBy}
+use Rattle.model.specs.Settings.{Both, onward, together, fits}
+use Rattle.model.proofs.Lists.{all-cons}
+use Rattle.model.proofs.Members.{holds-true, not-both, bool-cases}
+use Rattle.model.proofs.Fits.{numbered-by, insert-by, delete-by}
+use Rattle.model.proofs.Past.{Steady, steady-trans}
+use Rattle.model.proofs.Preserve.{Follows, Sounds, insert-keeps, delete-keeps}
+use Rattle.model.proofs.Abandon.{steady-kept}
+use Rattle.model.proofs.History.{Agrees, one-call}
+use Rattle.model.proofs.Undone.{lent, lent-agrees}
+
+-- versions committed before stay committed, and their ways stay
+pub record Onward (s t : Store) : Type 0 where
+  pub current : s .current ≤ t .current
+  pub steady : (v : ℕ) → v ≤ s .current → Steady s t v
+
+itself : (s : Store) → Onward s s
+itself s = record { current = omega arith; steady = λ v h. record { root = refl; ways = λ k. refl } }
+
+module _ (least : ℕ) (four : 4 ≤ least) (b : Both) (a : Agrees least b) where
+  abbrev s : Store
+  s = b .store
+
+  abbrev Goes : Call → Result → Type 0
+  Goes c r = Onward s (onward b c r .store)
+
+  edits : (o : s .opened ≡ true) (c : Call) (r : Result) → Sounds least four s (a .is-sound) o r → Goes c r
+  edits o c (refused n) f = itself s
+  edits o c (done t) f = record { current = omega (arith, f .current); steady = λ v h. f .steady v (omega arith) }
+
+  goes : (c : Call) → fits c ≡ true → Goes c (callBy least s c)
+  unfolding begin commit abandon abandoned
+  goes begins h =
+      numbered-by (Goes begins) (rule 8 (s .opened) ∷ rule 9 (leb 1048574 (s .current)) ∷ []) (done (record { current = s .current; opened = true; slots = s .slots; pages = s .pages })) (λ n. itself s)
+      (λ f. record { current = omega arith; steady = λ v z. record { root = refl; ways = λ k. refl } })
+  goes commits h =
+      numbered-by (Goes commits) (rule 7 (not (s .opened)) ∷ []) (done (record { current = next s; opened = false; slots = s .slots; pages = s .pages })) (λ n. itself s)
+      (λ f. record { current = omega arith; steady = λ v z. record { root = refl; ways = λ k. refl } })
+  goes abandons h =
+      numbered-by (Goes abandons) (rule 7 (not (s .opened)) ∷ []) (done (abandoned s)) (λ n. itself s)
+      (λ f. record { current = omega arith; steady = λ v z. steady-kept least (omega arith) s (a .is-sound) (not-false (s .opened) (f .0)) v (omega arith) })
+  goes (inserts k x) h = at (bool-cases (s .opened))
+    where
+      at : (s .opened ≡ true) ⊎ (s .opened ≡ false) → Goes (inserts k x) (insert least s k x)
+      at (inl o) = edits o (inserts k x) (insert least s k x) (insert-keeps least four s (a .is-sound) o k x (ltb-true x 4294967296 h))
+      at (inr o) = insert-by (Goes (inserts k x)) least s k x (λ n. itself s) (λ y low z. absurd (not-both (s .opened) y o))
+  goes (deletes k) h = at (bool-cases (s .opened))
+    where
+      at : (s .opened ≡ true) ⊎ (s .opened ≡ false) → Goes (deletes k) (delete least s k)
+      at (inl o) = edits o (deletes k) (delete least s k) (delete-keeps least four s (a .is-sound) o k)
+      at (inr o) = delete-by (Goes (deletes k)) least s k (λ n. itself s) (λ y low z. absurd (not-both (s .opened) y o))
+
+pub goes-on : (least : ℕ) → 4 ≤ least → (cs : List Call) → all fits cs ≡ true → (b : Both) → Agrees least b → Onward (b .store) (together least b cs .store)
+goes-on least four [] h b a = itself (b .store)
+goes-on least four (c ∷ cs) h b a =
+    let (x, y) = all-cons fits c cs h in
+    let first = goes least four b a c x in
+    let later = goes-on least four cs y (onward b c (callBy least (b .store) c)) (one-call least four b a c x) in
+    record {
+      current = omega (arith, first .current, later .current);
+      steady = λ v z. steady-trans (b .store) (onward b c (callBy least (b .store) c) .store) (together least (onward b c (callBy least (b .store) c)) cs .store) v (first .steady v z) (later .steady v (omega (arith, first .current)));
+    }
+
+-- For every sound store, committed version and key, and any later calls: the root and the way down are the same.
+pub same-pages : (least : ℕ) → 4 ≤ least → (s : Store) → T (sound least s) → (cs : List Call) → T (all fits cs) → (v : ℕ) → v ≤ s .current → Steady s (together least (lent s) cs .store) v
+same-pages least four s sure cs h v z = goes-on least four cs (holds-true (all fits cs) h) (lent s) (lent-agrees least s sure) .steady v z

@@ -1,0 +1,108 @@
+-- The theorems for any sound store, in the words of the tests.
+-- Assumes nothing.
+use Prim.Native.Nat.{ℕ, zero, suc, _+_, _*_, _≤_, _<_}
+use native.Mathlib.Omega.{arith}
+use mathlib.Core.Bool.{Bool, true, false, _&&_, _||_, not}
+use mathlib.Core.Option.{Option, none, some}
+use mathlib.Core.Path.{_≡_, refl, ap, ap₂, sym, _∙_, subst}
+use mathlib.Core.Logic.{_⊎_, inl, inr, _≢_}
+use mathlib.Core.List.{List, [], _∷_, _++_, map}
+use lib.Dec.{T, leb, ltb, eqb}
+use lib.ListN.{length}
+use borrow.Author.Tests.{eqb-true, eqb-false, ltb-true, ne-eqb}
+use Rattle.model.specs.Basic.{all, has, pick, those, keep}
+use Rattle.model.specs.declared.Pair.{Pair}
+use Rattle.model.specs.Entry.{pair, enterPair}
+use Rattle.model.specs.Page.{Change}
+use Rattle.model.specs.Store.{Store, page, next, last, lastOf}
+use Rattle.model.specs.Walk.{settings, lookup, find, rootAt, keyLimit}
+use Rattle.model.specs.Basic.{inOrder}
+use Rattle.model.specs.Sound.{sound}
+use Rattle.model.specs.Rules.{Result, done, refused, update}
+use Rattle.model.specs.Calls.{isSome, insert, delete}
+use Rattle.model.specs.Histories.{Call, begins, commits, abandons, inserts, deletes, callBy, After, after}
+use Rattle.model.specs.Settings.{Machine, step, Both, onward, together, fits}
+use Rattle.model.proofs.Lists.{both-true, both-intro, all-cons}
+use Rattle.model.proofs.Members.{holds-true, true-holds, not-both, bool-cases, all-in, In}
+use Rattle.model.proofs.Local.{applied}
+use Rattle.model.proofs.Edit.{lt, length-enter, keep-all, those-one}
+use Rattle.model.proofs.Given.{Sound, from-tests, to-tests}
+use Rattle.model.proofs.Main.{Changed, update-changes}
+use Rattle.model.proofs.Fits.{insert-by, delete-by, fit-insert, fit-delete, shows-all}
+use Rattle.model.proofs.Lookups.{lookup-is, settings-rise}
+use Rattle.model.proofs.Count.{root-low, root-lower}
+use Rattle.model.proofs.History.{Agrees, one-call}
+use Rattle.model.proofs.Undone.{lent, lent-agrees}
+
+store-after : (s : Store) (m : Machine) (c : Call) (r : Result) → onward (record { store = s; machine = m }) c r .store ≡ after s r .store
+store-after s m c (done t) = refl
+store-after s m c (refused n) = refl
+
+-- Every call leaves a sound store sound.
+pub call-sound : (least : ℕ) → 4 ≤ least → (s : Store) → T (sound least s) → (c : Call) → T (fits c) → T (sound least (after s (callBy least s c) .store))
+call-sound least four s sure c h =
+    let a = one-call least four (lent s) (lent-agrees least s sure) c (holds-true (fits c) h) in
+    subst (λ (t : Store). T (sound least t)) (store-after s (lent s .machine) c (callBy least s c))
+    (true-holds (sound least (onward (lent s) c (callBy least s c) .store)) (to-tests least (onward (lent s) c (callBy least s c) .store) (a .is-sound)))
+
+-- Every call shows at each version what the machine has, begun from what the store showed.
+pub call-shows : (least : ℕ) → 4 ≤ least → (s : Store) → T (sound least s) → (c : Call) → T (fits c) → (v : ℕ) → v ≤ last (onward (lent s) c (callBy least s c) .store)
+    → settings (onward (lent s) c (callBy least s c) .store) v ≡ onward (lent s) c (callBy least s c) .machine .shows v
+call-shows least four s sure c h v z = one-call least four (lent s) (lent-agrees least s sure) c (holds-true (fits c) h) .shows v z
+
+-- "With 4,096 pages rule 5 keeps every root at level 7 or lower": from the tree alone, whatever rule 1 says of levels.
+pub roots-low : (least : ℕ) → 4 ≤ least → (s : Store) → T (sound least s) → (v : ℕ) → v ≤ last s → page (s .pages) (rootAt (s .slots) v) .level ≤ 7
+roots-low least four s sure v h =
+    let d = from-tests least s (holds-true (sound least s) sure) in
+    root-low least v (s .pages) (rootAt (s .slots) v) (settings s v) (shows-all least (omega arith) s d v h) (d .short) four
+
+-- and, with limits twice as large, at level 5 or lower
+pub roots-lower : (least : ℕ) → 8 ≤ least → (s : Store) → T (sound least s) → (v : ℕ) → v ≤ last s → page (s .pages) (rootAt (s .slots) v) .level ≤ 5
+roots-lower least eight s sure v h =
+    let d = from-tests least s (holds-true (sound least s) sure) in
+    root-lower least v (s .pages) (rootAt (s .slots) v) (settings s v) (shows-all least (omega arith) s d v h) (d .short) eight
+
+-- The tests for 10 and 11 are on the settings.
+pub alive-is : (least : ℕ) → 2 ≤ least → (s : Store) → T (sound least s) → s .opened ≡ true → (k : ℕ) → k < keyLimit → isSome (lookup s k (next s)) ≡ isSome (find k (settings s (next s)))
+alive-is least two s sure o k low =
+    ap isSome (lookup-is least two s (from-tests least s (holds-true (sound least s) sure)) k (next s) low (omega (arith, ap (λ (b : Bool). lastOf b (s .current)) o)))
+
+-- Settings are counted: an insert adds one, a delete takes one.
+dropped-exact : (k : ℕ) (us : List Pair) → inOrder lt us ≡ true → isSome (find k us) ≡ true → length us ≡ suc (length (those (λ (y : Pair). not (has (y .key) (k ∷ []))) us))
+dropped-exact k [] o h = absurd (not-both false h refl)
+dropped-exact k (u ∷ us) o h =
+    let (a, b) = both-true (all (lt u) us) (inOrder lt us) o in
+    at (eqb (u .key) k) refl a h (λ z. dropped-exact k us b z)
+  where
+    at : (b : Bool) → eqb (u .key) k ≡ b → all (lt u) us ≡ true → isSome (pick b (some (u .value)) (find k us)) ≡ true
+        → (isSome (find k us) ≡ true → length us ≡ suc (length (those (λ (y : Pair). not (has (y .key) (k ∷ []))) us)))
+        → suc (length us) ≡ suc (length (keep (not (b || false)) u (those (λ (y : Pair). not (has (y .key) (k ∷ []))) us)))
+    at false e a z ih = ap suc (ih z)
+    at true e a z ih = ap suc (sym (ap (λ (vs : List Pair). length vs) (those-one k us (subst (λ (j : ℕ). all (λ (y : Pair). ltb j (y .key)) us ≡ true) (eqb-true (u .key) k e) a))))
+
+abbrev pub OneMore : Store → Result → Type 0
+OneMore s (done t) = length (settings t (next s)) ≡ suc (length (settings s (next s)))
+OneMore s (refused n) = Unit {0}
+
+abbrev pub OneLess : Store → Result → Type 0
+OneLess s (done t) = suc (length (settings t (next s))) ≡ length (settings s (next s))
+OneLess s (refused n) = Unit {0}
+
+module _ (least : ℕ) (two : 2 ≤ least) (s : Store) (sure : T (sound least s)) where
+  d : Sound least s
+  d = from-tests least s (holds-true (sound least s) sure)
+
+  more : (k x : ℕ) (r : Result) → Changed s (record { drop = []; take = pair k x ∷ [] }) r → OneMore s r
+  more k x (done t) e = ap (λ (us : List Pair). length us) (e ∙ ap (enterPair (pair k x)) (keep-all (settings s (next s)))) ∙ length-enter (pair k x) (settings s (next s))
+  more k x (refused n) e = tt
+
+  less : (k : ℕ) (r : Result) → s .opened ≡ true → isSome (find k (settings s (next s))) ≡ true → Changed s (record { drop = k ∷ []; take = [] }) r → OneLess s r
+  less k (done t) o h e = ap (λ (us : List Pair). suc (length us)) e ∙ sym (dropped-exact k (settings s (next s)) (settings-rise least two s d (next s) (omega (arith, ap (λ (b : Bool). lastOf b (s .current)) o))) h)
+  less k (refused n) o h e = tt
+
+  pub insert-counts : (k x : ℕ) → OneMore s (insert least s k x)
+  insert-counts k x = insert-by (OneMore s) least s k x (λ n. tt) (λ o low z. more k x (update least s k (record { drop = []; take = pair k x ∷ [] })) (update-changes least s k (record { drop = []; take = pair k x ∷ [] }) (fit-insert least two s d o k low x z)))
+
+  pub delete-counts : (k : ℕ) → OneLess s (delete least s k)
+  delete-counts k = delete-by (OneLess s) least s k (λ n. tt)
+      (λ o low z. less k (update least s k (record { drop = k ∷ []; take = [] })) o (sym (alive-is least two s sure o k low) ∙ z) (update-changes least s k (record { drop = k ∷ []; take = [] }) (fit-delete least two s d o k low)))

@@ -1,0 +1,168 @@
+-- An update that is abandoned, whatever inserts and deletes it held, leaves the store as it was before the open.
+-- Assumes nothing.
+use Prim.Native.Nat.{ℕ, zero, suc, _+_, _*_, _≤_, _<_}
+use native.Mathlib.Omega.{arith}
+use mathlib.Core.Bool.{Bool, true, false, _&&_, _||_, not}
+use mathlib.Core.Path.{_≡_, refl, ap, ap₂, sym, _∙_, subst}
+use mathlib.Core.Logic.{_⊎_, inl, inr, _≢_}
+use mathlib.Core.List.{List, [], _∷_, _++_, map}
+use lib.Dec.{T, leb, ltb, eqb, eqb·zero-suc}
+use lib.ListN.{length, getD}
+use borrow.Author.Tests.{eqb-true, leb-true, leb-false, le-leb, lt-ltb, lt-leb, eq-eqb, ne-eqb, not-true, not-false}
+use Rattle.model.specs.Basic.{all, pick, those, keep}
+use Rattle.model.specs.declared.Pair.{Pair}
+use Rattle.model.specs.declared.Entry.{Entry}
+use Rattle.model.specs.Entry.{alive}
+use Rattle.model.specs.Page.{Page, free, isFree, active}
+use Rattle.model.specs.declared.Slot.{Slot}
+use Rattle.model.specs.Store.{Store, page, next, lastOf, last}
+use Rattle.model.specs.Walk.{settings}
+use Rattle.model.specs.Sound.{sound}
+use Rattle.model.specs.Rules.{Result, done, refused}
+use Rattle.model.specs.Calls.{rule, insert, delete, begin, abandon, abandoned, revivedEnd, revived, restoredEntries, restored, backBy, back}
+use Rattle.model.specs.Histories.{Call, begins, commits, abandons, inserts, deletes, callBy}
+use Rattle.model.specs.Settings.{Machine, step, Both, onward, together, fits, isEdit}
+use Rattle.model.proofs.Lists.{both-true, both-intro, all-cons}
+use Rattle.model.proofs.Members.{holds-true, true-holds, not-both, bool-cases, In, all-in, all-by}
+use Rattle.model.proofs.Local.{those-all}
+use Rattle.model.proofs.Given.{Sound, from-tests, to-tests, Span, span-of, entry-of}
+use Rattle.model.proofs.Undo.{Undone}
+use Rattle.model.proofs.Fits.{insert-undone, delete-undone}
+use Rattle.model.proofs.Turns.{store}
+use Rattle.model.proofs.History.{Agrees, one-call, many-calls}
+
+-- An abandon after any inserts and deletes leaves what an abandon before them leaves.
+pub edits-undone : (least : ℕ) → 4 ≤ least → (cs : List Call) → all isEdit cs ≡ true → all fits cs ≡ true → (b : Both) → Agrees least b → abandoned (together least b cs .store) ≡ abandoned (b .store)
+edits-undone least four [] e h b a = refl
+edits-undone least four (c ∷ cs) e h b a =
+    let (e₁, e₂) = all-cons isEdit c cs e in
+    let (h₁, h₂) = all-cons fits c cs h in
+    edits-undone least four cs e₂ h₂ (onward b c (callBy least (b .store) c)) (one-call least four b a c h₁) ∙ one c e₁
+  where
+    sure : T (sound least (b .store))
+    sure = true-holds (sound least (b .store)) (to-tests least (b .store) (a .is-sound))
+
+    by : (r : Result) → Undone (b .store) r → abandoned (onward b c r .store) ≡ abandoned (b .store)
+    by (done t) u = u
+    by (refused n) u = refl
+
+    one : (c′ : Call) → isEdit c′ ≡ true → abandoned (onward b c (callBy least (b .store) c′) .store) ≡ abandoned (b .store)
+    one begins z = absurd (not-both false z refl)
+    one commits z = absurd (not-both false z refl)
+    one abandons z = absurd (not-both false z refl)
+    one (inserts k x) z = by (insert least (b .store) k x) (insert-undone least (omega arith) (b .store) sure k x)
+    one (deletes k) z = by (delete least (b .store) k) (delete-undone least (omega arith) (b .store) sure k)
+
+-- an open and an abandon
+map-places : {A : Type 0} (f : A → A) (d : A) (xs : List A) → ((n : ℕ) → n < length xs → f (getD xs n d) ≡ getD xs n d) → map f xs ≡ xs
+map-places f d [] h = refl
+map-places {A} f d (x ∷ xs) h = ap₂ {C = List A} (λ (y : A) (ys : List A). y ∷ ys) (h 0 (omega arith)) (map-places f d xs (λ n l. h (suc n) (omega arith)))
+
+module _ (least c : ℕ) (xs : List Slot) (ps : List Page) (d : Sound least (store c false xs ps)) where
+  abbrev w : ℕ
+  w = suc c
+
+  limit : c ≤ 1048574
+  limit = d .last-low
+
+  end-kept : (b : ℕ) → (b ≤ c) ⊎ (b ≡ alive) → revivedEnd w b ≡ b
+  end-kept b h = at (eqb b w) refl h
+    where
+      at : (q : Bool) → eqb b w ≡ q → (b ≤ c) ⊎ (b ≡ alive) → pick q alive b ≡ b
+      at false e h = refl
+      at true e (inl z) = absurd (omega (arith, eqb-true b w e))
+      at true e (inr z) = sym z
+
+  entries-kept : (es : List Entry) → ((e : Entry) → In e es → Span c (e .start) (e .end)) → restoredEntries w es ≡ es
+  entries-kept [] h = refl
+  entries-kept (e ∷ es) h =
+      ap (λ (q : Bool). map (revived w) (keep (not q) e (those (λ (x : Entry). not (eqb (x .start) w)) es))) (ne-eqb (e .start) w (λ (z : e .start ≡ w). omega (arith, h e (inl refl) .starts)))
+      ∙ ap₂ {C = List Entry} (λ (y : Entry) (ys : List Entry). y ∷ ys) one (entries-kept es (λ f i. h f (inr i)))
+    where
+      one : revived w e ≡ e
+      one = λ i. record { key = e .key; start = e .start; end = end-kept (e .end) (h e (inl refl) .ends) i; value = e .value }
+
+  page-kept : (n : ℕ) → back w (page ps n) ≡ page ps n
+  page-kept n = at (bool-cases (isFree (page ps n)))
+    where
+      back-free : back w free ≡ free
+      back-free = rw (eqb·zero-suc c, eqb·zero-suc c)
+
+      at : (isFree (page ps n) ≡ true) ⊎ (isFree (page ps n) ≡ false) → back w (page ps n) ≡ page ps n
+      at (inl z) = ap (back w) (d .zeros n z) ∙ back-free ∙ sym (d .zeros n z)
+      at (inr u) =
+          let p : Page = page ps n in
+          let h : Span c (p .start) (p .end) = span-of c (p .start) (p .end) (d .pages n u .span) in
+          let e : restoredEntries w (p .entries) ≡ p .entries = entries-kept (p .entries) (λ f i. entry-of least (store c false xs ps) d n u f i .span) in
+          ap (λ (q : Bool). backBy q w p) (ne-eqb (p .start) w (λ (z : p .start ≡ w). omega (arith, h .starts)))
+          ∙ (λ i. record { level = p .level; start = p .start; end = end-kept (p .end) (h .ends) i; entries = e i })
+
+  slots-kept : those (λ (x : Slot). not (eqb (x .version) w)) xs ≡ xs
+  slots-kept = those-all (λ (x : Slot). not (eqb (x .version) w)) xs
+      (all-by (λ (x : Slot). not (eqb (x .version) w)) xs (λ x i. ap not (ne-eqb (x .version) w (λ (z : x .version ≡ w). omega (arith, leb-true (x .version) c (all-in (λ (y : Slot). leb (y .version) c) x xs (d .upto) i))))))
+
+  -- An open and an abandon leave the store as it was.
+  pub begun-abandoned : abandoned (store c true xs ps) ≡ store c false xs ps
+  unfolding abandoned
+  begun-abandoned = λ i. record { current = c; opened = false; slots = slots-kept i; pages = map-places (back w) free ps (λ n l. page-kept n) i }
+
+-- a list of calls in two parts
+together-append : (least : ℕ) (b : Both) (cs ds : List Call) → together least b (cs ++ ds) ≡ together least (together least b cs) ds
+together-append least b [] ds = refl
+together-append least b (c ∷ cs) ds = together-append least (onward b c (callBy least (b .store) c)) cs ds
+
+still-open : (least : ℕ) (cs : List Call) → all isEdit cs ≡ true → (b : Both) → b .machine .opened ≡ true → together least b cs .machine .opened ≡ true
+still-open least [] e b o = o
+still-open least (c ∷ cs) e b o = let (x, y) = all-cons isEdit c cs e in still-open least cs y (onward b c (callBy least (b .store) c)) (by c x (callBy least (b .store) c))
+  where
+    by : (c′ : Call) → isEdit c′ ≡ true → (r : Result) → onward b c′ r .machine .opened ≡ true
+    by begins z r = absurd (not-both false z refl)
+    by commits z r = absurd (not-both false z refl)
+    by abandons z r = absurd (not-both false z refl)
+    by (inserts k x) z (done t) = o
+    by (inserts k x) z (refused n) = o
+    by (deletes k) z (done t) = o
+    by (deletes k) z (refused n) = o
+
+module _ (least : ℕ) (four : 4 ≤ least) (b : Both) (a : Agrees least b) (shut : b .store .opened ≡ false) (room : b .store .current < 1048574) where
+  abbrev s : Store
+  s = b .store
+
+  abbrev begun : Both
+  begun = record { store = record { current = s .current; opened = true; slots = s .slots; pages = s .pages }; machine = step (b .machine) begins }
+
+  begin-is : begin s ≡ done (begun .store)
+  unfolding begin
+  begin-is = rw (shut, lt-leb 1048574 (s .current) room)
+
+  onward-begin : onward b begins (begin s) ≡ begun
+  onward-begin = ap (onward b begins) begin-is
+
+  abandon-is : (t : Both) → t .store .opened ≡ true → onward t abandons (abandon (t .store)) .store ≡ abandoned (t .store)
+  unfolding abandon
+  abandon-is t o = rw o
+
+  -- The whole: open, inserts and deletes, abandon.
+  pub update-abandoned : (cs : List Call) → all isEdit cs ≡ true → all fits cs ≡ true → together least b (begins ∷ (cs ++ (abandons ∷ []))) .store ≡ s
+  update-abandoned cs e h =
+      let agreed : Agrees least begun = subst (Agrees least) onward-begin (one-call least four b a begins refl) in
+      let after : Both = together least begun cs in
+      let open-after : after .store .opened ≡ true = many-calls least four cs h begun agreed .opened ∙ still-open least cs e begun refl in
+      ap (λ (x : Both). together least x (cs ++ (abandons ∷ [])) .store) onward-begin
+      ∙ ap (λ (x : Both). x .store) (together-append least begun cs (abandons ∷ []))
+      ∙ abandon-is after open-after
+      ∙ edits-undone least four cs e h begun agreed
+      ∙ begun-abandoned least (s .current) (s .slots) (s .pages) (subst (λ (q : Bool). Sound least (store (s .current) q (s .slots) (s .pages))) shut (a .is-sound))
+      ∙ ap (λ (q : Bool). store (s .current) q (s .slots) (s .pages)) (sym shut)
+
+-- "For a sound store lent from elsewhere, the settings its walks show stand for the history so far."
+abbrev pub lent : Store → Both
+lent s = record { store = s; machine = record { current = s .current; opened = s .opened; shows = settings s } }
+
+pub lent-agrees : (least : ℕ) (s : Store) → T (sound least s) → Agrees least (lent s)
+lent-agrees least s sure = record { is-sound = from-tests least s (holds-true (sound least s) sure); current = refl; opened = refl; shows = λ v h. refl }
+
+-- For every sound store with no update open: an update that is abandoned leaves it as it was.
+pub abandoned-update : (least : ℕ) → 4 ≤ least → (s : Store) → T (sound least s) → s .opened ≡ false → s .current < 1048574 → (cs : List Call) → T (all isEdit cs) → T (all fits cs)
+    → together least (lent s) (begins ∷ (cs ++ (abandons ∷ []))) .store ≡ s
+abandoned-update least four s sure shut room cs e h = update-abandoned least four (lent s) (lent-agrees least s sure) shut room cs (holds-true (all isEdit cs) e) (holds-true (all fits cs) h)

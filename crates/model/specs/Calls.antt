@@ -1,0 +1,145 @@
+-- The calls, and the numbers that they give.
+-- Assumes nothing.
+use Prim.Native.Nat.{ℕ, zero, suc, _+_, _*_}
+use mathlib.Core.Bool.{Bool, true, false, _&&_, _||_, not}
+use mathlib.Core.Option.{Option, none, some}
+use mathlib.Core.List.{List, [], _∷_, _++_, map}
+use lib.Dec.{leb, ltb, eqb}
+use lib.ListN.{length}
+use Rattle.model.specs.Basic.{those, pick, flatMap}
+use Rattle.model.specs.declared.Pair.{Pair}
+use Rattle.model.specs.declared.Entry.{Entry}
+use Rattle.model.specs.Entry.{pair, alive}
+use Rattle.model.specs.declared.Looked.{Looked}
+use Rattle.model.specs.declared.Looked.the-variants.{Value, Absent, Refused}
+use Rattle.model.specs.Page.{Page, free, active, Change}
+use Rattle.model.specs.declared.Slot.{Slot}
+use Rattle.model.specs.Store.{Store, next, last}
+use Rattle.model.specs.Walk.{lookup, rangeOf, keyLimit}
+use Rattle.model.specs.Rules.{Result, done, refused, update}
+
+abbrev pub isSome : Option ℕ → Bool
+isSome none = false
+isSome (some x) = true
+
+-- the first test that holds gives its number
+pub record Rule : Type 0 where
+  pub number : ℕ
+  pub holds : Bool
+
+abbrev pub numbered : List Rule → Result → Result
+numbered [] r = r
+numbered (x ∷ xs) r = elim (x .holds) [ true ↦ refused (x .number) | false ↦ numbered xs r ]
+
+abbrev pub rule : ℕ → Bool → Rule
+rule n b = record { number = n; holds = b }
+
+unfoldable pub insert : ℕ → Store → ℕ → ℕ → Result
+insert least s k x =
+    let r = update least s k (record { drop = []; take = pair k x ∷ [] }) in
+    numbered (rule 5 (leb keyLimit k) ∷ rule 7 (not (s .opened)) ∷ rule 10 (isSome (lookup s k (next s))) ∷ []) r
+
+unfoldable pub delete : ℕ → Store → ℕ → Result
+delete least s k =
+    let r = update least s k (record { drop = k ∷ []; take = [] }) in
+    numbered (rule 5 (leb keyLimit k) ∷ rule 7 (not (s .opened)) ∷ rule 11 (not (isSome (lookup s k (next s)))) ∷ []) r
+
+unfoldable pub begin : Store → Result
+begin s =
+    numbered (rule 8 (s .opened) ∷ rule 9 (leb 1048574 (s .current)) ∷ [])
+    (done (record { current = s .current; opened = true; slots = s .slots; pages = s .pages }))
+
+unfoldable pub commit : Store → Result
+commit s =
+    numbered (rule 7 (not (s .opened)) ∷ [])
+    (done (record { current = next s; opened = false; slots = s .slots; pages = s .pages }))
+
+-- "ends equal to it become alive again"
+abbrev pub revivedEnd : ℕ → ℕ → ℕ
+revivedEnd w n = pick (eqb n w) alive n
+
+abbrev pub revived : ℕ → Entry → Entry
+revived w e = record { key = e .key; start = e .start; end = revivedEnd w (e .end); value = e .value }
+
+-- "elsewhere entries starting there go, and ends equal to it become alive again, pages' ends too"
+abbrev pub restoredEntries : ℕ → List Entry → List Entry
+restoredEntries w es = map (revived w) (those (λ (e : Entry). not (eqb (e .start) w)) es)
+
+abbrev pub restored : ℕ → Page → Page
+restored w p = record { level = p .level; start = p .start; end = revivedEnd w (p .end); entries = restoredEntries w (p .entries) }
+
+abbrev pub backBy : Bool → ℕ → Page → Page
+backBy true w p = free
+backBy false w p = restored w p
+
+-- "pages that start at the open version are freed"
+abbrev pub back : ℕ → Page → Page
+back w p = backBy (active w p) w p
+
+unfoldable pub abandoned : Store → Store
+abandoned s = record {
+  current = s .current;
+  opened = false;
+  slots = those (λ (x : Slot). not (eqb (x .version) (next s))) (s .slots);
+  pages = map (back (next s)) (s .pages);
+}
+
+unfoldable pub abandon : Store → Result
+abandon s = numbered (rule 7 (not (s .opened)) ∷ []) (done (abandoned s))
+
+-- ---- reading
+
+-- the number of the first rule that holds, or 0
+abbrev pub firstOf : List Rule → ℕ
+firstOf [] = 0
+firstOf (x ∷ xs) = elim (x .holds) [ true ↦ x .number | false ↦ firstOf xs ]
+
+-- "An absent key in a lookup is an answer, not a number."
+abbrev pub lookedAt : Option ℕ → Looked
+lookedAt none = Absent
+lookedAt (some x) = Value x
+
+abbrev pub lookedBy : ℕ → Option ℕ → Looked
+lookedBy zero o = lookedAt o
+lookedBy (suc n) o = Refused (suc n)
+
+unfoldable pub get : Store → ℕ → ℕ → Looked
+get s k v = lookedBy (firstOf (rule 5 (leb keyLimit k) ∷ rule 6 (ltb (last s) v) ∷ [])) (lookup s k v)
+
+-- the paper's number and values for each answer: "any result not named here is 0"
+abbrev pub lookedNumber : Looked → ℕ
+lookedNumber (Value x) = 0
+lookedNumber Absent = 0
+lookedNumber (Refused n) = n
+
+abbrev pub lookedFound : Looked → Bool
+lookedFound (Value x) = true
+lookedFound Absent = false
+lookedFound (Refused n) = false
+
+abbrev pub lookedValue : Looked → ℕ
+lookedValue (Value x) = x
+lookedValue Absent = 0
+lookedValue (Refused n) = 0
+
+-- "it writes key, value, key, value"
+abbrev pub pairNumbers : Pair → List ℕ
+pairNumbers x = x .key ∷ x .value ∷ []
+
+pub record Ranged : Type 0 where
+  pub number : ℕ
+  pub count : ℕ
+  pub written : List ℕ
+
+-- "gives the count of settings found, as does 14"; room: how many numbers the caller's list holds
+unfoldable pub rangedIn : ℕ → List Pair → Ranged
+rangedIn zero xs = record { number = 0; count = length xs; written = flatMap pairNumbers xs }
+rangedIn (suc n) xs = record { number = suc n; count = length xs; written = [] }
+
+unfoldable pub rangedBy : ℕ → ℕ → List Pair → Ranged
+rangedBy zero room xs = rangedIn (firstOf (rule 14 (ltb room (2 * length xs)) ∷ [])) xs
+rangedBy (suc n) room xs = record { number = suc n; count = 0; written = [] }
+
+unfoldable pub range : Store → ℕ → ℕ → ℕ → ℕ → Ranged
+range s lo hi v room =
+    rangedBy (firstOf (rule 5 (leb keyLimit lo || leb keyLimit hi || ltb hi lo) ∷ rule 6 (ltb (last s) v) ∷ [])) room (rangeOf s lo hi v)

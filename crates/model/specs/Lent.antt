@@ -1,0 +1,68 @@
+-- The calls on lent bytes: what each gives and leaves, for any bytes and numbers. These are the right-hand sides of the calls' contracts.
+-- Assumes nothing.
+use Prim.Native.Nat.{ℕ, zero, suc}
+use mathlib.Core.Bool.{Bool, true, false}
+use mathlib.Core.List.{List, [], _∷_, _++_}
+use lib.ListN.{length, drop}
+use Rattle.model.specs.Basic.{pick}
+use Rattle.model.specs.declared.Looked.{Looked}
+use Rattle.model.specs.declared.Looked.the-variants.{Value, Absent, Refused}
+use Rattle.model.specs.declared.Verdict.{Verdict}
+use Rattle.model.specs.Store.{Store, fresh}
+use Rattle.model.specs.Layout.{sizeOf, encode, decode}
+use Rattle.model.specs.Judged.{lengthOk, judged}
+use Rattle.model.specs.Rules.{Result, done, refused}
+use Rattle.model.specs.Calls.{insert, delete, begin, commit, abandon, get, range, Ranged}
+
+-- the number that a call gives, and the store's bytes after it
+pub record Outcome : Type 0 where
+  pub number : ℕ
+  pub store : List ℕ
+
+-- "Every number but 0 leaves store and list untouched."
+abbrev pub left : ℕ → List ℕ → Result → Outcome
+left least b (done t) = record { number = 0; store = encode least t }
+left least b (refused n) = record { number = n; store = b }
+
+-- "Every call ends and judges the store itself before it trusts it."
+abbrev pub judgedFirst {ℓ} : {A : Type ℓ} → ℕ → (ℕ → A) → A → A
+judgedFirst zero refuse go = go
+judgedFirst (suc n) refuse go = refuse (suc n)
+
+unfoldable pub lent : ℕ → (Store → Result) → List ℕ → Outcome
+lent least f b = judgedFirst (judged least b .number) (λ n. record { number = n; store = b }) (left least b (f (decode least b)))
+
+unfoldable pub openLent : ℕ → List ℕ → Outcome
+openLent least b = lent least begin b
+
+unfoldable pub insertLent : ℕ → List ℕ → ℕ → ℕ → Outcome
+insertLent least b k x = lent least (λ (s : Store). insert least s k x) b
+
+unfoldable pub deleteLent : ℕ → List ℕ → ℕ → Outcome
+deleteLent least b k = lent least (λ (s : Store). delete least s k) b
+
+unfoldable pub commitLent : ℕ → List ℕ → Outcome
+commitLent least b = lent least commit b
+
+unfoldable pub abandonLent : ℕ → List ℕ → Outcome
+abandonLent least b = lent least abandon b
+
+-- "Making fresh gives only 1."
+unfoldable pub freshLent : ℕ → List ℕ → Outcome
+freshLent least b = pick (lengthOk least b) (record { number = 0; store = encode least (fresh (sizeOf least b)) }) (record { number = 1; store = b })
+
+unfoldable pub lookupLent : ℕ → List ℕ → ℕ → ℕ → Looked
+lookupLent least b k v = judgedFirst (judged least b .number) (λ n. Refused n) (get (decode least b) k v)
+
+-- a range's number, its count, and the caller's list after it: "touches nothing behind"
+pub record Listed : Type 0 where
+  pub number : ℕ
+  pub count : ℕ
+  pub list : List ℕ
+
+abbrev pub listed : List ℕ → Ranged → Listed
+listed ns r = record { number = r .number; count = r .count; list = r .written ++ drop (length (r .written)) ns }
+
+unfoldable pub rangeLent : ℕ → List ℕ → ℕ → ℕ → ℕ → List ℕ → Listed
+rangeLent least b lo hi v ns =
+    judgedFirst (judged least b .number) (λ n. record { number = n; count = 0; list = ns }) (listed ns (range (decode least b) lo hi v (length ns)))

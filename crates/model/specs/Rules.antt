@@ -1,0 +1,172 @@
+-- "The page rules for an update": one change, worked from the leaf up. `least` is the least number of live entries, from which the other limits come: 4 in edition 1.
+-- Assumes nothing.
+use Prim.Native.Nat.{ℕ, zero, suc, _+_, _*_, _/_}
+use mathlib.Core.Bool.{Bool, true, false, _&&_, _||_, not}
+use mathlib.Core.Option.{Option, none, some}
+use mathlib.Core.List.{List, [], _∷_, _++_, map}
+use lib.Dec.{leb, ltb, eqb}
+use lib.ListN.{length, set, take, drop}
+use Rattle.model.specs.Basic.{those, any}
+use Rattle.model.specs.declared.Pair.{Pair}
+use Rattle.model.specs.declared.Entry.{Entry}
+use Rattle.model.specs.Entry.{pair}
+use Rattle.model.specs.Page.{Page, free, filled, pairsAt, Change, wanted, changed, active, gone}
+use Rattle.model.specs.declared.Slot.{Slot}
+use Rattle.model.specs.Store.{Store, page, freeOnes, next}
+use Rattle.model.specs.Walk.{rootAt, Around, way}
+
+-- The pages of one level that are rebuilt together, by key: their routers, and the pairs gathered from them.
+pub record Group : Type 0 where
+  pub routers : List Pair
+  pub pairs : List Pair
+
+-- "add the live entries of its neighbour under the same parent: the right one, else the left"
+unfoldable pub withNeighbour : ℕ → List Page → Around → List Pair → Option Pair → Option Pair → Group
+withNeighbour w ps a want l (some r) = record { routers = a .own ∷ r ∷ []; pairs = want ++ pairsAt w (page ps (r .value)) }
+withNeighbour w ps a want (some l) none = record { routers = l ∷ a .own ∷ []; pairs = pairsAt w (page ps (l .value)) ++ want }
+withNeighbour w ps a want none none = record { routers = a .own ∷ []; pairs = want }
+
+-- "If the page isn't the root and the list has under 8"
+unfoldable pub gatherBy : Bool → ℕ → List Page → Around → List Pair → Group
+gatherBy true w ps a want = withNeighbour w ps a want (a .left) (a .right)
+gatherBy false w ps a want = record { routers = a .own ∷ []; pairs = want }
+
+-- "Up to 16 gathered entries fill one page; more fill two, the lower taking the odd one."
+pub data Parts : Type 0 where
+  one : List Pair → Parts
+  two : List Pair → List Pair → Parts
+
+unfoldable pub partsBy : Bool → List Pair → Parts
+partsBy true xs = one xs
+partsBy false xs = two (take ((length xs + 1) / 2) xs) (drop ((length xs + 1) / 2) xs)
+
+unfoldable pub parts : ℕ → List Pair → Parts
+parts least xs = partsBy (leb (length xs) (4 * least)) xs
+
+-- "The pages used are the active ones among those gathered, left first, then the lowest free pages"
+unfoldable pub usable : ℕ → List Page → List Pair → List ℕ
+usable w ps rs = those (λ (n : ℕ). active w (page ps n)) (map (λ (r : Pair). r .value) rs) ++ freeOnes ps
+
+-- "An active page left over is freed and zeroed. Inactive pages gathered are killed": all of them go, and the pages used are written after.
+abbrev pub retire : ℕ → List Page → List Pair → List Page
+retire w ps [] = ps
+retire w ps (r ∷ rs) = retire w (set ps (r .value) (gone w (page ps (r .value)))) rs
+
+-- The pages after a group is rebuilt, and the routers that lead to the pages now used.
+-- "The first new low key is the lowest old one; the second is the second page's first key."
+pub data Rebuilt : Type 0 where
+  rebuilt : List Page → List Pair → Rebuilt
+  short : Rebuilt
+
+abbrev pub lowKey : List Pair → ℕ
+lowKey [] = 0
+lowKey (x ∷ xs) = x .key
+
+unfoldable pub rebuildWith : ℕ → ℕ → List Page → List Pair → Parts → List ℕ → Rebuilt
+rebuildWith w level ps rs (one x) [] = short
+rebuildWith w level ps rs (one x) (n ∷ ns) = rebuilt (set (retire w ps rs) n (filled w level x)) (pair (lowKey rs) n ∷ [])
+rebuildWith w level ps rs (two x y) [] = short
+rebuildWith w level ps rs (two x y) (n ∷ []) = short
+rebuildWith w level ps rs (two x y) (n ∷ m ∷ ns) =
+    rebuilt (set (set (retire w ps rs) n (filled w level x)) m (filled w level y)) (pair (lowKey rs) n ∷ pair (lowKey y) m ∷ [])
+
+unfoldable pub rebuild : ℕ → ℕ → ℕ → List Page → Group → Rebuilt
+rebuild least w level ps g = rebuildWith w level ps (g .routers) (parts least (g .pairs)) (usable w ps (g .routers))
+
+-- "The parent's wanted list drops the old routers and takes one for each page now used; a router with the same low key and page stays untouched."
+abbrev pub samePair : Pair → Pair → Bool
+samePair x y = eqb (x .key) (y .key) && eqb (x .value) (y .value)
+
+abbrev pub without : List Pair → List Pair → List Pair
+without xs ys = those (λ (x : Pair). not (any (samePair x) ys)) xs
+
+unfoldable pub exchange : List Pair → List Pair → Change
+exchange olds news = record { drop = map (λ (x : Pair). x .key) (without olds news); take = without news olds }
+
+-- What comes of a page that is not the root: it took the change in place, or its parent has a change to take, or there is no page.
+pub data Worked : Type 0 where
+  settled : List Page → Worked
+  upward : Change → List Page → Worked
+  lacking : Worked
+
+unfoldable pub handUp : List Pair → Rebuilt → Worked
+handUp olds (rebuilt ps news) = upward (exchange olds news) ps
+handUp olds short = lacking
+
+-- "A page takes its change in place if it then has at most 20 entries, dead ones counted, and is the root or has at least 4 live."
+abbrev pub roomy : ℕ → ℕ → Change → Page → Bool
+roomy least w c p = leb (length (changed w c p .entries)) (5 * least)
+
+unfoldable pub regroup : ℕ → ℕ → ℕ → List Page → Group → Worked
+regroup least w level ps g = handUp (g .routers) (rebuild least w level ps g)
+
+unfoldable pub workBy : ℕ → Bool → ℕ → List Page → Around → Change → Page → Worked
+workBy least true w ps a c p = settled (set ps (a .own .value) (changed w c p))
+workBy least false w ps a c p = regroup least w (p .level) ps (gatherBy (ltb (length (wanted w c p)) (2 * least)) w ps a (wanted w c p))
+
+unfoldable pub work : ℕ → ℕ → List Page → Around → Change → Worked
+work least w ps a c =
+    let p = page ps (a .own .value) in
+    workBy least (roomy least w c p && leb least (length (wanted w c p))) w ps a c p
+
+-- What comes of the root: it stays, or another page is the root, or there is no page.
+pub data Rooted : Type 0 where
+  stays : List Page → Rooted
+  moves : ℕ → List Page → Rooted
+  lacks : Rooted
+
+-- "A root that becomes two pages gets a new root one level up, taken after them, with low keys 0 and the second's."
+unfoldable pub topped : ℕ → ℕ → List Page → List Pair → List ℕ → Rooted
+topped w level ps news [] = lacks
+topped w level ps news (n ∷ ns) = moves n (set ps n (filled w (suc level) news))
+
+unfoldable pub newRoot : ℕ → ℕ → Rebuilt → Rooted
+newRoot w level short = lacks
+newRoot w level (rebuilt ps []) = lacks
+newRoot w level (rebuilt ps (x ∷ [])) = moves (x .value) ps
+newRoot w level (rebuilt ps (x ∷ y ∷ zs)) = topped w level ps (x ∷ y ∷ zs) (freeOnes ps)
+
+unfoldable pub rootStay : ℕ → Bool → ℕ → List Page → ℕ → Change → Page → Rooted
+rootStay least true w ps r c p = stays (set ps r (changed w c p))
+rootStay least false w ps r c p = newRoot w (p .level) (rebuild least w (p .level) ps (record { routers = pair 0 r ∷ []; pairs = wanted w c p }))
+
+-- "First of all, an index root whose wanted list is one router goes: that child becomes the root."
+unfoldable pub rootGo : ℕ → Bool → ℕ → List Page → ℕ → Change → Page → List Pair → Rooted
+rootGo least true w ps r c p (x ∷ []) = moves (x .value) (set ps r (gone w p))
+rootGo least true w ps r c p [] = rootStay least (roomy least w c p) w ps r c p
+rootGo least true w ps r c p (x ∷ y ∷ zs) = rootStay least (roomy least w c p) w ps r c p
+rootGo least false w ps r c p want = rootStay least (roomy least w c p) w ps r c p
+
+unfoldable pub workRoot : ℕ → ℕ → List Page → ℕ → Change → Rooted
+workRoot least w ps r c = let p = page ps r in rootGo least (leb 2 (p .level)) w ps r c p (wanted w c p)
+
+-- "Work goes from the leaf up."
+abbrev pub goOn : Worked → (Change → List Page → Rooted) → Rooted
+goOn (settled ps) k = stays ps
+goOn (upward c ps) k = k c ps
+goOn lacking k = lacks
+
+unfoldable pub climb : ℕ → ℕ → ℕ → List Around → Change → List Page → Rooted
+climb least w r [] c ps = workRoot least w ps r c
+climb least w r (a ∷ up) c ps = goOn (work least w ps a c) (λ (c′ : Change) (ps′ : List Page). climb least w r up c′ ps′)
+
+-- "A new root takes the directory slot of the open version, or replaces it there."
+unfoldable pub putSlot : ℕ → ℕ → List Slot → List Slot
+putSlot w n xs = those (λ (x : Slot). not (eqb (x .version) w)) xs ++ (record { version = w; root = n } ∷ [])
+
+pub data Result : Type 0 where
+  done : Store → Result
+  refused : ℕ → Result
+
+unfoldable pub slotted : Bool → Store → List Slot → List Page → Result
+slotted true s xs ps = done (record { current = s .current; opened = s .opened; slots = xs; pages = ps })
+slotted false s xs ps = refused 13
+
+unfoldable pub rooted : ℕ → Store → Rooted → Result
+rooted least s (stays ps) = done (record { current = s .current; opened = s .opened; slots = s .slots; pages = ps })
+rooted least s (moves n ps) = let xs = putSlot (next s) n (s .slots) in slotted (leb (length xs) (64 * least)) s xs ps
+rooted least s lacks = refused 12
+
+-- one change at the leaf for a key, at the open version
+unfoldable pub update : ℕ → Store → ℕ → Change → Result
+update least s k c = rooted least s (climb least (next s) (rootAt (s .slots) (next s)) (way s (next s) k) c (s .pages))

@@ -1,0 +1,91 @@
+-- What the accepted calls leave at each version, with no pages: the machine that a store's history is held to.
+-- Assumes nothing.
+use Prim.Native.Nat.{ℕ, zero, suc, _+_}
+use mathlib.Core.Bool.{Bool, true, false, _&&_, _||_, not}
+use mathlib.Core.List.{List, [], _∷_, _++_}
+use lib.Dec.{leb, ltb, eqb}
+use Rattle.model.specs.Basic.{all, those, pick}
+use Rattle.model.specs.declared.Pair.{Pair}
+use Rattle.model.specs.Entry.{pair, enterPair}
+use Rattle.model.specs.Store.{Store, fresh}
+use Rattle.model.specs.Rules.{Result, done, refused}
+use Rattle.model.specs.Histories.{Call, begins, commits, abandons, inserts, deletes, callBy}
+
+-- the settings of each version up to the last one
+pub record Machine : Type 0 where
+  pub current : ℕ
+  pub opened : Bool
+  pub shows : ℕ → List Pair
+
+abbrev pub start : Machine
+start = record { current = 0; opened = false; shows = λ (v : ℕ). [] }
+
+-- the settings with those of version w replaced
+abbrev pub put : ℕ → List Pair → (ℕ → List Pair) → ℕ → List Pair
+put w us f v = pick (eqb v w) us (f v)
+
+abbrev pub edited : (List Pair → List Pair) → Machine → Machine
+edited g m = record { current = m .current; opened = m .opened; shows = put (suc (m .current)) (g (m .shows (suc (m .current)))) (m .shows) }
+
+-- an accepted call: the open version begins with the settings of the current one, and the edits change it alone
+abbrev pub step : Machine → Call → Machine
+step m begins = record { current = m .current; opened = true; shows = put (suc (m .current)) (m .shows (m .current)) (m .shows) }
+step m commits = record { current = suc (m .current); opened = false; shows = m .shows }
+step m abandons = record { current = m .current; opened = false; shows = m .shows }
+step m (inserts k x) = edited (enterPair (pair k x)) m
+step m (deletes k) = edited (those (λ (y : Pair). not (eqb (y .key) k))) m
+
+-- a store and the machine, call by call: a refused call leaves both
+pub record Both : Type 0 where
+  pub store : Store
+  pub machine : Machine
+
+abbrev pub onward : Both → Call → Result → Both
+onward b c (done t) = record { store = t; machine = step (b .machine) c }
+onward b c (refused n) = b
+
+abbrev pub together : ℕ → Both → List Call → Both
+together least b [] = b
+together least b (c ∷ cs) = together least (onward b c (callBy least (b .store) c)) cs
+
+-- a value is 32 bits
+abbrev pub fits : Call → Bool
+fits begins = true
+fits commits = true
+fits abandons = true
+fits (inserts k x) = ltb x 4294967296
+fits (deletes k) = true
+
+-- inserts and deletes
+abbrev pub isEdit : Call → Bool
+isEdit begins = false
+isEdit commits = false
+isEdit abandons = false
+isEdit (inserts k x) = true
+isEdit (deletes k) = true
+
+-- how many inserts and deletes were accepted in the updates up to each version
+pub record Tally : Type 0 where
+  pub added : ℕ → ℕ
+  pub removed : ℕ → ℕ
+
+abbrev pub nothingYet : Tally
+nothingYet = record { added = λ (v : ℕ). 0; removed = λ (v : ℕ). 0 }
+
+abbrev pub putCount : ℕ → ℕ → (ℕ → ℕ) → ℕ → ℕ
+putCount w n f v = pick (eqb v w) n (f v)
+
+abbrev pub counted : Machine → Tally → Call → Tally
+counted m t begins = record { added = putCount (suc (m .current)) (t .added (m .current)) (t .added); removed = putCount (suc (m .current)) (t .removed (m .current)) (t .removed) }
+counted m t commits = t
+counted m t abandons = t
+counted m t (inserts k x) = record { added = putCount (suc (m .current)) (suc (t .added (suc (m .current)))) (t .added); removed = t .removed }
+counted m t (deletes k) = record { added = t .added; removed = putCount (suc (m .current)) (suc (t .removed (suc (m .current)))) (t .removed) }
+
+abbrev pub countedBy : Machine → Tally → Call → Result → Tally
+countedBy m t c (done s) = counted m t c
+countedBy m t c (refused n) = t
+
+abbrev pub tallied : ℕ → Both → Tally → List Call → Tally
+tallied least b t [] = t
+tallied least b t (c ∷ cs) = tallied least (onward b c (callBy least (b .store) c)) (countedBy (b .machine) t c (callBy least (b .store) c)) cs
