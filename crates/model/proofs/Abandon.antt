@@ -1,31 +1,30 @@
 -- Abandon leaves a sound store sound, and every older version's settings as they were.
 -- Assumes nothing.
-use Prim.Native.Nat.{ℕ, zero, suc, _+_, _*_, _-_, _≤_, _<_, pred}
+use Prim.Native.Nat.{ℕ, zero, suc, _≤_, _<_, pred}
 use native.Mathlib.Omega.{arith}
-use mathlib.Core.Bool.{Bool, true, false, _&&_, _||_, not}
-use mathlib.Core.Path.{_≡_, refl, ap, ap₂, sym, _∙_, subst}
+use mathlib.Core.Bool.{Bool, true, false, _&&_, not}
+use mathlib.Core.Path.{_≡_, refl, ap, sym, _∙_, subst}
 use mathlib.Core.Logic.{_⊎_, inl, inr, _≢_}
-use mathlib.Core.List.{List, [], _∷_, _++_, map}
+use mathlib.Core.List.{List, [], _∷_, map}
 use lib.Dec.{leb, ltb, eqb, eqb·zero-suc}
 use lib.ListN.{length, getD, List·getD-map}
-use borrow.Author.Tests.{leb-true, leb-false, ltb-true, ltb-false, eqb-true, eqb-false, le-leb, lt-ltb, lt-leb, eq-eqb, ne-eqb, not-true}
+use borrow.Author.Tests.{leb-true, eqb-true, eqb-false, le-leb, lt-ltb, lt-leb, eq-eqb, ne-eqb, not-true}
 use Rattle.model.specs.Basic.{all, has, pick, those, keep}
 use Rattle.model.specs.declared.Pair.{Pair}
 use Rattle.model.specs.declared.Entry.{Entry}
-use Rattle.model.specs.Entry.{alive, pairOf, within, liveAt, before}
+use Rattle.model.specs.Entry.{alive, pairOf, liveAt, before}
 use Rattle.model.specs.Page.{Page, free, isFree, active, pairsAt}
 use Rattle.model.specs.declared.Slot.{Slot}
-use Rattle.model.specs.Store.{Store, page, next, lastOf, last}
+use Rattle.model.specs.Store.{Store, page, next, last}
 use Rattle.model.specs.Walk.{rootAt, below, settings, wayDown, heightOf, Seen, seenBelow, seen, keyLimit}
 use Rattle.model.specs.Basic.{inOrder}
-use Rattle.model.specs.Sound.{isPage, entryOk, inside, leadsWell, keysOk, firstVersion}
-use Rattle.model.specs.Calls.{revivedEnd, revived, restoredEntries, restored, backBy, back, abandoned}
-use Rattle.model.proofs.Lists.{both-true, both-intro, all-cons, map-keep}
-use Rattle.model.proofs.Members.{not-both, either-true, either-left, either-right, bool-cases, In, all-in, all-by, all-implies, in-map, in-those}
+use Rattle.model.specs.Sound.{isPage, entryOk, inside, leadsWell, keysOk}
+use Rattle.model.specs.Calls.{revivedEnd, revived, restoredEntries, restored, backBy, back}
+use Rattle.model.proofs.Lists.{both-true, both-intro}
+use Rattle.model.proofs.Members.{not-both, either-true, either-left, either-right, In, all-in, all-by, in-map, in-those}
 use Rattle.model.proofs.Old.{old-none}
-use Rattle.model.proofs.Back.{kept}
-use Rattle.model.proofs.Given.{Sound, GoodPage, GoodEntry, Span, span-of, of-span, entry-of, ok-entry, spansWell, numbers, livesAt, enough, used-in, high-used}
-use Rattle.model.proofs.Fits.{tame-all, limit, last-is, root-used, root-lives, root-level}
+use Rattle.model.proofs.Given.{Sound, GoodPage, GoodEntry, Span, span-of, of-span, entry-of, ok-entry, spansWell, livesAt, enough}
+use Rattle.model.proofs.Fits.{tame-all, limit, last-is, root-used, root-lives}
 use Rattle.model.proofs.Past.{back-lives, back-level, below-same, down-same, Steady, root-slot, root-kept, those-rise, those-all-of, those-first}
 use Rattle.model.proofs.Turns.{below-alike}
 

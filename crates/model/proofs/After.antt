@@ -1,41 +1,41 @@
 -- A store whose pages are as the way up leaves them is sound.
 -- Assumes nothing.
-use Prim.Native.Nat.{ℕ, zero, suc, _+_, _*_, _-_, _≤_, _<_, pred}
+use Prim.Native.Nat.{ℕ, zero, suc, _+_, _*_, _≤_, _<_, pred}
 use native.Mathlib.Omega.{arith}
-use mathlib.Core.Bool.{Bool, true, false, _&&_, _||_, not}
-use mathlib.Core.Path.{_≡_, refl, ap, ap₂, sym, _∙_, subst}
+use mathlib.Core.Bool.{Bool, true, false, _&&_, not}
+use mathlib.Core.Path.{_≡_, refl, ap, sym, _∙_, subst}
 use mathlib.Core.Logic.{_⊎_, inl, inr, _≢_}
-use mathlib.Core.List.{List, [], _∷_, _++_, map}
+use mathlib.Core.List.{List, [], map}
 use lib.Dec.{leb, ltb, eqb, eqb·zero-suc}
 use lib.ListN.{length}
-use borrow.Author.Tests.{leb-true, leb-false, ltb-true, ltb-false, eqb-true, eqb-false, le-leb, lt-ltb, lt-leb, eq-eqb, ne-eqb, not-true}
+use borrow.Author.Tests.{leb-true, ltb-true, ltb-false, eqb-true, le-leb, lt-ltb, eq-eqb, not-true}
 use Rattle.model.specs.Basic.{all, has, pick, those}
 use Rattle.model.specs.declared.Pair.{Pair}
 use Rattle.model.specs.declared.Entry.{Entry}
-use Rattle.model.specs.Entry.{alive, pairOf, within, liveAt, before}
+use Rattle.model.specs.Entry.{alive, pairOf, liveAt}
 use Rattle.model.specs.Page.{Page, free, isFree, pairsAt}
 use Rattle.model.specs.declared.Slot.{Slot}
-use Rattle.model.specs.Store.{Store, page, next, lastOf, last}
-use Rattle.model.specs.Walk.{rootAt, below, settings, wayDown, heightOf, Seen, seenAs, seenUnder, seenBelow, seen, keyLimit}
+use Rattle.model.specs.Store.{Store, page, next, last}
+use Rattle.model.specs.Walk.{rootAt, below, settings, wayDown, heightOf, Seen, seenUnder, seenBelow, seen, keyLimit}
 use Rattle.model.specs.Basic.{inOrder}
-use Rattle.model.specs.Sound.{isPage, entryOk, inside, leadsWell, keysOk, fewest, firstVersion}
+use Rattle.model.specs.Sound.{isPage, entryOk, inside, leadsWell, keysOk, firstVersion}
 use Rattle.model.specs.Calls.{back}
-use Rattle.model.proofs.Lists.{both-true, both-intro, all-cons}
-use Rattle.model.proofs.Members.{not-both, either-true, either-left, either-right, bool-cases, In, all-in, all-by, all-implies, in-map, map-in, in-those, those-in, has-in, in-has}
-use Rattle.model.proofs.Given.{Sound, GoodPage, GoodEntry, Span, span-of, of-span, ok-entry, spansWell, numbers, livesAt, enough, used-in}
-use Rattle.model.proofs.Walks.{Reach, Self, reach-self, reach-on, SeenOk, seen-reached, IsSeen, reached-under}
-use Rattle.model.proofs.Tree.{Row, Holds, Tree, OfPage}
+use Rattle.model.proofs.Lists.{both-true, both-intro}
+use Rattle.model.proofs.Members.{not-both, either-left, either-right, bool-cases, In, all-in, all-by, all-implies, in-map, map-in, those-in, has-in, in-has}
+use Rattle.model.proofs.Given.{Sound, GoodPage, GoodEntry, Span, of-span, ok-entry, spansWell, numbers, livesAt, enough, used-in}
+use Rattle.model.proofs.Walks.{Reach, Self, reach-self, reach-on, seen-reached, IsSeen, reached-under}
+use Rattle.model.proofs.Tree.{Holds}
 use Rattle.model.proofs.Shows.{Shows, RootFair, same?}
 use Rattle.model.proofs.Main.{height-is}
 use Rattle.model.proofs.Bridge.{passesAt}
 use Rattle.model.proofs.Fits.{used-level, level-used, within-of, of-within, root-lives, last-is, limit}
-use Rattle.model.proofs.Fitted.{kindOk, EntryFit, PageFit}
+use Rattle.model.proofs.Fitted.{EntryFit, PageFit}
 use Rattle.model.proofs.Inv.{Lives, Held, OldLead, Final, Inv, lives-used}
 use Rattle.model.proofs.Keeps.{Kept}
 use Rattle.model.proofs.Count.{root-low}
-use Rattle.model.proofs.Nodes.{InRow, row-in, Node, reach-node, shows-pass}
+use Rattle.model.proofs.Nodes.{Node, reach-node, shows-pass}
 use Rattle.model.proofs.Turns.{below-alike}
-use Rattle.model.proofs.Past.{lives-alike, level-alike, below-same, down-same, Steady, root-slot, bySlot}
+use Rattle.model.proofs.Past.{lives-alike, level-alike, below-same, down-same, Steady, root-slot}
 
 module _ (least : ℕ) (four : 4 ≤ least) (s : Store) (d : Sound least s) (o : s .opened ≡ true) where
   pub two-of : 2 ≤ least

@@ -1,18 +1,18 @@
 -- What abandon does to a page undoes what an update did to it.
 -- Assumes nothing.
-use Prim.Native.Nat.{ℕ, zero, suc, _+_, _≤_, _<_}
+use Prim.Native.Nat.{ℕ, _<_}
 use native.Mathlib.Omega.{arith}
 use mathlib.Core.Bool.{Bool, true, false, _&&_, _||_, not}
-use mathlib.Core.Path.{_≡_, refl, ap, ap₂, sym, _∙_, subst}
-use mathlib.Core.List.{List, [], _∷_, _++_, map}
+use mathlib.Core.Path.{_≡_, refl, ap, ap₂, _∙_, subst}
+use mathlib.Core.List.{List, [], _∷_, map}
 use lib.Dec.{leb, ltb, eqb}
-use borrow.Author.Tests.{ltb-true, leb-true, eqb-true, lt-ltb, lt-leb, le-leb, eq-eqb}
+use borrow.Author.Tests.{ltb-true, eqb-true, lt-leb, le-leb, eq-eqb}
 use Rattle.model.specs.Basic.{keep, those, has, pick, all}
 use Rattle.model.specs.declared.Entry.{Entry}
 use Rattle.model.specs.declared.Pair.{Pair}
-use Rattle.model.specs.Entry.{alive, pairOf, within, liveAt, born, before, placed, enter, endOne, endThose, endedAt}
-use Rattle.model.specs.Page.{Page, Change, bornAll, pairsAt, changed, killed, filled, free}
-use Rattle.model.specs.Calls.{revivedEnd, revived, restoredEntries, restored}
+use Rattle.model.specs.Entry.{alive, liveAt, born, enter, endOne, endThose, endedAt}
+use Rattle.model.specs.Page.{Page, Change, bornAll, changed, killed, filled}
+use Rattle.model.specs.Calls.{revivedEnd, revived, restoredEntries}
 use Rattle.model.proofs.Lists.{both-true, both-intro, all-enter, all-end, all-cons, map-keep, those-enter}
 
 module _ (w : ℕ) where

@@ -1,16 +1,15 @@
 -- A page shows the same at two versions between which nothing of it starts or ends.
 -- Assumes nothing.
-use Prim.Native.Nat.{ℕ, zero, suc, _+_, _≤_, _<_}
+use Prim.Native.Nat.{ℕ, _≤_}
 use native.Mathlib.Omega.{arith}
-use mathlib.Core.Bool.{Bool, true, false, _&&_, _||_, not}
-use mathlib.Core.Path.{_≡_, refl, ap, sym, _∙_, subst}
-use mathlib.Core.List.{List, [], _∷_, _++_, map}
-use mathlib.Core.Logic.{_⊎_, inl, inr}
-use lib.Dec.{leb, ltb, eqb}
-use borrow.Author.Tests.{ltb-true, leb-true, eqb-true, lt-ltb, lt-leb, le-leb, le-ltb, leb-false, leb-true}
-use Rattle.model.specs.Basic.{keep, those, all}
+use mathlib.Core.Bool.{Bool, true, false, _&&_, _||_}
+use mathlib.Core.Path.{_≡_, refl, sym, _∙_}
+use mathlib.Core.List.{List, [], _∷_}
+use lib.Dec.{leb, ltb}
+use borrow.Author.Tests.{ltb-true, leb-true, lt-ltb, lt-leb, le-leb, le-ltb, leb-false, leb-true}
+use Rattle.model.specs.Basic.{those, all}
 use Rattle.model.specs.declared.Entry.{Entry}
-use Rattle.model.specs.Entry.{liveAt, within}
+use Rattle.model.specs.Entry.{liveAt}
 use Rattle.model.specs.Page.{Page, pairsAt}
 use Rattle.model.proofs.Lists.{both-true, all-cons}
 

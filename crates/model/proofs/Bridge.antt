@@ -1,10 +1,10 @@
 -- From the tests of rules 3 to 5 to what the proofs use.
 -- Assumes nothing.
-use Prim.Native.Nat.{ℕ, zero, suc, _+_, _≤_, _<_}
+use Prim.Native.Nat.{ℕ, zero, suc, _≤_, _<_}
 use native.Mathlib.Omega.{arith}
-use mathlib.Core.Bool.{Bool, true, false, _&&_, _||_, not}
-use mathlib.Core.Path.{_≡_, refl, ap, ap₂, sym, _∙_, subst}
-use mathlib.Core.List.{List, [], _∷_, _++_, map, append-nil}
+use mathlib.Core.Bool.{Bool, true, false, _&&_, _||_}
+use mathlib.Core.Path.{_≡_, refl, subst}
+use mathlib.Core.List.{List, [], _∷_}
 use lib.Dec.{leb, ltb, eqb, eqb·suc-zero}
 use lib.ListN.{length}
 use borrow.Author.Tests.{ltb-true, leb-true, eqb-true, le-leb}
@@ -17,7 +17,7 @@ use Rattle.model.specs.Basic.{inOrder}
 use Rattle.model.specs.Sound.{keysOk, startsAt, fewest}
 use Rattle.model.specs.Walk.{Seen, seenAs, seenUnder, seenBelow, spread, below, keyLimit}
 use Rattle.model.proofs.Lists.{both-true, both-intro, all-cons}
-use Rattle.model.proofs.Tree.{Row, Link, Holds, Tree, OfPage}
+use Rattle.model.proofs.Tree.{Row, Holds, Tree}
 use Rattle.model.proofs.Local.{inRange, all-left, all-right}
 use Rattle.model.proofs.Shows.{Some, tree-of}
 

@@ -1,32 +1,34 @@
 -- The way up at the open version, step by step: the root shows the change.
 -- Assumes nothing.
-use Prim.Native.Nat.{ℕ, zero, suc, _+_, _*_, _≤_, _<_}
+use Prim.Native.Nat.{ℕ, zero, suc, _*_, _≤_, _<_}
 use native.Mathlib.Omega.{arith}
-use mathlib.Core.Bool.{Bool, true, false, _&&_, _||_, not}
+use mathlib.Core.Bool.{Bool, true, false, _&&_}
 use mathlib.Core.Option.{Option, none, some}
 use mathlib.Core.Path.{_≡_, refl, ap, ap₂, sym, _∙_, subst}
 use mathlib.Core.Logic.{_⊎_, inl, inr, _≢_}
 use mathlib.Core.List.{List, [], _∷_, _++_, map, append-assoc, append-nil}
-use lib.Dec.{leb, ltb, eqb, lit<}
+use lib.Dec.{leb, ltb, lit<}
 use lib.ListN.{length, set, length-append}
 use lib.Seq.{getD-set-same}
-use borrow.Author.Tests.{ltb-true, ltb-false, leb-true, leb-false, le-leb, lt-ltb}
-use Rattle.model.specs.Basic.{all, those, keep, any}
+use borrow.Author.Tests.{ltb-false, leb-true, leb-false, le-leb, lt-ltb}
+use Rattle.model.specs.Basic.{all, those, keep}
 use Rattle.model.specs.declared.Pair.{Pair}
 use Rattle.model.specs.Entry.{pair, alive, within}
-use Rattle.model.specs.Page.{Page, Change, free, pairsAt, wanted, changed, filled, gone}
+use Rattle.model.specs.Page.{Page, Change, free, pairsAt, wanted, changed, filled}
 use Rattle.model.specs.Store.{page, freeOnes}
 use Rattle.model.specs.Walk.{Around, keyLimit}
 use Rattle.model.specs.Sound.{fewest}
 use Rattle.model.proofs.Members.{not-both}
 use Rattle.model.specs.Rules
-use Rattle.model.specs.Rules.{Group, one, retire, Rebuilt, rebuilt, short, lowKey, exchange, samePair, without, Worked, settled, upward, lacking, Rooted, stays, moves, lacks, roomy, goOn, climb, work, workRoot}
+use Rattle.model.specs.Climb
+use Rattle.model.specs.Rules.{Group, one, retire, Rebuilt, rebuilt, short, lowKey, exchange, Worked, settled, upward, lacking, roomy, work}
+use Rattle.model.specs.Climb.{Rooted, stays, moves, lacks, goOn, climb, workRoot}
 use Rattle.model.proofs.Lists.{both-true, both-intro, all-cons}
 use Rattle.model.proofs.Place.{show-changed, show-filled}
-use Rattle.model.proofs.Tree.{Fair, Row, Link, Ended, Holds, Tree, OfPage, Left, Away, unused, higher, frame, frame-row, frame-tree, row-append, row-split, row-keys, row-le}
-use Rattle.model.proofs.Local.{applied, applied-between, inRange, holds-append, holds-keys}
-use Rattle.model.proofs.Shows.{in-list, same?, Touched, spare, inside, Touch, touch-set, touch-beside, touch-above, touch-under, LastIs, HeadIs, Company, Tidy, RootFair, Standing, Place, Top, Way, way-left, Shows, Some, tree-of, plug, settle}
-use Rattle.model.proofs.Rise.{Olds, lone, twin, Apart, Moved, moved-set, moved-under, Flat, Raised, Use, Uses, RebuiltShows, raise-by}
+use Rattle.model.proofs.Tree.{Row, Holds, Tree, Away, unused, frame, frame-row, row-append, row-split, row-keys, row-le}
+use Rattle.model.proofs.Local.{applied, applied-between, inRange, holds-append}
+use Rattle.model.proofs.Shows.{in-list, Touched, spare, inside, touch-beside, touch-above, LastIs, HeadIs, Company, Tidy, Standing, Place, Top, Way, way-left, Shows, Some, settle}
+use Rattle.model.proofs.Rise.{Olds, lone, twin, Moved, moved-set, moved-under, Raised, Uses, RebuiltShows, raise-by}
 use Rattle.model.proofs.Numbers.{Member, Members, moved-retire, length-retire, uses-usable, apart-usable, Unlike, Frees, frees-all}
 
 -- what an exchange drops and takes lies where the routers lie
@@ -463,8 +465,8 @@ module _ (least : ℕ) (two-or-more : 2 ≤ least) (w : ℕ) (lim : w < alive) w
   now-alive = both-intro _ _ (le-leb w w (omega arith)) (lt-ltb w alive lim)
 
   topped-shows : (qs : List Page) (l level r : ℕ) (news total : List Pair) (ns : List ℕ) → level ≡ suc l → 2 ≤ length news → Row (Tree least w l qs) keyLimit news 0 total
-      → Frees least w lim (λ (m : ℕ). Unit {0}) qs l (λ m e. tt) 5 ns → RootedShows r total (Rules.topped w level qs news ns)
-  unfolding Rules.topped
+      → Frees least w lim (λ (m : ℕ). Unit {0}) qs l (λ m e. tt) 5 ns → RootedShows r total (Climb.topped w level qs news ns)
+  unfolding Climb.topped
   topped-shows qs l level r news total [] e big t f = tt
   topped-shows qs l level r news total (n ∷ ns) e big t f =
       let q : Page = filled w (suc level) news in
@@ -490,8 +492,8 @@ module _ (least : ℕ) (two-or-more : 2 ≤ least) (w : ℕ) (lim : w < alive) w
     abbrev pub T : ℕ → Type 0
     T m = (page ps m .level ≡ 0) ⊎ (page ps m .level ≡ suc l)
 
-    new-root : (x : Rebuilt) → RebuiltShows least w lim T ps l 0 keyLimit (pair 0 r ∷ []) total x → RootedShows r total (Rules.newRoot w (page ps r .level) x)
-    unfolding Rules.newRoot
+    new-root : (x : Rebuilt) → RebuiltShows least w lim T ps l 0 keyLimit (pair 0 r ∷ []) total x → RootedShows r total (Climb.newRoot w (page ps r .level) x)
+    unfolding Climb.newRoot
     new-root short t = tt
     new-root (rebuilt qs []) t = tt
     new-root (rebuilt qs (x ∷ [])) t = single qs l x total (t .row)
@@ -505,8 +507,8 @@ module _ (least : ℕ) (two-or-more : 2 ≤ least) (w : ℕ) (lim : w < alive) w
     members = (record { touched = inr level; in-list = in-list ps r l level; level = level }, tt)
 
     -- one page in the old root's place
-    root-one : (ns : List ℕ) → Uses least w lim T ps ns → RootedShows r total (Rules.newRoot w (page ps r .level) (Rules.rebuildWith w (page ps r .level) ps rs (one (wanted w c (page ps r))) ns))
-    unfolding Rules.newRoot Rules.rebuildWith
+    root-one : (ns : List ℕ) → Uses least w lim T ps ns → RootedShows r total (Climb.newRoot w (page ps r .level) (Rules.rebuildWith w (page ps r .level) ps rs (one (wanted w c (page ps r))) ns))
+    unfolding Climb.newRoot Rules.rebuildWith
     root-one [] u = tt
     root-one (n ∷ ns) u =
         let q : Page = filled w (page ps r .level) (wanted w c (page ps r)) in
@@ -531,13 +533,13 @@ module _ (least : ℕ) (two-or-more : 2 ≤ least) (w : ℕ) (lim : w < alive) w
         (apart-usable least w lim T ps l (λ m z. inl z) rs (lone (pair 0 r)) members tt) some-want holds
 
     root-anew : (b : Bool) → leb (length (wanted w c (page ps r))) (4 * least) ≡ b → Some least w (wanted w c (page ps r))
-        → RootedShows r total (Rules.newRoot w (page ps r .level) (Rules.rebuildWith w (page ps r .level) ps rs (Rules.partsBy b (wanted w c (page ps r))) (Rules.usable w ps rs)))
+        → RootedShows r total (Climb.newRoot w (page ps r .level) (Rules.rebuildWith w (page ps r .level) ps rs (Rules.partsBy b (wanted w c (page ps r))) (Rules.usable w ps rs)))
     unfolding Rules.partsBy
     root-anew true z some-want = root-one _ (uses-usable least w lim T ps l (λ m z. inl z) rs members)
     root-anew false z some-want = new-root _ (root-raised z some-want)
 
-    root-stay : (b : Bool) → roomy least w c (page ps r) ≡ b → RootedShows r total (Rules.rootStay least b w ps r c (page ps r))
-    unfolding Rules.rootStay Rules.rebuild Rules.parts
+    root-stay : (b : Bool) → roomy least w c (page ps r) ≡ b → RootedShows r total (Climb.rootStay least b w ps r c (page ps r))
+    unfolding Climb.rootStay Rules.rebuild Rules.parts
     root-stay true e =
         let q : Page = changed w c (page ps r) in
         let qs : List Page = set ps r q in
@@ -571,8 +573,8 @@ module _ (least : ℕ) (two-or-more : 2 ≤ least) (w : ℕ) (lim : w < alive) w
     two-few (suc l) n = omega arith
 
     root-go : (b : Bool) (l : ℕ) (want : List Pair) → leb 2 (page ps r .level) ≡ b → page ps r .level ≡ suc l → wanted w c (page ps r) ≡ want → Holds least w l ps 0 keyLimit (wanted w c (page ps r)) total
-        → RootedShows r total (Rules.rootGo least b w ps r c (page ps r) want)
-    unfolding Rules.rootGo
+        → RootedShows r total (Climb.rootGo least b w ps r c (page ps r) want)
+    unfolding Climb.rootGo
     root-go true zero (x ∷ []) b e f h = absurd (omega (arith, leb-true 2 (page ps r .level) b))
     root-go true (suc l) (x ∷ []) b e f h = lone-root ps r l x total _ e (subst (λ (zs : List Pair). Row (Tree least w l ps) keyLimit zs 0 total) f h)
     root-go true zero [] b e f h = absurd (omega (arith, leb-true 2 (page ps r .level) b))
@@ -585,7 +587,7 @@ module _ (least : ℕ) (two-or-more : 2 ≤ least) (w : ℕ) (lim : w < alive) w
     root-go false (suc l) want b e f h = absurd (omega (arith, leb-false 2 (page ps r .level) b))
 
     pub root-shows : (l : ℕ) → page ps r .level ≡ suc l → Holds least w l ps 0 keyLimit (wanted w c (page ps r)) total → RootedShows r total (workRoot least w ps r c)
-    unfolding Rules.workRoot
+    unfolding Climb.workRoot
     root-shows l e h = root-go _ l _ refl e refl h
 
   pub climb-shows : (r : ℕ) (up : List Around) (l : ℕ) (c : Change) (ps : List Page) (total : List Pair) → Pending ps r l up c total → RootedShows r total (climb least w r up c ps)

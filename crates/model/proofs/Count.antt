@@ -2,10 +2,10 @@
 -- Assumes nothing.
 use Prim.Native.Nat.{ℕ, zero, suc, _+_, _*_, _≤_, _<_}
 use native.Mathlib.Omega.{arith}
-use mathlib.Core.Bool.{Bool, true, false, _&&_, _||_, not}
+use mathlib.Core.Bool.{Bool, true, false, _&&_}
 use mathlib.Core.Path.{_≡_, refl, ap, sym, _∙_, subst}
 use mathlib.Core.Logic.{_⊎_, inl, inr}
-use mathlib.Core.List.{List, [], _∷_, _++_}
+use mathlib.Core.List.{List, [], _∷_}
 use lib.Dec.{leb, ltb, eqb}
 use lib.ListN.{length}
 use borrow.Author.Tests.{ltb-true, leb-true, eqb-true, eqb-false, eq-eqb, le-leb, lt-ltb}
@@ -17,7 +17,7 @@ use Rattle.model.specs.Store.{page}
 use Rattle.model.specs.Walk.{keyLimit}
 use Rattle.model.proofs.Lists.{both-true, both-intro}
 use Rattle.model.proofs.Members.{not-both, bool-cases}
-use Rattle.model.proofs.Tree.{Row, Link, Holds, Tree, OfPage, row-le}
+use Rattle.model.proofs.Tree.{Row, Holds, Tree, row-le}
 use Rattle.model.proofs.Shows.{Shows, RootFair, in-list}
 
 -- how many numbers below n pass

@@ -1,6 +1,6 @@
 -- The way down for a key leads to the leaf whose range has it, and gives the way up.
 -- Assumes nothing.
-use Prim.Native.Nat.{ℕ, zero, suc, _+_, _≤_, _<_}
+use Prim.Native.Nat.{ℕ, zero, suc, _≤_, _<_}
 use native.Mathlib.Omega.{arith}
 use mathlib.Core.Bool.{Bool, true, false}
 use mathlib.Core.Option.{Option, none, some}
@@ -10,12 +10,11 @@ use lib.Dec.{leb}
 use lib.ListN.{length}
 use borrow.Author.Tests.{leb-true, leb-false}
 use Rattle.model.specs.declared.Pair.{Pair}
-use Rattle.model.specs.Entry.{pair}
 use Rattle.model.specs.Page.{Page, pairsAt}
 use Rattle.model.specs.Store.{page}
 use Rattle.model.specs.Walk.{Around, aroundFrom, around, wayDown}
-use Rattle.model.proofs.Tree.{Says, Row, Link, Ended, LeafHolds, Holds, Tree, row-append}
-use Rattle.model.proofs.Shows.{LastIs, HeadIs, Company, Tidy, Standing, Touched, inside, Place, Way, Some}
+use Rattle.model.proofs.Tree.{Says, Row, LeafHolds, Holds, Tree, row-append}
+use Rattle.model.proofs.Shows.{LastIs, HeadIs, Company, Tidy, Standing, Touched, inside, Way, Some}
 
 -- the place of k among routers
 pub record Found (least w : ℕ) (S : Says) (k lo hi : ℕ) (rs zs : List Pair) (a : Around) : Type 0 where

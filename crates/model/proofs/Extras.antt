@@ -1,29 +1,29 @@
 -- The check's number, ranges that skip pages, the table's runs, and the two editions.
 -- Assumes nothing.
-use Prim.Native.Nat.{ℕ, zero, suc, _+_, _*_, _≤_, _<_}
+use Prim.Native.Nat.{ℕ, _≤_, _<_}
 use native.Mathlib.Omega.{arith}
-use mathlib.Core.Bool.{Bool, true, false, _&&_, _||_, not}
-use mathlib.Core.Path.{_≡_, refl, ap, ap₂, sym, _∙_, subst}
+use mathlib.Core.Bool.{Bool, true, false, _&&_}
+use mathlib.Core.Path.{_≡_, refl, ap, _∙_}
 use mathlib.Core.Logic.{_⊎_, inl, inr}
-use mathlib.Core.List.{List, [], _∷_, _++_}
-use lib.Dec.{T, leb, ltb, eqb, lit≤}
+use mathlib.Core.List.{List, [], _∷_}
+use lib.Dec.{T, leb, ltb, lit≤}
 use borrow.Author.Tests.{leb-true, ltb-true, lt-leb}
-use Rattle.model.specs.Basic.{all, those, keep}
+use Rattle.model.specs.Basic.{all, those}
 use Rattle.model.specs.declared.Pair.{Pair}
 use Rattle.model.specs.Entry.{within}
 use Rattle.model.specs.Page.{Page, pairsAt}
-use Rattle.model.specs.Store.{Store, last, fresh}
-use Rattle.model.specs.Walk.{settings, below}
+use Rattle.model.specs.Store.{Store, fresh}
+use Rattle.model.specs.Walk.{below}
 use Rattle.model.specs.Sound.{sound, broken, firstBroken, rule1, rule2, rule3, rule4, rule5, rule6, rule7}
-use Rattle.model.specs.Rules.{Result, done, refused}
-use Rattle.model.specs.Histories.{Call, callBy, call, After, after, run, from}
-use Rattle.model.specs.Settings.{Machine, Both, onward, together, fits}
-use Rattle.model.proofs.Lists.{both-true, both-intro, all-cons}
+use Rattle.model.specs.Climb.{Result, done, refused}
+use Rattle.model.specs.Histories.{Call, call, After, after, run, from}
+use Rattle.model.specs.Settings.{Machine, onward, together, fits}
+use Rattle.model.proofs.Lists.{both-true, all-cons}
 use Rattle.model.proofs.Members.{holds-true, true-holds}
-use Rattle.model.proofs.Tree.{Tree, OfPage, tree-below}
+use Rattle.model.proofs.Tree.{Tree, tree-below}
 use Rattle.model.proofs.Local.{inRange}
 use Rattle.model.proofs.Main.{holds-range}
-use Rattle.model.proofs.History.{beginning, history-sound, history-shows}
+use Rattle.model.proofs.History.{beginning, history-sound}
 
 -- check gives 0 exactly for sound stores
 sound-broken-by : (a b c d e f g : Bool) → (a && b && c && d && e && f && g) ≡ true → firstBroken 1 (a ∷ b ∷ c ∷ d ∷ e ∷ f ∷ g ∷ []) ≡ 0

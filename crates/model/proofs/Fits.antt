@@ -1,41 +1,41 @@
 -- A sound store meets what the proofs on updates ask.
 -- Assumes nothing.
-use Prim.Native.Nat.{ℕ, zero, suc, _+_, _*_, _-_, _≤_, _<_, pred}
+use Prim.Native.Nat.{ℕ, zero, suc, _*_, _≤_, _<_, pred}
 use native.Mathlib.Omega.{arith}
-use mathlib.Core.Bool.{Bool, true, false, _&&_, _||_, not}
+use mathlib.Core.Bool.{Bool, true, false, _&&_, not}
 use mathlib.Core.Option.{Option, none, some}
-use mathlib.Core.Path.{_≡_, refl, ap, ap₂, sym, _∙_, subst}
+use mathlib.Core.Path.{_≡_, refl, ap, sym, _∙_, subst}
 use mathlib.Core.Logic.{_⊎_, inl, inr, _≢_}
-use mathlib.Core.List.{List, [], _∷_, _++_, map}
-use lib.Dec.{T, leb, ltb, eqb, leb·zero}
-use lib.ListN.{length, getD, take, drop}
-use borrow.Author.Tests.{leb-true, ltb-true, eqb-true, eqb-false, le-leb, lt-ltb, lt-leb, eq-eqb, ne-eqb, not-true, not-false, ltb-false, leb-false}
-use Rattle.model.specs.Basic.{all, has, pick, those, isEmpty}
+use mathlib.Core.List.{List, [], _∷_, map}
+use lib.Dec.{T, leb, ltb, eqb}
+use lib.ListN.{length, take, drop}
+use borrow.Author.Tests.{leb-true, ltb-true, eqb-true, eqb-false, le-leb, lt-ltb, eq-eqb, ne-eqb, not-true, not-false, leb-false}
+use Rattle.model.specs.Basic.{all, has, pick, those}
 use Rattle.model.specs.declared.Pair.{Pair}
 use Rattle.model.specs.declared.Entry.{Entry}
 use Rattle.model.specs.Entry.{pair, placed, enterPair, alive, pairOf, within, liveAt, before, endThose, endOne}
-use Rattle.model.specs.Page.{Page, Change, free, isFree, active, pairsAt, wanted, changed}
+use Rattle.model.specs.Page.{Page, Change, isFree, pairsAt, changed}
 use Rattle.model.specs.declared.Slot.{Slot}
 use Rattle.model.specs.Store.{Store, page, next, lastOf, last}
-use Rattle.model.specs.Walk.{Around, around, rootFrom, rootAt, below, heightOf, settings, way, wayDown, leafOf, Seen, seenAs, seenUnder, seenBelow, seen, keyLimit, lookup}
+use Rattle.model.specs.Walk.{Around, around, rootFrom, rootAt, heightOf, settings, wayDown, Seen, seenAs, seenUnder, seen, keyLimit, lookup}
 use Rattle.model.specs.Basic.{inOrder}
-use Rattle.model.specs.Sound.{sound, isPage, entryOk, inside, leadsWell, keysOk, fewest, firstVersion}
+use Rattle.model.specs.Sound.{sound, isPage, inside, keysOk, fewest, firstVersion}
 use Rattle.model.proofs.Lists.{both-true, both-intro, all-cons}
-use Rattle.model.proofs.Members.{holds-true, true-holds, not-both, either-true, either-left, either-right, bool-cases, In, in-left, in-right, all-in, all-by, all-implies, in-map, map-in, in-those, has-in, in-has}
-use Rattle.model.proofs.Given.{Sound, from-tests, GoodPage, GoodEntry, Span, span-of, entry-of, numbers, livesAt, enough, used-in, high-used}
-use Rattle.model.proofs.Walks.{Reach, Self, reach-self, SeenOk, seen-reached, IsSeen, reached-under}
+use Rattle.model.proofs.Members.{holds-true, not-both, either-true, either-left, either-right, bool-cases, In, in-left, in-right, all-in, all-by, all-implies, in-map, map-in, in-those, has-in, in-has}
+use Rattle.model.proofs.Given.{Sound, from-tests, GoodEntry, span-of, entry-of, numbers, livesAt, enough, used-in, high-used}
+use Rattle.model.proofs.Walks.{Reach, Self, reach-self, seen-reached, IsSeen, reached-under}
 use Rattle.model.proofs.Back.{endsWell}
-use Rattle.model.specs.Rules.{Result, done, refused, update}
+use Rattle.model.specs.Climb.{Result, refused, update}
 use Rattle.model.specs.Calls.{Rule, rule, numbered, isSome, insert, delete}
 use Rattle.model.proofs.Undo.{TamePage, Good, Next, Beside, WayGood, Ready, Undone, update-undone}
 use Rattle.model.proofs.Edit.{leaf-insert, leaf-delete, length-enter, keep-all, dropped-one}
 use Rattle.model.proofs.Main.{Fit, leafPairs, Changed, update-changes}
 use Rattle.model.proofs.Place.{byKey}
-use Rattle.model.proofs.Tree.{Row, Link, Holds, Tree, OfPage}
+use Rattle.model.proofs.Tree.{Row, Holds, Tree}
 use Rattle.model.proofs.Shows.{Tidy, Shows, Some, Touched, LastIs, HeadIs}
 use Rattle.model.proofs.Climbs.{touched-tree, apart-tree}
 use Rattle.model.proofs.Descend.{Found, found-in}
-use Rattle.model.proofs.Bridge.{passesAt, root-passes}
+use Rattle.model.proofs.Bridge.{root-passes}
 
 -- a test on the root of each slot holds of each version's root
 root-from : (P : ℕ → Bool) (v : ℕ) (xs : List Slot) (r : ℕ) → P r ≡ true → all (λ (x : Slot). P (x .root)) xs ≡ true → P (rootFrom r xs v) ≡ true

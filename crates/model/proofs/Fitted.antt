@@ -1,24 +1,24 @@
 -- What rule 1 and the first part of rule 3 ask of one page, kept by what an update does to a page.
 -- Assumes nothing.
-use Prim.Native.Nat.{ℕ, zero, suc, _+_, _*_, _≤_, _<_}
+use Prim.Native.Nat.{ℕ, suc, _*_, _≤_, _<_}
 use native.Mathlib.Omega.{arith}
-use mathlib.Core.Bool.{Bool, true, false, _&&_, _||_, not}
-use mathlib.Core.Path.{_≡_, refl, ap, ap₂, sym, _∙_, subst}
+use mathlib.Core.Bool.{Bool, true, false, _&&_, not}
+use mathlib.Core.Path.{_≡_, refl, ap, sym, _∙_, subst}
 use mathlib.Core.Logic.{_⊎_, inl, inr, _≢_}
-use mathlib.Core.List.{List, [], _∷_, _++_, map}
+use mathlib.Core.List.{List, [], _∷_, map}
 use lib.Dec.{leb, ltb, eqb}
 use lib.ListN.{length}
-use borrow.Author.Tests.{ltb-true, ltb-false, leb-true, leb-false, eqb-true, eqb-false, lt-ltb, le-leb, lt-leb, le-ltb, eq-eqb}
-use Rattle.model.specs.Basic.{keep, those, has, pick, all}
+use borrow.Author.Tests.{ltb-true, ltb-false, eqb-true, eqb-false, lt-ltb, le-leb, eq-eqb}
+use Rattle.model.specs.Basic.{those, has, pick, all}
 use Rattle.model.specs.declared.Entry.{Entry}
 use Rattle.model.specs.declared.Pair.{Pair}
-use Rattle.model.specs.Entry.{pairOf, alive, within, liveAt, born, before, placed, enter, enterPair, endOne, endThose, endedAt}
-use Rattle.model.specs.Page.{Page, Change, free, isFree, bornAll, enterAll, pairsAt, changed, wanted, killed, filled}
+use Rattle.model.specs.Entry.{pairOf, alive, liveAt, born, before, placed, enter, enterPair, endOne, endThose, endedAt}
+use Rattle.model.specs.Page.{Page, Change, bornAll, enterAll, pairsAt, changed, wanted, killed, filled}
 use Rattle.model.specs.Walk.{keyLimit}
 use Rattle.model.specs.Basic.{inOrder}
-use Rattle.model.proofs.Lists.{both-true, both-intro, all-cons, all-enter, all-end}
+use Rattle.model.proofs.Lists.{both-true, both-intro, all-enter, all-end}
 use Rattle.model.proofs.Members.{not-both, either-true, either-left, either-right, bool-cases, In, all-in, all-by, in-map, map-in, in-those, those-in}
-use Rattle.model.proofs.Place.{byKey, shown, show-enter, show-end, order-enter, order-end, born-live}
+use Rattle.model.proofs.Place.{byKey, shown, show-enter, show-end, born-live}
 use Rattle.model.proofs.Edit.{lt}
 use Rattle.model.proofs.Given.{Span}
 

@@ -3,15 +3,14 @@
 use Prim.Native.Nat.{ℕ, zero, suc, _+_, _*_, _-_, _≤_, _<_}
 use native.Mathlib.Omega.{arith}
 use mathlib.Core.Bool.{Bool, true, false, _&&_, _||_, not}
-use mathlib.Core.Path.{_≡_, refl, ap, ap₂, sym, _∙_, subst}
+use mathlib.Core.Path.{_≡_, refl, ap, sym, _∙_, subst}
 use mathlib.Core.Logic.{_⊎_, inl, inr}
-use mathlib.Core.List.{List, [], _∷_, _++_, map}
-use lib.Dec.{T, leb, ltb, eqb}
-use lib.ListN.{length, getD, take, drop, length-drop, List·getD-eq-default}
+use mathlib.Core.List.{List, [], _∷_, map}
+use lib.Dec.{leb, ltb, eqb}
+use lib.ListN.{length, take, drop, length-drop, List·getD-eq-default}
 use lib.Seq.{getD-drop, getD-take, length-take-le}
-use borrow.Author.Tests.{leb-true, ltb-true, eqb-true, le-leb, lt-ltb, lt-leb, eq-eqb, not-true, ltb-false}
-use Rattle.model.specs.Basic.{all, has, count, isEmpty, pick}
-use Rattle.model.specs.declared.Pair.{Pair}
+use borrow.Author.Tests.{leb-true, ltb-true, eqb-true, le-leb, lt-ltb, eq-eqb, not-true, ltb-false}
+use Rattle.model.specs.Basic.{all, has, isEmpty, pick}
 use Rattle.model.specs.declared.Entry.{Entry}
 use Rattle.model.specs.Entry.{alive, within, before}
 use Rattle.model.specs.Page.{Page, free, isFree}
@@ -19,9 +18,9 @@ use Rattle.model.specs.declared.Slot.{Slot}
 use Rattle.model.specs.Store.{Store, page, next, lastOf, last}
 use Rattle.model.specs.Walk.{Seen, seen, keyLimit}
 use Rattle.model.specs.Basic.{inOrder}
-use Rattle.model.specs.Sound.{pagesPass, isPage, spanOk, entryOk, pageOk, zeroed, pageFine, firstVersion, inside, leadsWell, versions, atAll, keysOk, fewest, same, reachedWell, sound, rule1, rule2, rule3, rule4, rule5, rule6, rule7}
-use Rattle.model.proofs.Lists.{both-true, both-intro, all-cons}
-use Rattle.model.proofs.Members.{holds-true, true-holds, not-both, either-true, either-left, either-right, bool-cases, In, all-in, all-by, all-at, all-places, in-count, count-in}
+use Rattle.model.specs.Sound.{pagesPass, isPage, spanOk, entryOk, pageOk, zeroed, pageFine, firstVersion, inside, leadsWell, versions, keysOk, fewest, same, reachedWell, sound, rule1, rule2, rule3, rule4, rule5, rule6, rule7}
+use Rattle.model.proofs.Lists.{both-true, both-intro}
+use Rattle.model.proofs.Members.{not-both, either-true, either-left, either-right, bool-cases, In, all-in, all-by, all-at, all-places, in-count, count-in}
 
 -- a used page as rule 1 has it
 pub record GoodPage (least : ℕ) (s : Store) (p : Page) : Type 0 where

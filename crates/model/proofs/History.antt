@@ -1,37 +1,33 @@
 -- Histories: for every list of calls from a fresh store, the store is sound and shows what the machine has.
 -- Assumes nothing.
-use Prim.Native.Nat.{ℕ, zero, suc, _+_, _*_, _≤_, _<_}
+use Prim.Native.Nat.{ℕ, suc, _≤_, _<_}
 use native.Mathlib.Omega.{arith}
-use mathlib.Core.Bool.{Bool, true, false, _&&_, _||_, not}
-use mathlib.Core.Option.{Option, none, some}
+use mathlib.Core.Bool.{Bool, true, false, _||_, not}
 use mathlib.Core.Path.{_≡_, refl, ap, ap₂, sym, _∙_, subst}
 use mathlib.Core.Logic.{_⊎_, inl, inr, _≢_}
-use mathlib.Core.List.{List, [], _∷_, _++_, map}
+use mathlib.Core.List.{List, [], _∷_}
 use lib.Dec.{T, leb, ltb, eqb}
-use lib.ListN.{length}
-use borrow.Author.Tests.{leb-true, leb-false, ltb-true, ltb-false, eqb-true, eqb-false, le-leb, lt-ltb, eq-eqb, ne-eqb, not-true, not-false}
-use Rattle.model.specs.Basic.{all, has, pick, those}
+use borrow.Author.Tests.{leb-true, leb-false, ltb-true, ltb-false, eq-eqb, ne-eqb, not-false}
+use Rattle.model.specs.Basic.{all, pick, those}
 use Rattle.model.specs.declared.Pair.{Pair}
 use Rattle.model.specs.Entry.{pair, enterPair}
-use Rattle.model.specs.Page.{Page, Change, free}
-use Rattle.model.specs.declared.Slot.{Slot}
+use Rattle.model.specs.Page.{Change}
 use Rattle.model.specs.Store.{Store, next, lastOf, last, fresh}
 use Rattle.model.specs.Walk.{settings, lookup, find, keyLimit}
 use Rattle.model.specs.Sound.{sound}
-use Rattle.model.specs.Rules.{Result, done, refused}
+use Rattle.model.specs.Climb.{Result, done, refused}
 use Rattle.model.specs.Calls.{rule, insert, delete, begin, commit, abandon, abandoned}
 use Rattle.model.specs.Histories.{Call, begins, commits, abandons, inserts, deletes, callBy}
-use Rattle.model.specs.Settings.{Machine, start, put, edited, step, Both, onward, together, fits, isEdit}
-use Rattle.model.proofs.Lists.{both-true, both-intro, all-cons}
+use Rattle.model.specs.Settings.{Machine, start, put, edited, step, Both, onward, together, fits}
+use Rattle.model.proofs.Lists.{all-cons}
 use Rattle.model.proofs.Members.{holds-true, true-holds, not-both, bool-cases}
 use Rattle.model.proofs.Local.{applied}
-use Rattle.model.proofs.Given.{Sound, from-tests, to-tests}
+use Rattle.model.proofs.Given.{Sound, to-tests}
 use Rattle.model.proofs.Main.{Changed}
-use Rattle.model.proofs.Undo.{Undone}
 use Rattle.model.proofs.Edit.{keep-all}
-use Rattle.model.proofs.Fits.{numbered-by, insert-by, delete-by, insert-changes, delete-changes, insert-undone, delete-undone}
+use Rattle.model.proofs.Fits.{numbered-by, insert-by, delete-by, insert-changes, delete-changes}
 use Rattle.model.proofs.Lookups.{lookup-is}
-use Rattle.model.proofs.Preserve.{Follows, Sounds, insert-keeps, delete-keeps}
+use Rattle.model.proofs.Preserve.{Sounds, insert-keeps, delete-keeps}
 use Rattle.model.proofs.Turns.{store, commit-sound, begin-sound, begin-shows, fresh-sound, fresh-shows}
 use Rattle.model.proofs.Abandon.{abandon-sound, settings-kept}
 

@@ -1,30 +1,30 @@
 -- What holds of all pages together on the way up, and after it.
 -- Assumes nothing.
-use Prim.Native.Nat.{ℕ, zero, suc, _+_, _*_, _≤_, _<_}
+use Prim.Native.Nat.{ℕ, suc, _*_, _≤_, _<_}
 use native.Mathlib.Omega.{arith}
-use mathlib.Core.Bool.{Bool, true, false, _&&_, _||_, not}
-use mathlib.Core.Path.{_≡_, refl, ap, ap₂, sym, _∙_, subst}
+use mathlib.Core.Bool.{Bool, true, false, _&&_, not}
+use mathlib.Core.Path.{_≡_, refl, ap, sym, _∙_, subst}
 use mathlib.Core.Logic.{_⊎_, inl, inr, _≢_}
-use mathlib.Core.List.{List, [], _∷_, _++_, map}
+use mathlib.Core.List.{List, [], _∷_, _++_}
 use lib.Dec.{leb, ltb, eqb}
 use lib.ListN.{length, set, length-set}
 use lib.Seq.{getD-set-same, getD-set-other}
-use borrow.Author.Tests.{ltb-true, ltb-false, leb-true, leb-false, eqb-true, eqb-false, lt-ltb, le-leb, lt-leb, le-ltb, eq-eqb, ne-eqb, not-true}
-use Rattle.model.specs.Basic.{keep, those, has, all}
+use borrow.Author.Tests.{ltb-true, eqb-true, eqb-false, lt-ltb, le-leb, eq-eqb, ne-eqb, not-true}
+use Rattle.model.specs.Basic.{has, all}
 use Rattle.model.specs.declared.Entry.{Entry}
 use Rattle.model.specs.declared.Pair.{Pair}
-use Rattle.model.specs.Entry.{pair, pairOf, alive, within, liveAt, born, endThose, endedAt}
-use Rattle.model.specs.Page.{Page, Change, free, isFree, active, goneIf, gone, bornAll, pairsAt, changed, wanted, killed, filled}
+use Rattle.model.specs.Entry.{pair, alive, within, liveAt, born, endThose, endedAt}
+use Rattle.model.specs.Page.{Page, Change, free, isFree, active, goneIf, gone, pairsAt, changed, wanted, killed, filled}
 use Rattle.model.specs.Store.{page}
 use Rattle.model.specs.Basic.{inOrder}
-use Rattle.model.proofs.Lists.{both-true, both-intro, all-cons}
-use Rattle.model.proofs.Members.{not-both, bool-cases, In, in-left, in-right, in-append, in-map, map-in}
+use Rattle.model.proofs.Lists.{both-true, both-intro}
+use Rattle.model.proofs.Members.{not-both, In, in-left, in-right, in-append, in-map, map-in}
 use Rattle.model.proofs.Place.{byKey, show-changed, show-filled}
 use Rattle.model.proofs.Edit.{lt}
 use Rattle.model.proofs.Shows.{same?, in-list}
 use Rattle.model.proofs.Given.{livesAt}
-use Rattle.model.proofs.Fitted.{kindOk, EntryFit, PageFit, in-born, Since, stayed, ended, in-end, changed-fit, killed-fit, filled-fit}
-use Rattle.model.proofs.Redo.{values, page-set-at, Fill, Spare, unused, member, Now, same, went, came, Stands, Redone}
+use Rattle.model.proofs.Fitted.{kindOk, PageFit, in-born, Since, stayed, ended, in-end, changed-fit, killed-fit, filled-fit}
+use Rattle.model.proofs.Redo.{values, page-set-at, Fill, unused, member, Now, same, went, came, Stands, Redone}
 
 module _ (least : ℕ) (two-or-more : 2 ≤ least) (w : ℕ) (lim : w < alive) (pos : 1 ≤ w) (N : ℕ) where
   abbrev pub Lives : List Page → ℕ → Type 0

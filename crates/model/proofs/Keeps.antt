@@ -1,41 +1,42 @@
 -- The way up, step by step: what rules 1, 3 and 6 ask is kept.
 -- Assumes nothing.
-use Prim.Native.Nat.{ℕ, zero, suc, _+_, _*_, _≤_, _<_}
+use Prim.Native.Nat.{ℕ, zero, suc, _*_, _≤_, _<_}
 use native.Mathlib.Omega.{arith}
-use mathlib.Core.Bool.{Bool, true, false, _&&_, _||_, not}
+use mathlib.Core.Bool.{Bool, true, false, _&&_, not}
 use mathlib.Core.Option.{Option, none, some}
-use mathlib.Core.Path.{_≡_, refl, ap, ap₂, sym, _∙_, subst}
+use mathlib.Core.Path.{_≡_, refl, ap, sym, _∙_, subst}
 use mathlib.Core.Logic.{_⊎_, inl, inr, _≢_}
 use mathlib.Core.List.{List, [], _∷_, _++_, map}
-use lib.Dec.{leb, ltb, eqb, lit<}
+use lib.Dec.{leb, ltb, lit<}
 use lib.ListN.{length, set, length-append}
 use lib.Seq.{getD-set-other}
-use borrow.Author.Tests.{ltb-true, ltb-false, leb-true, leb-false, eqb-true, lt-ltb, le-leb, eq-eqb, ne-eqb}
+use borrow.Author.Tests.{ltb-true, ltb-false, leb-true, leb-false, lt-ltb, ne-eqb}
 use Rattle.model.specs.Basic.{keep, those, all, any}
 use Rattle.model.specs.declared.Entry.{Entry}
 use Rattle.model.specs.declared.Pair.{Pair}
 use Rattle.model.specs.Entry.{pair, pairOf, alive, within, liveAt}
-use Rattle.model.specs.Page.{Page, Change, free, isFree, pairsAt, changed, wanted, killed, filled, gone, active}
+use Rattle.model.specs.Page.{Page, Change, free, isFree, pairsAt, changed, wanted, killed, filled, gone}
 use Rattle.model.specs.Store.{page, freeOnes}
 use Rattle.model.specs.Walk.{Around, keyLimit}
 use Rattle.model.specs.Basic.{inOrder}
 use Rattle.model.specs.Sound.{fewest}
 use Rattle.model.specs.Rules
-use Rattle.model.specs.Rules.{Group, Parts, one, two, Rebuilt, rebuilt, short, lowKey, exchange, samePair, Worked, settled, upward, lacking, Rooted, stays, moves, lacks, roomy, goOn, climb, work, workRoot, usable, retire}
+use Rattle.model.specs.Climb
+use Rattle.model.specs.Rules.{Group, one, Rebuilt, rebuilt, short, lowKey, exchange, samePair, Worked, settled, upward, lacking, roomy, work, usable}
+use Rattle.model.specs.Climb.{Rooted, stays, moves, lacks, goOn, climb, workRoot}
 use Rattle.model.proofs.Lists.{both-true, both-intro, all-cons}
-use Rattle.model.proofs.Members.{not-both, bool-cases, In, in-left, in-right, in-append, in-map, map-in, in-those, all-in, all-by}
-use Rattle.model.proofs.Tree.{Says, Row, Link, Holds, Tree, OfPage, row-keys}
+use Rattle.model.proofs.Members.{not-both, bool-cases, In, in-left, in-right, in-those, all-in, all-by}
+use Rattle.model.proofs.Tree.{Says, Row, Holds, Tree, row-keys}
 use Rattle.model.proofs.Local.{all-left, all-right, all-append}
 use Rattle.model.proofs.Edit.{lt}
-use Rattle.model.proofs.Shows.{Touched, spare, inside, LastIs, HeadIs, Company, Tidy, Place, Top, Way, Standing, Some, in-list}
-use Rattle.model.proofs.Rise.{Olds, lone, twin, Apart, Raised, RebuiltShows, raise-by}
-use Rattle.model.proofs.Numbers.{Member, Members, moved-retire, length-retire, uses-usable, apart-usable, Unlike}
+use Rattle.model.proofs.Shows.{Touched, spare, Tidy, Top, Some, in-list}
+use Rattle.model.proofs.Rise.{Olds, lone, twin, Apart, RebuiltShows, raise-by}
+use Rattle.model.proofs.Numbers.{Members, moved-retire, length-retire, uses-usable, apart-usable, Unlike}
 use Rattle.model.proofs.Climbs
-use Rattle.model.proofs.Climbs.{Pending, Grouped, made-of, rise, standing-lives, want, GroupOf, group-of, flat}
-use Rattle.model.proofs.Given.{Span, livesAt}
+use Rattle.model.proofs.Climbs.{Pending, Grouped, made-of, rise, standing-lives, GroupOf, group-of, flat}
 use Rattle.model.proofs.Fitted.{kindOk, PageFit, shown-kinds, wanted-kinds}
-use Rattle.model.proofs.Redo.{values, Distinct, in-frees, Fill, Spare, unused, member, in-usable, Now, same, went, came, Redone, RedoneOr, redone-by}
-use Rattle.model.proofs.Inv.{Lives, Held, Final, Pend, Inv, gone-cases, inv-placed, inv-up, inv-root, inv-crowned, inv-deposed}
+use Rattle.model.proofs.Redo.{values, Distinct, in-frees, Spare, unused, member, in-usable, Now, same, went, came, Redone, RedoneOr, redone-by}
+use Rattle.model.proofs.Inv.{Final, Pend, Inv, gone-cases, inv-placed, inv-up, inv-root, inv-crowned, inv-deposed}
 
 -- the keys of a row rise
 pub row-order : (S : Says) (hi : ℕ) (rs : List Pair) (lo : ℕ) (zs : List Pair) → Row S hi rs lo zs → inOrder lt rs ≡ true
@@ -361,8 +362,8 @@ module _ (least : ℕ) (two-or-more : 2 ≤ least) (w : ℕ) (lim : w < alive) (
     not-others i x j d t = absurd (d (mem-olds i j))
 
     crowned-by : (qs : List Page) (news : List Pair) (ns : List ℕ) → ((n : ℕ) → In n ns → In n (freeOnes qs)) → Redone least two-or-more w N ps qs (suc l) olds hope news → inOrder lt news ≡ true
-        → RootedKeeps r (Rules.topped w (suc l) qs news ns)
-    unfolding Rules.topped
+        → RootedKeeps r (Climb.topped w (suc l) qs news ns)
+    unfolding Climb.topped
     crowned-by qs news [] f d o = tt
     crowned-by qs news (n ∷ ns) f d o =
         let (x, y, z) = in-frees qs n (f n (inl refl)) in
@@ -374,8 +375,8 @@ module _ (least : ℕ) (two-or-more : 2 ≤ least) (w : ℕ) (lim : w < alive) (
           low = λ m e. omega (arith, ap (λ (p : Page). p .level) (getD-set-other qs n m (filled w (suc (suc l)) news) free e), low-redone ps qs l olds hope news d (k .low) (omega (arith, k .low r, level)) m);
         }
 
-    root-handed : (x : Rebuilt) → RedoneOr least two-or-more w N ps (suc l) olds hope x → NewsRise x → RootedKeeps r (Rules.newRoot w (suc l) x)
-    unfolding Rules.newRoot
+    root-handed : (x : Rebuilt) → RedoneOr least two-or-more w N ps (suc l) olds hope x → NewsRise x → RootedKeeps r (Climb.newRoot w (suc l) x)
+    unfolding Climb.newRoot
     root-handed short d o = tt
     root-handed (rebuilt qs []) d o = tt
     root-handed (rebuilt qs (x ∷ [])) d o = record {
@@ -388,18 +389,18 @@ module _ (least : ℕ) (two-or-more : 2 ≤ least) (w : ℕ) (lim : w < alive) (
         only m (inr z) = absurd z
     root-handed (rebuilt qs (x ∷ y ∷ zs)) d o = crowned-by qs (x ∷ y ∷ zs) (freeOnes qs) (λ n i. i) d o
 
-    root-stay : (b : Bool) → roomy least w c (page ps r) ≡ b → RootedKeeps r (Rules.rootStay least b w ps r c (page ps r))
-    unfolding Rules.rootStay Rules.rebuild Rules.parts
+    root-stay : (b : Bool) → roomy least w c (page ps r) ≡ b → RootedKeeps r (Climb.rootStay least b w ps r c (page ps r))
+    unfolding Climb.rootStay Rules.rebuild Rules.parts
     root-stay true e = record {
       inv = inv-placed least two-or-more w lim pos N ps r l c (λ (m : ℕ). m ≡ r) vr level (tidy .order) (tidy .starts) (endless-by (page ps r) root-fit lives) (leb-true _ (5 * least) e) (k .takes) hope-order;
       low = λ m d. omega (arith, ap (λ (p : Page). p .level) (getD-set-other ps r m (changed w c (page ps r)) free d), k .low m);
     }
     root-stay false e =
-        subst (λ (i : ℕ). RootedKeeps r (Rules.newRoot w i (Rules.rebuildWith w i ps olds (Rules.partsBy (leb (length hope) (4 * least)) hope) (usable w ps olds)))) (sym level)
+        subst (λ (i : ℕ). RootedKeeps r (Climb.newRoot w i (Rules.rebuildWith w i ps olds (Rules.partsBy (leb (length hope) (4 * least)) hope) (usable w ps olds)))) (sym level)
         (root-handed (Rules.rebuildWith w (suc l) ps olds (Rules.partsBy (leb (length hope) (4 * least)) hope) (usable w ps olds)) (redone-root (leb (length hope) (4 * least)) refl) (rise-root (leb (length hope) (4 * least)) refl (full e)))
 
-    root-go : (b : Bool) (us : List Pair) → hope ≡ us → RootedKeeps r (Rules.rootGo least b w ps r c (page ps r) us)
-    unfolding Rules.rootGo
+    root-go : (b : Bool) (us : List Pair) → hope ≡ us → RootedKeeps r (Climb.rootGo least b w ps r c (page ps r) us)
+    unfolding Climb.rootGo
     root-go true (x ∷ []) f = record {
       inv = inv-deposed least two-or-more w lim pos N ps r l x (subst (λ (us : List Pair). Inv least two-or-more w lim pos N ps (λ (m : ℕ). m ≡ r) (Pend least two-or-more w lim pos N ps r us)) f vr) level;
       low = λ m d. low-deposed m (package.Rattle.model.proofs.Redo.page-set-at ps r m (gone w (page ps r)) (in-list ps r l level));
@@ -417,7 +418,7 @@ module _ (least : ℕ) (two-or-more : 2 ≤ least) (w : ℕ) (lim : w < alive) (
     root-go false us f = root-stay _ refl
 
     pub root-keeps : RootedKeeps r (workRoot least w ps r c)
-    unfolding Rules.workRoot
+    unfolding Climb.workRoot
     root-keeps = root-go _ _ refl
 
   pub climb-keeps : (r : ℕ) (up : List Around) (l : ℕ) (c : Change) (ps : List Page) (total : List Pair) (p : Pending least two-or-more w lim ps r l up c total) → Keeps ps r (p .n) l c → RootedKeeps r (climb least w r up c ps)

@@ -1,22 +1,22 @@
 -- A change to keys between lo and hi touches nothing outside; and what a page holds is put together and taken apart by key.
 -- Assumes nothing.
-use Prim.Native.Nat.{ℕ, zero, suc, _+_, _≤_, _<_}
+use Prim.Native.Nat.{ℕ, zero, suc, _≤_, _<_}
 use native.Mathlib.Omega.{arith}
-use mathlib.Core.Bool.{Bool, true, false, _&&_, _||_, not}
+use mathlib.Core.Bool.{Bool, true, false, _||_, not}
 use mathlib.Core.Path.{_≡_, refl, ap, ap₂, sym, _∙_, subst}
 use mathlib.Core.Logic.{_⊎_, inl, inr}
-use mathlib.Core.List.{List, [], _∷_, _++_, map, append-assoc}
+use mathlib.Core.List.{List, [], _∷_, _++_, map}
 use lib.Dec.{leb, ltb, eqb}
 use borrow.Author.Tests.{ltb-true, leb-true, lt-ltb, le-ltb, le-leb, ne-eqb, eq-eqb, eqb-true}
-use Rattle.model.specs.Basic.{all, any, has, those, keep}
+use Rattle.model.specs.Basic.{all, has, those, keep}
 use Rattle.model.specs.declared.Pair.{Pair}
-use Rattle.model.specs.Entry.{pair, within, placed, enterPair}
-use Rattle.model.specs.Page.{Page, Change, enterAll, pairsAt, wanted}
+use Rattle.model.specs.Entry.{within, placed, enterPair}
+use Rattle.model.specs.Page.{Page, Change, enterAll}
 use Rattle.model.specs.Basic.{inOrder}
 use Rattle.model.specs.Rules
-use Rattle.model.specs.Rules.{samePair, without}
+use Rattle.model.specs.Rules.{samePair}
 use Rattle.model.proofs.Lists.{both-true, both-intro, all-cons}
-use Rattle.model.proofs.Tree.{Says, Row, Link, LeafHolds, Holds, Tree, OfPage, widen, row-append, row-split, row-keys, row-le}
+use Rattle.model.proofs.Tree.{Row, Holds, Tree, widen, row-append, row-split, row-keys}
 
 abbrev pub applied : Change → List Pair → List Pair
 applied c xs = enterAll (c .take) (those (λ (x : Pair). not (has (x .key) (c .drop))) xs)

@@ -1,27 +1,27 @@
 -- A lookup finds what the settings have; settings stand by key, each key once.
 -- Assumes nothing.
-use Prim.Native.Nat.{ℕ, zero, suc, _+_, _≤_, _<_}
+use Prim.Native.Nat.{ℕ, zero, suc, _≤_, _<_}
 use native.Mathlib.Omega.{arith}
-use mathlib.Core.Bool.{Bool, true, false, _&&_, _||_, not}
-use mathlib.Core.Option.{Option, none, some}
-use mathlib.Core.Path.{_≡_, refl, ap, ap₂, sym, _∙_, subst}
+use mathlib.Core.Bool.{Bool, true, false, _&&_}
+use mathlib.Core.Option.{none, some}
+use mathlib.Core.Path.{_≡_, refl, ap, sym, _∙_, subst}
 use mathlib.Core.Logic.{_⊎_, inl, inr}
 use mathlib.Core.List.{List, [], _∷_, _++_}
 use lib.Dec.{T, leb, ltb, eqb}
 use borrow.Author.Tests.{leb-true, ltb-true, ne-eqb}
-use Rattle.model.specs.Basic.{all, those, keep, pick}
+use Rattle.model.specs.Basic.{pick}
 use Rattle.model.specs.declared.Pair.{Pair}
 use Rattle.model.specs.Entry.{within}
 use Rattle.model.specs.Page.{Page, pairsAt}
 use Rattle.model.specs.Store.{Store, page, last}
-use Rattle.model.specs.Walk.{Around, around, find, lookup, settings, between, rootAt, heightOf, way, wayDown, leafOf, keyLimit}
+use Rattle.model.specs.Walk.{Around, around, find, lookup, settings, between, rootAt, heightOf, wayDown, leafOf, keyLimit}
 use Rattle.model.specs.Basic.{inOrder}
 use Rattle.model.specs.Sound.{sound}
-use Rattle.model.proofs.Lists.{both-true, both-intro, all-cons}
+use Rattle.model.proofs.Lists.{both-true, all-cons}
 use Rattle.model.proofs.Members.{holds-true}
-use Rattle.model.proofs.Tree.{Row, Link, Holds, Tree, OfPage, row-le, widen}
+use Rattle.model.proofs.Tree.{Row, Holds, Tree}
 use Rattle.model.proofs.Local.{inRange, order-append}
-use Rattle.model.proofs.Descend.{Found, found-in}
+use Rattle.model.proofs.Descend.{found-in}
 use Rattle.model.proofs.Main.{row-range, holds-range}
 use Rattle.model.proofs.Edit.{rising-those}
 use Rattle.model.proofs.Given.{Sound, from-tests}

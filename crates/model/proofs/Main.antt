@@ -1,26 +1,26 @@
 -- An accepted update changes the settings at the open version by its change, and by nothing else.
 -- Assumes nothing.
-use Prim.Native.Nat.{ℕ, zero, suc, _+_, _≤_, _<_, pred}
+use Prim.Native.Nat.{ℕ, zero, suc, _≤_, _<_, pred}
 use native.Mathlib.Omega.{arith}
-use mathlib.Core.Bool.{Bool, true, false, _&&_, _||_, not}
-use mathlib.Core.Path.{_≡_, refl, ap, ap₂, sym, _∙_, subst}
+use mathlib.Core.Bool.{Bool, true, false, not}
+use mathlib.Core.Path.{_≡_, refl, ap, sym, _∙_, subst}
 use mathlib.Core.List.{List, [], _∷_, _++_, append-nil}
-use lib.Dec.{leb, eqb, lit<}
+use lib.Dec.{eqb}
 use lib.ListN.{length}
 use borrow.Author.Tests.{le-leb}
-use Rattle.model.specs.Basic.{all, those, pick}
+use Rattle.model.specs.Basic.{all, those}
 use Rattle.model.specs.declared.Pair.{Pair}
 use Rattle.model.specs.Entry.{alive, within}
 use Rattle.model.specs.Page.{Page, Change, pairsAt, wanted}
 use Rattle.model.specs.declared.Slot.{Slot}
 use Rattle.model.specs.Store.{Store, page, next}
 use Rattle.model.specs.Walk.{Around, rootFrom, rootAt, below, heightOf, settings, way, wayDown, leafOf, keyLimit}
-use Rattle.model.specs.Rules
-use Rattle.model.specs.Rules.{Rooted, stays, moves, lacks, Result, done, refused, roomy, climb, update}
-use Rattle.model.proofs.Lists.{both-true, both-intro, all-cons}
-use Rattle.model.proofs.Tree.{Row, Link, LeafHolds, Holds, Tree, OfPage, widen, row-le, holds-below}
+use Rattle.model.specs.Climb
+use Rattle.model.specs.Rules.{roomy}
+use Rattle.model.specs.Climb.{Rooted, stays, moves, lacks, Result, done, refused, update}
+use Rattle.model.proofs.Tree.{Row, LeafHolds, Holds, Tree, widen, row-le, holds-below}
 use Rattle.model.proofs.Local.{applied, applied-between, inRange, all-append}
-use Rattle.model.proofs.Shows.{Place, Top, Way, Shows, Some, Tidy}
+use Rattle.model.proofs.Shows.{Way, Shows, Some, Tidy}
 use Rattle.model.proofs.Climbs.{Pending, Anchor, RootedShows, climb-shows, standing-lives, nearly-by}
 use Rattle.model.proofs.Descend.{Leads, LeafAnchor, descend}
 
@@ -70,8 +70,8 @@ pub root-put : (w n r : ℕ) (xs : List Slot) → rootFrom r (xs ++ (record { ve
 root-put w n r [] = rw (le-leb w w (omega arith))
 root-put w n r (x ∷ xs) = root-put w n _ xs
 
-pub root-new : (w n : ℕ) (xs : List Slot) → rootAt (Rules.putSlot w n xs) w ≡ n
-unfolding Rules.putSlot
+pub root-new : (w n : ℕ) (xs : List Slot) → rootAt (Climb.putSlot w n xs) w ≡ n
+unfolding Climb.putSlot
 root-new w n xs = root-put w n 0 (those (λ (x : Slot). not (eqb (x .version) w)) xs)
 
 -- the pairs of the leaf for k
@@ -155,20 +155,20 @@ module _ (least : ℕ) (s : Store) (k : ℕ) (c : Change) (f : Fit least s k c) 
             (widen 0 (g .lo) 0 k (g .xs) (omega arith) (g .from) (o .less)) (widen (g .hi) keyLimit (suc k) keyLimit (g .ys) (g .upto) (omega arith) (o .more));
       }
 
-  slotted : (b : Bool) (n : ℕ) (ps : List Page) → Shows least w ps n (applied c (settings s w)) → Changed s c (Rules.slotted b s (Rules.putSlot w n (s .slots)) ps)
-  unfolding Rules.slotted Rules.putSlot
+  slotted : (b : Bool) (n : ℕ) (ps : List Page) → Shows least w ps n (applied c (settings s w)) → Changed s c (Climb.slotted b s (Climb.putSlot w n (s .slots)) ps)
+  unfolding Climb.slotted Climb.putSlot
   slotted true n ps h =
       subst (λ (i : ℕ). below (heightOf ps i) ps w i ≡ applied c (settings s w)) (sym (root-put w n 0 (those (λ (x : Slot). not (eqb (x .version) w)) (s .slots))))
       (shows-settings least w ps n (applied c (settings s w)) h)
   slotted false n ps h = tt
 
-  rooted : (x : Rooted) → RootedShows least (f .two-or-more) w (f .limit) r (applied c (settings s w)) x → Changed s c (Rules.rooted least s x)
-  unfolding Rules.rooted
+  rooted : (x : Rooted) → RootedShows least (f .two-or-more) w (f .limit) r (applied c (settings s w)) x → Changed s c (Climb.rooted least s x)
+  unfolding Climb.rooted
   rooted (stays ps) h = shows-settings least w ps r (applied c (settings s w)) h
   rooted (moves n ps) h = slotted _ n ps h
   rooted lacks h = tt
 
   -- The settings at the open version change by the change at the key.
   pub update-changes : Changed s c (update least s k c)
-  unfolding Rules.update
+  unfolding Climb.update
   update-changes = rooted _ (climb-shows least (f .two-or-more) w (f .limit) r (way s w k) 0 c (s .pages) (applied c (settings s w)) pending)

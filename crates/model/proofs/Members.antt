@@ -1,16 +1,16 @@
 -- Members of lists, and tests over all of a list taken member by member and place by place.
 -- Assumes nothing.
-use Prim.Native.Nat.{ℕ, zero, suc, _+_, _-_, _≤_, _<_}
+use Prim.Native.Nat.{ℕ, zero, suc, _+_, _≤_, _<_}
 use native.Mathlib.Omega.{arith}
-use mathlib.Core.Bool.{Bool, true, false, _&&_, _||_, not}
+use mathlib.Core.Bool.{Bool, true, false, _||_}
 use mathlib.Core.Path.{_≡_, refl, ap, sym, _∙_, subst}
 use mathlib.Core.Logic.{_⊎_, inl, inr}
 use mathlib.Core.List.{List, [], _∷_, _++_, map}
-use lib.Dec.{T, leb, ltb, eqb}
-use lib.ListN.{length, getD, take, drop}
+use lib.Dec.{T, eqb}
+use lib.ListN.{length, getD}
 use borrow.Author.Tests.{eqb-true, eqb-false, eq-eqb}
-use Rattle.model.specs.Basic.{keep, those, all, any, has, count, flatMap}
-use Rattle.model.proofs.Lists.{both-true, both-intro, all-cons}
+use Rattle.model.specs.Basic.{keep, those, all, has, count}
+use Rattle.model.proofs.Lists.{both-intro, all-cons}
 
 pub holds-true : (b : Bool) → T b → b ≡ true
 holds-true true t = refl

@@ -1,12 +1,11 @@
 -- From the tree that a root shows to the tests of rules 4 and 5, and what each page that it reaches is.
 -- Assumes nothing.
-use Prim.Native.Nat.{ℕ, zero, suc, _+_, _*_, _≤_, _<_}
-use native.Mathlib.Omega.{arith}
-use mathlib.Core.Bool.{Bool, true, false, _&&_, _||_, not}
-use mathlib.Core.Path.{_≡_, refl, ap, sym, _∙_, subst}
-use mathlib.Core.Logic.{_⊎_, inl, inr}
-use mathlib.Core.List.{List, [], _∷_, _++_}
-use lib.Dec.{leb, ltb, eqb, eqb·suc-zero}
+use Prim.Native.Nat.{ℕ, zero, suc, _≤_}
+use mathlib.Core.Bool.{Bool, true, false, _||_}
+use mathlib.Core.Path.{_≡_, refl, sym, subst}
+use mathlib.Core.Logic.{inl, inr}
+use mathlib.Core.List.{List, [], _∷_}
+use lib.Dec.{eqb}
 use lib.ListN.{length}
 use borrow.Author.Tests.{eq-eqb, le-leb}
 use Rattle.model.specs.Basic.{all}
@@ -14,17 +13,16 @@ use Rattle.model.specs.declared.Pair.{Pair}
 use Rattle.model.specs.Entry.{within}
 use Rattle.model.specs.Page.{Page, pairsAt}
 use Rattle.model.specs.Store.{page}
-use Rattle.model.specs.Basic.{inOrder}
-use Rattle.model.specs.Sound.{keysOk, startsAt, fewest}
+use Rattle.model.specs.Sound.{startsAt, fewest}
 use Rattle.model.specs.Walk.{Seen, seenAs, seenUnder, seenBelow, spread, keyLimit}
-use Rattle.model.proofs.Lists.{both-true, both-intro, all-cons}
-use Rattle.model.proofs.Members.{In, all-implies, either-left, either-right}
-use Rattle.model.proofs.Tree.{Fair, Says, Row, Link, Holds, Tree, OfPage}
-use Rattle.model.proofs.Local.{inRange, holds-keys, all-append}
-use Rattle.model.proofs.Shows.{RootFair, Shows}
+use Rattle.model.proofs.Lists.{both-intro}
+use Rattle.model.proofs.Members.{In, either-left, either-right}
+use Rattle.model.proofs.Tree.{Row, Holds, Tree}
+use Rattle.model.proofs.Local.{holds-keys, all-append}
+use Rattle.model.proofs.Shows.{RootFair}
 use Rattle.model.proofs.Bridge.{passesAt}
 use Rattle.model.proofs.Keeps.{holds-order}
-use Rattle.model.proofs.Walks.{Reach, Self, Deeper}
+use Rattle.model.proofs.Walks.{Reach, Self}
 
 module _ (least w : ℕ) (ps : List Page) where
   -- a router of a row leads to a tree

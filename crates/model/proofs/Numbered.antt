@@ -1,24 +1,24 @@
 -- "their number is those inserts less those deletes"
 -- Assumes nothing.
-use Prim.Native.Nat.{ℕ, zero, suc, _+_, _*_, _≤_, _<_}
+use Prim.Native.Nat.{ℕ, suc, _+_, _≤_}
 use native.Mathlib.Omega.{arith}
-use mathlib.Core.Bool.{Bool, true, false, _&&_, _||_, not}
+use mathlib.Core.Bool.{Bool, true, false, not}
 use mathlib.Core.Path.{_≡_, refl, ap, ap₂, sym, _∙_, subst}
 use mathlib.Core.Logic.{_⊎_, inl, inr, _≢_}
-use mathlib.Core.List.{List, [], _∷_, _++_, map}
-use lib.Dec.{T, leb, ltb, eqb}
+use mathlib.Core.List.{List, [], _∷_}
+use lib.Dec.{T, leb, eqb}
 use lib.ListN.{length}
-use borrow.Author.Tests.{eqb-true, eqb-false, eq-eqb, ne-eqb, ltb-true, not-false, leb-false, leb-true}
+use borrow.Author.Tests.{eqb-true, eqb-false, eq-eqb, ne-eqb, not-false}
 use Rattle.model.specs.Basic.{all, pick, those}
 use Rattle.model.specs.declared.Pair.{Pair}
 use Rattle.model.specs.Entry.{pair, enterPair}
-use Rattle.model.specs.Store.{Store, next, last, lastOf, fresh}
+use Rattle.model.specs.Store.{Store, next, last, lastOf}
 use Rattle.model.specs.Walk.{settings}
 use Rattle.model.specs.Sound.{sound}
-use Rattle.model.specs.Rules.{Result, done, refused}
+use Rattle.model.specs.Climb.{Result, done, refused}
 use Rattle.model.specs.Calls.{rule, insert, delete, begin, commit, abandon, abandoned}
 use Rattle.model.specs.Histories.{Call, begins, commits, abandons, inserts, deletes, callBy}
-use Rattle.model.specs.Settings.{Machine, step, Both, onward, together, fits, Tally, nothingYet, putCount, counted, countedBy, tallied}
+use Rattle.model.specs.Settings.{Machine, step, Both, onward, together, fits, Tally, nothingYet, putCount, countedBy, tallied}
 use Rattle.model.proofs.Lists.{all-cons}
 use Rattle.model.proofs.Members.{holds-true, true-holds, not-both, bool-cases}
 use Rattle.model.proofs.Given.{to-tests}

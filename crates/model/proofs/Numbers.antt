@@ -1,19 +1,18 @@
 -- The numbers of the pages that a group may use.
 -- Assumes nothing.
-use Prim.Native.Nat.{ℕ, zero, suc, _+_, _≤_, _<_}
+use Prim.Native.Nat.{ℕ, suc, _+_, _≤_, _<_}
 use native.Mathlib.Omega.{arith}
-use mathlib.Core.Bool.{Bool, true, false, not}
-use mathlib.Core.Path.{_≡_, refl, ap, sym, _∙_, subst}
-use mathlib.Core.Logic.{_⊎_, inl, inr, _≢_}
+use mathlib.Core.Bool.{Bool, true, false}
+use mathlib.Core.Path.{_≡_, refl, ap, sym, _∙_}
+use mathlib.Core.Logic.{_≢_}
 use mathlib.Core.List.{List, [], _∷_, _++_, map}
-use lib.Dec.{eqb}
-use lib.ListN.{length, set, drop, length-set, length-drop}
+use lib.ListN.{length, drop, length-set, length-drop}
 use lib.Seq.{getD-drop}
 use borrow.Author.Tests.{eqb-true}
 use Rattle.model.specs.Basic.{keep, those}
 use Rattle.model.specs.declared.Pair.{Pair}
 use Rattle.model.specs.Entry.{alive}
-use Rattle.model.specs.Page.{Page, free, isFree, active, gone}
+use Rattle.model.specs.Page.{Page, free, isFree, active}
 use Rattle.model.specs.Store.{page, freeFrom, freeOnes}
 use Rattle.model.specs.Rules
 use Rattle.model.specs.Rules.{retire, usable}

@@ -1,17 +1,17 @@
 -- What an update does to a page leaves the entries alive at every older version as they were.
 -- Assumes nothing.
-use Prim.Native.Nat.{ℕ, zero, suc, _+_, _≤_, _<_}
+use Prim.Native.Nat.{ℕ, _<_}
 use native.Mathlib.Omega.{arith}
-use mathlib.Core.Bool.{Bool, true, false, _&&_, _||_, not}
-use mathlib.Core.Path.{_≡_, refl, ap, sym, _∙_, subst}
-use mathlib.Core.List.{List, [], _∷_, _++_, map}
+use mathlib.Core.Bool.{Bool, true, false, _&&_}
+use mathlib.Core.Path.{_≡_, refl, ap, _∙_}
+use mathlib.Core.List.{List, [], _∷_, map}
 use lib.Dec.{leb, ltb, eqb}
 use borrow.Author.Tests.{ltb-true, leb-true, eqb-true, lt-ltb, lt-leb}
 use Rattle.model.specs.Basic.{keep, those, has, all}
 use Rattle.model.specs.declared.Entry.{Entry}
 use Rattle.model.specs.declared.Pair.{Pair}
-use Rattle.model.specs.Entry.{pairOf, within, liveAt, born, before, placed, enter, endOne, endThose, endedAt}
-use Rattle.model.specs.Page.{Page, Change, bornAll, pairsAt, changed, killed, filled, free}
+use Rattle.model.specs.Entry.{pairOf, within, liveAt, born, enter, endOne, endThose}
+use Rattle.model.specs.Page.{Page, Change, bornAll, pairsAt, changed, killed, filled}
 use Rattle.model.proofs.Lists.{both-true, all-cons, map-keep, those-enter}
 
 module _ (v w : ℕ) (old : v < w) where

@@ -1,14 +1,14 @@
 -- Older versions: pages that abandon leaves alike live alike then, and walks see the same.
 -- Assumes nothing.
-use Prim.Native.Nat.{ℕ, zero, suc, _+_, _*_, _≤_, _<_}
+use Prim.Native.Nat.{ℕ, zero, suc, _≤_, _<_}
 use native.Mathlib.Omega.{arith}
-use mathlib.Core.Bool.{Bool, true, false, _&&_, _||_, not}
+use mathlib.Core.Bool.{Bool, true, false, _&&_, not}
 use mathlib.Core.Path.{_≡_, refl, ap, ap₂, sym, _∙_, subst}
 use mathlib.Core.Logic.{_⊎_, inl, inr, _≢_}
 use mathlib.Core.List.{List, [], _∷_, _++_, map}
 use lib.Dec.{leb, ltb, eqb}
-use lib.ListN.{length, getD, List·getD-map}
-use borrow.Author.Tests.{ltb-true, leb-true, eqb-true, eqb-false, lt-ltb, le-leb, lt-leb, eq-eqb, ne-eqb, not-true}
+use lib.ListN.{getD, List·getD-map}
+use borrow.Author.Tests.{ltb-true, leb-true, eqb-true, eqb-false, lt-ltb, le-leb, lt-leb, ne-eqb, not-true}
 use Rattle.model.specs.Basic.{all, those, keep, pick}
 use Rattle.model.specs.declared.Pair.{Pair}
 use Rattle.model.specs.Entry.{alive, within}
@@ -18,10 +18,10 @@ use Rattle.model.specs.Store.{Store, page}
 use Rattle.model.specs.Walk.{rootFrom, rootAt, Around, around, wayDown, way, Seen, seenAs, seenUnder, seenBelow, spread}
 use Rattle.model.specs.Basic.{inOrder}
 use Rattle.model.specs.Sound.{firstVersion}
-use Rattle.model.specs.Rules
-use Rattle.model.specs.Calls.{revivedEnd, restored, backBy, back}
+use Rattle.model.specs.Climb
+use Rattle.model.specs.Calls.{revivedEnd, backBy, back}
 use Rattle.model.proofs.Lists.{both-true, both-intro, all-cons}
-use Rattle.model.proofs.Members.{not-both, bool-cases, In, all-in, all-by, in-those, in-append}
+use Rattle.model.proofs.Members.{not-both, In, all-in, all-by, in-those, in-append}
 use Rattle.model.proofs.Given.{livesAt}
 
 module _ (v w : ℕ) (old : v < w) (lim : w < alive) where
@@ -137,8 +137,8 @@ module _ (w : ℕ) where
   root-snoc v r n h [] = ap (λ (b : Bool). pick b n r) (lt-leb w v h)
   root-snoc v r n h (x ∷ xs) = root-snoc v _ n h xs
 
-  pub root-past : (v n : ℕ) → v < w → (xs : List Slot) → rootAt (Rules.putSlot w n xs) v ≡ rootAt xs v
-  unfolding Rules.putSlot
+  pub root-past : (v n : ℕ) → v < w → (xs : List Slot) → rootAt (Climb.putSlot w n xs) v ≡ rootAt xs v
+  unfolding Climb.putSlot
   root-past v n h xs = root-snoc v 0 n h (those older xs) ∙ root-those v 0 h xs
 
   pub root-kept : (v : ℕ) → v < w → (xs : List Slot) → rootAt (those older xs) v ≡ rootAt xs v
@@ -162,16 +162,16 @@ module _ (w : ℕ) where
       let (c, d) = all-cons (λ (y : Slot). ltb (y .version) w) x xs h in
       both-intro _ _ (package.Rattle.model.proofs.Local.all-append (bySlot x) xs (record { version = w; root = n } ∷ []) a (both-intro _ _ c refl)) (snoc-rise n xs b d)
 
-  pub put-rise : (n : ℕ) (xs : List Slot) → inOrder bySlot xs ≡ true → all (λ (x : Slot). leb (x .version) w) xs ≡ true → inOrder bySlot (Rules.putSlot w n xs) ≡ true
-  unfolding Rules.putSlot
+  pub put-rise : (n : ℕ) (xs : List Slot) → inOrder bySlot xs ≡ true → all (λ (x : Slot). leb (x .version) w) xs ≡ true → inOrder bySlot (Climb.putSlot w n xs) ≡ true
+  unfolding Climb.putSlot
   put-rise n xs o h = snoc-rise n (those older xs) (those-rise xs o) (all-by (λ (x : Slot). ltb (x .version) w) (those older xs) (λ x i. at x (in-those older x xs i)))
     where
       at : (x : Slot) → (older x ≡ true) × In x xs → ltb (x .version) w ≡ true
       at x z = let ne : x .version ≡ w → ⊥ = eqb-false (x .version) w (not-true (eqb (x .version) w) (z .0)) in let le : x .version ≤ w = leb-true (x .version) w (all-in (λ (y : Slot). leb (y .version) w) x xs h (z .1)) in lt-ltb (x .version) w (omega arith)
 
   -- a test on slots
-  pub put-all : (f : Slot → Bool) (n : ℕ) (xs : List Slot) → f (record { version = w; root = n }) ≡ true → ((x : Slot) → In x xs → x .version ≢ w → f x ≡ true) → all f (Rules.putSlot w n xs) ≡ true
-  unfolding Rules.putSlot
+  pub put-all : (f : Slot → Bool) (n : ℕ) (xs : List Slot) → f (record { version = w; root = n }) ≡ true → ((x : Slot) → In x xs → x .version ≢ w → f x ≡ true) → all f (Climb.putSlot w n xs) ≡ true
+  unfolding Climb.putSlot
   put-all f n xs h g = all-by f (those older xs ++ (record { version = w; root = n } ∷ [])) (λ x i. at x (in-append x (those older xs) (record { version = w; root = n } ∷ []) i))
     where
       at : (x : Slot) → In x (those older xs) ⊎ In x (record { version = w; root = n } ∷ []) → f x ≡ true
@@ -183,8 +183,8 @@ module _ (w : ℕ) where
   those-all-of f xs g = all-by f (those older xs) (λ x i. let (a, b) = in-those older x xs i in g x b (eqb-false (x .version) w (not-true (eqb (x .version) w) a)))
 
   -- the first slot, of version 0, stays
-  pub put-first : (n : ℕ) (xs : List Slot) → 0 < w → firstVersion xs ≡ 0 → firstVersion (Rules.putSlot w n xs) ≡ 0
-  unfolding Rules.putSlot
+  pub put-first : (n : ℕ) (xs : List Slot) → 0 < w → firstVersion xs ≡ 0 → firstVersion (Climb.putSlot w n xs) ≡ 0
+  unfolding Climb.putSlot
   put-first n [] h e = absurd (omega arith)
   put-first n (x ∷ xs) h e = ap (λ (b : Bool). firstVersion (keep (not b) x (those older xs) ++ (record { version = w; root = n } ∷ []))) (ne-eqb (x .version) w (λ (z : x .version ≡ w). omega arith)) ∙ e
 

@@ -1,19 +1,19 @@
 -- A change made in place shows, at the open version, the wanted list.
 -- Assumes nothing.
-use Prim.Native.Nat.{ℕ, zero, suc, _+_, _≤_, _<_}
+use Prim.Native.Nat.{ℕ, _<_}
 use native.Mathlib.Omega.{arith}
 use mathlib.Core.Bool.{Bool, true, false, _&&_, _||_, not}
-use mathlib.Core.Path.{_≡_, refl, ap, ap₂, sym, _∙_, subst}
-use mathlib.Core.List.{List, [], _∷_, _++_, map}
+use mathlib.Core.Path.{_≡_, refl, ap, sym, _∙_}
+use mathlib.Core.List.{List, [], _∷_, map}
 use lib.Dec.{leb, ltb, eqb}
-use borrow.Author.Tests.{ltb-true, ltb-false, leb-true, eqb-true, lt-ltb, le-ltb, lt-leb, le-leb, eq-eqb}
+use borrow.Author.Tests.{ltb-true, ltb-false, leb-true, lt-ltb, le-ltb, le-leb}
 use Rattle.model.specs.Basic.{keep, those, has, all}
 use Rattle.model.specs.declared.Entry.{Entry}
 use Rattle.model.specs.declared.Pair.{Pair}
-use Rattle.model.specs.Entry.{pairOf, alive, within, liveAt, born, before, placed, enter, enterPair, endOne, endThose, endedAt}
+use Rattle.model.specs.Entry.{pairOf, alive, liveAt, born, before, placed, enter, enterPair, endOne, endThose, endedAt}
 use Rattle.model.specs.Page.{Page, Change, bornAll, enterAll, pairsAt, changed, wanted, filled}
 use Rattle.model.specs.Basic.{inOrder}
-use Rattle.model.proofs.Lists.{both-true, both-intro, all-cons, all-enter, all-end, map-keep}
+use Rattle.model.proofs.Lists.{both-true, both-intro, all-cons, all-enter, all-end}
 
 module _ (w : ℕ) where
   abbrev pub shown : List Entry → List Pair

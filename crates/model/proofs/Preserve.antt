@@ -1,41 +1,39 @@
 -- An accepted insert or delete leaves a sound store sound.
 -- Assumes nothing.
-use Prim.Native.Nat.{ℕ, zero, suc, _+_, _*_, _-_, _≤_, _<_, pred}
+use Prim.Native.Nat.{ℕ, zero, suc, _*_, _≤_, _<_}
 use native.Mathlib.Omega.{arith}
-use mathlib.Core.Bool.{Bool, true, false, _&&_, _||_, not}
-use mathlib.Core.Option.{Option, none, some}
-use mathlib.Core.Path.{_≡_, refl, ap, ap₂, sym, _∙_, subst}
-use mathlib.Core.Logic.{_⊎_, inl, inr, _≢_}
-use mathlib.Core.List.{List, [], _∷_, _++_, map}
-use lib.Dec.{T, leb, ltb, eqb}
+use mathlib.Core.Bool.{Bool, true, false, _&&_, not}
+use mathlib.Core.Path.{_≡_, refl, ap, sym, _∙_, subst}
+use mathlib.Core.Logic.{_⊎_, inl, inr}
+use mathlib.Core.List.{List, [], _∷_, map}
+use lib.Dec.{leb, ltb, eqb}
 use lib.ListN.{length}
-use borrow.Author.Tests.{leb-true, leb-false, ltb-true, ltb-false, eqb-true, eqb-false, le-leb, lt-ltb, eq-eqb, ne-eqb, not-true}
+use borrow.Author.Tests.{leb-true, eqb-true, le-leb, lt-ltb, eq-eqb}
 use Rattle.model.specs.Basic.{all, has, pick, those, keep}
 use Rattle.model.specs.declared.Pair.{Pair}
 use Rattle.model.specs.declared.Entry.{Entry}
-use Rattle.model.specs.Entry.{pair, alive, pairOf, within, liveAt}
-use Rattle.model.specs.Page.{Page, Change, free, isFree, pairsAt, wanted}
+use Rattle.model.specs.Entry.{pair, alive, pairOf, liveAt}
+use Rattle.model.specs.Page.{Page, Change, isFree, pairsAt, wanted}
 use Rattle.model.specs.declared.Slot.{Slot}
-use Rattle.model.specs.Store.{Store, page, next, lastOf, last}
-use Rattle.model.specs.Walk.{rootAt, heightOf, settings, way, keyLimit, lookup}
-use Rattle.model.specs.Basic.{inOrder}
-use Rattle.model.specs.Sound.{sound, isPage, inside, leadsWell}
-use Rattle.model.specs.Rules
-use Rattle.model.specs.Rules.{Rooted, stays, moves, lacks, Result, done, refused, climb, update}
-use Rattle.model.specs.Calls.{back, isSome, insert, delete}
-use Rattle.model.proofs.Lists.{both-true, both-intro, all-cons}
-use Rattle.model.proofs.Members.{holds-true, true-holds, not-both, either-true, bool-cases, In, all-in, all-by}
-use Rattle.model.proofs.Given.{Sound, from-tests, to-tests, GoodPage, GoodEntry, Span, span-of, entry-of, livesAt, used-in, high-used}
-use Rattle.model.proofs.Walks.{Reach, Self, Above, last-step}
+use Rattle.model.specs.Store.{Store, page, next, last}
+use Rattle.model.specs.Walk.{rootAt, heightOf, settings, way, keyLimit}
+use Rattle.model.specs.Sound.{isPage, inside}
+use Rattle.model.specs.Climb
+use Rattle.model.specs.Climb.{Rooted, stays, moves, lacks, Result, done, refused, climb, update}
+use Rattle.model.specs.Calls.{insert, delete}
+use Rattle.model.proofs.Lists.{both-true, both-intro}
+use Rattle.model.proofs.Members.{not-both, either-true, bool-cases, all-in}
+use Rattle.model.proofs.Given.{Sound, GoodEntry, Span, span-of, entry-of, used-in, high-used}
+use Rattle.model.proofs.Walks.{Self, Above, last-step}
 use Rattle.model.proofs.Local.{applied}
-use Rattle.model.proofs.Undo.{climb-fine, RootedFine, Ready}
+use Rattle.model.proofs.Undo.{climb-fine, RootedFine}
 use Rattle.model.proofs.Climbs.{Pending, RootedShows, climb-shows}
-use Rattle.model.proofs.Main.{Fit, pending, root-put}
-use Rattle.model.proofs.Edit.{length-enter, keep-all}
-use Rattle.model.proofs.Fits.{used-level, level-used, reached-of, lives-of, reach-level, root-level, ready, fit-insert, fit-delete, insert-by, delete-by, last-is}
+use Rattle.model.proofs.Main.{Fit, pending}
+use Rattle.model.proofs.Edit.{length-enter}
+use Rattle.model.proofs.Fits.{level-used, reached-of, lives-of, reach-level, root-level, ready, fit-insert, fit-delete, insert-by, delete-by, last-is}
 use Rattle.model.proofs.Fitted.{kindOk, EntryFit, PageFit}
-use Rattle.model.proofs.Inv.{Lives, Held, OldLead, Pend, Inv, lives-used}
-use Rattle.model.proofs.Keeps.{Keeps, Kept, RootedKeeps, climb-keeps}
+use Rattle.model.proofs.Inv.{Lives, Held, OldLead, Pend, Inv}
+use Rattle.model.proofs.Keeps.{Keeps, RootedKeeps, climb-keeps}
 use Rattle.model.proofs.Past.{Steady, root-past, put-rise, put-all, put-first}
 use Rattle.model.proofs.After.{two-of, lim, pos, SlotsOk, sound-after, settings-past, steady-past}
 
@@ -161,7 +159,7 @@ module _ (least : ℕ) (four : 4 ≤ least) (s : Store) (d : Sound least s) (o :
   slots-same : SlotsOk least four s d o (s .slots) r
   slots-same = record { few = d .slots-few; begins = d .begins; rises = d .rises; upto = subst (λ (l : ℕ). all (λ (x : Slot). leb (x .version) l) (s .slots) ≡ true) last-w (d .upto); now = refl; past = λ v h. refl }
 
-  slots-put : (n : ℕ) → length (Rules.putSlot w n (s .slots)) ≤ 64 * least → SlotsOk least four s d o (Rules.putSlot w n (s .slots)) n
+  slots-put : (n : ℕ) → length (Climb.putSlot w n (s .slots)) ≤ 64 * least → SlotsOk least four s d o (Climb.putSlot w n (s .slots)) n
   slots-put n h =
       let upto : all (λ (x : Slot). leb (x .version) w) (s .slots) ≡ true = subst (λ (l : ℕ). all (λ (x : Slot). leb (x .version) l) (s .slots) ≡ true) last-w (d .upto) in
       record {
@@ -173,7 +171,7 @@ module _ (least : ℕ) (four : 4 ≤ least) (s : Store) (d : Sound least s) (o :
         past = λ v z. root-past w v n z (s .slots);
       }
     where
-      put-now : rootAt (Rules.putSlot w n (s .slots)) w ≡ n
+      put-now : rootAt (Climb.putSlot w n (s .slots)) w ≡ n
       put-now = package.Rattle.model.proofs.Main.root-new w n (s .slots)
 
   module _ (k : ℕ) (c : Change) (low : k < keyLimit) (f : Fit least s k c) (takes : all (kindOk N 1) (c .take) ≡ true)
@@ -203,14 +201,14 @@ module _ (least : ℕ) (four : 4 ≤ least) (s : Store) (d : Sound least s) (o :
     keeps : Keeps least two′ w lim′ pos′ N ps r (pend .n) 0 c
     keeps = record { inv = start-inv (pend .n) (wanted w c (page ps (pend .n))) (pend .level); low = low-all; takes = takes; upper = upper (pend .n) (pend .level) }
 
-    slotted : (b : Bool) (n : ℕ) (qs : List Page) → leb (length (Rules.putSlot w n (s .slots))) (64 * least) ≡ b → (SlotsOk least four s d o (Rules.putSlot w n (s .slots)) n → Follows (record { current = s .current; opened = s .opened; slots = Rules.putSlot w n (s .slots); pages = qs }))
-        → Sounds (Rules.slotted b s (Rules.putSlot w n (s .slots)) qs)
-    unfolding Rules.slotted
-    slotted true n qs e g = g (slots-put n (leb-true (length (Rules.putSlot w n (s .slots))) (64 * least) e))
+    slotted : (b : Bool) (n : ℕ) (qs : List Page) → leb (length (Climb.putSlot w n (s .slots))) (64 * least) ≡ b → (SlotsOk least four s d o (Climb.putSlot w n (s .slots)) n → Follows (record { current = s .current; opened = s .opened; slots = Climb.putSlot w n (s .slots); pages = qs }))
+        → Sounds (Climb.slotted b s (Climb.putSlot w n (s .slots)) qs)
+    unfolding Climb.slotted
+    slotted true n qs e g = g (slots-put n (leb-true (length (Climb.putSlot w n (s .slots))) (64 * least) e))
     slotted false n qs e g = tt
 
-    rooted : (x : Rooted) → RootedShows least two′ w lim′ r total x → RootedKeeps least two′ w lim′ pos′ N r x → RootedFine least (s .current) ps x → Sounds (Rules.rooted least s x)
-    unfolding Rules.rooted
+    rooted : (x : Rooted) → RootedShows least two′ w lim′ r total x → RootedKeeps least two′ w lim′ pos′ N r x → RootedFine least (s .current) ps x → Sounds (Climb.rooted least s x)
+    unfolding Climb.rooted
     rooted (stays qs) a b e = record {
       sound-now = sound-after least four s d o (s .slots) qs r total a b (e .undone) (e .old) slots-same;
       current = refl;
@@ -218,17 +216,17 @@ module _ (least : ℕ) (four : 4 ≤ least) (s : Store) (d : Sound least s) (o :
       past = settings-past least four s d o (s .slots) qs r total a b (e .undone) (e .old) slots-same;
       steady = steady-past least four s d o (s .slots) qs r total a b (e .undone) (e .old) slots-same;
     }
-    rooted (moves n qs) a b e = slotted (leb (length (Rules.putSlot w n (s .slots))) (64 * least)) n qs refl (λ ok. record {
-      sound-now = sound-after least four s d o (Rules.putSlot w n (s .slots)) qs n total a b (e .undone) (e .old) ok;
+    rooted (moves n qs) a b e = slotted (leb (length (Climb.putSlot w n (s .slots))) (64 * least)) n qs refl (λ ok. record {
+      sound-now = sound-after least four s d o (Climb.putSlot w n (s .slots)) qs n total a b (e .undone) (e .old) ok;
       current = refl;
       opened = refl;
-      past = settings-past least four s d o (Rules.putSlot w n (s .slots)) qs n total a b (e .undone) (e .old) ok;
-      steady = steady-past least four s d o (Rules.putSlot w n (s .slots)) qs n total a b (e .undone) (e .old) ok;
+      past = settings-past least four s d o (Climb.putSlot w n (s .slots)) qs n total a b (e .undone) (e .old) ok;
+      steady = steady-past least four s d o (Climb.putSlot w n (s .slots)) qs n total a b (e .undone) (e .old) ok;
     })
     rooted lacks a b e = tt
 
     pub update-sound : Sounds (update least s k c)
-    unfolding Rules.update
+    unfolding Climb.update
     update-sound =
         let q = ready least two′ s d o k low in
         rooted (climb least w r (way s w k) c ps) (climb-shows least two′ w lim′ r (way s w k) 0 c ps total pend)

@@ -1,26 +1,26 @@
 -- A group of pages rebuilt: what becomes of each page, and where each gathered pair stands.
 -- Assumes nothing.
-use Prim.Native.Nat.{ℕ, zero, suc, _+_, _*_, _/_, _≤_, _<_}
+use Prim.Native.Nat.{ℕ, suc, _+_, _*_, _/_, _≤_, _<_}
 use native.Mathlib.Omega.{arith}
-use mathlib.Core.Bool.{Bool, true, false, _&&_, _||_, not}
-use mathlib.Core.Path.{_≡_, refl, ap, ap₂, sym, _∙_, subst}
+use mathlib.Core.Bool.{Bool, true, false, not}
+use mathlib.Core.Path.{_≡_, refl, ap, sym, _∙_, subst}
 use mathlib.Core.Logic.{_⊎_, inl, inr, _≢_}
 use mathlib.Core.List.{List, [], _∷_, _++_, map}
-use lib.Dec.{leb, ltb, eqb}
+use lib.Dec.{leb, ltb}
 use lib.ListN.{length, getD, set, take, drop, length-set, length-drop, take-append-drop}
 use lib.Seq.{getD-set-same, getD-set-other, getD-drop, drop-cons, length-take-le}
 use borrow.Author.Tests.{leb-true, leb-false, eqb-true, le-leb, lt-ltb, ltb-true, ne-eqb}
 use Rattle.model.specs.Basic.{keep, those, all}
 use Rattle.model.specs.declared.Pair.{Pair}
-use Rattle.model.specs.Entry.{pair, alive}
+use Rattle.model.specs.Entry.{pair}
 use Rattle.model.specs.Page.{Page, free, isFree, active, filled, gone}
 use Rattle.model.specs.Store.{page, freeFrom, freeOnes}
 use Rattle.model.specs.Walk.{keyLimit}
 use Rattle.model.specs.Basic.{inOrder}
 use Rattle.model.specs.Rules
-use Rattle.model.specs.Rules.{retire, usable, Parts, one, two, Rebuilt, rebuilt, short, lowKey}
+use Rattle.model.specs.Rules.{retire, usable, Rebuilt, rebuilt, short, lowKey}
 use Rattle.model.proofs.Lists.{both-true, both-intro, all-cons}
-use Rattle.model.proofs.Members.{In, in-left, in-right, in-append, in-those, all-in, all-by}
+use Rattle.model.proofs.Members.{In, in-append, in-those}
 use Rattle.model.proofs.Local.{all-left, all-right}
 use Rattle.model.proofs.Edit.{lt}
 use Rattle.model.proofs.Shows.{same?}

@@ -2,24 +2,23 @@
 -- Assumes nothing.
 use Prim.Native.Nat.{ℕ, zero, suc, _+_, _*_, _/_, _≤_, _<_}
 use native.Mathlib.Omega.{arith}
-use mathlib.Core.Bool.{Bool, true, false, _&&_, _||_, not}
-use mathlib.Core.Path.{_≡_, refl, ap, ap₂, sym, _∙_, subst}
+use mathlib.Core.Bool.{Bool, true, false}
+use mathlib.Core.Path.{_≡_, refl, ap, sym, _∙_, subst}
 use mathlib.Core.Logic.{_⊎_, inl, inr, _≢_}
-use mathlib.Core.List.{List, [], _∷_, _++_, map, append-nil}
-use lib.Dec.{leb, ltb, eqb}
-use lib.ListN.{length, getD, set, take, drop, length-set, length-take, length-drop, take-append-drop}
+use mathlib.Core.List.{List, [], _∷_, _++_, append-nil}
+use lib.Dec.{leb, ltb}
+use lib.ListN.{length, getD, set, take, drop, length-set, length-drop, take-append-drop}
 use lib.Seq.{getD-set-same, getD-set-other, drop-cons, length-take-le}
 use borrow.Author.Tests.{ltb-true, leb-true, leb-false, le-leb, lt-ltb}
-use Rattle.model.specs.Basic.{all}
 use Rattle.model.specs.declared.Pair.{Pair}
 use Rattle.model.specs.Entry.{pair, alive, within}
 use Rattle.model.specs.Page.{Page, free, pairsAt, filled}
 use Rattle.model.specs.Store.{page}
 use Rattle.model.specs.Rules
-use Rattle.model.specs.Rules.{retire, Parts, one, two, Rebuilt, rebuilt, short, lowKey, exchange}
+use Rattle.model.specs.Rules.{retire, one, two, Rebuilt, rebuilt, short, lowKey, exchange}
 use Rattle.model.proofs.Lists.{both-true, both-intro, all-cons}
 use Rattle.model.proofs.Place.{show-filled}
-use Rattle.model.proofs.Tree.{Fair, Row, Link, Holds, Tree, Left, Away, unused, higher, frame}
+use Rattle.model.proofs.Tree.{Row, Holds, Tree, Left, Away, unused, higher, frame}
 use Rattle.model.proofs.Local.{applied, inRange, holds-keys, holds-cut, Cut, exchange-11, exchange-12, exchange-21, exchange-22}
 use Rattle.model.proofs.Shows.{same?, Some, tree-of}
 

@@ -1,14 +1,14 @@
 -- The way up at the open version: what the trees show.
 -- Assumes nothing.
-use Prim.Native.Nat.{ℕ, zero, suc, _+_, _≤_, _<_}
+use Prim.Native.Nat.{ℕ, zero, suc, _≤_, _<_}
 use native.Mathlib.Omega.{arith}
-use mathlib.Core.Bool.{Bool, true, false, _&&_, _||_, not}
+use mathlib.Core.Bool.{Bool, true, false}
 use mathlib.Core.Option.{Option, none, some}
 use mathlib.Core.Path.{_≡_, refl, ap, ap₂, sym, _∙_, subst}
 use mathlib.Core.Logic.{_⊎_, inl, inr, _≢_}
-use mathlib.Core.List.{List, [], _∷_, _++_, map, append-assoc, append-nil}
+use mathlib.Core.List.{List, [], _∷_, _++_, append-assoc, append-nil}
 use lib.Dec.{leb, ltb, eqb}
-use lib.ListN.{length, getD, set, List·getD-eq-default}
+use lib.ListN.{length, set}
 use lib.Seq.{getD-set-same, getD-set-other}
 use borrow.Author.Tests.{ltb-true, leb-true, eqb-true, eqb-false}
 use Rattle.model.specs.Basic.{all}
@@ -20,10 +20,10 @@ use Rattle.model.specs.Store.{page}
 use Rattle.model.specs.Basic.{inOrder}
 use Rattle.model.specs.Sound.{fewest}
 use Rattle.model.specs.Walk.{Around, keyLimit}
-use Rattle.model.proofs.Lists.{both-true, both-intro, all-cons}
+use Rattle.model.proofs.Lists.{both-true, all-cons}
 use Rattle.model.proofs.Place.{byKey, show-changed}
-use Rattle.model.proofs.Tree.{Fair, Says, Row, Link, Ended, Holds, Tree, OfPage, Away, unused, higher, elsewhere, Left, frame, frame-row, row-append, row-split, row-keys, row-le}
-use Rattle.model.proofs.Local.{inRange, holds-append, holds-keys, holds-cut, Cut}
+use Rattle.model.proofs.Tree.{Fair, Row, Holds, Tree, Away, unused, higher, elsewhere, Left, frame, frame-row, row-append, row-le}
+use Rattle.model.proofs.Local.{inRange, holds-keys}
 
 -- the page list after a store
 pub in-list : (ps : List Page) (n l : ℕ) → page ps n .level ≡ suc l → n < length ps

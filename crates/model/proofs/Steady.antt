@@ -1,17 +1,17 @@
 -- For a committed version, the pages that a lookup visits are the same after any later calls.
 -- Assumes nothing.
-use Prim.Native.Nat.{ℕ, zero, suc, _+_, _*_, _≤_, _<_}
+use Prim.Native.Nat.{ℕ, _≤_}
 use native.Mathlib.Omega.{arith}
-use mathlib.Core.Bool.{Bool, true, false, _&&_, _||_, not}
-use mathlib.Core.Path.{_≡_, refl, ap, sym, _∙_, subst}
+use mathlib.Core.Bool.{true, false, not}
+use mathlib.Core.Path.{_≡_, refl}
 use mathlib.Core.Logic.{_⊎_, inl, inr}
-use mathlib.Core.List.{List, [], _∷_, _++_, map}
-use lib.Dec.{T, leb, ltb, eqb}
+use mathlib.Core.List.{List, [], _∷_}
+use lib.Dec.{T, leb}
 use borrow.Author.Tests.{ltb-true, not-false}
 use Rattle.model.specs.Basic.{all}
 use Rattle.model.specs.Store.{Store, next}
 use Rattle.model.specs.Sound.{sound}
-use Rattle.model.specs.Rules.{Result, done, refused}
+use Rattle.model.specs.Climb.{Result, done, refused}
 use Rattle.model.specs.Calls.{rule, insert, delete, begin, commit, abandon, abandoned}
 use Rattle.model.specs.Histories.{Call, begins, commits, abandons, inserts, deletes, callBy}
 use Rattle.model.specs.Settings.{Both, onward, together, fits}
@@ -19,7 +19,7 @@ use Rattle.model.proofs.Lists.{all-cons}
 use Rattle.model.proofs.Members.{holds-true, not-both, bool-cases}
 use Rattle.model.proofs.Fits.{numbered-by, insert-by, delete-by}
 use Rattle.model.proofs.Past.{Steady, steady-trans}
-use Rattle.model.proofs.Preserve.{Follows, Sounds, insert-keeps, delete-keeps}
+use Rattle.model.proofs.Preserve.{Sounds, insert-keeps, delete-keeps}
 use Rattle.model.proofs.Abandon.{steady-kept}
 use Rattle.model.proofs.History.{Agrees, one-call}
 use Rattle.model.proofs.Undone.{lent, lent-agrees}

@@ -1,37 +1,34 @@
 -- The theorems for any sound store, in the words of the tests.
 -- Assumes nothing.
-use Prim.Native.Nat.{ℕ, zero, suc, _+_, _*_, _≤_, _<_}
+use Prim.Native.Nat.{ℕ, suc, _≤_, _<_}
 use native.Mathlib.Omega.{arith}
-use mathlib.Core.Bool.{Bool, true, false, _&&_, _||_, not}
-use mathlib.Core.Option.{Option, none, some}
-use mathlib.Core.Path.{_≡_, refl, ap, ap₂, sym, _∙_, subst}
-use mathlib.Core.Logic.{_⊎_, inl, inr, _≢_}
-use mathlib.Core.List.{List, [], _∷_, _++_, map}
-use lib.Dec.{T, leb, ltb, eqb}
+use mathlib.Core.Bool.{Bool, true, false, _||_, not}
+use mathlib.Core.Option.{some}
+use mathlib.Core.Path.{_≡_, refl, ap, sym, _∙_, subst}
+use mathlib.Core.List.{List, [], _∷_}
+use lib.Dec.{T, ltb, eqb}
 use lib.ListN.{length}
-use borrow.Author.Tests.{eqb-true, eqb-false, ltb-true, ne-eqb}
+use borrow.Author.Tests.{eqb-true}
 use Rattle.model.specs.Basic.{all, has, pick, those, keep}
 use Rattle.model.specs.declared.Pair.{Pair}
 use Rattle.model.specs.Entry.{pair, enterPair}
-use Rattle.model.specs.Page.{Change}
 use Rattle.model.specs.Store.{Store, page, next, last, lastOf}
 use Rattle.model.specs.Walk.{settings, lookup, find, rootAt, keyLimit}
 use Rattle.model.specs.Basic.{inOrder}
 use Rattle.model.specs.Sound.{sound}
-use Rattle.model.specs.Rules.{Result, done, refused, update}
+use Rattle.model.specs.Climb.{Result, done, refused, update}
 use Rattle.model.specs.Calls.{isSome, insert, delete}
-use Rattle.model.specs.Histories.{Call, begins, commits, abandons, inserts, deletes, callBy, After, after}
-use Rattle.model.specs.Settings.{Machine, step, Both, onward, together, fits}
-use Rattle.model.proofs.Lists.{both-true, both-intro, all-cons}
-use Rattle.model.proofs.Members.{holds-true, true-holds, not-both, bool-cases, all-in, In}
-use Rattle.model.proofs.Local.{applied}
+use Rattle.model.specs.Histories.{Call, callBy, after}
+use Rattle.model.specs.Settings.{Machine, onward, fits}
+use Rattle.model.proofs.Lists.{both-true}
+use Rattle.model.proofs.Members.{holds-true, true-holds, not-both}
 use Rattle.model.proofs.Edit.{lt, length-enter, keep-all, those-one}
 use Rattle.model.proofs.Given.{Sound, from-tests, to-tests}
 use Rattle.model.proofs.Main.{Changed, update-changes}
 use Rattle.model.proofs.Fits.{insert-by, delete-by, fit-insert, fit-delete, shows-all}
 use Rattle.model.proofs.Lookups.{lookup-is, settings-rise}
 use Rattle.model.proofs.Count.{root-low, root-lower}
-use Rattle.model.proofs.History.{Agrees, one-call}
+use Rattle.model.proofs.History.{one-call}
 use Rattle.model.proofs.Undone.{lent, lent-agrees}
 
 store-after : (s : Store) (m : Machine) (c : Call) (r : Result) → onward (record { store = s; machine = m }) c r .store ≡ after s r .store

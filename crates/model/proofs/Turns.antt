@@ -1,33 +1,29 @@
 -- Open, commit and a fresh store are sound.
 -- Assumes nothing.
-use Prim.Native.Nat.{ℕ, zero, suc, _+_, _*_, _-_, _≤_, _<_, pred}
+use Prim.Native.Nat.{ℕ, zero, suc, _≤_, _<_, pred}
 use native.Mathlib.Omega.{arith}
 use mathlib.Core.Bool.{Bool, true, false, _&&_, _||_, not}
 use mathlib.Core.Path.{_≡_, refl, ap, ap₂, sym, _∙_, subst}
 use mathlib.Core.Logic.{_⊎_, inl, inr, _≢_}
 use mathlib.Core.List.{List, [], _∷_, _++_, map}
-use lib.Dec.{T, leb, ltb, eqb, lit<, lit≤}
-use lib.ListN.{length, getD, set, replicate, length-set, length-replicate, getD-replicate, List·getD-eq-default}
+use lib.Dec.{leb, ltb}
+use lib.ListN.{length, replicate, length-set, length-replicate, getD-replicate, List·getD-eq-default}
 use lib.Seq.{getD-set-same, getD-set-other}
-use borrow.Author.Tests.{leb-true, leb-false, ltb-true, ltb-false, eqb-true, eqb-false, le-leb, lt-ltb, lt-leb, eq-eqb, ne-eqb, not-true, not-false}
-use Rattle.model.specs.Basic.{all, has, pick, those}
+use borrow.Author.Tests.{leb-true, leb-false, ltb-true, ltb-false, le-leb, lt-ltb, ne-eqb}
+use Rattle.model.specs.Basic.{all, has, pick}
 use Rattle.model.specs.declared.Pair.{Pair}
 use Rattle.model.specs.declared.Entry.{Entry}
-use Rattle.model.specs.Entry.{alive, pairOf, within, liveAt, before}
+use Rattle.model.specs.Entry.{alive}
 use Rattle.model.specs.Page.{Page, free, isFree, pairsAt, filled}
 use Rattle.model.specs.declared.Slot.{Slot}
-use Rattle.model.specs.Store.{Store, page, next, lastOf, last, fresh}
+use Rattle.model.specs.Store.{Store, page, last, fresh}
 use Rattle.model.specs.Walk.{rootFrom, rootAt, below, settings, heightOf, Seen, seenBelow, seen, keyLimit}
-use Rattle.model.specs.Basic.{inOrder}
-use Rattle.model.specs.Sound.{sound, isPage, entryOk, inside, leadsWell, keysOk, fewest, firstVersion}
-use Rattle.model.specs.Rules.{Result, done, refused}
-use Rattle.model.specs.Calls.{rule, begin, commit}
-use Rattle.model.proofs.Lists.{both-true, both-intro, all-cons}
-use Rattle.model.proofs.Members.{not-both, either-true, either-left, either-right, bool-cases, In, all-in, all-by, all-implies}
+use Rattle.model.specs.Sound.{entryOk, inside, leadsWell, keysOk}
+use Rattle.model.proofs.Lists.{both-intro, all-cons}
+use Rattle.model.proofs.Members.{not-both, either-left, either-right, bool-cases, In, all-by, all-implies}
 use Rattle.model.proofs.Between.{outside, still, pairs-still, leb-still, ltb-still}
 use Rattle.model.proofs.Shows.{same?}
 use Rattle.model.proofs.Given.{Sound, GoodPage, GoodEntry, Span, span-of, of-span, entry-of, ok-entry, spansWell, numbers, livesAt, enough}
-use Rattle.model.proofs.Fits.{numbered-by, root-is}
 use Rattle.model.proofs.Past.{below-same}
 
 abbrev pub store : ℕ → Bool → List Slot → List Page → Store

@@ -2,25 +2,27 @@
 -- Assumes nothing.
 use Prim.Native.Nat.{ℕ, zero, suc, _+_, _≤_, _<_}
 use native.Mathlib.Omega.{arith}
-use mathlib.Core.Bool.{Bool, true, false, _&&_, _||_, not}
+use mathlib.Core.Bool.{Bool, true, false, not}
 use mathlib.Core.Option.{Option, none, some}
-use mathlib.Core.Path.{_≡_, refl, ap, ap₂, sym, _∙_, subst}
+use mathlib.Core.Path.{_≡_, refl, ap, sym, _∙_, subst}
 use mathlib.Core.Logic.{_≢_}
 use mathlib.Core.List.{List, [], _∷_, _++_, map}
-use lib.Dec.{leb, ltb, eqb, eqb·zero-suc}
+use lib.Dec.{leb, eqb, eqb·zero-suc}
 use lib.ListN.{getD, set, drop, List·getD-map}
 use lib.Seq.{map-set-same, getD-set-other, getD-drop}
 use borrow.Author.Tests.{eq-eqb, eqb-true, le-leb}
-use Rattle.model.specs.Basic.{keep, those, has, pick, all}
+use Rattle.model.specs.Basic.{keep, those, all}
 use Rattle.model.specs.declared.Entry.{Entry}
 use Rattle.model.specs.declared.Pair.{Pair}
 use Rattle.model.specs.Entry.{pair, alive, liveAt, born, enter}
-use Rattle.model.specs.Page.{Page, Change, changed, killed, filled, pairsAt, bornAll, free, isFree, active, goneIf, gone, wanted}
+use Rattle.model.specs.Page.{Page, Change, changed, killed, filled, pairsAt, bornAll, free, isFree, active, goneIf, gone}
 use Rattle.model.specs.declared.Slot.{Slot}
 use Rattle.model.specs.Store.{page, freeFrom, freeOnes, Store, next}
 use Rattle.model.specs.Walk.{Around, rootAt, way}
 use Rattle.model.specs.Rules
-use Rattle.model.specs.Rules.{retire, usable, Parts, one, two, Rebuilt, rebuilt, short, Worked, settled, upward, lacking, Rooted, stays, moves, lacks, Result, done, refused, goOn, climb, update, work, workRoot}
+use Rattle.model.specs.Climb
+use Rattle.model.specs.Rules.{retire, usable, Parts, one, two, Rebuilt, rebuilt, short, Worked, settled, upward, lacking, work}
+use Rattle.model.specs.Climb.{Rooted, stays, moves, lacks, Result, done, refused, goOn, climb, update, workRoot}
 use Rattle.model.specs.Calls.{abandoned, revivedEnd, restored, restoredEntries, backBy, back}
 use Rattle.model.proofs.Lists.{both-intro, all-enter, all-end}
 use Rattle.model.proofs.Old.{old-changed, old-killed, old-filled, old-none}
@@ -300,35 +302,35 @@ module _ (least u : ℕ) where
     work-fine a c s = work-by _ a c s
 
     -- the root
-    topped-fine : (level : ℕ) (qs : List Page) (news : List Pair) (ns : List ℕ) → Fine (suc l) ps qs → Every (Spare l qs) ns → RootedFine ps (Rules.topped w level qs news ns)
-    unfolding Rules.topped
+    topped-fine : (level : ℕ) (qs : List Page) (news : List Pair) (ns : List ℕ) → Fine (suc l) ps qs → Every (Spare l qs) ns → RootedFine ps (Climb.topped w level qs news ns)
+    unfolding Climb.topped
     topped-fine level qs news [] f s = tt
     topped-fine level qs news (n ∷ ns) f s = record {
       undone = map-set-same (back w) qs n (filled w (suc level) news) free (back-filled (suc level) news ∙ sym (s .0 .nothing)) ∙ f .undone;
       old = λ v h m. getD-of-map (pairsAt v) qs (set qs n (filled w (suc level) news)) (map-set-same (pairsAt v) qs n (filled w (suc level) news) free (old-filled v w h (suc level) news ∙ sym (s .0 .unseen v h))) m ∙ f .old v h m;
     }
 
-    new-root : (level : ℕ) (r : Rebuilt) → RebuiltFine l ps r → RootedFine ps (Rules.newRoot w level r)
-    unfolding Rules.newRoot
+    new-root : (level : ℕ) (r : Rebuilt) → RebuiltFine l ps r → RootedFine ps (Climb.newRoot w level r)
+    unfolding Climb.newRoot
     new-root level short f = tt
     new-root level (rebuilt qs []) f = tt
     new-root level (rebuilt qs (x ∷ [])) f = keptBy _ ps qs f
     new-root level (rebuilt qs (x ∷ y ∷ zs)) f = topped-fine level qs _ (freeOnes qs) f (spare-free l qs (f .tame) 5 (drop 5 qs) (page-drop qs))
 
-    root-stay : (b : Bool) (r : ℕ) (c : Change) → Good l ps r → RootedFine ps (Rules.rootStay least b w ps r c (page ps r))
-    unfolding Rules.rootStay
+    root-stay : (b : Bool) (r : ℕ) (c : Change) → Good l ps r → RootedFine ps (Climb.rootStay least b w ps r c (page ps r))
+    unfolding Climb.rootStay
     root-stay true r c g = keptBy _ ps _ (changed-fine c r g)
     root-stay false r c g = new-root _ _ (rebuilt-fine _ _ (g .level) (group-one (pair 0 r) g))
 
-    root-go : (b : Bool) (r : ℕ) (c : Change) (want : List Pair) → Good l ps r → RootedFine ps (Rules.rootGo least b w ps r c (page ps r) want)
-    unfolding Rules.rootGo
+    root-go : (b : Bool) (r : ℕ) (c : Change) (want : List Pair) → Good l ps r → RootedFine ps (Climb.rootGo least b w ps r c (page ps r) want)
+    unfolding Climb.rootGo
     root-go true r c [] g = root-stay _ r c g
     root-go true r c (x ∷ []) g = keptBy _ ps _ (gone-fine l ps ps r (fine-refl (suc l) ps t) g refl)
     root-go true r c (x ∷ y ∷ zs) g = root-stay _ r c g
     root-go false r c want g = root-stay _ r c g
 
     pub root-fine : (r : ℕ) (c : Change) → Good l ps r → RootedFine ps (workRoot least w ps r c)
-    unfolding Rules.workRoot
+    unfolding Climb.workRoot
     root-fine r c g = root-go _ r c _ g
 
   -- the way up
@@ -376,15 +378,15 @@ module _ (least u : ℕ) where
       at lacking f ih = tt
 
 -- the slot goes again
-slot-goes : (w n : ℕ) (xs : List Slot) → those (λ (x : Slot). not (eqb (x .version) w)) (Rules.putSlot w n xs) ≡ those (λ (x : Slot). not (eqb (x .version) w)) xs
-unfolding Rules.putSlot
+slot-goes : (w n : ℕ) (xs : List Slot) → those (λ (x : Slot). not (eqb (x .version) w)) (Climb.putSlot w n xs) ≡ those (λ (x : Slot). not (eqb (x .version) w)) xs
+unfolding Climb.putSlot
 slot-goes w n [] = rw (eq-eqb w w refl)
 slot-goes w n (x ∷ xs) = at (not (eqb (x .version) w)) refl (slot-goes w n xs)
   where
     f : Slot → Bool
     f y = not (eqb (y .version) w)
 
-    at : (b : Bool) → f x ≡ b → those f (Rules.putSlot w n xs) ≡ those f xs
+    at : (b : Bool) → f x ≡ b → those f (Climb.putSlot w n xs) ≡ those f xs
         → those f (keep b x (those f xs) ++ (record { version = w; root = n } ∷ [])) ≡ keep b x (those f xs)
     at true e ih = rw e (ap {B = List Slot} (λ (ys : List Slot). x ∷ ys) ih)
     at false e ih = ih
@@ -407,18 +409,18 @@ same-store s xs ps a b = λ i. record { current = s .current; opened = false; sl
 
 slotted-undone : (b : Bool) (s : Store) (xs : List Slot) (ps : List Page)
     → those (λ (x : Slot). not (eqb (x .version) (next s))) xs ≡ those (λ (x : Slot). not (eqb (x .version) (next s))) (s .slots)
-    → map (back (next s)) ps ≡ map (back (next s)) (s .pages) → Undone s (Rules.slotted b s xs ps)
-unfolding Rules.slotted
+    → map (back (next s)) ps ≡ map (back (next s)) (s .pages) → Undone s (Climb.slotted b s xs ps)
+unfolding Climb.slotted
 slotted-undone true s xs ps a b = same-store s xs ps a b
 slotted-undone false s xs ps a b = tt
 
-rooted-undone : (least : ℕ) (s : Store) (x : Rooted) → RootedFine least (s .current) (s .pages) x → Undone s (Rules.rooted least s x)
-unfolding Rules.rooted
+rooted-undone : (least : ℕ) (s : Store) (x : Rooted) → RootedFine least (s .current) (s .pages) x → Undone s (Climb.rooted least s x)
+unfolding Climb.rooted
 rooted-undone least s (stays ps) f = same-store s (s .slots) ps refl (f .undone)
 rooted-undone least s (moves n ps) f = slotted-undone _ s _ ps (slot-goes (next s) n (s .slots)) (f .undone)
 rooted-undone least s lacks f = tt
 
 -- An abandon after an accepted update leaves what an abandon before it leaves.
 pub update-undone : (least : ℕ) (s : Store) (k : ℕ) (c : Change) → Ready least s k → Undone s (update least s k c)
-unfolding Rules.update
+unfolding Climb.update
 update-undone least s k c r = rooted-undone least s _ (climb-fine least (s .current) 0 _ _ c (s .pages) (r .tame) (r .leads))

@@ -1,28 +1,27 @@
 -- An update that is abandoned, whatever inserts and deletes it held, leaves the store as it was before the open.
 -- Assumes nothing.
-use Prim.Native.Nat.{ℕ, zero, suc, _+_, _*_, _≤_, _<_}
+use Prim.Native.Nat.{ℕ, suc, _≤_, _<_}
 use native.Mathlib.Omega.{arith}
-use mathlib.Core.Bool.{Bool, true, false, _&&_, _||_, not}
+use mathlib.Core.Bool.{Bool, true, false, not}
 use mathlib.Core.Path.{_≡_, refl, ap, ap₂, sym, _∙_, subst}
-use mathlib.Core.Logic.{_⊎_, inl, inr, _≢_}
+use mathlib.Core.Logic.{_⊎_, inl, inr}
 use mathlib.Core.List.{List, [], _∷_, _++_, map}
-use lib.Dec.{T, leb, ltb, eqb, eqb·zero-suc}
+use lib.Dec.{T, leb, eqb, eqb·zero-suc}
 use lib.ListN.{length, getD}
-use borrow.Author.Tests.{eqb-true, leb-true, leb-false, le-leb, lt-ltb, lt-leb, eq-eqb, ne-eqb, not-true, not-false}
+use borrow.Author.Tests.{eqb-true, leb-true, lt-leb, ne-eqb}
 use Rattle.model.specs.Basic.{all, pick, those, keep}
-use Rattle.model.specs.declared.Pair.{Pair}
 use Rattle.model.specs.declared.Entry.{Entry}
 use Rattle.model.specs.Entry.{alive}
-use Rattle.model.specs.Page.{Page, free, isFree, active}
+use Rattle.model.specs.Page.{Page, free, isFree}
 use Rattle.model.specs.declared.Slot.{Slot}
-use Rattle.model.specs.Store.{Store, page, next, lastOf, last}
+use Rattle.model.specs.Store.{Store, page}
 use Rattle.model.specs.Walk.{settings}
 use Rattle.model.specs.Sound.{sound}
-use Rattle.model.specs.Rules.{Result, done, refused}
-use Rattle.model.specs.Calls.{rule, insert, delete, begin, abandon, abandoned, revivedEnd, revived, restoredEntries, restored, backBy, back}
+use Rattle.model.specs.Climb.{Result, done, refused}
+use Rattle.model.specs.Calls.{insert, delete, begin, abandon, abandoned, revivedEnd, revived, restoredEntries, backBy, back}
 use Rattle.model.specs.Histories.{Call, begins, commits, abandons, inserts, deletes, callBy}
-use Rattle.model.specs.Settings.{Machine, step, Both, onward, together, fits, isEdit}
-use Rattle.model.proofs.Lists.{both-true, both-intro, all-cons}
+use Rattle.model.specs.Settings.{step, Both, onward, together, fits, isEdit}
+use Rattle.model.proofs.Lists.{all-cons}
 use Rattle.model.proofs.Members.{holds-true, true-holds, not-both, bool-cases, In, all-in, all-by}
 use Rattle.model.proofs.Local.{those-all}
 use Rattle.model.proofs.Given.{Sound, from-tests, to-tests, Span, span-of, entry-of}

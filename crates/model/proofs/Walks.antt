@@ -1,12 +1,11 @@
 -- The pages that a walk reaches.
 -- Assumes nothing.
-use Prim.Native.Nat.{ℕ, zero, suc, _+_, _≤_, _<_}
+use Prim.Native.Nat.{ℕ, zero, suc}
 use native.Mathlib.Omega.{arith}
-use mathlib.Core.Bool.{Bool, true, false, _&&_, _||_, not}
-use mathlib.Core.Path.{_≡_, refl, ap, ap₂, sym, _∙_, subst}
+use mathlib.Core.Bool.{Bool, false}
+use mathlib.Core.Path.{_≡_, refl, ap, sym, subst}
 use mathlib.Core.Logic.{_⊎_, inl, inr}
-use mathlib.Core.List.{List, [], _∷_, _++_, map}
-use Rattle.model.specs.Basic.{all}
+use mathlib.Core.List.{List, [], _∷_}
 use Rattle.model.specs.declared.Pair.{Pair}
 use Rattle.model.specs.Page.{Page, pairsAt}
 use Rattle.model.specs.Store.{page}

@@ -1,9 +1,9 @@
 -- The calls, and the numbers that they give.
 -- Assumes nothing.
-use Prim.Native.Nat.{ℕ, zero, suc, _+_, _*_}
-use mathlib.Core.Bool.{Bool, true, false, _&&_, _||_, not}
+use Prim.Native.Nat.{ℕ, zero, suc, _*_}
+use mathlib.Core.Bool.{Bool, true, false, _||_, not}
 use mathlib.Core.Option.{Option, none, some}
-use mathlib.Core.List.{List, [], _∷_, _++_, map}
+use mathlib.Core.List.{List, [], _∷_, map}
 use lib.Dec.{leb, ltb, eqb}
 use lib.ListN.{length}
 use Rattle.model.specs.Basic.{those, pick, flatMap}
@@ -12,11 +12,11 @@ use Rattle.model.specs.declared.Entry.{Entry}
 use Rattle.model.specs.Entry.{pair, alive}
 use Rattle.model.specs.declared.Looked.{Looked}
 use Rattle.model.specs.declared.Looked.the-variants.{Value, Absent, Refused}
-use Rattle.model.specs.Page.{Page, free, active, Change}
+use Rattle.model.specs.Page.{Page, free, active}
 use Rattle.model.specs.declared.Slot.{Slot}
 use Rattle.model.specs.Store.{Store, next, last}
 use Rattle.model.specs.Walk.{lookup, rangeOf, keyLimit}
-use Rattle.model.specs.Rules.{Result, done, refused, update}
+use Rattle.model.specs.Climb.{Result, done, refused, update}
 
 abbrev pub isSome : Option ℕ → Bool
 isSome none = false

@@ -1,7 +1,7 @@
 -- What rule 1 says of bytes: "zero bits .. and header fields are as above; the page count is the lent length's".
 -- Assumes nothing.
 use Prim.Native.Nat.{ℕ, zero, suc, _+_, _*_, _-_}
-use mathlib.Core.Bool.{Bool, true, false, _&&_}
+use mathlib.Core.Bool.{Bool, true, _&&_}
 use mathlib.Core.List.{List}
 use lib.Dec.{leb, eqb}
 use Rattle.model.specs.Limits.{countBits, rootBits}

@@ -1,20 +1,18 @@
 -- Histories P1 to P12: one table, one claim.
 -- Assumes nothing.
-use Prim.Native.Nat.{ℕ, zero, suc, _+_}
-use mathlib.Core.Bool.{Bool, true, false, _&&_, _||_, not}
+use Prim.Native.Nat.{ℕ, _+_}
+use mathlib.Core.Bool.{Bool, true, false, _&&_}
 use mathlib.Core.Option.{Option, none, some}
 use mathlib.Core.List.{List, [], _∷_, _++_, map}
-use lib.Dec.{T, leb, ltb, eqb}
+use lib.Dec.{eqb}
 use lib.ListN.{length}
 use Rattle.model.specs.Basic.{all, eqList, count, flatMap}
-use Rattle.model.specs.declared.Pair.{Pair}
 use Rattle.model.specs.declared.Entry.{Entry}
-use Rattle.model.specs.Entry.{pair}
 use Rattle.model.specs.Page.{Page, pairsAt, isFree}
 use Rattle.model.specs.declared.Slot.{Slot}
-use Rattle.model.specs.Store.{Store, next, last, page, fresh}
-use Rattle.model.specs.Walk.{lookup, rangeOf}
-use Rattle.model.specs.Rules.{Result, done, refused}
+use Rattle.model.specs.Store.{Store, last, page, fresh}
+use Rattle.model.specs.Walk.{lookup}
+use Rattle.model.specs.Climb.{Result, done, refused}
 use Rattle.model.specs.Calls.{insert, delete, begin, commit, abandon}
 use Rattle.model.specs.Layout.{bit}
 

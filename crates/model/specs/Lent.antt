@@ -1,17 +1,15 @@
 -- The calls on lent bytes: what each gives and leaves, for any bytes and numbers. These are the right-hand sides of the calls' contracts.
 -- Assumes nothing.
 use Prim.Native.Nat.{ℕ, zero, suc}
-use mathlib.Core.Bool.{Bool, true, false}
-use mathlib.Core.List.{List, [], _∷_, _++_}
+use mathlib.Core.List.{List, _++_}
 use lib.ListN.{length, drop}
 use Rattle.model.specs.Basic.{pick}
 use Rattle.model.specs.declared.Looked.{Looked}
-use Rattle.model.specs.declared.Looked.the-variants.{Value, Absent, Refused}
-use Rattle.model.specs.declared.Verdict.{Verdict}
+use Rattle.model.specs.declared.Looked.the-variants.{Refused}
 use Rattle.model.specs.Store.{Store, fresh}
 use Rattle.model.specs.Layout.{sizeOf, encode, decode}
 use Rattle.model.specs.Judged.{lengthOk, judged}
-use Rattle.model.specs.Rules.{Result, done, refused}
+use Rattle.model.specs.Climb.{Result, done, refused}
 use Rattle.model.specs.Calls.{insert, delete, begin, commit, abandon, get, range, Ranged}
 
 -- the number that a call gives, and the store's bytes after it

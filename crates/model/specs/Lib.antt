@@ -7,6 +7,7 @@ pub mod Header
 pub mod Walk
 pub mod Sound
 pub mod Rules
+pub mod Climb
 pub mod Calls
 pub mod Settings
 pub mod Histories

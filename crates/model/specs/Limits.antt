@@ -1,7 +1,6 @@
 -- The limits of an edition, all from one number: least, the fewest live entries of a reached page that is no root. Edition 1 has 4.
 -- Assumes nothing.
-use Prim.Native.Nat.{ℕ, _+_, _*_, _≤_}
-use mathlib.Core.Bool.{Bool, true, false}
+use Prim.Native.Nat.{ℕ, _*_, _≤_}
 use mathlib.Core.Path.{_≡_}
 use lib.Dec.{leb}
 use Rattle.model.specs.Basic.{pick}

@@ -1,14 +1,13 @@
 -- Pages, and what a change does to one.
 -- Assumes nothing.
-use Prim.Native.Nat.{ℕ, zero, suc, _+_}
-use mathlib.Core.Bool.{Bool, true, false, _&&_, _||_, not}
-use mathlib.Core.List.{List, [], _∷_, _++_, map}
-use lib.Dec.{leb, ltb, eqb}
-use lib.ListN.{length}
-use Rattle.model.specs.Basic.{has, those, keep}
+use Prim.Native.Nat.{ℕ}
+use mathlib.Core.Bool.{Bool, true, false, _&&_, not}
+use mathlib.Core.List.{List, [], _∷_, map}
+use lib.Dec.{eqb}
+use Rattle.model.specs.Basic.{has, those}
 use Rattle.model.specs.declared.Pair.{Pair}
 use Rattle.model.specs.declared.Entry.{Entry}
-use Rattle.model.specs.Entry.{alive, pairOf, within, liveAt, born, endedAt, enter, enterPair, endThose}
+use Rattle.model.specs.Entry.{alive, pairOf, liveAt, born, enter, enterPair, endThose}
 
 pub record Page : Type 0 where
   pub level : ℕ

@@ -1,13 +1,11 @@
 -- Document 01's bytes: the fresh 6-page store, key 40's entry; the restored stores of P7 and P12 as bytes.
 use lib.Dec.{T}
-use lib.ListN.{length, take, drop, replicate}
+use lib.ListN.{replicate}
 use Prim.Native.Nat.{ℕ}
-use mathlib.Core.Bool.{Bool, true, false, _&&_, _||_, not}
 use mathlib.Core.List.{List, [], _∷_, _++_}
-use Rattle.model.specs.Basic.{all, eqList}
-use Rattle.model.specs.declared.Entry.{Entry}
+use Rattle.model.specs.Basic.{eqList}
 use Rattle.model.specs.Entry.{alive}
-use Rattle.model.specs.Store.{Store, fresh}
+use Rattle.model.specs.Store.{fresh}
 use Rattle.model.specs.Field
 use Rattle.model.specs.Layout
 

@@ -1,10 +1,11 @@
 -- Every store on the way of each history of the table is sound.
-use lib.Dec.{T, eqb}
-use mathlib.Core.Bool.{Bool, true, false, _&&_}
-use mathlib.Core.List.{List, [], _∷_, _++_}
+use lib.Dec.{T}
+use mathlib.Core.Bool.{Bool, _&&_}
+use mathlib.Core.List.{List, [], _∷_}
 use Rattle.model.specs.Basic.{all}
 use Rattle.model.specs.Store.{fresh}
 use Rattle.model.specs.Rules
+use Rattle.model.specs.Climb
 use Rattle.model.specs.Sound
 use Rattle.model.specs.Calls.{insert, delete, begin, commit, abandon, abandoned}
 use Rattle.model.specs.Histories.{History, Call, After, after, call, table}
@@ -17,5 +18,5 @@ abbrev soundWay : History → Bool
 soundWay h = soundAll (record { number = 0; store = fresh (h .pages) }) (h .calls)
 
 pub proved : T (all soundWay table)
-unfolding insert delete begin commit abandon abandoned Rules.withNeighbour Rules.gatherBy Rules.partsBy Rules.parts Rules.usable Rules.rebuildWith Rules.rebuild Rules.exchange Rules.handUp Rules.regroup Rules.workBy Rules.work Rules.topped Rules.newRoot Rules.rootStay Rules.rootGo Rules.workRoot Rules.climb Rules.putSlot Rules.slotted Rules.rooted Rules.update Sound.sound Sound.rule1 Sound.rule2 Sound.rule3 Sound.rule4 Sound.rule5 Sound.rule6 Sound.rule7
+unfolding insert delete begin commit abandon abandoned Rules.withNeighbour Rules.gatherBy Rules.partsBy Rules.parts Rules.usable Rules.rebuildWith Rules.rebuild Rules.exchange Rules.handUp Rules.regroup Rules.workBy Rules.work Climb.topped Climb.newRoot Climb.rootStay Climb.rootGo Climb.workRoot Climb.climb Climb.putSlot Climb.slotted Climb.rooted Climb.update Sound.sound Sound.rule1 Sound.rule2 Sound.rule3 Sound.rule4 Sound.rule5 Sound.rule6 Sound.rule7
 proved = tt

@@ -1,14 +1,14 @@
 -- What the accepted calls leave at each version, with no pages: the machine that a store's history is held to.
 -- Assumes nothing.
-use Prim.Native.Nat.{ℕ, zero, suc, _+_}
-use mathlib.Core.Bool.{Bool, true, false, _&&_, _||_, not}
-use mathlib.Core.List.{List, [], _∷_, _++_}
-use lib.Dec.{leb, ltb, eqb}
-use Rattle.model.specs.Basic.{all, those, pick}
+use Prim.Native.Nat.{ℕ, suc}
+use mathlib.Core.Bool.{Bool, true, false, not}
+use mathlib.Core.List.{List, [], _∷_}
+use lib.Dec.{ltb, eqb}
+use Rattle.model.specs.Basic.{those, pick}
 use Rattle.model.specs.declared.Pair.{Pair}
 use Rattle.model.specs.Entry.{pair, enterPair}
-use Rattle.model.specs.Store.{Store, fresh}
-use Rattle.model.specs.Rules.{Result, done, refused}
+use Rattle.model.specs.Store.{Store}
+use Rattle.model.specs.Climb.{Result, done, refused}
 use Rattle.model.specs.Histories.{Call, begins, commits, abandons, inserts, deletes, callBy}
 
 -- the settings of each version up to the last one

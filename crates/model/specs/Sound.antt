@@ -1,9 +1,9 @@
 -- "When a store is sound": a test for each rule. `least` is the edition's 4 (Limits).
 -- What rule 1 says of bytes, the zero bits and the fields' places, stands in Clean; this file has what it says of the store that they hold.
 -- Assumes nothing.
-use Prim.Native.Nat.{ℕ, zero, suc, _+_, _*_}
+use Prim.Native.Nat.{ℕ, zero, suc, _*_}
 use mathlib.Core.Bool.{Bool, true, false, _&&_, _||_, not}
-use mathlib.Core.List.{List, [], _∷_, _++_, map}
+use mathlib.Core.List.{List, [], _∷_, map}
 use lib.Dec.{leb, ltb, eqb}
 use lib.ListN.{length, take, drop}
 use Rattle.model.specs.Basic.{all, has, count, isEmpty, pick, inOrder}
