@@ -12,11 +12,11 @@ use Rattle.model.specs.Basic.{all, those}
 use Rattle.model.specs.declared.Pair.{Pair}
 use Rattle.model.specs.Entry.{within}
 use Rattle.model.specs.Page.{Page, pairsAt}
-use Rattle.model.specs.Store.{Store, fresh}
+use Rattle.model.specs.Store.{Store, page, fresh}
 use Rattle.model.specs.Walk.{below}
 use Rattle.model.specs.Sound.{sound, broken, firstBroken, rule1, rule2, rule3, rule4, rule5, rule6, rule7}
 use Rattle.model.specs.Climb.{Result, done, refused}
-use Rattle.model.specs.Histories.{Call, call, After, after, run, from}
+use Rattle.model.specs.Histories.{Call, callBy, After, after, run, from}
 use Rattle.model.specs.Settings.{Machine, onward, together, fits}
 use Rattle.model.proofs.Lists.{both-true, all-cons}
 use Rattle.model.proofs.Members.{holds-true, true-holds}
@@ -76,20 +76,20 @@ pub tree-outside : (least v : ℕ) (ps : List Page) (l a b n : ℕ) (zs : List P
     → those (λ (x : Pair). leb lo (x .key) && leb (x .key) hi) (below l ps v n) ≡ []
 tree-outside least v ps l a b n zs t lo hi o =
     ap (those (λ (x : Pair). leb lo (x .key) && leb (x .key) hi)) (tree-below least v ps l a b n zs t)
-    ∙ range-outside lo hi a b zs (holds-range least v ps l a b (pairsAt v (package.Rattle.model.specs.Store.page ps n)) zs (t .holds)) o
+    ∙ range-outside lo hi a b zs (holds-range least v ps l a b (pairsAt v (page ps n)) zs (t .holds)) o
 
--- the table's runs are the history's
-run-same : (cs : List Call) (x : After) (m : Machine) → run x cs .store ≡ together 4 (record { store = x .store; machine = m }) cs .store
-run-same [] x m = refl
-run-same (c ∷ cs) x m = at (call (x .store) c) (λ y n. run-same cs y n)
+-- the tables' runs are the history's
+run-same : (least : ℕ) (cs : List Call) (x : After) (m : Machine) → run least x cs .store ≡ together least (record { store = x .store; machine = m }) cs .store
+run-same least [] x m = refl
+run-same least (c ∷ cs) x m = at (callBy least (x .store) c) (λ y n. run-same least cs y n)
   where
-    at : (r : Result) → ((y : After) (n : Machine) → run y cs .store ≡ together 4 (record { store = y .store; machine = n }) cs .store)
-        → run (after (x .store) r) cs .store ≡ together 4 (onward (record { store = x .store; machine = m }) c r) cs .store
+    at : (r : Result) → ((y : After) (n : Machine) → run least y cs .store ≡ together least (record { store = y .store; machine = n }) cs .store)
+        → run least (after (x .store) r) cs .store ≡ together least (onward (record { store = x .store; machine = m }) c r) cs .store
     at (done t) ih = ih (record { number = 0; store = t }) _
     at (refused i) ih = ih (record { number = i; store = x .store }) m
 
-pub from-same : (n : ℕ) (cs : List Call) → from n cs .store ≡ together 4 (beginning n) cs .store
-from-same n cs = run-same cs (record { number = 0; store = fresh n }) _
+pub from-same : (least n : ℕ) (cs : List Call) → from least n cs .store ≡ together least (beginning n) cs .store
+from-same least n cs = run-same least cs (record { number = 0; store = fresh n }) _
 
 -- edition 1, and the edition with limits twice as large
 pub edition-one : (n : ℕ) → 6 ≤ n → n ≤ 4096 → (cs : List Call) → T (all fits cs) → T (sound 4 (together 4 (beginning n) cs .store))
