@@ -25,6 +25,7 @@ pub mod Inv
 pub mod Keeps
 pub mod Count
 pub mod Nodes
+pub mod Alike
 pub mod Past
 pub mod After
 pub mod Preserve
