@@ -8,7 +8,8 @@ use Rattle.model.specs.Basic.{flatMap}
 use Rattle.model.specs.declared.Pair.{Pair}
 use Rattle.model.specs.Page.{Page, pairsAt}
 use Rattle.model.specs.Store.{Store, page}
-use Rattle.model.specs.Walk.{spread, seenAs, seenUnder, seenBelow, below, wayDown, Around, around, pathDown, rangeBelow, between, followed, rangePath, rootAt, heightOf, seen, settings, way, lookup, find, leafOf, lookupVisits, rangeOf, rangeVisits, keyLimit, Seen}
+use Rattle.model.specs.Walk.{spread, seenAs, seenUnder, seenBelow, below, wayDown, Around, pathDown, rangeBelow, rangePath, rootAt, heightOf, seen, settings, way, lookup, find, leafOf, lookupVisits, rangeOf, rangeVisits, keyLimit, Seen}
+use Rattle.model.proofs.Visits.{SameOn, way-reads, path-reads, range-reads, range-path-reads}
 
 pub flat-same : {A B : Type 0} (f g : A → List B) → ((x : A) → g x ≡ f x) → (xs : List A) → flatMap g xs ≡ flatMap f xs
 flat-same f g h [] = refl
@@ -40,33 +41,6 @@ module _ (ps qs : List Page) (u v : ℕ) (same : (n : ℕ) → pairsAt v (page q
       flat-same (λ (r : Pair). below l ps u (r .value)) (λ (r : Pair). below l qs v (r .value)) (λ r. below-same l (r .value)) (pairsAt v (page qs n))
       ∙ ap (flatMap (λ (r : Pair). below l ps u (r .value))) (same n)
 
-  down-same : (l k n : ℕ) (acc : List Around) → wayDown l qs v k n acc ≡ wayDown l ps u k n acc
-  down-same zero k n acc = refl
-  down-same (suc l) k n acc =
-      ap (λ (us : List Pair). wayDown l qs v k (around k us .own .value) (around k us ∷ acc)) (same n)
-      ∙ down-same l k (around k (pairsAt u (page ps n)) .own .value) (around k (pairsAt u (page ps n)) ∷ acc)
-
-  path-same : (l k n : ℕ) → pathDown l qs v k n ≡ pathDown l ps u k n
-  path-same zero k n = refl
-  path-same (suc l) k n =
-      ap {B = List ℕ} (λ (us : List Pair). n ∷ pathDown l qs v k (around k us .own .value)) (same n)
-      ∙ ap {B = List ℕ} (λ (ms : List ℕ). n ∷ ms) (path-same l k (around k (pairsAt u (page ps n)) .own .value))
-
-  range-same : (l lo hi at n : ℕ) → rangeBelow l qs v lo hi at n ≡ rangeBelow l ps u lo hi at n
-  range-same zero lo hi at n = ap (between lo hi) (same n)
-  range-same (suc l) lo hi at n =
-      flat-same (λ (r : Pair). rangeBelow l ps u lo hi (r .key) (r .value)) (λ (r : Pair). rangeBelow l qs v lo hi (r .key) (r .value)) (λ r. range-same l lo hi (r .key) (r .value))
-      (followed at hi (pairsAt v (page qs n)))
-      ∙ ap (λ (us : List Pair). flatMap (λ (r : Pair). rangeBelow l ps u lo hi (r .key) (r .value)) (followed at hi us)) (same n)
-
-  range-path-same : (l hi at n : ℕ) → rangePath l qs v hi at n ≡ rangePath l ps u hi at n
-  range-path-same zero hi at n = refl
-  range-path-same (suc l) hi at n =
-      ap {B = List ℕ} (λ (ms : List ℕ). n ∷ ms)
-      (flat-same (λ (r : Pair). rangePath l ps u hi (r .key) (r .value)) (λ (r : Pair). rangePath l qs v hi (r .key) (r .value)) (λ r. range-path-same l hi (r .key) (r .value))
-      (followed at hi (pairsAt v (page qs n)))
-      ∙ ap (λ (us : List Pair). flatMap (λ (r : Pair). rangePath l ps u hi (r .key) (r .value)) (followed at hi us)) (same n))
-
 -- version v of t looks as version u of s: the root, how high it stands, and what each page shows then
 pub record Alike (s : Store) (u : ℕ) (t : Store) (v : ℕ) : Type 0 where
   pub root : rootAt (t .slots) v ≡ rootAt (s .slots) u
@@ -96,19 +70,21 @@ module _ (s : Store) (u : ℕ) (t : Store) (v : ℕ) (a : Alike s u t v) where
   pub alike-settings : settings t v ≡ settings s u
   alike-settings = walked (λ l n. below l (s .pages) u n) (λ l n. below l (t .pages) v n) (below-same (s .pages) (t .pages) u v (a .shows))
 
+  everywhere : (ns : List ℕ) → SameOn (s .pages) (t .pages) u v ns
+  everywhere ns m i = a .shows m
+
   pub alike-way : (k : ℕ) → way t v k ≡ way s u k
-  alike-way k = walked (λ l n. wayDown l (s .pages) u k n []) (λ l n. wayDown l (t .pages) v k n []) (λ l n. down-same (s .pages) (t .pages) u v (a .shows) l k n [])
+  alike-way k = walked (λ l n. wayDown l (s .pages) u k n []) (λ l n. wayDown l (t .pages) v k n []) (λ l n. way-reads (s .pages) (t .pages) u v l k n [] (everywhere (pathDown l (s .pages) u k n)))
 
   pub alike-lookup : (k : ℕ) → lookup t k v ≡ lookup s k u
   alike-lookup k =
-      ap₂ (λ (r : ℕ) (up : List Around). find k (pairsAt v (page (t .pages) (leafOf r up)))) (a .root) (alike-way k)
-      ∙ ap (find k) (a .shows (leafOf (rootAt (s .slots) u) (way s u k)))
+      ap₂ (λ (r : ℕ) (up : List Around). find k (pairsAt v (page (t .pages) (leafOf r up)))) (a .root) (alike-way k) ∙ ap (find k) (a .shows (leafOf (rootAt (s .slots) u) (way s u k)))
 
   pub alike-visits : (k : ℕ) → lookupVisits t k v ≡ lookupVisits s k u
-  alike-visits k = walked (λ l n. pathDown l (s .pages) u k n) (λ l n. pathDown l (t .pages) v k n) (λ l n. path-same (s .pages) (t .pages) u v (a .shows) l k n)
+  alike-visits k = walked (λ l n. pathDown l (s .pages) u k n) (λ l n. pathDown l (t .pages) v k n) (λ l n. path-reads (s .pages) (t .pages) u v l k n (everywhere (pathDown l (s .pages) u k n)))
 
   pub alike-range : (lo hi : ℕ) → rangeOf t lo hi v ≡ rangeOf s lo hi u
-  alike-range lo hi = walked (λ l n. rangeBelow l (s .pages) u lo hi lo n) (λ l n. rangeBelow l (t .pages) v lo hi lo n) (λ l n. range-same (s .pages) (t .pages) u v (a .shows) l lo hi lo n)
+  alike-range lo hi = walked (λ l n. rangeBelow l (s .pages) u lo hi lo n) (λ l n. rangeBelow l (t .pages) v lo hi lo n) (λ l n. range-reads (s .pages) (t .pages) u v l lo hi lo n (everywhere (rangePath l (s .pages) u hi lo n)))
 
   pub alike-range-visits : (lo hi : ℕ) → rangeVisits t lo hi v ≡ rangeVisits s lo hi u
-  alike-range-visits lo hi = walked (λ l n. rangePath l (s .pages) u hi lo n) (λ l n. rangePath l (t .pages) v hi lo n) (λ l n. range-path-same (s .pages) (t .pages) u v (a .shows) l hi lo n)
+  alike-range-visits lo hi = walked (λ l n. rangePath l (s .pages) u hi lo n) (λ l n. rangePath l (t .pages) v hi lo n) (λ l n. range-path-reads (s .pages) (t .pages) u v l hi lo n (everywhere (rangePath l (s .pages) u hi lo n)))

@@ -25,6 +25,7 @@ pub mod Inv
 pub mod Keeps
 pub mod Count
 pub mod Nodes
+pub mod Visits
 pub mod Alike
 pub mod Past
 pub mod After
@@ -36,4 +37,5 @@ pub mod Undone
 pub mod Theorems
 pub mod Numbered
 pub mod Extras
+pub mod Ranges
 pub mod Steady
