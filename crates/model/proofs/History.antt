@@ -29,7 +29,8 @@ use Rattle.model.proofs.Fits.{numbered-by, insert-by, delete-by, insert
 use Rattle.model.proofs.Lookups.{lookup-is}
 use Rattle.model.proofs.Preserve.{Sounds, insert-keeps, delete-keeps}
 use Rattle.model.proofs.Turns.{store, commit-sound, begin-sound, begin-shows, fresh-sound, fresh-shows}
-use Rattle.model.proofs.Abandon.{abandon-sound, settings-kept}
+use Rattle.model.proofs.Abandon.{abandon-sound, steady-kept}
+use Rattle.model.proofs.Alike.{alike-settings}
 
 -- the store is sound and shows what the machine has
 pub record Agrees (least : ℕ) (b : Both) : Type 0 where
@@ -105,7 +106,7 @@ module _ (least : ℕ) (four : 4 ≤ least) (b : Both) (a : Agrees least b) wher
   abandons-then = numbered-by (Then abandons) (rule 7 (not (s .opened)) ∷ []) (done (abandoned s)) (λ n. a) (λ f. go (not-false (s .opened) (f .0)))
     where
       go : s .opened ≡ true → Agrees least (record { store = abandoned s; machine = step m abandons })
-      go o = record { is-sound = abandon-sound least two s d o; current = a .current; opened = refl; shows = λ v z. settings-kept least two s d o v (omega arith) ∙ a .shows v (omega (arith, last-open o)) }
+      go o = record { is-sound = abandon-sound least two s d o; current = a .current; opened = refl; shows = λ v z. alike-settings s v (abandoned s) v (steady-kept least two s d o v (omega arith)) ∙ a .shows v (omega (arith, last-open o)) }
 
   -- an edit
   edit-then : (o : s .opened ≡ true) (c : Call) (ch : Change) (g : List Pair → List Pair) → ((us : List Pair) → applied ch us ≡ g us) → ((n : Machine) → step n c ≡ edited g n) → (r : Result) → Sounds least four s d o r → Changed s ch r → Then c r
@@ -126,7 +127,7 @@ module _ (least : ℕ) (four : 4 ≤ least) (b : Both) (a : Agrees least b) wher
       at : (v : ℕ) → v ≤ last t → (ltb v (next s) ≡ true) ⊎ (ltb v (next s) ≡ false) → settings t v ≡ put (suc (m .current)) (g (m .shows (suc (m .current)))) (m .shows) v
       at v z (inl q) =
           let less : v < next s = ltb-true v (next s) q in
-          f .past v less ∙ a .shows v (omega (arith, last-open o)) ∙ sym (put-away (suc (m .current)) v (g (m .shows (suc (m .current)))) (m .shows) (λ (y : v ≡ suc (m .current)). omega (arith, a .current)))
+          alike-settings s v t v (f .steady v less) ∙ a .shows v (omega (arith, last-open o)) ∙ sym (put-away (suc (m .current)) v (g (m .shows (suc (m .current)))) (m .shows) (λ (y : v ≡ suc (m .current)). omega (arith, a .current)))
       at v z (inr q) =
           let eq : v ≡ next s = omega (arith, ltb-false v (next s) q, last-t) in
           ap (settings t) eq ∙ e ∙ ap (applied ch) w-shows ∙ same (m .shows (suc (m .current))) ∙ sym (put-here (suc (m .current)) v (g (m .shows (suc (m .current)))) (m .shows) (omega (arith, a .current)))

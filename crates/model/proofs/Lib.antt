@@ -25,6 +25,8 @@ pub mod Inv
 pub mod Keeps
 pub mod Count
 pub mod Nodes
+pub mod Visits
+pub mod Alike
 pub mod Past
 pub mod After
 pub mod Preserve
@@ -35,6 +37,7 @@ pub mod Undone
 pub mod Theorems
 pub mod Numbered
 pub mod Extras
+pub mod Ranges
 pub mod Steady
 pub mod Rising
 pub mod Judging

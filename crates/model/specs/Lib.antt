@@ -16,6 +16,10 @@ pub mod Layout
 pub mod Clean
 pub mod Judged
 pub mod Lent
+pub mod Facts
+pub mod Table
+pub mod AlsoRun
+pub mod Vectors
+pub mod Figures
+pub mod Samples
 pub mod Proved
-pub mod ProvedBytes
-pub mod ProvedSound
