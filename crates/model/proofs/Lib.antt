@@ -23,6 +23,9 @@ pub mod Fitted
 pub mod Redo
 pub mod Inv
 pub mod Keeps
+pub mod PlanCount
+pub mod PlanAlike
+pub mod PlanForesees
 pub mod Count
 pub mod Nodes
 pub mod Past
@@ -35,6 +38,8 @@ pub mod Undone
 pub mod Theorems
 pub mod Numbered
 pub mod Extras
+pub mod PlanSlots
+pub mod PlanSound
 pub mod Steady
 pub mod Rising
 pub mod Judging

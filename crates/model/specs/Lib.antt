@@ -8,6 +8,8 @@ pub mod Walk
 pub mod Sound
 pub mod Rules
 pub mod Climb
+pub mod Needs
+pub mod Plan
 pub mod Calls
 pub mod Settings
 pub mod Histories
