@@ -40,6 +40,7 @@ pub mod Numbered
 pub mod Extras
 pub mod PlanSlots
 pub mod PlanSound
+pub mod Lacking
 pub mod Steady
 pub mod Rising
 pub mod Judging

@@ -15,7 +15,7 @@ use Rattle.model.specs.Page.{Page, Change}
 use Rattle.model.specs.Store.{Store, page, next}
 use Rattle.model.specs.Walk.{Around, rootAt, way, keyLimit}
 use Rattle.model.specs.Climb
-use Rattle.model.specs.Climb.{Rooted, stays, moves, lacks, climb, update}
+use Rattle.model.specs.Climb.{Rooted, stays, moves, lacks, climb, Result, done, refused, rooted, update}
 use Rattle.model.specs.Plan
 use Rattle.model.specs.Plan.{slotLeft, outlook, plan, outlookOf, numberOf, outlookNumber}
 use Rattle.model.proofs.Given.{Sound, high-used}
@@ -52,6 +52,21 @@ module _ (least : ℕ) (two : 2 ≤ least) (s : Store) (d : Sound least s) where
   root-number (moves n qs) = slot-number _ _ qs ∙ ap (λ (b : Bool). pick b 0 13) (slot-left (next s) n (64 * least) (s .slots) (d .slots-few))
   root-number lacks = refl
 
+  refused-by : (n : ℕ) (r : Result) → numberOf r ≡ suc n → r ≡ refused (suc n)
+  refused-by n (done t) e = absurd (omega arith)
+  refused-by n (refused m) e = ap refused e
+
+  done-slot : (b : Bool) (xs : List Slot) (qs : List Page) → numberOf (Climb.slotted b s xs qs) ≡ 0 → (t : Store) × (Climb.slotted b s xs qs ≡ done t)
+  unfolding Climb.slotted
+  done-slot true xs qs e = (record { current = s .current; opened = s .opened; slots = xs; pages = qs }, refl)
+  done-slot false xs qs e = absurd (omega arith)
+
+  done-by : (x : Rooted) → numberOf (rooted least s x) ≡ 0 → (t : Store) × (rooted least s x ≡ done t)
+  unfolding Climb.rooted
+  done-by (stays qs) e = (record { current = s .current; opened = s .opened; slots = s .slots; pages = qs }, refl)
+  done-by (moves n qs) e = done-slot _ _ qs e
+  done-by lacks e = absurd (omega arith)
+
   module _ (o : s .opened ≡ true) (k : ℕ) (low : k < keyLimit) (c : Change) where
     -- what comes of the root is foreseen
     pub outlook-is : outlookOf (climb least (next s) (rootAt (s .slots) (next s)) (way s (next s) k) c (s .pages)) ≡ outlook least s k c
@@ -65,3 +80,11 @@ module _ (least : ℕ) (two : 2 ≤ least) (s : Store) (d : Sound least s) where
     pub plan-is : numberOf (update least s k c) ≡ plan least s k c
     unfolding Climb.update Plan.plan
     plan-is = root-number _ ∙ ap (outlookNumber (slotLeft least s)) outlook-is
+
+    -- a number planned is given, and with 0 the update is done
+    pub plan-refused : (n : ℕ) → plan least s k c ≡ suc n → update least s k c ≡ refused (suc n)
+    plan-refused n e = refused-by n (update least s k c) (plan-is ∙ e)
+
+    pub plan-done : plan least s k c ≡ 0 → (t : Store) × (update least s k c ≡ done t)
+    unfolding Climb.update
+    plan-done e = done-by _ (plan-is ∙ e)

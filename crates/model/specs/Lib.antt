@@ -8,9 +8,9 @@ pub mod Walk
 pub mod Sound
 pub mod Rules
 pub mod Climb
+pub mod Calls
 pub mod Needs
 pub mod Plan
-pub mod Calls
 pub mod Settings
 pub mod Histories
 pub mod Field

@@ -3,6 +3,7 @@
 -- Assumes nothing.
 use Prim.Native.Nat.{ℕ, zero, suc, _+_, _*_, _<_}
 use mathlib.Core.Bool.{Bool, true, false, _&&_, _||_, not}
+use mathlib.Core.Logic.{_↔_}
 use mathlib.Core.Path.{_≡_}
 use mathlib.Core.List.{List, [], _∷_, _++_, map}
 use lib.Dec.{leb, ltb, eqb}
@@ -13,9 +14,10 @@ use Rattle.model.specs.declared.Slot.{Slot}
 use Rattle.model.specs.Entry.{pair}
 use Rattle.model.specs.Page.{Page, Change, wanted, active}
 use Rattle.model.specs.Store.{Store, page, freeOnes, next}
-use Rattle.model.specs.Walk.{Around, rootAt, way}
+use Rattle.model.specs.Walk.{Around, rootAt, way, lookup, keyLimit}
 use Rattle.model.specs.Rules.{Group, gatherBy, rebuilt, rebuild, roomy, upward, work}
-use Rattle.model.specs.Climb.{moves, climb}
+use Rattle.model.specs.Climb.{moves, climb, refused}
+use Rattle.model.specs.Calls.{isSome, insert, delete}
 
 -- ---- a page
 
@@ -78,3 +80,30 @@ pub record NeedsSlot (least : ℕ) (s : Store) (k : ℕ) (c : Change) : Type 0 w
   pub new : climb least (next s) (rootAt (s .slots) (next s)) (way s (next s) k) c (s .pages) ≡ moves root pages
   pub none : hasSlot s ≡ false
   pub full : length (s .slots) ≡ 64 * least
+
+-- ---- calls: "Of several, the smallest" number is given
+
+abbrev pub inserting : ℕ → ℕ → Change
+inserting k x = record { drop = []; take = pair k x ∷ [] }
+
+abbrev pub deleting : ℕ → Change
+deleting k = record { drop = k ∷ []; take = [] }
+
+-- none of 5, 7 and 10 is due
+pub record InsertTried (s : Store) (k : ℕ) : Type 0 where
+  pub key : k < keyLimit
+  pub opened : s .opened ≡ true
+  pub absent : isSome (lookup s k (next s)) ≡ false
+
+-- none of 5, 7 and 11 is due
+pub record DeleteTried (s : Store) (k : ℕ) : Type 0 where
+  pub key : k < keyLimit
+  pub opened : s .opened ≡ true
+  pub present : isSome (lookup s k (next s)) ≡ true
+
+-- The four numbers that say what an update lacks are given exactly when it lacks that.
+pub record Lacks (least : ℕ) (s : Store) : Type 0 where
+  pub insert-page : (k x : ℕ) → insert least s k x ≡ refused 12 ↔ (InsertTried s k × NeedsPage least s k (inserting k x))
+  pub insert-slot : (k x : ℕ) → insert least s k x ≡ refused 13 ↔ (InsertTried s k × NeedsSlot least s k (inserting k x))
+  pub delete-page : (k : ℕ) → delete least s k ≡ refused 12 ↔ (DeleteTried s k × NeedsPage least s k (deleting k))
+  pub delete-slot : (k : ℕ) → delete least s k ≡ refused 13 ↔ (DeleteTried s k × NeedsSlot least s k (deleting k))
