@@ -23,6 +23,9 @@ pub mod Fitted
 pub mod Redo
 pub mod Inv
 pub mod Keeps
+pub mod PlanCount
+pub mod PlanAlike
+pub mod PlanForesees
 pub mod Count
 pub mod Nodes
 pub mod Visits
@@ -38,6 +41,9 @@ pub mod Theorems
 pub mod Numbered
 pub mod Extras
 pub mod Ranges
+pub mod PlanSlots
+pub mod PlanSound
+pub mod Lacking
 pub mod Steady
 pub mod Rising
 pub mod Judging

@@ -9,6 +9,8 @@ pub mod Sound
 pub mod Rules
 pub mod Climb
 pub mod Calls
+pub mod Needs
+pub mod Plan
 pub mod Settings
 pub mod Histories
 pub mod Field
