@@ -22,7 +22,7 @@ use Rattle.page.specs.Head.{readHead, headOf, frontBytes}
 use Rattle.page.specs.Read.{length-entries, level-of, start-of, end-of, count-of, entries-of}
 use Rattle.page.specs.Entries.{entries-part, padded-bytes}
 use Rattle.page.specs.Front.{head-part}
-use Rattle.page.specs.Exact.{Exact, bodyBytes, encode-is}
+use Rattle.page.specs.Exact.{Exact, bodyBytes, encode-is, head-is}
 
 pub record Clean (least : ℕ) (p : List ℕ) : Type 0 where
   pub size : length p ≡ 64 * least
@@ -47,11 +47,6 @@ module _ (least : ℕ) (four : 4 ≤ least) (eight : least ≤ 8) (p : List ℕ)
   -- the bytes behind the entries in use
   abbrev left : ℕ
   left = 64 * least - 16 - 12 * n
-
-  head-is : headOf (decodePage least p) ≡ readHead least p
-  head-is =
-      let e : length (decodePage least p .entries) ≡ readHead least p .count = ap length (entries-of least p) ∙ length-entries p 128 (readHead least p .count) in
-      λ i. record { level = level-of least p i; count = e i; start = start-of least p i; end = end-of least p i }
 
   entries : entriesBytes (padded least (decodePage least p .entries)) ≡ take (12 * n) (drop 16 p) ++ zeros (12 * (5 * least - n))
   entries =
@@ -85,5 +80,5 @@ module _ (least : ℕ) (four : 4 ≤ least) (eight : least ≤ 8) (p : List ℕ)
           let e3 : take 16 (drop 0 p) ++ take (12 * n + left) (drop 16 p) ≡ take (16 + (12 * n + left)) (drop 0 p) = two-parts p 0 16 (12 * n + left) in
           let front : frontBytes least (readHead least p) ≡ take 16 (drop 0 p) = head-part least eight p (c .bytes) (omega (arith, c .size)) (c .spare) in
           encode-is least (decodePage least p)
-          ∙ ap (λ (h : Head). frontBytes least h ++ bodyBytes least (padded least (decodePage least p .entries))) head-is
+          ∙ ap (λ (h : Head). frontBytes least h ++ bodyBytes least (padded least (decodePage least p .entries))) (head-is least p)
           ∙ rw (front, entries, e1, e2, e3) (take-all (16 + (12 * n + left)) p (omega (arith, c .size, c .room)))

@@ -47,6 +47,12 @@ valid-read least p h =
       sized = λ k. rw (entries-of least p) (sized-entries p 128 (readHead least p .count) k);
     }
 
+-- the front of what is shown is the one that is read
+pub head-is : (least : ℕ) (p : List ℕ) → headOf (decodePage least p) ≡ readHead least p
+head-is least p =
+    let e : length (decodePage least p .entries) ≡ readHead least p .count = ap length (entries-of least p) ∙ length-entries p 128 (readHead least p .count) in
+    λ i. record { level = level-of least p i; count = e i; start = start-of least p i; end = end-of least p i }
+
 -- the entries and what stands behind them
 abbrev pub bodyBytes : ℕ → List Entry → List ℕ
 bodyBytes least l = entriesBytes l ++ zeros (4 * least - 16)

@@ -6,3 +6,4 @@ pub mod Front
 pub mod Exact
 pub mod Clean
 pub mod Stage
+pub mod Insert
