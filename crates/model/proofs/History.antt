@@ -13,7 +13,7 @@ use Rattle.model.specs.declared.Pair.{Pair}
 use Rattle.model.specs.Entry.{pair, enterPair}
 use Rattle.model.specs.Page.{Change}
 use Rattle.model.specs.Store.{Store, next, lastOf, last, fresh}
-use Rattle.model.specs.Walk.{settings, lookup, find, keyLimit}
+use Rattle.model.specs.Walk.{rangeOf, between, settings, lookup, find, keyLimit}
 use Rattle.model.specs.Sound.{sound}
 use Rattle.model.specs.Climb.{Result, done, refused}
 use Rattle.model.specs.Calls.{rule, insert, delete, begin, commit, abandon, abandoned}
@@ -26,6 +26,7 @@ use Rattle.model.proofs.Given.{Sound, to-tests}
 use Rattle.model.proofs.Main.{Changed}
 use Rattle.model.proofs.Edit.{keep-all}
 use Rattle.model.proofs.Fits.{numbered-by, insert-by, delete-by, insert-changes, delete-changes}
+use Rattle.model.proofs.Ranges.{range-is}
 use Rattle.model.proofs.Lookups.{lookup-is}
 use Rattle.model.proofs.Preserve.{Sounds, insert-keeps, delete-keeps}
 use Rattle.model.proofs.Turns.{store, commit-sound, begin-sound, begin-shows, fresh-sound, fresh-shows}
@@ -207,3 +208,9 @@ pub history-lookup : (least : ℕ) → 4 ≤ least → (n : ℕ) → 6 ≤ n →
 history-lookup least four n six most cs h k v low z =
     let a = history least four n six most cs (holds-true (all fits cs) h) in
     lookup-is least (omega arith) (together least (beginning n) cs .store) (a .is-sound) k v low z ∙ ap (find k) (a .shows v z)
+
+pub history-range : (least : ℕ) → 4 ≤ least → (n : ℕ) → 6 ≤ n → n ≤ 4096 → (cs : List Call) → T (all fits cs) → (lo hi v : ℕ) → lo < keyLimit → v ≤ last (together least (beginning n) cs .store)
+    → rangeOf (together least (beginning n) cs .store) lo hi v ≡ between lo hi (together least (beginning n) cs .machine .shows v)
+history-range least four n six most cs h lo hi v low z =
+    let a = history least four n six most cs (holds-true (all fits cs) h) in
+    range-is least (omega arith) (together least (beginning n) cs .store) (a .is-sound) lo hi v low z ∙ ap (between lo hi) (a .shows v z)

@@ -19,6 +19,7 @@ pub mod Given
 pub mod Walks
 pub mod Fits
 pub mod Lookups
+pub mod Ranges
 pub mod Fitted
 pub mod Redo
 pub mod Inv
@@ -40,11 +41,11 @@ pub mod Undone
 pub mod Theorems
 pub mod Numbered
 pub mod Extras
-pub mod Ranges
 pub mod PlanSlots
 pub mod PlanSound
 pub mod Lacking
 pub mod Steady
+pub mod Sampled
 pub mod Rising
 pub mod Judging
 pub mod Quiet

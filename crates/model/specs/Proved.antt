@@ -18,7 +18,7 @@ use Rattle.model.specs.Table.{table}
 use Rattle.model.specs.AlsoRun.{alsoRun}
 use Rattle.model.specs.Vectors.{freshBytes, entryForty, fortyBytes}
 use Rattle.model.specs.Figures.{Figure, made, figures}
-use Rattle.model.specs.Samples.{twoLevels, fromElsewhere}
+use Rattle.model.specs.Samples.{twoLevels, fromElsewhere, served}
 
 -- ---- what is computed with
 
@@ -93,3 +93,7 @@ two-levels-sound = tt
 pub from-elsewhere-sound : T (sound 4 fromElsewhere)
 unfolding judging
 from-elsewhere-sound = tt
+
+pub samples-served : T (all holds served)
+unfolding calling
+samples-served = tt

@@ -1,11 +1,14 @@
 -- Two sound stores, written out: the premises that proofs take can be met.
 -- Assumes nothing.
 use mathlib.Core.Bool.{true}
-use mathlib.Core.List.{[], _∷_, _++_}
+use mathlib.Core.List.{List, [], _∷_, _++_}
 use lib.ListN.{replicate}
 use Rattle.model.specs.Entry.{alive}
 use Rattle.model.specs.Page.{free}
 use Rattle.model.specs.Store.{Store}
+use Rattle.model.specs.Histories.{inserts, deletes}
+use Rattle.model.specs.Facts.{History, gives, looks}
+use Rattle.model.specs.declared.Looked.the-variants.{Value, Absent}
 use Rattle.model.specs.Figures.{to, each, leaf, index, slot}
 
 -- Two levels and an open update, version 2, which killed page 7 and made 9 and 10.
@@ -38,3 +41,18 @@ fromElsewhere = record {
       ∷ index 3 alive (to 0 3 alive 6 ∷ to 10 3 alive 7 ∷ [])
       ∷ replicate 3 free);
 }
+
+-- both are served
+abbrev pub served : List History
+served =
+    record {
+      store = twoLevels;
+      calls = inserts 5 50 ∷ deletes 2 ∷ [];
+      facts = gives 0 ∷ looks 5 2 (Value 50) ∷ looks 2 2 Absent ∷ looks 2 1 (Value 102) ∷ [];
+    }
+    ∷ record {
+      store = fromElsewhere;
+      calls = deletes 2 ∷ inserts 5 50 ∷ [];
+      facts = gives 0 ∷ looks 5 4 (Value 50) ∷ looks 2 4 Absent ∷ looks 2 3 (Value 102) ∷ looks 10 1 (Value 110) ∷ [];
+    }
+    ∷ []

@@ -56,13 +56,13 @@ fits abandons = true
 fits (inserts k x) = ltb x 4294967296
 fits (deletes k) = true
 
--- inserts and deletes
-abbrev pub isEdit : Call → Bool
-isEdit begins = false
-isEdit commits = false
-isEdit abandons = false
-isEdit (inserts k x) = true
-isEdit (deletes k) = true
+-- the calls that may stand inside an open update: all but commit and abandon, which end it. Another open is refused there.
+abbrev pub isInside : Call → Bool
+isInside begins = true
+isInside commits = false
+isInside abandons = false
+isInside (inserts k x) = true
+isInside (deletes k) = true
 
 -- how many inserts and deletes were accepted in the updates up to each version
 pub record Tally : Type 0 where
