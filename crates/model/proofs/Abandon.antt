@@ -9,7 +9,7 @@ use mathlib.Core.List.{List, [], _∷_, map}
 use lib.Dec.{leb, ltb, eqb, eqb·zero-suc}
 use lib.ListN.{length, getD, List·getD-map}
 use borrow.Author.Tests.{leb-true, eqb-true, eqb-false, le-leb, lt-ltb, lt-leb, eq-eqb, ne-eqb, not-true}
-use Rattle.model.specs.Basic.{all, has, pick, those, keep}
+use Rattle.model.specs.Basic.{all, has, pick, those, keep, inOrder}
 use Rattle.model.specs.declared.Pair.{Pair}
 use Rattle.model.specs.declared.Entry.{Entry}
 use Rattle.model.specs.Entry.{alive, pairOf, liveAt, before}
@@ -17,7 +17,6 @@ use Rattle.model.specs.Page.{Page, free, isFree, active, pairsAt}
 use Rattle.model.specs.declared.Slot.{Slot}
 use Rattle.model.specs.Store.{Store, page, next, last}
 use Rattle.model.specs.Walk.{rootAt, heightOf, Seen, seen}
-use Rattle.model.specs.Basic.{inOrder}
 use Rattle.model.specs.Sound.{isPage, entryOk, inside, leadsWell, keysOk}
 use Rattle.model.specs.Calls.{revivedEnd, revived, restoredEntries, restored, backBy, back}
 use Rattle.model.proofs.Lists.{both-true, both-intro}

@@ -9,7 +9,7 @@ use mathlib.Core.List.{List, map}
 use lib.Dec.{leb, ltb, eqb, eqb·zero-suc}
 use lib.ListN.{length}
 use borrow.Author.Tests.{leb-true, ltb-true, ltb-false, eqb-true, le-leb, lt-ltb, eq-eqb, not-true}
-use Rattle.model.specs.Basic.{all, has, pick, those}
+use Rattle.model.specs.Basic.{all, has, pick, those, inOrder}
 use Rattle.model.specs.declared.Pair.{Pair}
 use Rattle.model.specs.declared.Entry.{Entry}
 use Rattle.model.specs.Entry.{alive, pairOf, liveAt}
@@ -17,7 +17,6 @@ use Rattle.model.specs.Page.{Page, free, isFree, pairsAt}
 use Rattle.model.specs.declared.Slot.{Slot}
 use Rattle.model.specs.Store.{Store, page, next, last}
 use Rattle.model.specs.Walk.{rootAt, heightOf, Seen, seenUnder, seenBelow, seen, keyLimit}
-use Rattle.model.specs.Basic.{inOrder}
 use Rattle.model.specs.Sound.{isPage, entryOk, inside, leadsWell, keysOk, firstVersion}
 use Rattle.model.specs.Calls.{back}
 use Rattle.model.proofs.Lists.{both-true, both-intro}

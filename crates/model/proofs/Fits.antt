@@ -10,7 +10,7 @@ use mathlib.Core.List.{List, [], _∷_, map}
 use lib.Dec.{T, leb, ltb, eqb}
 use lib.ListN.{length, take, drop}
 use borrow.Author.Tests.{leb-true, ltb-true, eqb-true, eqb-false, le-leb, lt-ltb, eq-eqb, ne-eqb, not-true, not-false, leb-false}
-use Rattle.model.specs.Basic.{all, has, pick, those}
+use Rattle.model.specs.Basic.{all, has, pick, those, inOrder}
 use Rattle.model.specs.declared.Pair.{Pair}
 use Rattle.model.specs.declared.Entry.{Entry}
 use Rattle.model.specs.Entry.{pair, placed, enterPair, alive, pairOf, within, liveAt, before, endThose, endOne}
@@ -18,7 +18,6 @@ use Rattle.model.specs.Page.{Page, Change, isFree, pairsAt, changed}
 use Rattle.model.specs.declared.Slot.{Slot}
 use Rattle.model.specs.Store.{Store, page, next, lastOf, last}
 use Rattle.model.specs.Walk.{Around, around, rootFrom, rootAt, heightOf, settings, wayDown, Seen, seenAs, seenUnder, seen, keyLimit, lookup}
-use Rattle.model.specs.Basic.{inOrder}
 use Rattle.model.specs.Sound.{sound, isPage, inside, keysOk, fewest, firstVersion}
 use Rattle.model.proofs.Lists.{both-true, both-intro, all-cons}
 use Rattle.model.proofs.Members.{holds-true, not-both, either-true, either-left, either-right, bool-cases, In, in-left, in-right, all-in, all-by, all-implies, in-map, map-in, in-those, has-in, in-has}

@@ -9,13 +9,12 @@ use mathlib.Core.List.{List, [], _∷_, map}
 use lib.Dec.{leb, ltb, eqb}
 use lib.ListN.{length}
 use borrow.Author.Tests.{ltb-true, ltb-false, eqb-true, eqb-false, lt-ltb, le-leb, eq-eqb}
-use Rattle.model.specs.Basic.{those, has, pick, all}
+use Rattle.model.specs.Basic.{those, has, pick, all, inOrder}
 use Rattle.model.specs.declared.Entry.{Entry}
 use Rattle.model.specs.declared.Pair.{Pair}
 use Rattle.model.specs.Entry.{pairOf, alive, liveAt, born, before, placed, enter, enterPair, endOne, endThose, endedAt}
 use Rattle.model.specs.Page.{Page, Change, bornAll, enterAll, pairsAt, changed, wanted, killed, filled}
 use Rattle.model.specs.Walk.{keyLimit}
-use Rattle.model.specs.Basic.{inOrder}
 use Rattle.model.proofs.Lists.{both-true, both-intro, all-enter, all-end}
 use Rattle.model.proofs.Members.{not-both, either-true, either-left, either-right, bool-cases, In, all-in, all-by, in-map, map-in, in-those, those-in}
 use Rattle.model.proofs.Place.{byKey, shown, show-enter, show-end, born-live}

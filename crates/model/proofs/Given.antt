@@ -10,14 +10,13 @@ use lib.Dec.{leb, ltb, eqb}
 use lib.ListN.{length, take, drop, length-drop, List·getD-eq-default}
 use lib.Seq.{getD-drop, getD-take, length-take-le}
 use borrow.Author.Tests.{leb-true, ltb-true, eqb-true, le-leb, lt-ltb, eq-eqb, not-true, ltb-false}
-use Rattle.model.specs.Basic.{all, has, isEmpty, pick}
+use Rattle.model.specs.Basic.{all, has, isEmpty, pick, inOrder}
 use Rattle.model.specs.declared.Entry.{Entry}
 use Rattle.model.specs.Entry.{alive, within, before}
 use Rattle.model.specs.Page.{Page, free, isFree}
 use Rattle.model.specs.declared.Slot.{Slot}
 use Rattle.model.specs.Store.{Store, page, next, lastOf, last}
 use Rattle.model.specs.Walk.{Seen, seen, keyLimit}
-use Rattle.model.specs.Basic.{inOrder}
 use Rattle.model.specs.Sound.{pagesPass, isPage, spanOk, entryOk, pageOk, zeroed, pageFine, firstVersion, inside, leadsWell, versions, keysOk, fewest, same, reachedWell, sound, rule1, rule2, rule3, rule4, rule5, rule6, rule7}
 use Rattle.model.proofs.Lists.{both-true, both-intro}
 use Rattle.model.proofs.Members.{not-both, either-true, either-left, either-right, bool-cases, In, all-in, all-by, all-at, all-places, in-count, count-in}

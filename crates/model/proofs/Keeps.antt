@@ -11,14 +11,13 @@ use lib.Dec.{leb, ltb, lit<}
 use lib.ListN.{length, set, length-append}
 use lib.Seq.{getD-set-other}
 use borrow.Author.Tests.{ltb-true, ltb-false, leb-true, leb-false, lt-ltb, ne-eqb}
-use Rattle.model.specs.Basic.{keep, those, all, any}
+use Rattle.model.specs.Basic.{keep, those, all, any, inOrder}
 use Rattle.model.specs.declared.Entry.{Entry}
 use Rattle.model.specs.declared.Pair.{Pair}
 use Rattle.model.specs.Entry.{pair, pairOf, alive, within, liveAt}
 use Rattle.model.specs.Page.{Page, Change, free, isFree, pairsAt, changed, wanted, killed, filled, gone}
 use Rattle.model.specs.Store.{page, freeOnes}
 use Rattle.model.specs.Walk.{Around, keyLimit}
-use Rattle.model.specs.Basic.{inOrder}
 use Rattle.model.specs.Sound.{fewest}
 use Rattle.model.specs.Rules
 use Rattle.model.specs.Climb

@@ -9,13 +9,12 @@ use mathlib.Core.List.{List, [], _∷_, _++_, map}
 use lib.Dec.{leb, ltb, eqb}
 use lib.ListN.{getD, List·getD-map}
 use borrow.Author.Tests.{ltb-true, leb-true, eqb-true, eqb-false, lt-ltb, le-leb, lt-leb, ne-eqb, not-true}
-use Rattle.model.specs.Basic.{all, those, keep, pick}
+use Rattle.model.specs.Basic.{all, those, keep, pick, inOrder}
 use Rattle.model.specs.Entry.{alive, within}
 use Rattle.model.specs.Page.{Page, free, isFree, active}
 use Rattle.model.specs.declared.Slot.{Slot}
 use Rattle.model.specs.Store.{page}
 use Rattle.model.specs.Walk.{rootFrom, rootAt}
-use Rattle.model.specs.Basic.{inOrder}
 use Rattle.model.specs.Sound.{firstVersion}
 use Rattle.model.specs.Climb
 use Rattle.model.specs.Calls.{revivedEnd, backBy, back}

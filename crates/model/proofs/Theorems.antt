@@ -9,12 +9,11 @@ use mathlib.Core.List.{List, [], _∷_}
 use lib.Dec.{T, ltb, eqb}
 use lib.ListN.{length}
 use borrow.Author.Tests.{eqb-true}
-use Rattle.model.specs.Basic.{all, has, pick, those, keep}
+use Rattle.model.specs.Basic.{all, has, pick, those, keep, inOrder}
 use Rattle.model.specs.declared.Pair.{Pair}
 use Rattle.model.specs.Entry.{pair, enterPair}
 use Rattle.model.specs.Store.{Store, page, next, last, lastOf}
 use Rattle.model.specs.Walk.{settings, lookup, find, rootAt, keyLimit}
-use Rattle.model.specs.Basic.{inOrder}
 use Rattle.model.specs.Sound.{sound}
 use Rattle.model.specs.Climb.{Result, done, refused, update}
 use Rattle.model.specs.Calls.{isSome, insert, delete}

@@ -1,4 +1,5 @@
--- What the accepted calls leave at each version, with no pages: the machine that a store's history is held to.
+-- "The settings alive at a committed version are what the accepted inserts and deletes of the updates committed up to it, applied in
+-- order from a fresh store, leave": a machine with no pages, which a store's history is held to.
 -- Assumes nothing.
 use Prim.Native.Nat.{ℕ, suc}
 use mathlib.Core.Bool.{Bool, true, false, not}
@@ -11,12 +12,13 @@ use Rattle.model.specs.Store.{Store}
 use Rattle.model.specs.Climb.{Result, done, refused}
 use Rattle.model.specs.Histories.{Call, begins, commits, abandons, inserts, deletes, callBy}
 
--- the settings of each version up to the last one
+-- current version, whether an update is open, and the settings of each version up to the last
 pub record Machine : Type 0 where
   pub current : ℕ
   pub opened : Bool
   pub shows : ℕ → List Pair
 
+-- beside a fresh store
 abbrev pub start : Machine
 start = record { current = 0; opened = false; shows = λ (v : ℕ). [] }
 
@@ -24,10 +26,12 @@ start = record { current = 0; opened = false; shows = λ (v : ℕ). [] }
 abbrev pub put : ℕ → List Pair → (ℕ → List Pair) → ℕ → List Pair
 put w us f v = pick (eqb v w) us (f v)
 
+-- the settings of the open version changed
 abbrev pub edited : (List Pair → List Pair) → Machine → Machine
 edited g m = record { current = m .current; opened = m .opened; shows = put (suc (m .current)) (g (m .shows (suc (m .current)))) (m .shows) }
 
--- an accepted call: the open version begins with the settings of the current one, and the edits change it alone
+-- An accepted call. An update begins with the settings of the current version; "At the open version the open update's accepted calls so
+-- far are applied too."
 abbrev pub step : Machine → Call → Machine
 step m begins = record { current = m .current; opened = true; shows = put (suc (m .current)) (m .shows (m .current)) (m .shows) }
 step m commits = record { current = suc (m .current); opened = false; shows = m .shows }
@@ -48,7 +52,7 @@ abbrev pub together : ℕ → Both → List Call → Both
 together least b [] = b
 together least b (c ∷ cs) = together least (onward b c (callBy least (b .store) c)) cs
 
--- a value is 32 bits
+-- "a value is any 32 bits"
 abbrev pub fits : Call → Bool
 fits begins = true
 fits commits = true
@@ -64,7 +68,7 @@ isInside abandons = false
 isInside (inserts k x) = true
 isInside (deletes k) = true
 
--- how many inserts and deletes were accepted in the updates up to each version
+-- "their number is those inserts less those deletes": how many were accepted in the updates up to each version
 pub record Tally : Type 0 where
   pub added : ℕ → ℕ
   pub removed : ℕ → ℕ
