@@ -11,7 +11,7 @@ use Rattle.model.specs.Page.{free}
 use Rattle.model.specs.Store.{Store}
 use Rattle.model.specs.Calls.{Ranged}
 use Rattle.model.specs.Histories.{begins, commits, deletes, from}
-use Rattle.model.specs.Facts.{History, gives, slotCount, looks, ranges, bytesOf}
+use Rattle.model.specs.Replay.{History, gives, slotCount, looks, ranges, bytesOf}
 use Rattle.model.specs.Table.{history, insertKey, twenty, reopened}
 
 -- a store with an update open, lent from elsewhere: n slots, each to page 5, which has keys 1 to 20; the 21st makes a new root

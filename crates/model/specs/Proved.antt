@@ -13,7 +13,7 @@ use Rattle.model.specs.Sound.{sound}
 use Rattle.model.specs.Field
 use Rattle.model.specs.Layout
 use Rattle.model.specs.Layout.{encode, decode, entryBytes}
-use Rattle.model.specs.Facts.{History, holds, soundWay, readBack}
+use Rattle.model.specs.Replay.{History, holds, soundWay, readBack}
 use Rattle.model.specs.Table.{table}
 use Rattle.model.specs.AlsoRun.{alsoRun}
 use Rattle.model.specs.Vectors.{freshBytes, entryForty, fortyBytes}

@@ -7,7 +7,7 @@ use Rattle.model.specs.Entry.{alive}
 use Rattle.model.specs.Page.{free}
 use Rattle.model.specs.Store.{Store}
 use Rattle.model.specs.Histories.{inserts, deletes}
-use Rattle.model.specs.Facts.{History, gives, looks}
+use Rattle.model.specs.Replay.{History, gives, looks}
 use Rattle.model.specs.declared.Looked.the-variants.{Value, Absent}
 use Rattle.model.specs.Figures.{to, each, leaf, index, slot}
 

@@ -7,7 +7,7 @@ use Rattle.model.specs.Basic.{count}
 use Rattle.model.specs.declared.Looked.the-variants.{Value, Absent}
 use Rattle.model.specs.Store.{fresh}
 use Rattle.model.specs.Histories.{Call, begins, commits, abandons, inserts, deletes, After, from}
-use Rattle.model.specs.Facts.{History, gives, slots, root, keys, leads, holding, span, freed, live, looks, bytesOf}
+use Rattle.model.specs.Replay.{History, gives, slots, root, keys, leads, holding, span, freed, live, looks, bytesOf}
 
 -- ---- the calls
 

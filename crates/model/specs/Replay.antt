@@ -1,4 +1,4 @@
--- What the tables of histories say: a history is calls on a store, and facts that hold after the last of them.
+-- "Histories to replay": a history is calls on a store, and facts that hold after the last of them.
 -- Assumes nothing.
 use Prim.Native.Nat.{ℕ}
 use mathlib.Core.Bool.{Bool, true, _&&_}
