@@ -27,7 +27,7 @@ use Rattle.model.proofs.Tree.{Holds}
 use Rattle.model.proofs.Shows.{Shows, RootFair, same?}
 use Rattle.model.proofs.Main.{height-is}
 use Rattle.model.proofs.Bridge.{passesAt}
-use Rattle.model.proofs.Fits.{used-level, level-used, within-of, of-within, root-lives, last-is, limit}
+use Rattle.model.proofs.Fits.{used-level, level-used, within-of, of-within, root-lives, last-is, limit, root-used}
 use Rattle.model.proofs.Fitted.{EntryFit, PageFit}
 use Rattle.model.proofs.Inv.{Lives, Held, OldLead, Final, Inv, lives-used}
 use Rattle.model.proofs.Keeps.{Kept}
@@ -260,7 +260,7 @@ module _ (least : ℕ) (four : 4 ≤ least) (s : Store) (d : Sound least s) (o :
     back-free = rw (eqb·zero-suc (s .current), eqb·zero-suc (s .current))
 
     past-root : (v : ℕ) → v < w → livesAt v (page (s .pages) (rootAt (s .slots) v)) ≡ true
-    past-root v h = both-intro _ _ (ap not (package.Rattle.model.proofs.Fits.root-used least two-of s d v)) (root-lives least two-of s d v (omega (arith, last-w)))
+    past-root v h = both-intro _ _ (ap not (root-used least two-of s d v)) (root-lives least two-of s d v (omega (arith, last-w)))
 
     -- they look as they did
     pub steady-past : (v : ℕ) → v < w → Alike s v t v

@@ -32,10 +32,10 @@ module _ (ps qs : List Page) (u v : ℕ) (same : (n : ℕ) → pairsAt v (page q
       (λ a b i. ap₂ {C = List Seen} (λ (x : Seen) (xs : List Seen). x ∷ xs) (as-same l false a b i) (under-same l b i)) (pairsAt v (page qs n)) hi
       ∙ ap (λ (xs : List Pair). spread (λ (a b i : ℕ). seenAs l ps u false a b i ∷ seenUnder l ps u b i) xs hi) (same n)
 
-  seen-same : (l : ℕ) (b : Bool) (lo hi n : ℕ) → seenBelow l qs v b lo hi n ≡ seenBelow l ps u b lo hi n
+  pub seen-same : (l : ℕ) (b : Bool) (lo hi n : ℕ) → seenBelow l qs v b lo hi n ≡ seenBelow l ps u b lo hi n
   seen-same l b lo hi n = ap₂ {C = List Seen} (λ (x : Seen) (xs : List Seen). x ∷ xs) (as-same l b lo hi n) (under-same l hi n)
 
-  below-same : (l n : ℕ) → below l qs v n ≡ below l ps u n
+  pub below-same : (l n : ℕ) → below l qs v n ≡ below l ps u n
   below-same zero n = same n
   below-same (suc l) n =
       flat-same (λ (r : Pair). below l ps u (r .value)) (λ (r : Pair). below l qs v (r .value)) (λ r. below-same l (r .value)) (pairsAt v (page qs n))

@@ -21,6 +21,7 @@ use Rattle.model.specs.Calls.{revivedEnd, backBy, back}
 use Rattle.model.proofs.Lists.{both-true, both-intro, all-cons}
 use Rattle.model.proofs.Members.{not-both, In, all-in, all-by, in-those, in-append}
 use Rattle.model.proofs.Given.{livesAt}
+use Rattle.model.proofs.Local.{all-append}
 
 module _ (v w : ℕ) (old : v < w) (lim : w < alive) where
   and-false : (b c : Bool) → c ≡ false → (b && c) ≡ false
@@ -122,7 +123,7 @@ module _ (w : ℕ) where
   snoc-rise n (x ∷ xs) o h =
       let (a, b) = both-true (all (bySlot x) xs) (inOrder bySlot xs) o in
       let (c, d) = all-cons (λ (y : Slot). ltb (y .version) w) x xs h in
-      both-intro _ _ (package.Rattle.model.proofs.Local.all-append (bySlot x) xs (record { version = w; root = n } ∷ []) a (both-intro _ _ c refl)) (snoc-rise n xs b d)
+      both-intro _ _ (all-append (bySlot x) xs (record { version = w; root = n } ∷ []) a (both-intro _ _ c refl)) (snoc-rise n xs b d)
 
   pub put-rise : (n : ℕ) (xs : List Slot) → inOrder bySlot xs ≡ true → all (λ (x : Slot). leb (x .version) w) xs ≡ true → inOrder bySlot (Climb.putSlot w n xs) ≡ true
   unfolding Climb.putSlot

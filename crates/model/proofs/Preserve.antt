@@ -28,7 +28,7 @@ use Rattle.model.proofs.Walks.{Self, Above, last-step}
 use Rattle.model.proofs.Local.{applied}
 use Rattle.model.proofs.Undo.{climb-fine, RootedFine}
 use Rattle.model.proofs.Climbs.{Pending, RootedShows, climb-shows}
-use Rattle.model.proofs.Main.{Fit, pending}
+use Rattle.model.proofs.Main.{Fit, pending, root-new}
 use Rattle.model.proofs.Edit.{length-enter}
 use Rattle.model.proofs.Fits.{level-used, reached-of, lives-of, reach-level, root-level, ready, fit-insert, fit-delete, insert-by, delete-by, last-is}
 use Rattle.model.proofs.Fitted.{kindOk, EntryFit, PageFit}
@@ -172,7 +172,7 @@ module _ (least : ℕ) (four : 4 ≤ least) (s : Store) (d : Sound least s) (o :
       }
     where
       put-now : rootAt (Climb.putSlot w n (s .slots)) w ≡ n
-      put-now = package.Rattle.model.proofs.Main.root-new w n (s .slots)
+      put-now = root-new w n (s .slots)
 
   module _ (k : ℕ) (c : Change) (low : k < keyLimit) (f : Fit least s k c) (takes : all (kindOk N 1) (c .take) ≡ true)
       (upper : (n : ℕ) → page ps n .level ≡ 1 → length (wanted w c (page ps n)) ≤ suc (5 * least)) where
