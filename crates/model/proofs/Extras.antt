@@ -11,10 +11,10 @@ use Rattle.model.specs.Store.{Store, fresh}
 use Rattle.model.specs.Sound.{sound, broken, firstBroken, rule1, rule2, rule3, rule4, rule5, rule6, rule7}
 use Rattle.model.specs.Climb.{Result, done, refused}
 use Rattle.model.specs.Histories.{Call, callBy, After, after, run, from}
-use Rattle.model.specs.Settings.{Machine, onward, together, fits}
+use Rattle.model.specs.Settings.{Machine, onward, together, fits, beginning}
 use Rattle.model.proofs.Lists.{both-true}
 use Rattle.model.proofs.Members.{holds-true, true-holds}
-use Rattle.model.proofs.History.{beginning, history-sound}
+use Rattle.model.proofs.History.{history-sound}
 
 -- check gives 0 exactly for sound stores
 sound-broken-by : (a b c d e f g : Bool) → (a && b && c && d && e && f && g) ≡ true → firstBroken 1 (a ∷ b ∷ c ∷ d ∷ e ∷ f ∷ g ∷ []) ≡ 0

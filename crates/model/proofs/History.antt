@@ -18,7 +18,7 @@ use Rattle.model.specs.Sound.{sound}
 use Rattle.model.specs.Climb.{Result, done, refused}
 use Rattle.model.specs.Calls.{rule, insert, delete, begin, commit, abandon, abandoned}
 use Rattle.model.specs.Histories.{Call, begins, commits, abandons, inserts, deletes, callBy}
-use Rattle.model.specs.Settings.{Machine, start, put, edited, step, Both, onward, together, fits}
+use Rattle.model.specs.Settings.{Machine, put, edited, step, Both, onward, together, fits, beginning}
 use Rattle.model.proofs.Lists.{all-cons}
 use Rattle.model.proofs.Members.{holds-true, true-holds, not-both, bool-cases}
 use Rattle.model.proofs.Local.{applied}
@@ -173,9 +173,6 @@ many-calls least four [] h b a = a
 many-calls least four (c ∷ cs) h b a =
     let (x, y) = all-cons fits c cs h in
     many-calls least four cs y (onward b c (callBy least (b .store) c)) (one-call least four b a c x)
-
-abbrev pub beginning : ℕ → Both
-beginning n = record { store = fresh n; machine = start }
 
 pub fresh-agrees : (least : ℕ) → 4 ≤ least → (n : ℕ) → 6 ≤ n → n ≤ 4096 → Agrees least (beginning n)
 fresh-agrees least four n six most = record {

@@ -11,13 +11,14 @@ use Rattle.model.specs.Walk.{lookup}
 use Rattle.model.specs.Sound.{sound}
 use Rattle.model.specs.Samples.{twoLevels, fromElsewhere}
 use Rattle.model.specs.Proved.{two-levels-sound, from-elsewhere-sound}
+use Rattle.model.specs.Settings.{lent}
 use Rattle.model.proofs.Members.{holds-true}
 use Rattle.model.proofs.Given.{Sound, from-tests}
 use Rattle.model.proofs.Undo.{Ready}
 use Rattle.model.proofs.Main.{Fit}
 use Rattle.model.proofs.Fits.{ready, fit-insert, fit-delete}
 use Rattle.model.proofs.History.{Agrees}
-use Rattle.model.proofs.Undone.{lent, lent-agrees}
+use Rattle.model.proofs.Undone.{lent-agrees}
 
 -- what the theorems on calls, histories, inserts and deletes ask of a store with an update open
 pub record Met (s : Store) : Type 0 where

@@ -15,7 +15,7 @@ use Rattle.model.specs.Sound.{sound}
 use Rattle.model.specs.Climb.{Result, done, refused}
 use Rattle.model.specs.Calls.{rule, insert, delete, begin, commit, abandon, abandoned}
 use Rattle.model.specs.Histories.{Call, begins, commits, abandons, inserts, deletes, callBy}
-use Rattle.model.specs.Settings.{Both, onward, together, fits}
+use Rattle.model.specs.Settings.{Both, onward, together, fits, lent}
 use Rattle.model.proofs.Lists.{all-cons}
 use Rattle.model.proofs.Members.{holds-true, not-both, bool-cases}
 use Rattle.model.proofs.Fits.{numbered-by, insert-by, delete-by}
@@ -23,7 +23,7 @@ use Rattle.model.proofs.Alike.{Alike, alike-self, alike-trans, alike-se
 use Rattle.model.proofs.Preserve.{Sounds, insert-keeps, delete-keeps}
 use Rattle.model.proofs.Abandon.{steady-kept}
 use Rattle.model.proofs.History.{Agrees, one-call}
-use Rattle.model.proofs.Undone.{lent, lent-agrees}
+use Rattle.model.proofs.Undone.{lent-agrees}
 
 -- versions committed before stay committed, and their ways stay
 pub record Onward (s t : Store) : Type 0 where

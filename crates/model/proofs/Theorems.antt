@@ -20,7 +20,7 @@ use Rattle.model.specs.Sound.{sound, fewest}
 use Rattle.model.specs.Climb.{Result, done, refused, update}
 use Rattle.model.specs.Calls.{isSome, insert, delete}
 use Rattle.model.specs.Histories.{Call, callBy, after}
-use Rattle.model.specs.Settings.{Machine, onward, fits}
+use Rattle.model.specs.Settings.{Machine, onward, fits, lent}
 use Rattle.model.proofs.Lists.{both-true}
 use Rattle.model.proofs.Members.{holds-true, true-holds, not-both, In}
 use Rattle.model.proofs.Edit.{lt, length-enter, keep-all, those-one}
@@ -31,7 +31,7 @@ use Rattle.model.proofs.Fits.{insert-by, delete-by, fit-insert, fit-del
 use Rattle.model.proofs.Lookups.{lookup-is, settings-rise}
 use Rattle.model.proofs.Count.{root-low, root-lower}
 use Rattle.model.proofs.History.{one-call}
-use Rattle.model.proofs.Undone.{lent, lent-agrees}
+use Rattle.model.proofs.Undone.{lent-agrees}
 
 store-after : (s : Store) (m : Machine) (c : Call) (r : Result) → onward (record { store = s; machine = m }) c r .store ≡ after s r .store
 store-after s m c (done t) = refl

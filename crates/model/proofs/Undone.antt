@@ -15,12 +15,11 @@ use Rattle.model.specs.Entry.{alive}
 use Rattle.model.specs.Page.{Page, free, isFree}
 use Rattle.model.specs.declared.Slot.{Slot}
 use Rattle.model.specs.Store.{Store, page}
-use Rattle.model.specs.Walk.{settings}
 use Rattle.model.specs.Sound.{sound}
 use Rattle.model.specs.Climb.{Result, done, refused}
 use Rattle.model.specs.Calls.{insert, delete, begin, abandon, abandoned, revivedEnd, revived, restoredEntries, backBy, back}
 use Rattle.model.specs.Histories.{Call, begins, commits, abandons, inserts, deletes, callBy}
-use Rattle.model.specs.Settings.{step, Both, onward, together, fits, isInside}
+use Rattle.model.specs.Settings.{step, Both, onward, together, fits, isInside, lent}
 use Rattle.model.proofs.Lists.{all-cons}
 use Rattle.model.proofs.Members.{holds-true, true-holds, not-both, bool-cases, In, all-in, all-by}
 use Rattle.model.proofs.Local.{those-all}
@@ -164,10 +163,6 @@ module _ (least : ℕ) (four : 4 ≤ least) (b : Both) (a : Agrees least b) (shu
       ∙ inside-undone least four cs e h begun agreed refl
       ∙ begun-abandoned least (s .current) (s .slots) (s .pages) (subst (λ (q : Bool). Sound least (store (s .current) q (s .slots) (s .pages))) shut (a .is-sound))
       ∙ ap (λ (q : Bool). store (s .current) q (s .slots) (s .pages)) (sym shut)
-
--- "For a sound store lent from elsewhere, the settings its walks show stand for the history so far."
-abbrev pub lent : Store → Both
-lent s = record { store = s; machine = record { current = s .current; opened = s .opened; shows = settings s } }
 
 pub lent-agrees : (least : ℕ) (s : Store) → T (sound least s) → Agrees least (lent s)
 lent-agrees least s sure = record { is-sound = from-tests least s (holds-true (sound least s) sure); current = refl; opened = refl; shows = λ v h. refl }

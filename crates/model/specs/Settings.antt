@@ -8,7 +8,8 @@ use lib.Dec.{ltb, eqb}
 use Rattle.model.specs.Basic.{those, pick}
 use Rattle.model.specs.declared.Pair.{Pair}
 use Rattle.model.specs.Entry.{pair, enterPair}
-use Rattle.model.specs.Store.{Store}
+use Rattle.model.specs.Store.{Store, fresh}
+use Rattle.model.specs.Walk.{settings}
 use Rattle.model.specs.Climb.{Result, done, refused}
 use Rattle.model.specs.Histories.{Call, begins, commits, abandons, inserts, deletes, callBy}
 
@@ -51,6 +52,14 @@ onward b c (refused n) = b
 abbrev pub together : ℕ → Both → List Call → Both
 together least b [] = b
 together least b (c ∷ cs) = together least (onward b c (callBy least (b .store) c)) cs
+
+-- at the start: a fresh store of n pages
+abbrev pub beginning : ℕ → Both
+beginning n = record { store = fresh n; machine = start }
+
+-- "For a sound store lent from elsewhere, the settings its walks show stand for the history so far."
+abbrev pub lent : Store → Both
+lent s = record { store = s; machine = record { current = s .current; opened = s .opened; shows = settings s } }
 
 -- "a value is any 32 bits"
 abbrev pub fits : Call → Bool
