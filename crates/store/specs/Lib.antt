@@ -1,2 +1,7 @@
 pub mod Read
 pub mod Parts
+pub mod Slots
+pub mod Header
+pub mod Pages
+pub mod Exactly
+pub mod Holds
