@@ -5,3 +5,4 @@ pub mod Header
 pub mod Pages
 pub mod Exactly
 pub mod Holds
+pub mod Set
