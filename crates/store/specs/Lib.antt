@@ -6,3 +6,4 @@ pub mod Pages
 pub mod Exactly
 pub mod Holds
 pub mod Set
+pub mod Tested
