@@ -8,8 +8,8 @@ use native.Mathlib.Omega.{arith}
 use lib.ListN.{length, take, drop, replicate, replicate-append-replicate}
 use Rattle.model.specs.Field.{field, putField, bitAt, Bytes, Part, _bits_, lay, zeros, packed}
 use Rattle.bits.specs.Put.{length-put, bits-ext}
-use Rattle.bits.specs.Append.{put-left, put-right, bit-part}
-use Rattle.bits.specs.Lay.{total, Shows, Fit, length-lay, bytes-lay, lay-out, lay-shows, packed-whole, packed-rest, length-packed, bytes-packed, length-zeros, bytes-zeros, zeros-bit, zero-at, zero-field, part-bytes, part-length}
+use Rattle.bits.specs.Append.{put-left, put-right, bit-part, where-bit}
+use Rattle.bits.specs.Lay.{total, Shows, Fit, length-lay, bytes-lay, lay-in, lay-out, lay-shows, packed-whole, length-zeros, bytes-zeros, zeros-bit, zero-at, zero-field, part-bytes, part-length}
 
 -- ---- in a part
 
@@ -25,19 +25,37 @@ unfolding lay
 lay-right a b at [] = refl
 lay-right a b at (f ∷ fs) = rw (put-right a b at (f .width) (f .value), add-assoc (8 * length a) at (f .width)) (lay-right a (putField b at (f .width) (f .value)) (at + f .width) fs)
 
--- ---- over other bytes
+pub lay-append : (s : List ℕ) (at : ℕ) (fs gs : List Part) → lay s at (fs ++ gs) ≡ lay (lay s at fs) (at + total fs) gs
+unfolding lay
+lay-append s at [] gs = let e : at + 0 ≡ at = omega arith in rw e
+lay-append s at (f ∷ fs) gs = rw (← add-assoc at (f .width) (total fs)) (lay-append (putField s at (f .width) (f .value)) (at + f .width) fs gs)
 
--- where the bits behind the fields are zero, all is as packed
-pub lay-packed : (x : List ℕ) (n : ℕ) (fs : List Part) → Bytes x → length x ≡ n → total fs ≤ 8 * n → Fit fs
-    → ((i : ℕ) → total fs ≤ i → i < 8 * n → bitAt x i ≡ 0) → lay x 0 fs ≡ packed n fs
-lay-packed x n fs b len h z rest =
-    sym (packed-whole (lay x 0 fs) n fs (bytes-lay x 0 fs b (omega arith)) (length-lay x 0 fs ∙ len) h (lay-shows x 0 fs (omega arith) z)
-    λ i l k. lay-out x 0 fs i (omega arith) (inr (omega arith)) ∙ rest i l k)
+-- ---- over other fields
 
--- fields over fields
+-- what stood there before is gone
+pub lay-twice : (s : List ℕ) (at : ℕ) (fs gs : List Part) → Bytes s → at + total gs ≤ 8 * length s → total fs ≡ total gs → Fit gs → lay (lay s at fs) at gs ≡ lay s at gs
+lay-twice s at fs gs b h e z =
+    bits-ext (lay p at gs) (lay s at gs) (bytes-lay p at gs (bytes-lay s at fs b (omega arith)) hp) (bytes-lay s at gs b h)
+    (length-lay p at gs ∙ lp ∙ sym (length-lay s at gs)) λ i l. ⊎-elim (out i) (λ f. within i (omega (arith, f .2)) (omega (arith, f .1, f .2))) (where-bit at (total gs) i)
+  where
+    p : List ℕ
+    p = lay s at fs
+
+    lp : length p ≡ length s
+    lp = length-lay s at fs
+
+    hp : at + total gs ≤ 8 * length p
+    hp = omega (arith, lp)
+
+    out : (i : ℕ) → (i < at) ⊎ (at + total gs ≤ i) → bitAt (lay p at gs) i ≡ bitAt (lay s at gs) i
+    out i o = lay-out p at gs i hp o ∙ lay-out s at fs i (omega arith) (⊎-elim (λ l. inl l) (λ l. inr (omega arith)) o) ∙ sym (lay-out s at gs i h o)
+
+    within : (i : ℕ) → at ≤ i → i < at + total gs → bitAt (lay p at gs) i ≡ bitAt (lay s at gs) i
+    within i l k = lay-in p (lay s at gs) at gs i hp (lay-shows s at gs h z) l k
+
 pub relay : (n : ℕ) (fs gs : List Part) → total fs ≡ total gs → total gs ≤ 8 * n → Fit gs → lay (packed n fs) 0 gs ≡ packed n gs
-relay n fs gs e h z =
-    lay-packed (packed n fs) n gs (bytes-packed n fs (omega arith)) (length-packed n fs) h z λ i l k. packed-rest n fs i (omega arith) (omega arith)
+unfolding packed
+relay n fs gs e h z = lay-twice (zeros n) 0 fs gs (bytes-zeros n) (omega (arith, length-zeros n)) e z
 
 -- ---- zero bytes
 
