@@ -18,6 +18,7 @@ pub mod Layout
 pub mod Clean
 pub mod Judged
 pub mod Lent
+pub mod Ended
 pub mod Facts
 pub mod Table
 pub mod AlsoRun
