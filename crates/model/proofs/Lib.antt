@@ -43,7 +43,10 @@ pub mod Numbered
 pub mod Extras
 pub mod PlanSlots
 pub mod PlanSound
+pub mod PlanOnce
+pub mod PlanSizes
 pub mod Lacking
+pub mod Unique
 pub mod Steady
 pub mod Sampled
 pub mod Rising
