@@ -20,7 +20,6 @@ pub mod Replay
 pub mod Ended
 pub mod Needs
 pub mod Plan
-pub mod Facts
 pub mod Table
 pub mod AlsoRun
 pub mod Vectors
