@@ -1,16 +1,15 @@
 -- `lacking`: an update gives 12 exactly when the rules need a page and none is free, 13 exactly when they need a slot past the last.
 -- What it is to need a page or a slot stands in specs/Needs. Insert and delete give the two numbers exactly when no smaller one is due and their update needs a page, or a slot.
 -- Assumes nothing.
-use Prim.Native.Nat.{ℕ, zero, suc, _+_, _*_, _≤_, _<_}
+use Prim.Native.Nat.{ℕ, suc, _*_, _≤_, _<_}
 use native.Mathlib.Omega.{arith}
 use mathlib.Core.Bool.{Bool, true, false, _&&_, _||_, not}
-use mathlib.Core.Path.{_≡_, refl, ap, sym, _∙_, subst}
+use mathlib.Core.Path.{_≡_, refl, ap, sym, _∙_}
 use mathlib.Core.Logic.{_⊎_, inl, inr, _↔_}
 use mathlib.Core.List.{List, [], _∷_}
 use lib.Dec.{T, leb, ltb, eqb}
 use lib.ListN.{length}
 use borrow.Author.Tests.{leb-false, ltb-false, lt-leb, le-ltb, ne-eqb, not-false}
-use Rattle.model.specs.Basic.{any}
 use Rattle.model.specs.declared.Pair.{Pair}
 use Rattle.model.specs.declared.Slot.{Slot}
 use Rattle.model.specs.Page.{Page, Change, wanted}
@@ -19,13 +18,13 @@ use Rattle.model.specs.Walk.{Around, rootAt, way, lookup, keyLimit}
 use Rattle.model.specs.Rules
 use Rattle.model.specs.Rules.{Group, Parts, one, two, Rebuilt, rebuilt, short, rebuild, roomy, Worked, settled, upward, work}
 use Rattle.model.specs.Climb
-use Rattle.model.specs.Climb.{Rooted, stays, moves, lacks, goOn, climb, workRoot, Result, done, refused, putSlot, rooted, update}
+use Rattle.model.specs.Climb.{Rooted, stays, moves, lacks, goOn, climb, workRoot, Result, refused, rooted, update}
 use Rattle.model.specs.Calls
 use Rattle.model.specs.Calls.{Rule, rule, numbered, isSome, insert, delete}
 use Rattle.model.specs.Sound.{sound}
-use Rattle.model.specs.Needs.{fills, Short, takesInPlace, groupAt, goes, rootGroup, PageNeeded, here, above, root, top, NeedsPage, hasSlot, NeedsSlot, inserting, deleting, InsertTried, DeleteTried, Lacks}
+use Rattle.model.specs.Needs.{Short, takesInPlace, groupAt, goes, rootGroup, PageNeeded, here, above, root, top, NeedsPage, hasSlot, NeedsSlot, inserting, deleting, InsertTried, DeleteTried, Lacks}
 use Rattle.model.proofs.Members.{holds-true, not-both, bool-cases}
-use Rattle.model.proofs.Given.{Sound, from-tests}
+use Rattle.model.proofs.Given.{from-tests}
 use Rattle.model.proofs.Fits.{Fail}
 use Rattle.model.proofs.PlanCount.{usable-count, sizeOf, fills-size}
 use Rattle.model.proofs.PlanSlots.{slot-left}

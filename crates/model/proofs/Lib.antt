@@ -43,6 +43,8 @@ pub mod Numbered
 pub mod Extras
 pub mod PlanSlots
 pub mod PlanSound
+pub mod PlanOnce
+pub mod PlanSizes
 pub mod Lacking
 pub mod Steady
 pub mod Sampled

@@ -1,6 +1,6 @@
 -- Changes that differ in the numbers of new pages alone: a page does the same with either.
 -- Assumes nothing.
-use Prim.Native.Nat.{ℕ, zero, suc, _+_, _*_, _/_, _≤_, _<_}
+use Prim.Native.Nat.{ℕ, zero, suc, _+_, _*_, _/_}
 use native.Mathlib.Omega.{arith}
 use mathlib.Core.Bool.{Bool, true, false, _&&_, _||_, not}
 use mathlib.Core.Option.{Option, none, some}
@@ -18,7 +18,7 @@ use Rattle.model.specs.Page.{Page, Change, pairsAt, enterAll, bornAll, w
 use Rattle.model.specs.Store.{page}
 use Rattle.model.specs.Walk.{Around}
 use Rattle.model.specs.Rules
-use Rattle.model.specs.Rules.{Group, Parts, one, two, lowKey, samePair, exchange, roomy}
+use Rattle.model.specs.Rules.{Group, lowKey, samePair, exchange, roomy}
 use Rattle.model.specs.Needs.{fills, takesInPlace, groupAt, goes}
 use Rattle.model.specs.Plan
 use Rattle.model.specs.Plan.{routersTo, rootFills}

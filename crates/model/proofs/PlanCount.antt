@@ -2,18 +2,17 @@
 -- Assumes nothing.
 use Prim.Native.Nat.{ℕ, zero, suc, _+_, _*_, _-_, _≤_, _<_}
 use native.Mathlib.Omega.{arith}
-use mathlib.Core.Bool.{Bool, true, false, _&&_, _||_, not}
-use mathlib.Core.Path.{_≡_, refl, ap, ap₂, sym, _∙_, subst}
+use mathlib.Core.Bool.{Bool, true, false}
+use mathlib.Core.Path.{_≡_, refl, ap, sym, _∙_, subst}
 use mathlib.Core.Logic.{_⊎_, inl, inr, _≢_}
-use mathlib.Core.List.{List, [], _∷_, _++_, map}
-use lib.Dec.{leb, eqb, lit<}
+use mathlib.Core.List.{List, [], _∷_, _++_}
+use lib.Dec.{leb, lit<}
 use lib.ListN.{length, getD, set, drop, length-set, length-drop, length-append}
 use lib.Seq.{getD-set-same, getD-set-other, getD-drop, drop-set-add}
-use borrow.Author.Tests.{eqb-true, eq-eqb, ne-eqb}
-use Rattle.model.specs.Basic.{keep, those, pick}
+use borrow.Author.Tests.{eq-eqb, ne-eqb}
+use Rattle.model.specs.Basic.{keep, pick}
 use Rattle.model.specs.declared.Pair.{Pair}
-use Rattle.model.specs.Entry.{alive}
-use Rattle.model.specs.Page.{Page, free, isFree, active, filled, killed, goneIf, gone}
+use Rattle.model.specs.Page.{Page, free, isFree, active, filled, goneIf, gone}
 use Rattle.model.specs.Store.{page, freeFrom, freeOnes}
 use Rattle.model.specs.Rules
 use Rattle.model.specs.Rules.{retire, usable, Parts, one, two, Rebuilt, rebuilt, short}

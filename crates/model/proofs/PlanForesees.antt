@@ -3,15 +3,15 @@
 -- Assumes nothing.
 use Prim.Native.Nat.{ℕ, zero, suc, _+_, _*_, _-_, _≤_, _<_}
 use native.Mathlib.Omega.{arith}
-use mathlib.Core.Bool.{Bool, true, false, _&&_, _||_, not}
+use mathlib.Core.Bool.{Bool, true, false, _&&_}
 use mathlib.Core.Option.{Option, none, some}
 use mathlib.Core.Path.{_≡_, refl, ap, ap₂, sym, _∙_, subst}
-use mathlib.Core.Logic.{_⊎_, inl, inr, _≢_}
-use mathlib.Core.List.{List, [], _∷_, _++_, map}
+use mathlib.Core.Logic.{inl, inr}
+use mathlib.Core.List.{List, [], _∷_, _++_}
 use lib.Dec.{leb, ltb, eqb}
 use lib.ListN.{length, getD}
 use borrow.Author.Tests.{le-leb, lt-leb, ne-eqb}
-use Rattle.model.specs.Basic.{keep, those, pick}
+use Rattle.model.specs.Basic.{keep, pick}
 use Rattle.model.specs.declared.Pair.{Pair}
 use Rattle.model.specs.Entry.{pair}
 use Rattle.model.specs.Page.{Page, Change, pairsAt, wanted, active}
@@ -20,15 +20,15 @@ use Rattle.model.specs.Walk.{Around}
 use Rattle.model.specs.Rules
 use Rattle.model.specs.Climb
 use Rattle.model.specs.Rules.{Group, Rebuilt, rebuilt, short, usable, exchange, roomy, Worked, settled, upward, lacking, work}
-use Rattle.model.specs.Climb.{Rooted, stays, moves, lacks, goOn, workRoot, climb}
-use Rattle.model.specs.Needs.{fills, actives, takesInPlace, groupAt, goes}
+use Rattle.model.specs.Climb.{goOn, workRoot, climb}
+use Rattle.model.specs.Needs.{fills, actives, takesInPlace}
 use Rattle.model.specs.Plan
-use Rattle.model.specs.Plan.{untaken, routersTo, Planned, settles, rises, fails, planGroup, planWork, Outlook, keepsRoot, movesRoot, lacksPage, rootFills, planRoot, planOn, planUp, outlookOf}
+use Rattle.model.specs.Plan.{untaken, routersTo, Planned, settles, rises, fails, planGroup, planWork, Outlook, rootFills, planRoot, planOn, planUp, outlookOf}
 use Rattle.model.proofs.Members.{In, map-in}
-use Rattle.model.proofs.Redo.{values, in-frees}
+use Rattle.model.proofs.Redo.{in-frees}
 use Rattle.model.proofs.Undo.{TamePage, Fine, Good, Next, Beside, WayGood, WorkedFine, work-fine, keep-way}
 use Rattle.model.proofs.PlanCount.{frees, Member, Pages, lone, twin, member-at, usable-count, sizeOf, fills-size, Counted, rebuilt-counts}
-use Rattle.model.proofs.PlanAlike.{keysOf, Alike, count-alike, wanted-alike, roomy-alike, place-alike, goes-alike, Gathered, group-alike, Outside, Aside, exchange-alike, fills-alike, rootFills-alike, routers-alike}
+use Rattle.model.proofs.PlanAlike.{keysOf, Alike, wanted-alike, roomy-alike, place-alike, goes-alike, Gathered, group-alike, Outside, Aside, exchange-alike, fills-alike, rootFills-alike, routers-alike}
 
 -- ---- one group
 
@@ -117,7 +117,7 @@ module _ (least u : ℕ) where
     near-pages want (some r) none p q m n = twin (record { level = p .0 .level; five = m }) own-member (λ (e : a .own .value ≡ r .value). p .1 (sym e))
     near-pages want none none p q m n = lone own-member
 
-    gather-pages : (b : Bool) (want : List Pair) → Pages w l ps (Rules.gatherBy b w ps a want .routers)
+    pub gather-pages : (b : Bool) (want : List Pair) → Pages w l ps (Rules.gatherBy b w ps a want .routers)
     unfolding Rules.gatherBy
     gather-pages true want = near-pages want (a .left) (a .right) (s .left) (s .right) (h .left) (h .right)
     gather-pages false want = lone own-member

@@ -1,13 +1,11 @@
 -- For every sound store with an update open the plan gives the number that the update gives.
 -- Assumes nothing.
-use Prim.Native.Nat.{ℕ, zero, suc, _+_, _*_, _≤_, _<_}
+use Prim.Native.Nat.{ℕ, suc, _*_, _≤_, _<_}
 use native.Mathlib.Omega.{arith}
-use mathlib.Core.Bool.{Bool, true, false, _&&_, _||_, not}
+use mathlib.Core.Bool.{Bool, true, false}
 use mathlib.Core.Option.{Option, none, some}
-use mathlib.Core.Path.{_≡_, refl, ap, sym, _∙_}
+use mathlib.Core.Path.{_≡_, refl, ap, _∙_}
 use mathlib.Core.List.{List, [], _∷_}
-use lib.Dec.{leb, ltb, eqb}
-use lib.ListN.{length}
 use Rattle.model.specs.Basic.{pick}
 use Rattle.model.specs.declared.Pair.{Pair}
 use Rattle.model.specs.declared.Slot.{Slot}
@@ -22,7 +20,7 @@ use Rattle.model.proofs.Given.{Sound, high-used}
 use Rattle.model.proofs.Fits.{level-used, ready}
 use Rattle.model.proofs.Undo.{Good, Next, WayGood}
 use Rattle.model.proofs.PlanAlike.{alike-refl}
-use Rattle.model.proofs.PlanForesees.{HighNext, High, Highs, climb-matches}
+use Rattle.model.proofs.PlanForesees.{HighNext, Highs, climb-matches}
 use Rattle.model.proofs.PlanSlots.{slot-left}
 
 module _ (least : ℕ) (two : 2 ≤ least) (s : Store) (d : Sound least s) where
