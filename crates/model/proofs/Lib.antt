@@ -46,6 +46,7 @@ pub mod PlanSound
 pub mod PlanOnce
 pub mod PlanSizes
 pub mod Lacking
+pub mod Unique
 pub mod Steady
 pub mod Sampled
 pub mod Rising

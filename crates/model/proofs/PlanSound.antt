@@ -6,6 +6,7 @@ use mathlib.Core.Bool.{Bool, true, false}
 use mathlib.Core.Option.{Option, none, some}
 use mathlib.Core.Path.{_≡_, refl, ap, _∙_}
 use mathlib.Core.List.{List, [], _∷_}
+use lib.Dec.{T}
 use Rattle.model.specs.Basic.{pick}
 use Rattle.model.specs.declared.Pair.{Pair}
 use Rattle.model.specs.declared.Slot.{Slot}
@@ -16,7 +17,9 @@ use Rattle.model.specs.Climb
 use Rattle.model.specs.Climb.{Rooted, stays, moves, lacks, climb, Result, done, refused, rooted, update}
 use Rattle.model.specs.Plan
 use Rattle.model.specs.Plan.{slotLeft, outlook, plan, outlookOf, numberOf, outlookNumber}
-use Rattle.model.proofs.Given.{Sound, high-used}
+use Rattle.model.specs.Sound.{sound}
+use Rattle.model.proofs.Members.{holds-true}
+use Rattle.model.proofs.Given.{Sound, from-tests, high-used}
 use Rattle.model.proofs.Fits.{level-used, ready}
 use Rattle.model.proofs.Undo.{Good, Next, WayGood}
 use Rattle.model.proofs.PlanAlike.{alike-refl}
@@ -86,3 +89,7 @@ module _ (least : ℕ) (two : 2 ≤ least) (s : Store) (d : Sound least s) where
     pub plan-done : plan least s k c ≡ 0 → (t : Store) × (update least s k c ≡ done t)
     unfolding Climb.update
     plan-done e = done-by _ (plan-is ∙ e)
+
+-- For every sound store with an update open, every key and every change: the plan, which only reads, gives the number that the update comes to.
+pub plan-foresees : (least : ℕ) → 2 ≤ least → (s : Store) → T (sound least s) → s .opened ≡ true → (k : ℕ) → k < keyLimit → (c : Change) → numberOf (update least s k c) ≡ plan least s k c
+plan-foresees least two s sure o k low c = plan-is least two s (from-tests least s (holds-true (sound least s) sure)) o k low c

@@ -18,6 +18,7 @@ pub mod Layout
 pub mod Clean
 pub mod Judged
 pub mod Lent
+pub mod Ended
 pub mod Replay
 pub mod Table
 pub mod AlsoRun
