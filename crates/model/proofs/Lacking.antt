@@ -1,7 +1,7 @@
 -- `lacking`: an update gives 12 exactly when the rules need a page and none is free, 13 exactly when they need a slot past the last.
--- What it is to need a page or a slot stands in specs/Needs. Insert and delete give the two numbers exactly when no smaller one is due and their update needs a page, or a slot.
+-- What it is to need a page or a slot stands in specs/Needs. `lacking` says it of insert and delete on a sound store, `lacking-lent` of the calls on any bytes lent.
 -- Assumes nothing.
-use Prim.Native.Nat.{ℕ, suc, _*_, _≤_, _<_}
+use Prim.Native.Nat.{ℕ, zero, suc, _*_, _≤_, _<_}
 use native.Mathlib.Omega.{arith}
 use mathlib.Core.Bool.{Bool, true, false, _&&_, _||_, not}
 use mathlib.Core.Path.{_≡_, refl, ap, sym, _∙_}
@@ -10,6 +10,7 @@ use mathlib.Core.List.{List, [], _∷_}
 use lib.Dec.{T, leb, ltb, eqb}
 use lib.ListN.{length}
 use borrow.Author.Tests.{leb-false, ltb-false, lt-leb, le-ltb, ne-eqb, not-false}
+use Rattle.model.specs.Basic.{pick}
 use Rattle.model.specs.declared.Pair.{Pair}
 use Rattle.model.specs.declared.Slot.{Slot}
 use Rattle.model.specs.Page.{Page, Change, wanted}
@@ -18,14 +19,20 @@ use Rattle.model.specs.Walk.{Around, rootAt, way, lookup, keyLimit}
 use Rattle.model.specs.Rules
 use Rattle.model.specs.Rules.{Group, Parts, one, two, Rebuilt, rebuilt, short, rebuild, roomy, Worked, settled, upward, work}
 use Rattle.model.specs.Climb
-use Rattle.model.specs.Climb.{Rooted, stays, moves, lacks, goOn, climb, workRoot, Result, refused, rooted, update}
+use Rattle.model.specs.Climb.{Rooted, stays, moves, lacks, goOn, climb, workRoot, Result, done, refused, rooted, update}
 use Rattle.model.specs.Calls
 use Rattle.model.specs.Calls.{Rule, rule, numbered, isSome, insert, delete}
 use Rattle.model.specs.Sound.{sound}
-use Rattle.model.specs.Needs.{Short, takesInPlace, groupAt, goes, rootGroup, PageNeeded, here, above, root, top, NeedsPage, hasSlot, NeedsSlot, inserting, deleting, InsertTried, DeleteTried, Lacks}
-use Rattle.model.proofs.Members.{holds-true, not-both, bool-cases}
+use Rattle.model.specs.Layout.{decode}
+use Rattle.model.specs.Judged
+use Rattle.model.specs.Judged.{lengthOk, magicOk, editionOk, brokenIn, judged, verdict, ruled}
+use Rattle.model.specs.Lent
+use Rattle.model.specs.Lent.{left, judgedFirst}
+use Rattle.model.specs.Needs.{Short, takesInPlace, groupAt, goes, rootGroup, PageNeeded, here, above, root, top, NeedsPage, hasSlot, NeedsSlot, inserting, deleting, InsertTried, DeleteTried, Lacks, LacksLent}
+use Rattle.model.proofs.Members.{holds-true, true-holds, not-both, bool-cases}
 use Rattle.model.proofs.Given.{from-tests}
 use Rattle.model.proofs.Fits.{Fail}
+use Rattle.model.proofs.Judging.{accepted}
 use Rattle.model.proofs.PlanCount.{usable-count, sizeOf, fills-size}
 use Rattle.model.proofs.PlanSlots.{slot-left}
 
@@ -273,3 +280,48 @@ lacking least s sure =
       delete-page = λ k. both (delete-gives least s 12 k (omega arith)) (page-lacking least s k (deleting k));
       delete-slot = λ k. both (delete-gives least s 13 k (omega arith)) (slot-lacking least s few k (deleting k));
     }
+
+-- ---- on lent bytes
+
+module _ (least : ℕ) (b : List ℕ) where
+  judged-low : judged least b .number ≤ 4
+  unfolding Judged.judged
+  judged-low = at (lengthOk least b) (magicOk b) (editionOk least b)
+    where
+      by : (n : ℕ) → ruled n .number ≤ 4
+      by zero = omega arith
+      by (suc n) = omega arith
+
+      at : (x y z : Bool) → pick x (pick y (pick z (ruled (brokenIn least b)) (verdict 3 0)) (verdict 2 0)) (verdict 1 0) .number ≤ 4
+      at true true true = by (brokenIn least b)
+      at true true false = omega arith
+      at true false z = omega arith
+      at false y z = omega arith
+
+  left-gives : (n : ℕ) → 5 ≤ n → (r : Result) → left least b r .number ≡ n ↔ r ≡ refused n
+  left-gives n h (done t) = (λ e. absurd (omega arith), λ e. let z : _≡_ {A = ℕ} 0 1 = cc in absurd (omega arith))
+  left-gives n h (refused m) = (λ e. ap refused e, λ e. cc)
+
+  lent-gives : (n : ℕ) → 5 ≤ n → (f : Store → Result) → Lent.lent least f b .number ≡ n ↔ ((judged least b .number ≡ 0) × (f (decode least b) ≡ refused n))
+  unfolding Lent.lent
+  lent-gives n h f = at (judged least b .number) judged-low
+    where
+      at : (m : ℕ) → m ≤ 4 → judgedFirst m (λ i. record { number = i; store = b }) (left least b (f (decode least b))) .number ≡ n ↔ ((m ≡ 0) × (f (decode least b) ≡ refused n))
+      at zero l = let g = left-gives n h (f (decode least b)) in (λ e. (refl, g .0 e), λ e. g .1 (e .1))
+      at (suc m) l = (λ e. absurd (omega arith), λ e. absurd (omega (arith, e .0)))
+
+  judged-both : {A B C : Type 0} → (judged least b .number ≡ 0 → B ↔ C) → A ↔ ((judged least b .number ≡ 0) × B) → A ↔ ((judged least b .number ≡ 0) × C)
+  judged-both g f = (λ a. let (j, x) = f .0 a in (j, g j .0 x), λ c. f .1 (c .0, g (c .0) .1 (c .1)))
+
+  -- For any bytes lent: 12 exactly when they are accepted, no smaller number is due, and the rules need a page and none is free; 13 so for a slot past the last.
+  pub lacking-lent : LacksLent least b
+  unfolding Lent.insertLent Lent.deleteLent
+  lacking-lent = record {
+    insert-page = λ k x. judged-both (λ j. of j .insert-page k x) (lent-gives 12 (omega arith) (λ (s : Store). insert least s k x));
+    insert-slot = λ k x. judged-both (λ j. of j .insert-slot k x) (lent-gives 13 (omega arith) (λ (s : Store). insert least s k x));
+    delete-page = λ k. judged-both (λ j. of j .delete-page k) (lent-gives 12 (omega arith) (λ (s : Store). delete least s k));
+    delete-slot = λ k. judged-both (λ j. of j .delete-slot k) (lent-gives 13 (omega arith) (λ (s : Store). delete least s k));
+  }
+    where
+      of : judged least b .number ≡ 0 → Lacks least (decode least b)
+      of j = lacking least (decode least b) (true-holds (sound least (decode least b)) (accepted least b j .is-sound))

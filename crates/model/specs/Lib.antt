@@ -9,8 +9,6 @@ pub mod Sound
 pub mod Rules
 pub mod Climb
 pub mod Calls
-pub mod Needs
-pub mod Plan
 pub mod Settings
 pub mod Histories
 pub mod Field
@@ -19,6 +17,8 @@ pub mod Clean
 pub mod Judged
 pub mod Lent
 pub mod Ended
+pub mod Needs
+pub mod Plan
 pub mod Replay
 pub mod Table
 pub mod AlsoRun

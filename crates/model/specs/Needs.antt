@@ -18,6 +18,9 @@ use Rattle.model.specs.Walk.{Around, rootAt, way, lookup, keyLimit}
 use Rattle.model.specs.Rules.{Group, gatherBy, rebuilt, rebuild, roomy, upward, work}
 use Rattle.model.specs.Climb.{moves, climb, refused}
 use Rattle.model.specs.Calls.{isSome, insert, delete}
+use Rattle.model.specs.Layout.{decode}
+use Rattle.model.specs.Judged.{judged}
+use Rattle.model.specs.Lent.{insertLent, deleteLent}
 
 -- ---- a page
 
@@ -101,9 +104,16 @@ pub record DeleteTried (s : Store) (k : ℕ) : Type 0 where
   pub opened : s .opened ≡ true
   pub present : isSome (lookup s k (next s)) ≡ true
 
--- The four numbers that say what an update lacks are given exactly when it lacks that.
+-- Of a store: insert and delete give 12 and 13 exactly when their update lacks a page, or a slot.
 pub record Lacks (least : ℕ) (s : Store) : Type 0 where
   pub insert-page : (k x : ℕ) → insert least s k x ≡ refused 12 ↔ (InsertTried s k × NeedsPage least s k (inserting k x))
   pub insert-slot : (k x : ℕ) → insert least s k x ≡ refused 13 ↔ (InsertTried s k × NeedsSlot least s k (inserting k x))
   pub delete-page : (k : ℕ) → delete least s k ≡ refused 12 ↔ (DeleteTried s k × NeedsPage least s k (deleting k))
   pub delete-slot : (k : ℕ) → delete least s k ≡ refused 13 ↔ (DeleteTried s k × NeedsSlot least s k (deleting k))
+
+-- Of any bytes lent, where 1 to 4 are smaller: exactly when they are accepted and the store that they hold is so.
+pub record LacksLent (least : ℕ) (b : List ℕ) : Type 0 where
+  pub insert-page : (k x : ℕ) → insertLent least b k x .number ≡ 12 ↔ ((judged least b .number ≡ 0) × (InsertTried (decode least b) k × NeedsPage least (decode least b) k (inserting k x)))
+  pub insert-slot : (k x : ℕ) → insertLent least b k x .number ≡ 13 ↔ ((judged least b .number ≡ 0) × (InsertTried (decode least b) k × NeedsSlot least (decode least b) k (inserting k x)))
+  pub delete-page : (k : ℕ) → deleteLent least b k .number ≡ 12 ↔ ((judged least b .number ≡ 0) × (DeleteTried (decode least b) k × NeedsPage least (decode least b) k (deleting k)))
+  pub delete-slot : (k : ℕ) → deleteLent least b k .number ≡ 13 ↔ ((judged least b .number ≡ 0) × (DeleteTried (decode least b) k × NeedsSlot least (decode least b) k (deleting k)))
