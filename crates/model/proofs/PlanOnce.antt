@@ -1,5 +1,10 @@
+<<<<<<< HEAD
 -- Within one level pages are never both freed and taken (decision 19); a router to an active page starts at the open version, so one
 -- that "stays untouched" does (decision 18).
+=======
+-- Within one level pages are never both freed and taken (decision 19). A router that "stays untouched" leads to an active page, and a
+-- router to an active page starts at the open version (decision 18).
+>>>>>>> dd247a51f9f950215a9cfd5216ce08e279e88f2c
 -- Assumes nothing.
 use Prim.Native.Nat.{ℕ, zero, suc, _+_, _≤_, _<_}
 use native.Mathlib.Omega.{arith}
@@ -14,11 +19,16 @@ use borrow.Author.Tests.{eqb-true, leb-true, ne-eqb}
 use Rattle.model.specs.Basic.{has}
 use Rattle.model.specs.declared.Pair.{Pair}
 use Rattle.model.specs.declared.Entry.{Entry}
+<<<<<<< HEAD
+=======
+use Rattle.model.specs.Entry.{pair}
+>>>>>>> dd247a51f9f950215a9cfd5216ce08e279e88f2c
 use Rattle.model.specs.Page.{Page, Change, free, isFree, active, filled, goneIf, gone}
 use Rattle.model.specs.Store.{Store, page, freeOnes, next}
 use Rattle.model.specs.Walk.{Around}
 use Rattle.model.specs.Sound.{inside}
 use Rattle.model.specs.Rules
+<<<<<<< HEAD
 use Rattle.model.specs.Rules.{retire, usable, Parts, one, two, Rebuilt, rebuilt, short, rebuild, upward, work}
 use Rattle.model.specs.Needs.{actives}
 use Rattle.model.proofs.Lists.{both-true}
@@ -27,6 +37,16 @@ use Rattle.model.proofs.Shows.{same?}
 use Rattle.model.proofs.Given.{Sound, GoodEntry, entry-of, used-in}
 use Rattle.model.proofs.Fits.{level-used, last-is}
 use Rattle.model.proofs.Redo.{values}
+=======
+use Rattle.model.specs.Rules.{retire, usable, Parts, one, two, Rebuilt, rebuilt, short, lowKey, rebuild, upward, work}
+use Rattle.model.specs.Needs.{actives}
+use Rattle.model.proofs.Lists.{both-true}
+use Rattle.model.proofs.Members.{not-both, either-true, bool-cases, In, in-append, in-those, those-in, map-in, has-in, in-has}
+use Rattle.model.proofs.Shows.{same?}
+use Rattle.model.proofs.Given.{Sound, GoodEntry, entry-of, used-in}
+use Rattle.model.proofs.Fits.{level-used, last-is}
+use Rattle.model.proofs.Redo.{values, in-frees}
+>>>>>>> dd247a51f9f950215a9cfd5216ce08e279e88f2c
 use Rattle.model.proofs.Undo.{Beside}
 use Rattle.model.proofs.PlanForesees.{High, gather-pages}
 use Rattle.model.proofs.PlanCount.{Pages, member-at, usable-free, retire-free, length-retire, sizeOf}
@@ -191,6 +211,42 @@ module _ (least u l : ℕ) (ps : List Page) (a : Around) (c d : Change) (qs : Li
 
 -- ---- decision 18
 
+<<<<<<< HEAD
+=======
+-- a router that is an old one and a new one leads to a page now used, which is an active one of the group
+module _ (w l level : ℕ) (ps : List Page) (rs : List Pair) (g : Pages w l ps rs) where
+  abbrev NewIn : List ℕ → Rebuilt → Type 0
+  NewIn ns (rebuilt qs news) = (r : Pair) → In r news → In (r .value) ns
+  NewIn ns short = Unit {0}
+
+  new-in : (x : Parts) (ns : List ℕ) → NewIn ns (Rules.rebuildWith w level ps rs x ns)
+  unfolding Rules.rebuildWith
+  new-in (one x) [] = tt
+  new-in (one x) (n ∷ ns) = at
+    where
+      at : (r : Pair) → In r (pair (lowKey rs) n ∷ []) → In (r .value) (n ∷ ns)
+      at r (inl e) = inl (ap (λ (q : Pair). q .value) e)
+      at r (inr i) = absurd i
+  new-in (two x y) [] = tt
+  new-in (two x y) (n ∷ []) = tt
+  new-in (two x y) (n ∷ m ∷ ns) = at
+    where
+      at : (r : Pair) → In r (pair (lowKey rs) n ∷ pair (lowKey y) m ∷ []) → In (r .value) (n ∷ m ∷ ns)
+      at r (inl e) = inl (ap (λ (q : Pair). q .value) e)
+      at r (inr (inl e)) = inr (inl (ap (λ (q : Pair). q .value) e))
+      at r (inr (inr i)) = absurd i
+
+  pub untouched-active : (least : ℕ) (us : List Pair) (qs : List Page) (news : List Pair) → rebuild least w level ps (record { routers = rs; pairs = us }) ≡ rebuilt qs news
+      → (r : Pair) → In r rs → In r news → active w (page ps (r .value)) ≡ true
+  unfolding Rules.rebuild Rules.usable
+  untouched-active least us qs news e r i j =
+      at (in-append (r .value) (actives w ps rs) (freeOnes ps) (subst (NewIn (actives w ps rs ++ freeOnes ps)) e (new-in (Rules.parts least us) (actives w ps rs ++ freeOnes ps)) r j))
+    where
+      at : In (r .value) (actives w ps rs) ⊎ In (r .value) (freeOnes ps) → active w (page ps (r .value)) ≡ true
+      at (inl k) = in-those (λ (n : ℕ). active w (page ps n)) (r .value) (values rs) k .0
+      at (inr k) = absurd (omega (arith, in-frees ps (r .value) k .0, member-at w l ps g (r .value) (map-in (λ (q : Pair). q .value) r rs i) .level))
+
+>>>>>>> dd247a51f9f950215a9cfd5216ce08e279e88f2c
 -- a live router to an active page starts at the open version
 pub router-young : (least : ℕ) → 2 ≤ least → (s : Store) (d : Sound least s) → s .opened ≡ true → (n l : ℕ) → page (s .pages) n .level ≡ suc (suc l) → (e : Entry) → In e (page (s .pages) n .entries)
     → active (next s) (page (s .pages) (e .value)) ≡ true → e .start ≡ next s

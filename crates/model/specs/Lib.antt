@@ -16,6 +16,9 @@ pub mod Layout
 pub mod Clean
 pub mod Judged
 pub mod Lent
+pub mod Ended
+pub mod Needs
+pub mod Plan
 pub mod Replay
 pub mod Ended
 pub mod Needs
