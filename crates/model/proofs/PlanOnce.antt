@@ -1,10 +1,5 @@
-<<<<<<< HEAD
--- Within one level pages are never both freed and taken (decision 19); a router to an active page starts at the open version, so one
--- that "stays untouched" does (decision 18).
-=======
 -- Within one level pages are never both freed and taken (decision 19). A router that "stays untouched" leads to an active page, and a
 -- router to an active page starts at the open version (decision 18).
->>>>>>> dd247a51f9f950215a9cfd5216ce08e279e88f2c
 -- Assumes nothing.
 use Prim.Native.Nat.{ℕ, zero, suc, _+_, _≤_, _<_}
 use native.Mathlib.Omega.{arith}
@@ -19,25 +14,12 @@ use borrow.Author.Tests.{eqb-true, leb-true, ne-eqb}
 use Rattle.model.specs.Basic.{has}
 use Rattle.model.specs.declared.Pair.{Pair}
 use Rattle.model.specs.declared.Entry.{Entry}
-<<<<<<< HEAD
-=======
 use Rattle.model.specs.Entry.{pair}
->>>>>>> dd247a51f9f950215a9cfd5216ce08e279e88f2c
 use Rattle.model.specs.Page.{Page, Change, free, isFree, active, filled, goneIf, gone}
 use Rattle.model.specs.Store.{Store, page, freeOnes, next}
 use Rattle.model.specs.Walk.{Around}
 use Rattle.model.specs.Sound.{inside}
 use Rattle.model.specs.Rules
-<<<<<<< HEAD
-use Rattle.model.specs.Rules.{retire, usable, Parts, one, two, Rebuilt, rebuilt, short, rebuild, upward, work}
-use Rattle.model.specs.Needs.{actives}
-use Rattle.model.proofs.Lists.{both-true}
-use Rattle.model.proofs.Members.{not-both, either-true, bool-cases, In, in-those, those-in, has-in, in-has}
-use Rattle.model.proofs.Shows.{same?}
-use Rattle.model.proofs.Given.{Sound, GoodEntry, entry-of, used-in}
-use Rattle.model.proofs.Fits.{level-used, last-is}
-use Rattle.model.proofs.Redo.{values}
-=======
 use Rattle.model.specs.Rules.{retire, usable, Parts, one, two, Rebuilt, rebuilt, short, lowKey, rebuild, upward, work}
 use Rattle.model.specs.Needs.{actives}
 use Rattle.model.proofs.Lists.{both-true}
@@ -46,7 +28,6 @@ use Rattle.model.proofs.Shows.{same?}
 use Rattle.model.proofs.Given.{Sound, GoodEntry, entry-of, used-in}
 use Rattle.model.proofs.Fits.{level-used, last-is}
 use Rattle.model.proofs.Redo.{values, in-frees}
->>>>>>> dd247a51f9f950215a9cfd5216ce08e279e88f2c
 use Rattle.model.proofs.Undo.{Beside}
 use Rattle.model.proofs.PlanForesees.{High, gather-pages}
 use Rattle.model.proofs.PlanCount.{Pages, member-at, usable-free, retire-free, length-retire, sizeOf}
@@ -211,8 +192,6 @@ module _ (least u l : ℕ) (ps : List Page) (a : Around) (c d : Change) (qs : Li
 
 -- ---- decision 18
 
-<<<<<<< HEAD
-=======
 -- a router that is an old one and a new one leads to a page now used, which is an active one of the group
 module _ (w l level : ℕ) (ps : List Page) (rs : List Pair) (g : Pages w l ps rs) where
   abbrev NewIn : List ℕ → Rebuilt → Type 0
@@ -246,7 +225,6 @@ module _ (w l level : ℕ) (ps : List Page) (rs : List Pair) (g : Pages w l ps r
       at (inl k) = in-those (λ (n : ℕ). active w (page ps n)) (r .value) (values rs) k .0
       at (inr k) = absurd (omega (arith, in-frees ps (r .value) k .0, member-at w l ps g (r .value) (map-in (λ (q : Pair). q .value) r rs i) .level))
 
->>>>>>> dd247a51f9f950215a9cfd5216ce08e279e88f2c
 -- a live router to an active page starts at the open version
 pub router-young : (least : ℕ) → 2 ≤ least → (s : Store) (d : Sound least s) → s .opened ≡ true → (n l : ℕ) → page (s .pages) n .level ≡ suc (suc l) → (e : Entry) → In e (page (s .pages) n .entries)
     → active (next s) (page (s .pages) (e .value)) ≡ true → e .start ≡ next s
