@@ -6,6 +6,7 @@ pub mod Store
 pub mod Header
 pub mod Walk
 pub mod Sound
+pub mod Quick
 pub mod Rules
 pub mod Climb
 pub mod Calls
