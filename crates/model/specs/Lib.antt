@@ -21,9 +21,6 @@ pub mod Ended
 pub mod Needs
 pub mod Plan
 pub mod Replay
-pub mod Ended
-pub mod Needs
-pub mod Plan
 pub mod Table
 pub mod AlsoRun
 pub mod Vectors
