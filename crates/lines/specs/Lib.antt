@@ -1,3 +1,4 @@
 pub mod Console
 pub mod Words
+pub mod Reading
 pub mod Examples
