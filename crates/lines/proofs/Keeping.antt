@@ -1,5 +1,5 @@
 -- Laws of what is kept of a line. Assumes nothing.
-use Prim.Native.Nat.{ℕ, _+_, _-_, _<_, _≤_, min}
+use Prim.Native.Nat.{ℕ, zero, suc, _+_, _-_, _<_, _≤_, min}
 use mathlib.Core.Path.{_≡_, refl, ap, sym, _∙_}
 use mathlib.Core.List.{List, [], _∷_, _++_, map, append-assoc}
 use mathlib.Core.Bool.{true, false}
@@ -30,6 +30,11 @@ pub kept-part : (t s : List ℕ) (n : ℕ) → length t ≤ 81 → n ≡ min (le
 kept-part t s n h e =
     let whole : length t + (81 - length t) ≡ 81 = omega arith in
     rw (e, take-least (81 - length t) s) (sym (take-append-add t s (81 - length t)) ∙ ap (λ (k : ℕ). take k (t ++ s)) whole)
+
+pub take-again : (n : ℕ) (t s : List ℕ) → take n (take n t ++ s) ≡ take n (t ++ s)
+take-again zero t s = refl
+take-again (suc n) [] s = refl
+take-again (suc n) (x ∷ xs) s = ap (λ (l : List ℕ). x ∷ l) (take-again n xs s)
 
 -- one byte more, at place k + i of b
 pub kept-more : (b t s : List ℕ) (k i : ℕ) → k + i < length b → i < length s → take (k + i) b ≡ t ++ take i s

@@ -2,3 +2,5 @@
 pub mod Cutting
 pub mod Numbers
 pub mod Keeping
+pub mod Streams
+pub mod Steps
