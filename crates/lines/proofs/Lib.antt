@@ -4,3 +4,4 @@ pub mod Numbers
 pub mod Keeping
 pub mod Streams
 pub mod Steps
+pub mod Laying

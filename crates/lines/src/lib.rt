@@ -2,12 +2,14 @@
 // The definitions stand in specs/Console.antt.
 mod gathering;
 mod parsing;
+mod saying;
 mod word;
 
 pub use gathering::hear;
 pub use gathering::last;
 pub use gathering::start;
 pub use parsing::parse;
+pub use saying::say;
 
 // What a word is as a number.
 pub enum Number {
@@ -51,4 +53,15 @@ pub struct Taken {
     pub held: Held,
     pub used: usize,
     pub heard: Heard,
+}
+
+// What the program answers, a line each.
+pub enum Answer {
+    Done,
+    Refused(u32),
+    Value(u32),
+    Absent,
+    Count(u32),
+    Setting { key: u32, value: u32 },
+    BadLine,
 }
