@@ -5,3 +5,4 @@ pub mod Keeping
 pub mod Streams
 pub mod Steps
 pub mod Laying
+pub mod Readback

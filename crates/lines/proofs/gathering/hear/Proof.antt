@@ -13,40 +13,27 @@ use Rattle.lines.proofs.Cutting.{until-le}
 use Rattle.lines.proofs.Keeping.{step-whole, step-part}
 use Rattle.lines.proofs.gathering.hear.Statement.{statement}
 use Rattle.lines.proofs.gathering.hear.Tie as tie
-use Rattle.lines.proofs.gathering.hear.Reads as reads
-use Rattle.lines.proofs.gathering.hear.Lts as lts
-use Rattle.lines.proofs.gathering.keep.Reads as keep-reads
-use Rattle.lines.proofs.gathering.line.Reads as line-reads
-use Rattle.lines.proofs.gathering.next.Reads as next-reads
-use Rattle.lines.proofs.word.find.Reads as find-reads
 
--- src/gathering.rt:85:9
 find-requires : tie.Need-find-requires
 find-requires c κs = search needs
 
--- src/gathering.rt:86:27
 slice-aggregate-keep : tie.Need-slice-aggregate-keep
 slice-aggregate-keep c =
     let p : List ℕ = c .before .before .before .args .piece .now in
     sym (length-take-le (c .before .find .result) p (omega (arith, until-le 10 p, c .before .find .ensures)))
 
--- src/gathering.rt:86:9
 keep-requires : tie.Need-keep-requires
 keep-requires c κs = search needs
 
--- src/gathering.rt:88:34
 line-requires : tie.Need-line-requires
 line-requires c κs = (c .before .keep .ensures .1, omega (arith, ap (λ (r : Reading). r .before) (c .before .keep .ensures .0)))
 
--- src/gathering.rt:89:13
 next-requires : tie.Need-next-requires
 next-requires c κs = omega (arith, ap (λ (r : Reading). r .before) (c .before .before .keep .ensures .0))
 
--- src/gathering.rt:92:19
 add-t12 : tie.Need-add-t12
 add-t12 c = search needs
 
--- src/gathering.rt:90:9
 returns : tie.Need-returns
 returns c =
     let s = c .before .before .before .before .before .before .before in
@@ -64,7 +51,6 @@ returns c =
       few = omega (arith, ap (λ (r : Reading). r .before) after);
     }
 
--- src/gathering.rt:80:1
 returns-2 : tie.Need-returns-2
 returns-2 c =
     let s = c .before .before .before .before .before in

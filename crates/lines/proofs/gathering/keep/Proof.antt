@@ -11,9 +11,6 @@ use Rattle.lines.specs.Reading.{Reading}
 use Rattle.lines.proofs.Keeping.{plain, kept-part, kept-more}
 use Rattle.lines.proofs.gathering.keep.Statement.{statement}
 use Rattle.lines.proofs.gathering.keep.Tie as tie
-use Rattle.lines.proofs.gathering.keep.Reads as reads
-use Rattle.lines.proofs.gathering.keep.Lts as lts
-use Rattle.lines.proofs.gathering.least.Reads as least-reads
 
 abbrev Inv-loop : tie.InvT-loop
 Inv-loop held text bytes₀ len n i₀ bytes i =
@@ -22,41 +19,32 @@ Inv-loop held text bytes₀ len n i₀ bytes i =
 abbrev μ-loop : tie.MeasureT-loop
 μ-loop held text bytes₀ len n i₀ bytes i = n - i
 
--- src/gathering.rt:39:31
 sub-least : tie.Need-sub-least Inv-loop μ-loop
 sub-least c = search needs
 
--- src/gathering.rt:39:9
 least-requires : tie.Need-least-requires Inv-loop μ-loop
 least-requires c κs = search needs
 
--- src/gathering.rt:41:5
 loop-holds : tie.Need-loop-holds Inv-loop μ-loop
 loop-holds c =
     let h = c .before .before .before .args .held in
     (omega arith, plain (h .bytes) (c .before .before .before .good .0 .1 .1 .0 .1 .0 .1), rw add-zero (sym (append-nil (take (h .len) (h .bytes)))))
 
--- src/gathering.rt:42:26
 shared-slice-read-bytes : tie.Need-shared-slice-read-bytes Inv-loop μ-loop
 shared-slice-read-bytes c = omega (arith, c .before .before .before .least .ensures, min-le-left (length (c .before .before .before .before .before .before .args .text .now)) (81 - c .before .before .before .before .before .before .args .held .len), min-le-right (length (c .before .before .before .before .before .before .args .text .now)) (81 - c .before .before .before .before .before .before .args .held .len))
 
--- src/gathering.rt:42:15
 add-bytes : tie.Need-add-bytes Inv-loop μ-loop
 add-bytes c = omega (arith, c .before .before .before .least .ensures, min-le-left (length (c .before .before .before .before .before .before .args .text .now)) (81 - c .before .before .before .before .before .before .args .held .len), min-le-right (length (c .before .before .before .before .before .before .args .text .now)) (81 - c .before .before .before .before .before .before .args .held .len))
 
--- src/gathering.rt:42:9
 array-write-bytes : tie.Need-array-write-bytes Inv-loop μ-loop
 array-write-bytes c = omega (arith, c .before .before .before .least .ensures, min-le-left (length (c .before .before .before .before .before .before .args .text .now)) (81 - c .before .before .before .before .before .before .args .held .len), min-le-right (length (c .before .before .before .before .before .before .args .text .now)) (81 - c .before .before .before .before .before .before .args .held .len))
 
--- src/gathering.rt:43:9
 add-i : tie.Need-add-i Inv-loop μ-loop
 add-i c = omega (arith, c .before .before .before .least .ensures, min-le-left (length (c .before .before .before .before .before .before .args .text .now)) (81 - c .before .before .before .before .before .before .args .held .len), min-le-right (length (c .before .before .before .before .before .before .args .text .now)) (81 - c .before .before .before .before .before .before .args .held .len))
 
--- src/gathering.rt:41:5
 loop-less : tie.Need-loop-less Inv-loop μ-loop
 loop-less c = omega arith
 
--- src/gathering.rt:41:5
 loop-again : tie.Need-loop-again Inv-loop μ-loop
 loop-again c =
     let a = c .before .before .before .before .before .before .args in
@@ -70,11 +58,9 @@ loop-again c =
           (l .inv .2),
     )
 
--- src/gathering.rt:47:14
 add-t7 : tie.Need-add-t7 Inv-loop μ-loop
 add-t7 c = omega (arith, c .before .before .least .ensures, min-le-left (length (c .before .before .before .before .before .args .text .now)) (81 - c .before .before .before .before .before .args .held .len), min-le-right (length (c .before .before .before .before .before .args .text .now)) (81 - c .before .before .before .before .before .args .held .len))
 
--- src/gathering.rt:32:1
 returns : tie.Need-returns Inv-loop μ-loop
 returns c =
     let a = c .before .before .before .before .before .args in

@@ -10,19 +10,13 @@ use Rattle.lines.specs.Reading.{reading, lineOf}
 use Rattle.lines.proofs.Keeping.{plain, some-last}
 use Rattle.lines.proofs.gathering.last.Statement.{statement}
 use Rattle.lines.proofs.gathering.last.Tie as tie
-use Rattle.lines.proofs.gathering.last.Reads as reads
-use Rattle.lines.proofs.gathering.last.Lts as lts
-use Rattle.lines.proofs.gathering.line.Reads as line-reads
 
--- src/gathering.rt:110:9
 returns : tie.Need-returns
 returns c = search needs
 
--- src/gathering.rt:112:18
 line-requires : tie.Need-line-requires
 line-requires c κs = search needs
 
--- src/gathering.rt:104:1
 returns-2 : tie.Need-returns-2
 returns-2 c =
     let s = c .before .before .before in

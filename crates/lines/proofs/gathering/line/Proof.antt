@@ -6,29 +6,21 @@ use borrow.Author.Needs.{needs}
 use Rattle.lines.proofs.Keeping.{plain}
 use Rattle.lines.proofs.gathering.line.Statement.{statement}
 use Rattle.lines.proofs.gathering.line.Tie as tie
-use Rattle.lines.proofs.gathering.line.Reads as reads
-use Rattle.lines.proofs.gathering.line.Lts as lts
-use Rattle.lines.proofs.parsing.parse.Reads as parse-reads
 
--- src/gathering.rt:60:25
 array-share-prefix-bytes : tie.Need-array-share-prefix-bytes
 array-share-prefix-bytes c = omega (arith, plain (c .before .args .held .bytes) (c .before .good .0 .1 .1 .0 .1 .0 .1))
 
--- src/gathering.rt:60:25
 slice-aggregate-parse : tie.Need-slice-aggregate-parse
 slice-aggregate-parse c =
     let h = c .before .before .args .held in
     sym (length-take-le (h .len) (h .bytes) (omega (arith, plain (h .bytes) (c .before .before .good .0 .1 .1 .0 .1 .0 .1))))
 
--- src/gathering.rt:60:9
 parse-requires : tie.Need-parse-requires
 parse-requires c κs = search needs
 
--- src/gathering.rt:61:18
 add-number : tie.Need-add-number
 add-number c = search needs
 
--- src/gathering.rt:53:1
 returns : tie.Need-returns
 returns c = rw (c .before .parse .ensures)
 

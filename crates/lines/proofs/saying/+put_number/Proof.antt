@@ -24,7 +24,6 @@ abbrev put-number-below : ℕ → In 1 put-number-kinds.ps
 put-number-below t =
     and 1 put-number-kinds.ps (falls 1 put-number-kinds.ps _<_ μ-put-number t) put-number.Pre
 
--- src/saying.rt:35:9
 put-number-put-digit-requires : (t : ℕ) → put-number-lts.Need-put-digit-requires (
   put-digit-reads.Asked,
   put-digit-reads.Learnt,
@@ -34,7 +33,6 @@ put-number-put-digit-requires : (t : ℕ) → put-number-lts.Need-put-digit-requ
 put-number-put-digit-requires t c κs =
     (c .before .if1 .taken, omega (arith, ap length (decimal-small (c .before .before .before .args .n) (c .before .if1 .taken))))
 
--- src/saying.rt:35:9
 put-number-same-length : (t : ℕ) → put-number-lts.Need-same-length (
   put-digit-reads.Asked,
   put-digit-reads.Learnt,
@@ -43,7 +41,6 @@ put-number-same-length : (t : ℕ) → put-number-lts.Need-same-length (
 ) (put-number-at t) put-number.Post
 put-number-same-length t c = c .before .before .put-digit .kept .1 .0
 
--- src/saying.rt:35:9
 put-number-returns : (t : ℕ) → put-number-lts.Need-returns (
   put-digit-reads.Asked,
   put-digit-reads.Learnt,
@@ -52,7 +49,6 @@ put-number-returns : (t : ℕ) → put-number-lts.Need-returns (
 ) (put-number-at t) put-number.Post
 put-number-returns t c = rw (decimal-small (c .before .before .before .before .before .before .args .n) (c .before .before .before .before .if1 .taken)) (c .before .before .put-digit .ensures)
 
--- src/saying.rt:37:9
 put-number-put-number-requires : (t : ℕ) → put-number-lts.Need-put-number-requires (
   put-digit-reads.Asked,
   put-digit-reads.Learnt,
@@ -62,7 +58,6 @@ put-number-put-number-requires : (t : ℕ) → put-number-lts.Need-put-number-re
 put-number-put-number-requires t c κs =
     (omega arith, omega (arith, length-more (c .before .before .before .args .n) (c .before .if1 .left) (c .before .before .before .fits .n .fits)))
 
--- src/saying.rt:38:5
 put-number-put-digit-requires-2 : (t : ℕ) → put-number-lts.Need-put-digit-requires-2 (
   put-digit-reads.Asked,
   put-digit-reads.Learnt,
@@ -74,7 +69,6 @@ put-number-put-digit-requires-2 t c κs = (
   omega (arith, length-more (c .before .before .before .before .before .before .before .args .n) (c .before .before .before .before .before .if1 .left) (c .before .before .before .before .before .before .before .fits .n .fits), c .before .before .before .put-number .kept .1 .0, c .before .before .before .put-number .ensures .behind),
 )
 
--- src/saying.rt:30:1
 put-number-same-length-2 : (t : ℕ) → put-number-lts.Need-same-length-2 (
   put-digit-reads.Asked,
   put-digit-reads.Learnt,
@@ -83,7 +77,6 @@ put-number-same-length-2 : (t : ℕ) → put-number-lts.Need-same-length-2 (
 ) (put-number-at t) put-number.Post
 put-number-same-length-2 t c = c .before .before .put-digit2 .kept .1 .0 ∙ c .before .before .before .before .before .before .put-number .kept .1 .0
 
--- src/saying.rt:30:1
 put-number-returns-2 : (t : ℕ) → put-number-lts.Need-returns-2 (
   put-digit-reads.Asked,
   put-digit-reads.Learnt,

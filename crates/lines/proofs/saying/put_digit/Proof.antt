@@ -5,30 +5,22 @@ use borrow.Author.Needs.{needs}
 use Rattle.lines.proofs.Laying.{laid-one}
 use Rattle.lines.proofs.saying.put_digit.Statement.{statement}
 use Rattle.lines.proofs.saying.put_digit.Tie as tie
-use Rattle.lines.proofs.saying.put_digit.Reads as reads
-use Rattle.lines.proofs.saying.put_digit.Lts as lts
 
--- src/saying.rt:26:20
 cast-out : tie.Need-cast-out
 cast-out c = search needs
 
--- src/saying.rt:26:15
 add-out : tie.Need-add-out
 add-out c = search needs
 
--- src/saying.rt:26:5
 slice-write-out : tie.Need-slice-write-out
 slice-write-out c = search needs
 
--- src/saying.rt:27:5
 add-result : tie.Need-add-result
 add-result c = search needs
 
--- src/saying.rt:21:1
 same-length : tie.Need-same-length
 same-length c = search needs
 
--- src/saying.rt:21:1
 returns : tie.Need-returns
 returns c = record { out = laid-one (c .args .out .now) (c .args .at) (48 + c .args .d) (search needs); behind = refl }
 

@@ -5,34 +5,24 @@ use borrow.Author.Needs.{needs}
 use Rattle.lines.proofs.Laying.{length-named, then-put}
 use Rattle.lines.proofs.saying.put_named.Statement.{statement}
 use Rattle.lines.proofs.saying.put_named.Tie as tie
-use Rattle.lines.proofs.saying.put_named.Reads as reads
-use Rattle.lines.proofs.saying.put_named.Lts as lts
-use Rattle.lines.proofs.saying.put.Reads as put-reads
-use Rattle.lines.proofs.saying.put_number.Reads as put-number-reads
 
--- src/saying.rt:46:9
 put-requires : tie.Need-put-requires
 put-requires c κs = omega (arith, length-named (c .before .before .before .args .word .now) (c .before .before .before .args .n))
 
--- src/saying.rt:47:9
 put-number-requires : tie.Need-put-number-requires
 put-number-requires c κs =
     omega (arith, length-named (c .before .before .before .before .before .before .before .args .word .now) (c .before .before .before .before .before .before .before .args .n), c .before .before .before .put .kept .1 .0, c .before .before .before .put .ensures .behind)
 
--- src/saying.rt:48:9
 slice-aggregate-put : tie.Need-slice-aggregate-put
 slice-aggregate-put c = search needs
 
--- src/saying.rt:48:5
 put-requires-2 : tie.Need-put-requires-2
 put-requires-2 c κs =
     omega (arith, length-named (c .before .before .before .before .before .before .before .before .before .before .before .before .args .word .now) (c .before .before .before .before .before .before .before .before .before .before .before .before .args .n), c .before .before .before .before .before .before .before .before .put .kept .1 .0, c .before .before .before .before .before .before .before .before .put .ensures .behind, c .before .before .before .before .put-number .kept .1 .0, c .before .before .before .before .put-number .ensures .behind)
 
--- src/saying.rt:42:1
 same-length : tie.Need-same-length
 same-length c = c .before .before .put2 .kept .1 .0 ∙ c .before .before .before .before .before .before .before .put-number .kept .1 .0 ∙ c .before .before .before .before .before .before .before .before .before .before .before .put .kept .1 .0
 
--- src/saying.rt:42:1
 returns : tie.Need-returns
 returns c =
     let s = c .before .before .before .before .before .before .before .before .before .before .before .before .before .before .before in

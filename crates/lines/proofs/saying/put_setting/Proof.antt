@@ -5,29 +5,20 @@ use borrow.Author.Needs.{needs}
 use Rattle.lines.proofs.Laying.{length-setting, then-put}
 use Rattle.lines.proofs.saying.put_setting.Statement.{statement}
 use Rattle.lines.proofs.saying.put_setting.Tie as tie
-use Rattle.lines.proofs.saying.put_setting.Reads as reads
-use Rattle.lines.proofs.saying.put_setting.Lts as lts
-use Rattle.lines.proofs.saying.put_named.Reads as put-named-reads
-use Rattle.lines.proofs.saying.put_number.Reads as put-number-reads
 
--- src/saying.rt:56:9
 put-number-requires : tie.Need-put-number-requires
 put-number-requires c κs = omega (arith, length-setting (c .before .before .args .key) (c .before .before .args .value))
 
--- src/saying.rt:57:15
 slice-aggregate-put-named : tie.Need-slice-aggregate-put-named
 slice-aggregate-put-named c = search needs
 
--- src/saying.rt:57:5
 put-named-requires : tie.Need-put-named-requires
 put-named-requires c κs =
     omega (arith, length-setting (c .before .before .before .before .before .before .before .args .key) (c .before .before .before .before .before .before .before .args .value), c .before .before .before .before .put-number .kept .1 .0, c .before .before .before .before .put-number .ensures .behind)
 
--- src/saying.rt:52:1
 same-length : tie.Need-same-length
 same-length c = c .before .before .put-named .kept .1 .1 .0 ∙ c .before .before .before .before .before .before .before .put-number .kept .1 .0
 
--- src/saying.rt:52:1
 returns : tie.Need-returns
 returns c =
     let s = c .before .before .before .before .before .before .before .before .before .before in

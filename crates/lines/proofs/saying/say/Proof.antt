@@ -5,145 +5,106 @@ use Rattle.lines.specs.declared.Answer.the-variants.{Refused, Value, Cou
 use Rattle.lines.proofs.Laying.{short}
 use Rattle.lines.proofs.saying.say.Statement.{statement}
 use Rattle.lines.proofs.saying.say.Tie as tie
-use Rattle.lines.proofs.saying.say.Reads as reads
-use Rattle.lines.proofs.saying.say.Lts as lts
-use Rattle.lines.proofs.saying.put.Reads as put-reads
-use Rattle.lines.proofs.saying.put_named.Reads as put-named-reads
-use Rattle.lines.proofs.saying.put_setting.Reads as put-setting-reads
 
--- src/saying.rt:66:29
 enum-told : tie.Need-enum-told
 enum-told c = search needs
 
--- src/saying.rt:66:29
 slice-aggregate-put : tie.Need-slice-aggregate-put
 slice-aggregate-put c = search needs
 
--- src/saying.rt:66:25
 put-requires : tie.Need-put-requires
 put-requires c κs = search needs
 
--- src/saying.rt:67:25
 enum-known-answer : tie.Need-enum-known-answer
 enum-known-answer c = search needs
 
--- src/saying.rt:67:41
 slice-aggregate-put-named : tie.Need-slice-aggregate-put-named
 slice-aggregate-put-named c = search needs
 
--- src/saying.rt:67:31
 put-named-requires : tie.Need-put-named-requires
 put-named-requires c κs = omega (arith, short (Refused (c .before .before .before .answer .given .0 .0)))
 
--- src/saying.rt:68:23
 enum-known-answer-2 : tie.Need-enum-known-answer-2
 enum-known-answer-2 c = search needs
 
--- src/saying.rt:68:39
 slice-aggregate-put-named-2 : tie.Need-slice-aggregate-put-named-2
 slice-aggregate-put-named-2 c = search needs
 
--- src/saying.rt:68:29
 put-named-requires-2 : tie.Need-put-named-requires-2
 put-named-requires-2 c κs = omega (arith, short (Value (c .before .before .before .answer2 .given .0 .0)))
 
--- src/saying.rt:69:31
 enum-told-2 : tie.Need-enum-told-2
 enum-told-2 c = search needs
 
--- src/saying.rt:69:31
 slice-aggregate-put-2 : tie.Need-slice-aggregate-put-2
 slice-aggregate-put-2 c = search needs
 
--- src/saying.rt:69:27
 put-requires-2 : tie.Need-put-requires-2
 put-requires-2 c κs = search needs
 
--- src/saying.rt:70:23
 enum-known-answer-3 : tie.Need-enum-known-answer-3
 enum-known-answer-3 c = search needs
 
--- src/saying.rt:70:39
 slice-aggregate-put-named-3 : tie.Need-slice-aggregate-put-named-3
 slice-aggregate-put-named-3 c = search needs
 
--- src/saying.rt:70:29
 put-named-requires-3 : tie.Need-put-named-requires-3
 put-named-requires-3 c κs = omega (arith, short (Count (c .before .before .before .answer3 .given .0 .0)))
 
--- src/saying.rt:71:27
 enum-known-answer-4 : tie.Need-enum-known-answer-4
 enum-known-answer-4 c = search needs
 
--- src/saying.rt:71:43
 put-setting-requires : tie.Need-put-setting-requires
 put-setting-requires c κs = omega (arith, short (Setting (c .before .before .answer4 .given .0 .0) (c .before .before .answer4 .given .0 .1 .0)))
 
--- src/saying.rt:72:32
 enum-told-3 : tie.Need-enum-told-3
 enum-told-3 c = search needs
 
--- src/saying.rt:72:32
 slice-aggregate-put-3 : tie.Need-slice-aggregate-put-3
 slice-aggregate-put-3 c = search needs
 
--- src/saying.rt:72:28
 put-requires-3 : tie.Need-put-requires-3
 put-requires-3 c κs = search needs
 
--- src/saying.rt:61:1
 same-length : tie.Need-same-length
 same-length c = search needs
 
--- src/saying.rt:61:1
 returns : tie.Need-returns
 returns c = rw (c .before .before .before .before .before .enum-told .given .1) (c .before .before .put .ensures)
 
--- src/saying.rt:61:1
 same-length-2 : tie.Need-same-length-2
 same-length-2 c = search needs
 
--- src/saying.rt:61:1
 returns-2 : tie.Need-returns-2
 returns-2 c = rw (c .before .before .before .before .before .before .answer .given .1) (c .before .before .put-named .ensures)
 
--- src/saying.rt:61:1
 same-length-3 : tie.Need-same-length-3
 same-length-3 c = search needs
 
--- src/saying.rt:61:1
 returns-3 : tie.Need-returns-3
 returns-3 c = rw (c .before .before .before .before .before .before .answer2 .given .1) (c .before .before .put-named2 .ensures)
 
--- src/saying.rt:61:1
 same-length-4 : tie.Need-same-length-4
 same-length-4 c = search needs
 
--- src/saying.rt:61:1
 returns-4 : tie.Need-returns-4
 returns-4 c = rw (c .before .before .before .before .before .enum-told2 .given .1) (c .before .before .put2 .ensures)
 
--- src/saying.rt:61:1
 same-length-5 : tie.Need-same-length-5
 same-length-5 c = search needs
 
--- src/saying.rt:61:1
 returns-5 : tie.Need-returns-5
 returns-5 c = rw (c .before .before .before .before .before .before .answer3 .given .1) (c .before .before .put-named3 .ensures)
 
--- src/saying.rt:61:1
 same-length-6 : tie.Need-same-length-6
 same-length-6 c = search needs
 
--- src/saying.rt:61:1
 returns-6 : tie.Need-returns-6
 returns-6 c = rw (c .before .before .before .before .before .answer4 .given .1) (c .before .before .put-setting .ensures)
 
--- src/saying.rt:61:1
 same-length-7 : tie.Need-same-length-7
 same-length-7 c = search needs
 
--- src/saying.rt:61:1
 returns-7 : tie.Need-returns-7
 returns-7 c = rw (c .before .before .before .before .before .enum-told3 .given .1) (c .before .before .put3 .ensures)
 
