@@ -1,13 +1,13 @@
 -- A number that is written is read as the same number: `read-back`. Assumes nothing.
 use Prim.Native.Nat.{ℕ, zero, suc, _+_, _*_, _-_, _/_, _%_, _^_, _<_, _≤_}
-use mathlib.Core.Path.{_≡_, refl, ap, sym, _∙_}
+use mathlib.Core.Path.{_≡_, refl, ap, _∙_}
 use mathlib.Core.Bool.{Bool, true, false, _&&_}
 use mathlib.Core.List.{List, [], _∷_, _++_}
 use lib.Dec.{ltb}
 use lib.ListN.{length, length-append}
 use native.Mathlib.Nat.{pow-suc}
 use native.Mathlib.Omega.{arith}
-use borrow.Author.Tests.{le-leb, ltb-true, ltb-false}
+use borrow.Author.Tests.{le-leb, ltb-true}
 use Rattle.model.specs.Basic.{all}
 use Rattle.lines.specs.declared.Number.the-variants.{Is}
 use Rattle.lines.specs.Console.{digit, valueFrom, numberOf}

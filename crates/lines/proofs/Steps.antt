@@ -3,18 +3,16 @@ use Prim.Native.Nat.{ℕ, suc, _+_, _<_, _≤_}
 use mathlib.Core.Path.{_≡_, refl, ap, sym, _∙_}
 use mathlib.Core.Bool.{Bool, true, false}
 use mathlib.Core.List.{List, [], _∷_, _++_, append-nil, append-assoc}
-use lib.Dec.{eqb, ltb}
+use lib.Dec.{eqb}
 use lib.ListN.{length, getD, take, drop, length-take, take-append-drop}
 use lib.Seq.{take-all, drop-cons}
 use native.Mathlib.Decide.{decLt}
 use native.Mathlib.Nat.{min-le-left}
 use native.Mathlib.Numerals.{add-one}
 use native.Mathlib.Omega.{arith}
-use borrow.Author.Tests.{lt-ltb, le-ltb, eqb-true}
-use Rattle.lines.specs.declared.Line.{Line}
+use borrow.Author.Tests.{eqb-true}
 use Rattle.lines.specs.Words.{until, untilBy}
-use Rattle.lines.specs.Reading.{Reading, kept, next, pushBy, lineOf, endedBy, readOn, told, heardLines, Step, stepOf}
-use Rattle.lines.proofs.Cutting.{until-le}
+use Rattle.lines.specs.Reading.{Reading, kept, pushBy, readOn, told, heardLines, Step, stepOf}
 use Rattle.lines.proofs.Keeping.{take-again, step-whole, step-part}
 use Rattle.lines.proofs.Streams.{told-append, readOn-append}
 

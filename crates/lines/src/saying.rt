@@ -1,6 +1,5 @@
 // Answers as text, put into a lent buffer. Each function gives the place behind what it put.
-ghost use mathlib.Core.Path.{_≡_};
-ghost use mathlib.Core.List.{[], _∷_, _++_};
+ghost use mathlib.Core.List.{[], _∷_};
 ghost use Prim.Native.Nat.{_+_, _<_, _≤_};
 ghost use lib.ListN.{length};
 ghost use Rattle.lines.specs.Answers.{decimal, named, textOf, Put};

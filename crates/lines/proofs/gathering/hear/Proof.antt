@@ -1,12 +1,11 @@
 -- What is kept, and the line that ends at a newline, are those of the step. Assumes nothing.
-use Prim.Native.Nat.{ℕ, _+_, _≤_}
+use Prim.Native.Nat.{ℕ, _+_}
 use mathlib.Core.Path.{_≡_, ap, sym, _∙_}
 use mathlib.Core.List.{List}
 use native.Mathlib.Omega.{arith}
-use lib.ListN.{length, take}
+use lib.ListN.{take}
 use lib.Seq.{length-take-le}
 use borrow.Author.Needs.{needs}
-use Rattle.lines.specs.declared.Line.{Line}
 use Rattle.lines.specs.declared.Heard.the-variants.{Whole, Nothing}
 use Rattle.lines.specs.Reading.{Reading, reading, kept, next, lineOf}
 use Rattle.lines.proofs.Cutting.{until-le}

@@ -1,13 +1,12 @@
 -- The bytes up to `len + i` are the text held before and the first `i` of the new. Assumes nothing.
 use Prim.Native.Nat.{ℕ, _+_, _-_, _≤_}
-use mathlib.Core.Path.{_≡_, refl, ap, sym, _∙_}
-use mathlib.Core.List.{List, [], _++_, append-nil}
+use mathlib.Core.Path.{_≡_, ap, sym, _∙_}
+use mathlib.Core.List.{List, _++_, append-nil}
 use native.Mathlib.Nat.{add-zero, min-le-left, min-le-right}
 use native.Mathlib.Omega.{arith}
 use lib.ListN.{length, take, length-set}
 use lib.Seq.{length-take-le}
 use borrow.Author.Needs.{needs}
-use Rattle.lines.specs.Reading.{Reading}
 use Rattle.lines.proofs.Keeping.{plain, kept-part, kept-more}
 use Rattle.lines.proofs.gathering.keep.Statement.{statement}
 use Rattle.lines.proofs.gathering.keep.Tie as tie

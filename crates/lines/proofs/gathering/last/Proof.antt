@@ -1,8 +1,7 @@
 -- Text that is held has a byte. Assumes nothing.
-use Prim.Native.Nat.{_<_}
 use mathlib.Core.Path.{ap, sym, _∙_}
 use native.Mathlib.Omega.{arith}
-use lib.ListN.{length, take}
+use lib.ListN.{take}
 use lib.Seq.{length-take-le}
 use borrow.Author.Needs.{needs}
 use Rattle.lines.specs.declared.Heard.the-variants.{Whole}

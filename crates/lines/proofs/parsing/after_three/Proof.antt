@@ -1,11 +1,11 @@
 -- The words behind are the text's first and those behind it. Assumes nothing.
-use Prim.Native.Nat.{ℕ, _+_, _-_, _<_, _≤_}
-use mathlib.Core.Path.{_≡_, sym, _∙_}
-use mathlib.Core.List.{List, _∷_}
+use Prim.Native.Nat.{ℕ, _+_, _<_, _≤_}
+use mathlib.Core.Path.{sym}
+use mathlib.Core.List.{List}
 use native.Mathlib.Omega.{arith}
 use lib.ListN.{length, take, drop}
 use borrow.Author.Needs.{needs}
-use Rattle.lines.specs.Console.{spoken, words}
+use Rattle.lines.specs.Console.{spoken}
 use Rattle.lines.specs.Words.{until}
 use Rattle.lines.proofs.Cutting.{cut-at, one-word, too-many}
 use Rattle.lines.proofs.parsing.after_three.Statement.{statement}
