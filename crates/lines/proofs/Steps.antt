@@ -1,6 +1,6 @@
 -- A step to the next newline tells what its bytes tell, one by one: what a loop over a piece goes by. Assumes nothing.
 use Prim.Native.Nat.{ℕ, suc, _+_, _<_, _≤_}
-use mathlib.Core.Path.{_≡_, refl, ap, sym, _∙_}
+use mathlib.Core.Path.{_≡_, refl, ap, sym, subst, _∙_}
 use mathlib.Core.Bool.{Bool, true, false}
 use mathlib.Core.List.{List, [], _∷_, _++_, append-nil, append-assoc}
 use lib.Dec.{eqb}
@@ -11,8 +11,10 @@ use native.Mathlib.Nat.{min-le-left}
 use native.Mathlib.Numerals.{add-one}
 use native.Mathlib.Omega.{arith}
 use borrow.Author.Tests.{eqb-true}
+use Rattle.lines.specs.declared.Held.{Held}
+use Rattle.lines.specs.declared.Taken.{Taken}
 use Rattle.lines.specs.Words.{until, untilBy}
-use Rattle.lines.specs.Reading.{Reading, kept, pushBy, readOn, told, heardLines, Step, stepOf}
+use Rattle.lines.specs.Reading.{Reading, kept, pushBy, readOn, told, heardLines, Step, stepOf, reading, shown, Hears}
 use Rattle.lines.proofs.Keeping.{take-again, step-whole, step-part}
 use Rattle.lines.proofs.Streams.{told-append, readOn-append}
 
@@ -96,3 +98,17 @@ module _ (r : Reading) (c : List ℕ) (room : length (r .text) ≤ 81) where
     by : Dec (until 10 c < length c) → Follows (stepOf r c)
     by (yes h) = rw (← step-whole r c (until 10 c) refl h) (rw (newline h) at told-parts, rw (newline h) at read-parts)
     by (no h) = rw (← step-part r c (until 10 c) refl (omega arith)) (told-parts, read-parts)
+
+-- what `hear` gives, in the same words: for a loop over a piece
+module _ {h : Held} {c : List ℕ} {t : Taken} (k : Hears h c t) (room : h .len ≤ 81) where
+  held-room : length (reading h .text) ≤ 81
+  held-room = rw length-take (omega (arith, min-le-left (h .len) (length (h .bytes))))
+
+  heard-on : Follows (reading h) c held-room (shown t)
+  heard-on = subst (Follows (reading h) c held-room) (sym (k .step)) (follows (reading h) c held-room)
+
+  pub tells : told (reading h) c ≡ heardLines (t .heard) ++ told (reading (t .held)) (drop (t .used) c)
+  tells = heard-on .0
+
+  pub reads-on : readOn (reading h) c ≡ readOn (reading (t .held)) (drop (t .used) c)
+  reads-on = heard-on .1

@@ -60,6 +60,7 @@ fn put_setting(key: u32, value: u32, out: &mut [u8], at: usize) -> usize
 pub fn say(answer: Answer, out: &mut [u8], at: usize) -> usize
     requires { ⌜ at + 22 ≤ length (now out) ⌝ }
     ensures { λ r. ⌜ Put (now (out .entry)) at (textOf answer) (now (out .exit)) r ⌝ }
+    ensures { λ r. ⌜ r ≤ at + 22 ⌝ }
 {
     match answer {
         Answer::Done => put(b"ok\n", out, at),

@@ -1,10 +1,19 @@
 -- Each answer's line is put, and none is longer than the room asked for. Assumes nothing.
+use Prim.Native.Nat.{ℕ, _+_, _≤_}
+use mathlib.Core.Path.{_≡_}
+use mathlib.Core.List.{List}
 use native.Mathlib.Omega.{arith}
 use borrow.Author.Needs.{needs}
+use Rattle.lines.specs.declared.Answer.{Answer}
 use Rattle.lines.specs.declared.Answer.the-variants.{Refused, Value, Count, Setting}
+use Rattle.lines.specs.Answers.{textOf, Put}
 use Rattle.lines.proofs.Laying.{short}
 use Rattle.lines.proofs.saying.say.Statement.{statement}
 use Rattle.lines.proofs.saying.say.Tie as tie
+
+-- what was put is the answer's line
+said : {d d' : List ℕ} {at r : ℕ} {a b : Answer} → a ≡ b → Put d at (textOf b) d' r → Put d at (textOf a) d' r × (r ≤ at + 22)
+said {d} {d'} {at} {r} {a} {b} e p = (rw e p, omega (arith, p .behind, short b))
 
 enum-told : tie.Need-enum-told
 enum-told c = search needs
@@ -70,43 +79,43 @@ same-length : tie.Need-same-length
 same-length c = search needs
 
 returns : tie.Need-returns
-returns c = rw (c .before .before .before .before .before .enum-told .given .1) (c .before .before .put .ensures)
+returns c = said (c .before .before .before .before .before .enum-told .given .1) (c .before .before .put .ensures)
 
 same-length-2 : tie.Need-same-length-2
 same-length-2 c = search needs
 
 returns-2 : tie.Need-returns-2
-returns-2 c = rw (c .before .before .before .before .before .before .answer .given .1) (c .before .before .put-named .ensures)
+returns-2 c = said (c .before .before .before .before .before .before .answer .given .1) (c .before .before .put-named .ensures)
 
 same-length-3 : tie.Need-same-length-3
 same-length-3 c = search needs
 
 returns-3 : tie.Need-returns-3
-returns-3 c = rw (c .before .before .before .before .before .before .answer2 .given .1) (c .before .before .put-named2 .ensures)
+returns-3 c = said (c .before .before .before .before .before .before .answer2 .given .1) (c .before .before .put-named2 .ensures)
 
 same-length-4 : tie.Need-same-length-4
 same-length-4 c = search needs
 
 returns-4 : tie.Need-returns-4
-returns-4 c = rw (c .before .before .before .before .before .enum-told2 .given .1) (c .before .before .put2 .ensures)
+returns-4 c = said (c .before .before .before .before .before .enum-told2 .given .1) (c .before .before .put2 .ensures)
 
 same-length-5 : tie.Need-same-length-5
 same-length-5 c = search needs
 
 returns-5 : tie.Need-returns-5
-returns-5 c = rw (c .before .before .before .before .before .before .answer3 .given .1) (c .before .before .put-named3 .ensures)
+returns-5 c = said (c .before .before .before .before .before .before .answer3 .given .1) (c .before .before .put-named3 .ensures)
 
 same-length-6 : tie.Need-same-length-6
 same-length-6 c = search needs
 
 returns-6 : tie.Need-returns-6
-returns-6 c = rw (c .before .before .before .before .before .answer4 .given .1) (c .before .before .put-setting .ensures)
+returns-6 c = said (c .before .before .before .before .before .answer4 .given .1) (c .before .before .put-setting .ensures)
 
 same-length-7 : tie.Need-same-length-7
 same-length-7 c = search needs
 
 returns-7 : tie.Need-returns-7
-returns-7 c = rw (c .before .before .before .before .before .enum-told3 .given .1) (c .before .before .put3 .ensures)
+returns-7 c = said (c .before .before .before .before .before .enum-told3 .given .1) (c .before .before .put3 .ensures)
 
 pub say-spec : {M : Type 1} → statement M
 say-spec =
