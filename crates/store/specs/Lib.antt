@@ -7,3 +7,5 @@ pub mod Exactly
 pub mod Holds
 pub mod Set
 pub mod Tested
+pub mod Fresh
+pub mod Answers
