@@ -1,4 +1,5 @@
 // The line that is being read, gathered from pieces of the input in constant memory.
+// That `before + 1` fits is a caller's to see: it has read no more lines than bytes.
 ghost use mathlib.Core.Path.{_≡_};
 ghost use Prim.Native.Nat.{_+_, _^_, _<_, _≤_, min};
 ghost use Rattle.lines.specs.Reading.{reading, start as Reading·start, kept, lineOf, next as Reading·next, lastOf, Hears};
