@@ -1,4 +1,5 @@
 // The line that is being read, gathered from pieces of the input in constant memory.
+// That `before + 1` fits is a caller's to see: it has read no more lines than bytes.
 ghost use mathlib.Core.Path.{_≡_};
 ghost use Prim.Native.Nat.{_+_, _^_, _<_, _≤_, min};
 ghost use Rattle.lines.specs.Reading.{reading, start as Reading·start, kept, lineOf, next as Reading·next, lastOf, Hears};
@@ -63,17 +64,14 @@ fn line(held: Held) -> Line
 }
 
 // The line behind it.
-fn next(held: Held) -> Held
+fn next(mut held: Held) -> Held
     requires { ⌜ held .before + 1 < 2 ^ 64 ⌝ }
     ensures { λ r. ⌜ reading r ≡ Reading·next (reading held) ⌝ }
     ensures { λ r. ⌜ r .len ≤ 81 ⌝ }
 {
-    let bytes = held.bytes;
-    Held {
-        bytes,
-        len: 0,
-        before: held.before + 1,
-    }
+    held.len = 0;
+    held.before = held.before + 1;
+    held
 }
 
 // Up to the first newline of a piece of the input, or to its end. A caller goes on behind the bytes used, until the piece is used up.

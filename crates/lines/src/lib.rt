@@ -1,5 +1,7 @@
-// The console's language: a line's bytes to its command, and answers to their bytes. Reading and writing are the program's.
-// The definitions stand in specs/Console.antt.
+// The console's language: a line's bytes to its command, and answers to their bytes. Reading and writing are the program's:
+// from `start` on it hands each piece of its input to `hear` until the piece is used up, and at the end asks for the `last` line;
+// `say` puts each answer into its buffer. The definitions are specs/Console (lines), Reading (pieces) and Answers; that pieces cut
+// anywhere give the input's lines is `streams` (proofs/Streams).
 mod gathering;
 mod parsing;
 mod saying;
@@ -55,7 +57,7 @@ pub struct Taken {
     pub heard: Heard,
 }
 
-// What the program answers, a line each.
+// What the program answers, a line each. `Done` is written `ok`.
 pub enum Answer {
     Done,
     Refused(u32),

@@ -26,7 +26,7 @@ fn put_digit(d: u32, out: &mut [u8], at: usize) -> usize
     at + 1
 }
 
-pub fn put_number(n: u32, out: &mut [u8], at: usize) -> usize
+fn put_number(n: u32, out: &mut [u8], at: usize) -> usize
     requires { ⌜ at + length (decimal n) ≤ length (now out) ⌝ }
     ensures { λ r. ⌜ Put (now (out .entry)) at (decimal n) (now (out .exit)) r ⌝ }
 {
