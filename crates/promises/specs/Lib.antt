@@ -1,0 +1,4 @@
+pub mod Accepts
+pub mod Runs
+pub mod Beside
+pub mod Answers
