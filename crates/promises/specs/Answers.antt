@@ -12,7 +12,7 @@ use Rattle.model.specs.declared.Pair.{Pair}
 use Rattle.model.specs.declared.Looked.{Looked}
 use Rattle.model.specs.Store.{lastOf}
 use Rattle.model.specs.Walk.{keyLimit, find, between}
-use Rattle.model.specs.Calls.{isSome, rule, firstOf, lookedBy, Ranged, rangedBy}
+use Rattle.model.specs.Calls.{isSome, Rule, rule, firstOf, lookedBy, Ranged, rangedBy}
 use Rattle.model.specs.Settings.{Machine, Tally}
 use Rattle.model.specs.Lent.{listed}
 use Rattle.model.specs.Ended.{toOpen, toCommit, toAbandon, toInsert, toDelete, toLookup, toRange, ended, ofLooked, ofListed}
@@ -23,14 +23,41 @@ use Rattle.promises.specs.Beside.{Beside}
 abbrev pub lastIn : Machine → ℕ
 lastIn m = lastOf (m .opened) (m .current)
 
--- A lookup: 5 "key too large", 6 "version above last", else what that version's settings have.
-abbrev pub lookedIn : Machine → ℕ → ℕ → Looked
-lookedIn m k v = lookedBy (firstOf (rule 5 (leb keyLimit k) ∷ rule 6 (ltb (lastIn m) v) ∷ [])) (find k (m .shows v))
+-- ---- the tests of each call's refusals, smallest number first
 
--- A range: 5, 6, else that version's settings from lo to hi, all of them, with 14 if the list has not the room.
+-- 5 "key too large", 6 "version above last"
+abbrev pub lookupTests : ℕ → ℕ → ℕ → List Rule
+lookupTests last k v = rule 5 (leb keyLimit k) ∷ rule 6 (ltb last v) ∷ []
+
+-- 5 "key too large, or range low above high"
+abbrev pub rangeTests : ℕ → ℕ → ℕ → ℕ → List Rule
+rangeTests last lo hi v = rule 5 (leb keyLimit lo || leb keyLimit hi || ltb hi lo) ∷ rule 6 (ltb last v) ∷ []
+
+-- 8 "update already open", 9 "current is 1,048,574"
+abbrev pub openTests : Bool → ℕ → List Rule
+openTests opened current = rule 8 opened ∷ rule 9 (leb 1048574 current) ∷ []
+
+-- commit and abandon: 7 "no update open"
+abbrev pub endTests : Bool → List Rule
+endTests opened = rule 7 (not opened) ∷ []
+
+-- 10 "key alive"
+abbrev pub insertTests : ℕ → Bool → Bool → List Rule
+insertTests k opened alive = rule 5 (leb keyLimit k) ∷ rule 7 (not opened) ∷ rule 10 alive ∷ []
+
+-- 11 "key not alive"
+abbrev pub deleteTests : ℕ → Bool → Bool → List Rule
+deleteTests k opened alive = rule 5 (leb keyLimit k) ∷ rule 7 (not opened) ∷ rule 11 (not alive) ∷ []
+
+-- ---- what the machine's settings answer
+
+-- the value of a key at a version, or that it is absent
+abbrev pub lookedIn : Machine → ℕ → ℕ → Looked
+lookedIn m k v = lookedBy (firstOf (lookupTests (lastIn m) k v)) (find k (m .shows v))
+
+-- all the settings from lo to hi at a version, with 14 if the list has not the room
 abbrev pub rangedFrom : Machine → ℕ → ℕ → ℕ → ℕ → Ranged
-rangedFrom m lo hi v room =
-    rangedBy (firstOf (rule 5 (leb keyLimit lo || leb keyLimit hi || ltb hi lo) ∷ rule 6 (ltb (lastIn m) v) ∷ [])) room (between lo hi (m .shows v))
+rangedFrom m lo hi v room = rangedBy (firstOf (rangeTests (lastIn m) lo hi v)) room (between lo hi (m .shows v))
 
 -- whether a key is alive at the open version
 abbrev pub aliveIn : Machine → ℕ → Bool
@@ -52,10 +79,8 @@ pub record Answers (least : ℕ) (x : Beside) : Type 0 where
   -- "their number is those inserts less those deletes"
   pub count : (v : ℕ) → v ≤ lastIn (x .machine) → length (x .machine .shows v) + x .tally .removed v ≡ x .tally .added v
   -- which calls are accepted
-  pub opens : (ns : List ℕ) → ended least toOpen (x .bytes) ns .number ≡ firstOf (rule 8 (x .machine .opened) ∷ rule 9 (leb 1048574 (x .machine .current)) ∷ [])
-  pub commits : (ns : List ℕ) → ended least toCommit (x .bytes) ns .number ≡ firstOf (rule 7 (not (x .machine .opened)) ∷ [])
-  pub abandons : (ns : List ℕ) → ended least toAbandon (x .bytes) ns .number ≡ firstOf (rule 7 (not (x .machine .opened)) ∷ [])
-  pub inserts : (k v : ℕ) (ns : List ℕ)
-      → Gives (firstOf (rule 5 (leb keyLimit k) ∷ rule 7 (not (x .machine .opened)) ∷ rule 10 (aliveIn (x .machine) k) ∷ [])) (ended least (toInsert k v) (x .bytes) ns .number)
-  pub deletes : (k : ℕ) (ns : List ℕ)
-      → Gives (firstOf (rule 5 (leb keyLimit k) ∷ rule 7 (not (x .machine .opened)) ∷ rule 11 (not (aliveIn (x .machine) k)) ∷ [])) (ended least (toDelete k) (x .bytes) ns .number)
+  pub opens : (ns : List ℕ) → ended least toOpen (x .bytes) ns .number ≡ firstOf (openTests (x .machine .opened) (x .machine .current))
+  pub commits : (ns : List ℕ) → ended least toCommit (x .bytes) ns .number ≡ firstOf (endTests (x .machine .opened))
+  pub abandons : (ns : List ℕ) → ended least toAbandon (x .bytes) ns .number ≡ firstOf (endTests (x .machine .opened))
+  pub inserts : (k v : ℕ) (ns : List ℕ) → Gives (firstOf (insertTests k (x .machine .opened) (aliveIn (x .machine) k))) (ended least (toInsert k v) (x .bytes) ns .number)
+  pub deletes : (k : ℕ) (ns : List ℕ) → Gives (firstOf (deleteTests k (x .machine .opened) (aliveIn (x .machine) k))) (ended least (toDelete k) (x .bytes) ns .number)

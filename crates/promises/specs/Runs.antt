@@ -46,6 +46,14 @@ kindOf (toDelete k) = changing (deletes k)
 kindOf (toLookup k v) = reading
 kindOf (toRange lo hi v) = reading
 
+-- the call that asks for a change
+abbrev pub asks : Call → Asked
+asks begins = toOpen
+asks commits = toCommit
+asks abandons = toAbandon
+asks (inserts k x) = toInsert k x
+asks (deletes k) = toDelete k
+
 abbrev pub isMaking : Kind → Bool
 isMaking making = true
 isMaking (changing c) = false
