@@ -34,7 +34,7 @@ use Rattle.model.proofs.Judging.{unbroken, whole}
 use Rattle.model.proofs.Lacking.{judged-low}
 use Rattle.model.proofs.Unique.{refused as leaves}
 use Rattle.promises.specs.Accepts.{Accepts}
-use Rattle.promises.specs.Runs.{isMaking, kindOf}
+use Rattle.promises.specs.Runs.{notMaking, kindOf}
 use Rattle.promises.specs.First.{FirstNumbers, Judges, TurnedAway, Untrusted, OneForm, Made, FreshMade}
 use Rattle.promises.proofs.High.{High, call-high}
 use Rattle.promises.proofs.Encoded.{accepted}
@@ -42,7 +42,7 @@ use Rattle.promises.proofs.Lending.{fresh-is}
 
 -- ---- a call's number by check's: that number, or where it is 0, 0 or one from 5 on
 
-abbrev Past : ℕ → ℕ → Type 0
+abbrev pub Past : ℕ → ℕ → Type 0
 Past zero n = (n ≡ 0) ⊎ (5 ≤ n)
 Past (suc j) n = n ≡ suc j
 
@@ -112,9 +112,9 @@ past-same : (j : ℕ) → Past j j
 past-same zero = inl refl
 past-same (suc j) = refl
 
-pub call-past : (least : ℕ) (c : Asked) (b ns : List ℕ) → isMaking (kindOf c) ≡ false → Past (judged least b .number) (ended least c b ns .number)
+pub call-past : (least : ℕ) (c : Asked) (b ns : List ℕ) → notMaking (kindOf c) ≡ true → Past (judged least b .number) (ended least c b ns .number)
 unfolding Lent.openLent Lent.commitLent Lent.abandonLent Lent.insertLent Lent.deleteLent
-call-past least toFresh b ns h = absurd (not-both true refl h)
+call-past least toFresh b ns h = absurd (not-both false h refl)
 call-past least toCheck b ns h = past-same (judged least b .number)
 call-past least toOpen b ns h = change-past least b _ (λ s. call-high least s begins)
 call-past least toCommit b ns h = change-past least b _ (λ s. call-high least s commits)

@@ -26,6 +26,7 @@ use Rattle.model.proofs.Judging.{accepted as judged-zero}
 use Rattle.store.specs.Tested.{whole-length}
 use Rattle.promises.specs.Accepts.{Accepts, Written}
 use Rattle.promises.specs.Runs.{Kind, making, changing, reading, kindOf, asks, fitting}
+use Rattle.promises.proofs.High.{numberOf}
 use Rattle.promises.proofs.Encoded.{encoded-sound}
 
 -- ---- calls by their kind
@@ -65,6 +66,13 @@ module _ (least : ℕ) (b : List ℕ) (ok : Accepts least b) where
   change-is abandons ns = ap (ofOutcome ns) (lent-is _)
   change-is (inserts k x) ns = ap (ofOutcome ns) (lent-is _)
   change-is (deletes k) ns = ap (ofOutcome ns) (lent-is _)
+
+  pub change-number : (c : Call) (ns : List ℕ) → ended least (asks c) b ns .number ≡ numberOf (callBy least (decode least b) c)
+  change-number c ns = ap (λ (e : Ended). e .number) (change-is c ns) ∙ left-number (callBy least (decode least b) c)
+    where
+      left-number : (r : Result) → left least b r .number ≡ numberOf r
+      left-number (done t) = refl
+      left-number (refused n) = refl
 
 -- ---- making fresh
 

@@ -5,3 +5,7 @@ pub mod High
 pub mod Lending
 pub mod Judges
 pub mod Agreed
+pub mod Answering
+pub mod Projected
+pub mod Stays
+pub mod Restored

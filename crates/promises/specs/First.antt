@@ -16,7 +16,7 @@ use Rattle.model.specs.Clean.{clean}
 use Rattle.model.specs.Judged.{lengthOk, magicOk, editionOk}
 use Rattle.model.specs.Ended.{Asked, toFresh, Ended, ended, Meets, Untouched, Named, Zeros}
 use Rattle.promises.specs.Accepts.{Accepts}
-use Rattle.promises.specs.Runs.{isMaking, kindOf}
+use Rattle.promises.specs.Runs.{notMaking, kindOf}
 
 -- ---- every call is pinned: no second outcome meets its contract
 
@@ -43,7 +43,7 @@ pub record FirstNumbers (length magic edition rules : Bool) (n : ℕ) : Type 0 w
 
 -- any call but making fresh, on any bytes
 abbrev pub Judges : Type 0
-Judges = (least : ℕ) (c : Asked) (b ns : List ℕ) → isMaking (kindOf c) ≡ false
+Judges = (least : ℕ) (c : Asked) (b ns : List ℕ) → notMaking (kindOf c) ≡ true
     → FirstNumbers (lengthOk least b) (magicOk b) (editionOk least b) (clean least b && sound least (decode least b)) (ended least c b ns .number)
 
 -- so bytes that check does not accept are touched by no call but making fresh
@@ -53,7 +53,7 @@ pub record TurnedAway (b ns : List ℕ) (e : Ended) : Type 0 where
   pub untouched : Untouched b ns e
 
 abbrev pub Untrusted : Type 0
-Untrusted = (least : ℕ) (c : Asked) (b ns : List ℕ) → isMaking (kindOf c) ≡ false → (Accepts least b → ⊥) → TurnedAway b ns (ended least c b ns)
+Untrusted = (least : ℕ) (c : Asked) (b ns : List ℕ) → notMaking (kindOf c) ≡ true → (Accepts least b → ⊥) → TurnedAway b ns (ended least c b ns)
 
 -- ---- "down to a bit set that we don't define": of all the bytes that hold one store, one form alone is accepted
 

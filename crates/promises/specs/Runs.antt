@@ -54,10 +54,11 @@ asks abandons = toAbandon
 asks (inserts k x) = toInsert k x
 asks (deletes k) = toDelete k
 
-abbrev pub isMaking : Kind → Bool
-isMaking making = true
-isMaking (changing c) = false
-isMaking reading = false
+-- any call but making fresh
+abbrev pub notMaking : Kind → Bool
+notMaking making = false
+notMaking (changing c) = true
+notMaking reading = true
 
 -- "a value is any 32 bits"
 abbrev pub fitting : Kind → Bool
