@@ -1,15 +1,16 @@
 // Makes a fresh store of six pages, writes the bytes that document 01 gives of it, and judges it: as it is, with a stray bit set, and
-// with a page less.
+// as a store of another edition.
 use libc::STDOUT_FILENO;
+
+fn wide(x: u8) -> u64 {
+    x as u64
+}
 
 // Bytes in hexadecimal, one space behind each.
 fn say_bytes(s: &[u8]) {
     let mut i = 0;
     while i < s.len() {
-        if s[i] < 16 {
-            io::write_all(STDOUT_FILENO, b"0");
-        }
-        io::print_hex(STDOUT_FILENO, s[i] as u64);
+        io::print_hex(STDOUT_FILENO, wide(s[i]), 2);
         io::write_all(STDOUT_FILENO, b" ");
         i += 1;
     }
@@ -25,14 +26,33 @@ fn say_verdict(s: &[u8]) {
     io::write_all(STDOUT_FILENO, b"\n");
 }
 
+// The bytes from one place up to another, if they are there.
+fn say_part(s: &[u8], from: usize, to: usize) {
+    if s.len() < to {
+        return;
+    }
+    if to < from {
+        return;
+    }
+    say_bytes(&s[from..to]);
+}
+
+fn set(s: &mut [u8], at: usize, v: u8) {
+    if at < s.len() {
+        s[at] = v;
+    }
+}
+
 fn main() {
     let mut s = [0xEE; 1536];
     store::fresh(&mut s);
-    say_bytes(&s[0..11]);
-    say_bytes(&s[256..260]);
-    say_bytes(&s[1280..1287]);
+    say_part(&s, 0, 11);
+    say_part(&s, 256, 260);
+    say_part(&s, 1280, 1287);
     say_verdict(&s);
-    s[12] = 1;
+    set(&mut s, 12, 1);
     say_verdict(&s);
-    say_verdict(&s[0..1280]);
+    set(&mut s, 12, 0);
+    set(&mut s, 4, 2);
+    say_verdict(&s);
 }
