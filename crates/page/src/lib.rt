@@ -128,12 +128,13 @@ pub fn insert_entry(page: &mut [u8], l: Limits, i: usize, e: Entry)
         k += 1;
     }
     put_entry(page, count, x);
+    let more = count + 1;
     put_head(
         page,
         l,
         Head {
             level: h.level,
-            count: count + 1,
+            count: more,
             start: h.start,
             end: h.end,
         },

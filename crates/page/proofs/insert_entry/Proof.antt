@@ -100,8 +100,8 @@ put-entry-requires-2 c κs =
     )
 
 -- src/lib.rt:136:20
-add-t23 : tie.Need-add-t23 Inv-loop μ-loop
-add-t23 c = omega (arith, c .before .before .before .before .before .before .before .before .before .before .pre .2, c .before .before .before .before .before .before .before .before .before .before .pre .0 .eight, counted ((c .before .before .before .before .before .before .before)))
+add-more : tie.Need-add-more Inv-loop μ-loop
+add-more c = omega (arith, c .before .before .before .before .before .before .before .before .before .pre .2, c .before .before .before .before .before .before .before .before .before .pre .0 .eight, counted ((c .before .before .before .before .before .before)))
 
 -- src/lib.rt:131:5
 put-head-requires : tie.Need-put-head-requires Inv-loop μ-loop
@@ -148,7 +148,7 @@ insert-entry-spec =
     loop-less
     loop-again
     put-entry-requires-2
-    add-t23
+    add-more
     put-head-requires
     same-length
     returns)
