@@ -1,9 +1,11 @@
--- Lines and their commands, inputs and their records, answers and their lines: three tables, a claim for each.
+-- Lines and their commands, inputs and their records, answers and their lines, runs and what they write: a table and a claim for each.
 -- Assumes nothing.
 use Prim.Native.Nat.{ℕ}
 use Prim.Native.String.{String}
 use mathlib.Core.Path.{_≡_, refl}
 use mathlib.Core.List.{List, [], _∷_, map}
+use Rattle.model.specs.Judged as Judged
+use Rattle.model.specs.Lent as Lent
 use Rattle.lines.specs.declared.Command.{Command}
 use Rattle.lines.specs.declared.Command.the-variants.{Store, Open, Insert, Delete, Commit, Abandon, Get, Range, Bad}
 use Rattle.lines.specs.declared.Line.{Line}
@@ -12,6 +14,8 @@ use Rattle.lines.specs.declared.Answer.the-variants.{Done, Refused, Valu
 use Rattle.lines.specs.Console as Console
 use Rattle.lines.specs.Console.{ascii, commandOf, recordsOf}
 use Rattle.lines.specs.Answers.{decimalWithin, textOf}
+use Rattle.lines.specs.Session as Session
+use Rattle.lines.specs.Session.{written}
 
 -- ---- lines
 
@@ -116,3 +120,25 @@ answers =
 pub answers-hold : map (λ (w : Written). textOf (w .answer)) answers ≡ map (λ (w : Written). ascii (w .text)) answers
 unfolding decimalWithin
 answers-hold = refl
+
+-- ---- runs before an accepted `store`
+
+pub record Run : Type 0 where
+  pub input : String
+  pub output : String
+
+abbrev run : String → String → Run
+run i o = record { input = i; output = o }
+
+abbrev pub runs : List Run
+runs =
+    run "" ""
+    ∷ run "open\ninsert 5 50\ndelete 5\ncommit\nabandon" "refused 1\nrefused 1\nrefused 1\nrefused 1\nrefused 1\n"
+    ∷ run "get 5 1\nrange 0 20 1\n" "refused 1\nrefused 1\n"
+    ∷ run "store 5\nstore 257\nopen\n" "refused 1\nrefused 1\nrefused 1\n"
+    ∷ run "store 4294967296\n\nopen" "bad line\nbad line\nrefused 1\n"
+    ∷ []
+
+pub runs-hold : map (λ (r : Run). written (ascii (r .input))) runs ≡ map (λ (r : Run). ascii (r .output)) runs
+unfolding Console.cut Console.valueFrom Console.numberOf Console.spoken Console.commandOf decimalWithin Session.said Session.writes Lent.lent Lent.openLent Lent.insertLent Lent.deleteLent Lent.commitLent Lent.abandonLent Lent.lookupLent Lent.rangeLent Judged.lengthOk Judged.judged
+runs-hold = refl

@@ -2,4 +2,5 @@ pub mod Console
 pub mod Words
 pub mod Reading
 pub mod Answers
+pub mod Session
 pub mod Examples
