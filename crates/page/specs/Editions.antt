@@ -1,0 +1,68 @@
+-- Laws of the limits: what a struct of limits holds, and how wide its counts are. Assumes nothing.
+use Prim.Native.Nat.{ℕ, _+_, _*_, _^_, _≤_, _<_}
+use mathlib.Core.Bool.{Bool, true, false}
+use mathlib.Core.Path.{_≡_, refl, ap}
+use native.Mathlib.Omega.{arith}
+use lib.Dec.{leb}
+use borrow.Author.Tests.{leb-true}
+use Rattle.model.specs.Basic.{pick}
+use Rattle.model.specs.declared.Limits.{Limits}
+use Rattle.model.specs.Limits.{countBits, rootBits, limits, Edition}
+
+-- ---- the widths
+
+-- a width of 5 or 6 bits that holds a page's entry count
+pub record Counts (least w : ℕ) : Type 0 where
+  pub five : 5 ≤ w
+  pub six : w ≤ 6
+  pub fits : 5 * least < 2 ^ w
+
+-- a width of 9 or 10 bits that holds the number of roots
+pub record Rooted (least w : ℕ) : Type 0 where
+  pub nine : 9 ≤ w
+  pub ten : w ≤ 10
+  pub fits : 64 * least < 2 ^ w
+
+pub count-bits : (least : ℕ) → least ≤ 8 → Counts least (countBits least)
+count-bits least h = at (leb least 4) (leb-true least 4)
+  where
+    at : (b : Bool) → (b ≡ true → least ≤ 4) → Counts least (pick b 5 6)
+    at true f = let g : least ≤ 4 = f refl in record { five = omega arith; six = omega arith; fits = omega arith }
+    at false f = record { five = omega arith; six = omega arith; fits = omega arith }
+
+pub root-bits : (least : ℕ) → least ≤ 8 → Rooted least (rootBits least)
+root-bits least h = at (leb least 4) (leb-true least 4)
+  where
+    at : (b : Bool) → (b ≡ true → least ≤ 4) → Rooted least (pick b 9 10)
+    at true f = let g : least ≤ 4 = f refl in record { nine = omega arith; ten = omega arith; fits = omega arith }
+    at false f = record { nine = omega arith; ten = omega arith; fits = omega arith }
+
+-- ---- the fields
+
+module _ {l : Limits} (d : Edition l) where
+  pub merge-is : l .merge ≡ 2 * l .least
+  merge-is = ap (λ (x : Limits). x .merge) (d .all)
+
+  pub full-is : l .full ≡ 4 * l .least
+  full-is = ap (λ (x : Limits). x .full) (d .all)
+
+  pub room-is : l .room ≡ 5 * l .least
+  room-is = ap (λ (x : Limits). x .room) (d .all)
+
+  pub bytes-is : l .bytes ≡ 64 * l .least
+  bytes-is = ap (λ (x : Limits). x .bytes) (d .all)
+
+  pub slots-is : l .slots ≡ 64 * l .least
+  slots-is = ap (λ (x : Limits). x .slots) (d .all)
+
+  pub counter-is : l .counter ≡ countBits (l .least)
+  counter-is = ap (λ (x : Limits). x .counter) (d .all)
+
+  pub counter-counts : Counts (l .least) (l .counter)
+  counter-counts = rw counter-is (count-bits (l .least) (d .eight))
+
+  pub rooter-is : l .rooter ≡ rootBits (l .least)
+  rooter-is = ap (λ (x : Limits). x .rooter) (d .all)
+
+  pub rooter-roots : Rooted (l .least) (l .rooter)
+  rooter-roots = rw rooter-is (root-bits (l .least) (d .eight))
