@@ -36,3 +36,9 @@ pub mod Theorems
 pub mod Numbered
 pub mod Extras
 pub mod Steady
+pub mod Rising
+pub mod Judging
+pub mod Quiet
+pub mod Parents
+pub mod Once
+pub mod Facts

@@ -1,0 +1,193 @@
+-- What the numbers of check say: rule 7 follows from rules 1 and 3, and the number 0 means clean bytes that hold a sound store.
+-- Assumes nothing.
+use Prim.Native.Nat.{ℕ, zero, suc, _+_, _*_, _-_, _≤_, _<_, _%_}
+use native.Mathlib.Omega.{arith}
+use mathlib.Core.Bool.{Bool, true, false, _&&_, _||_, not}
+use mathlib.Core.Path.{_≡_, refl, ap, sym, _∙_, subst}
+use mathlib.Core.Logic.{_⊎_, inl, inr}
+use mathlib.Core.List.{List, [], _∷_, _++_}
+use lib.Dec.{leb, ltb, eqb}
+use lib.ListN.{length, take, drop}
+use borrow.Author.Tests.{leb-true, eqb-true, eq-eqb}
+use Rattle.model.specs.Basic.{all, pick, inOrder}
+use Rattle.model.specs.declared.Entry.{Entry}
+use Rattle.model.specs.declared.Slot.{Slot}
+use Rattle.model.specs.declared.Verdict.{Verdict}
+use Rattle.model.specs.Entry.{alive, before}
+use Rattle.model.specs.Page.{Page, isFree}
+use Rattle.model.specs.Store.{Store, page, last, lastOf, next}
+use Rattle.model.specs.Walk.{keyLimit}
+use Rattle.model.specs.Sound.{isPage, spanOk, entryOk, pageOk, pageFine, zeroed, inside, leadsWell, firstBroken, sound, rule1, rule2, rule3, rule4, rule5, rule6, rule7}
+use Rattle.model.specs.Layout.{decode, sizeOf}
+use Rattle.model.specs.Clean.{cleanFront, cleanPages, clean}
+use Rattle.model.specs.Judged.{lengthOk, magicOk, editionOk, brokenIn, verdict, ruled, judged}
+use Rattle.model.proofs.Lists.{both-true, both-intro}
+use Rattle.model.proofs.Members.{In, all-in, all-by, bool-cases, not-both, either-true}
+use Rattle.model.proofs.Given.{Sound, from-tests, spansWell, span-of}
+
+-- ---- rule 7
+
+module _ (least size : ℕ) (s : Store) (p : Page) (starts : p .start ≡ last s) where
+  new-entry : (e : Entry) → entryOk (last s) size (p .level) e ≡ true → (inside e p && leadsWell s p e) ≡ true → (eqb (e .start) (last s) && eqb (e .end) alive) ≡ true
+  new-entry e ok link =
+      let kind : Bool = pick (eqb (p .level) 1) (leb 1 (e .start) && ltb (e .value) 4294967296) (isPage size (e .value)) in
+      let span = span-of (last s) (e .start) (e .end) (both-true (spanOk (last s) (e .start) (e .end)) (ltb (e .key) keyLimit) (both-true (spanOk (last s) (e .start) (e .end) && ltb (e .key) keyLimit) kind ok .0) .0) in
+      let later = leb-true (p .start) (e .start) (both-true (leb (p .start) (e .start)) (leb (e .end) (p .end)) (both-true (inside e p) (leadsWell s p e) link .0) .0) in
+      let at : e .start ≡ last s = omega (arith, span .starts) in
+      both-intro _ _ (eq-eqb (e .start) (last s) at) (eq-eqb (e .end) alive (ends at (span .some) (span .ends)))
+    where
+      ends : e .start ≡ last s → e .start < e .end → (e .end ≤ last s) ⊎ (e .end ≡ alive) → e .end ≡ alive
+      ends q l (inl x) = absurd (omega arith)
+      ends q l (inr x) = x
+
+  new-page : isFree p ≡ false → pageFine least (last s) size p ≡ true → spansWell s p ≡ true → all (λ (e : Entry). eqb (e .start) (last s) && eqb (e .end) alive) (p .entries) ≡ true
+  new-page used fine spans =
+      let ok : pageOk least (last s) size p ≡ true = subst (λ (b : Bool). pick b (zeroed p) (pageOk least (last s) size p) ≡ true) used fine in
+      let each = both-true (leb (p .level) 7 && leb (length (p .entries)) (5 * least) && spanOk (last s) (p .start) (p .end) && inOrder before (p .entries)) (all (entryOk (last s) size (p .level)) (p .entries)) ok .1 in
+      all-by _ (p .entries)
+      (λ e i. new-entry e (all-in (entryOk (last s) size (p .level)) e (p .entries) each i) (all-in (λ (x : Entry). inside x p && leadsWell s p x) e (p .entries) spans i))
+
+-- "A page that starts at the open version holds only alive entries that start there."
+pub seventh-by : (least : ℕ) (s : Store) → rule1 least s ≡ true → rule3 s ≡ true → rule7 s ≡ true
+unfolding rule1 rule3 rule7
+seventh-by least s one three = at (s .opened) refl
+  where
+    fine : all (pageFine least (last s) (length (s .pages))) (drop 5 (s .pages)) ≡ true
+    fine =
+        both-true (leb 6 (length (s .pages)) && leb (length (s .pages)) 4096 && leb (length (s .slots)) (64 * least) && leb (last s) 1048574 && all (λ (x : Slot). isPage (length (s .pages)) (x .root)) (s .slots)
+        && all (λ (p : Page). isFree p && zeroed p) (take 5 (s .pages))) (all (pageFine least (last s) (length (s .pages))) (drop 5 (s .pages))) one .1
+
+    spans : all (λ (p : Page). isFree p || spansWell s p) (drop 5 (s .pages)) ≡ true
+    spans = both-true (all (λ (p : Page). isFree p || spansWell s p) (drop 5 (s .pages))) (all (λ (x : Slot). not (isFree (page (s .pages) (x .root)))) (s .slots)) three .0
+
+    young : ℕ → Page → Bool
+    young w p = not (eqb (p .start) w) || all (λ (e : Entry). eqb (e .start) w && eqb (e .end) alive) (p .entries)
+
+    each : (w : ℕ) → w ≡ last s → (p : Page) → pageFine least (last s) (length (s .pages)) p ≡ true → (isFree p || spansWell s p) ≡ true → (isFree p || young w p) ≡ true
+    each w same p f g = by (isFree p) refl (eqb (p .start) w) refl
+      where
+        by : (b : Bool) → isFree p ≡ b → (t : Bool) → eqb (p .start) w ≡ t → (b || (not t || all (λ (e : Entry). eqb (e .start) w && eqb (e .end) alive) (p .entries))) ≡ true
+        by true b t e = refl
+        by false b false e = refl
+        by false b true e = subst (λ (x : ℕ). all (λ (e : Entry). eqb (e .start) x && eqb (e .end) alive) (p .entries) ≡ true) (sym same) (new-page least (length (s .pages)) s p (eqb-true (p .start) w e ∙ same) b f (subst (λ (c : Bool). (c || spansWell s p) ≡ true) b g))
+
+    at : (b : Bool) → s .opened ≡ b → (not b || all (λ (p : Page). isFree p || young (next s) p) (drop 5 (s .pages))) ≡ true
+    at false e = refl
+    at true e =
+        all-by _ (drop 5 (s .pages)) (λ p i. each (next s) (sym (ap (λ (b : Bool). lastOf b (s .current)) e)) p
+        (all-in (pageFine least (last s) (length (s .pages))) p (drop 5 (s .pages)) fine i) (all-in (λ (q : Page). isFree q || spansWell s q) p (drop 5 (s .pages)) spans i))
+
+-- ---- the lowest broken rule
+
+module _ (least : ℕ) (b : List ℕ) where
+  clean-first : clean least b ≡ true → rule1 least (decode least b) ≡ true
+  unfolding clean
+  clean-first h =
+      both-true (cleanPages least b 5 (sizeOf least b - 5)) (rule1 least (decode least b))
+      (both-true (cleanFront least b) (cleanPages least b 5 (sizeOf least b - 5) && rule1 least (decode least b)) h .1) .1
+
+  -- what `brokenIn` is, one rule after the other
+  pub broken-one : clean least b ≡ false → brokenIn least b ≡ 1
+  unfolding brokenIn
+  broken-one r1 = rw r1
+
+  module _ (r1 : clean least b ≡ true) where
+    pub broken-two : rule2 (decode least b) ≡ false → brokenIn least b ≡ 2
+    unfolding brokenIn
+    broken-two r2 = rw (r1, r2)
+
+    module _ (r2 : rule2 (decode least b) ≡ true) where
+      pub broken-three : rule3 (decode least b) ≡ false → brokenIn least b ≡ 3
+      unfolding brokenIn
+      broken-three r3 = rw (r1, r2, r3)
+
+      module _ (r3 : rule3 (decode least b) ≡ true) where
+        pub broken-four : rule4 (decode least b) ≡ false → brokenIn least b ≡ 4
+        unfolding brokenIn
+        broken-four r4 = rw (r1, r2, r3, r4)
+
+        module _ (r4 : rule4 (decode least b) ≡ true) where
+          pub broken-five : rule5 least (decode least b) ≡ false → brokenIn least b ≡ 5
+          unfolding brokenIn
+          broken-five r5 = rw (r1, r2, r3, r4, r5)
+
+          module _ (r5 : rule5 least (decode least b) ≡ true) where
+            pub broken-six : rule6 (decode least b) ≡ false → brokenIn least b ≡ 6
+            unfolding brokenIn
+            broken-six r6 = rw (r1, r2, r3, r4, r5, r6)
+
+            -- check never answers 7
+            pub broken-none : rule6 (decode least b) ≡ true → brokenIn least b ≡ 0
+            unfolding brokenIn
+            broken-none r6 = rw (r1, r2, r3, r4, r5, r6, seventh-by least (decode least b) (clean-first r1) r3)
+
+  -- 0 is given exactly for clean bytes that hold a sound store
+  pub unbroken : brokenIn least b ≡ 0 → (clean least b ≡ true) × (sound least (decode least b) ≡ true)
+  unfolding brokenIn sound
+  unbroken h = at (clean least b) (rule2 s) (rule3 s) (rule4 s) (rule5 least s) (rule6 s) (rule7 s) refl h
+    where
+      s : Store
+      s = decode least b
+
+      wrong : (n : ℕ) → suc n ≡ 0 → ⊥
+      wrong n e = omega arith
+
+      at : (c r2 r3 r4 r5 r6 r7 : Bool) → clean least b ≡ c → firstBroken 1 (c ∷ r2 ∷ r3 ∷ r4 ∷ r5 ∷ r6 ∷ r7 ∷ []) ≡ 0 → (c ≡ true) × ((rule1 least s && r2 && r3 && r4 && r5 && r6 && r7) ≡ true)
+      at false r2 r3 r4 r5 r6 r7 e q = absurd (wrong 0 q)
+      at true false r3 r4 r5 r6 r7 e q = absurd (wrong 1 q)
+      at true true false r4 r5 r6 r7 e q = absurd (wrong 2 q)
+      at true true true false r5 r6 r7 e q = absurd (wrong 3 q)
+      at true true true true false r6 r7 e q = absurd (wrong 4 q)
+      at true true true true true false r7 e q = absurd (wrong 5 q)
+      at true true true true true true false e q = absurd (wrong 6 q)
+      at true true true true true true true e q = (refl, rw (clean-first e))
+
+  pub whole : clean least b ≡ true → sound least (decode least b) ≡ true → brokenIn least b ≡ 0
+  unfolding brokenIn sound
+  whole c h = at (rule1 least s) (rule2 s) (rule3 s) (rule4 s) (rule5 least s) (rule6 s) (rule7 s) h
+    where
+      s : Store
+      s = decode least b
+
+      at : (r1 r2 r3 r4 r5 r6 r7 : Bool) → (r1 && r2 && r3 && r4 && r5 && r6 && r7) ≡ true → firstBroken 1 (clean least b ∷ r2 ∷ r3 ∷ r4 ∷ r5 ∷ r6 ∷ r7 ∷ []) ≡ 0
+      at r1 r2 r3 r4 r5 r6 r7 q =
+          let (q6, a7) = both-true (r1 && r2 && r3 && r4 && r5 && r6) r7 q in
+          let (q5, a6) = both-true (r1 && r2 && r3 && r4 && r5) r6 q6 in
+          let (q4, a5) = both-true (r1 && r2 && r3 && r4) r5 q5 in
+          let (q3, a4) = both-true (r1 && r2 && r3) r4 q4 in
+          let (q2, a3) = both-true (r1 && r2) r3 q3 in
+          rw (c, both-true r1 r2 q2 .1, a3, a4, a5, a6, a7)
+
+-- ---- the number
+
+-- bytes for which check gives 0
+pub record Accepted (least : ℕ) (b : List ℕ) : Type 0 where
+  pub length-ok : lengthOk least b ≡ true
+  pub magic-ok : magicOk b ≡ true
+  pub edition-ok : editionOk least b ≡ true
+  pub is-clean : clean least b ≡ true
+  pub is-sound : sound least (decode least b) ≡ true
+
+ruled-zero : (r : ℕ) → ruled r .number ≡ 0 → r ≡ 0
+ruled-zero zero e = refl
+ruled-zero (suc r) e = absurd (omega arith)
+
+pub accepted : (least : ℕ) (b : List ℕ) → judged least b .number ≡ 0 → Accepted least b
+unfolding judged
+accepted least b h = at (lengthOk least b) refl (magicOk b) refl (editionOk least b) refl h
+  where
+    at : (p : Bool) → lengthOk least b ≡ p → (q : Bool) → magicOk b ≡ q → (r : Bool) → editionOk least b ≡ r
+        → pick p (pick q (pick r (ruled (brokenIn least b)) (verdict 3 0)) (verdict 2 0)) (verdict 1 0) .number ≡ 0 → Accepted least b
+    at false x q y r z e = absurd (omega arith)
+    at true x false y r z e = absurd (omega arith)
+    at true x true y false z e = absurd (omega arith)
+    at true x true y true z e =
+        let u = unbroken least b (ruled-zero (brokenIn least b) e) in record { length-ok = x; magic-ok = y; edition-ok = z; is-clean = u .0; is-sound = u .1 }
+
+pub judged-accepted : (least : ℕ) (b : List ℕ) → Accepted least b → judged least b ≡ verdict 0 0
+unfolding judged
+judged-accepted least b a = rw (a .length-ok, a .magic-ok, a .edition-ok, whole least b (a .is-clean) (a .is-sound))
+
+-- the rules by name
+pub accepted-sound : (least : ℕ) (b : List ℕ) → Accepted least b → Sound least (decode least b)
+accepted-sound least b a = from-tests least (decode least b) (a .is-sound)
