@@ -11,8 +11,8 @@ use lib.ListN.{length}
 use borrow.Author.Tests.{eqb-true, leb-true}
 use Rattle.model.specs.declared.Entry.{Entry}
 use Rattle.model.specs.Page.{Page, isFree, pairsAt}
-use Rattle.model.specs.Store.{page, last}
-use Rattle.model.specs.Walk.{rootAt, heightOf, keyLimit}
+use Rattle.model.specs.Store.{Store, page, last}
+use Rattle.model.specs.Walk.{rootAt, heightOf, keyLimit, rangeOf}
 use Rattle.model.specs.declared.Slot.{Slot}
 use Rattle.model.specs.declared.Limits.{Limits}
 use Rattle.model.specs.Limits.{Edition}
@@ -27,6 +27,7 @@ use Rattle.page.specs.Read.{level-of, entries-of, length-entries}
 use Rattle.store.specs.Read.{count-pages, page-at, slots-of, length-slots}
 use Rattle.store.specs.Parts.{length-page}
 use Rattle.walk.specs.Live.{live}
+use Rattle.walk.specs.Bound.{range-few}
 use Rattle.walk.specs.Covers.{Covers, covers-root}
 use Rattle.walk.specs.Scan.{Stands, from, from-start}
 
@@ -124,3 +125,13 @@ module _ {l : Limits} {b : List ℕ} {v : ℕ} (r : Readable l b v) where
 
   pub covers-inside : (up n k : ℕ) → Covers (l .least) v (decode (l .least) b .pages) up n k → Inside (l .least) b n
   covers-inside up n k c = inside (r .edition) b (r .sound) n up (c .level)
+
+  -- what a range finds can be counted
+  pub range-count : (lo hi : ℕ) → length (rangeOf (decode (l .least) b) lo hi v) ≤ 2 ^ 40
+  range-count lo hi =
+      let s : Store = decode (l .least) b in
+      let n : ℕ = rootAt (s .slots) v in
+      let d = sure (r .edition) b (r .sound) in
+      let c = root-covers 0 (omega arith) in
+      let low : page (s .pages) n .level ≤ 7 = d .pages n (level-used (page (s .pages) n) (heightOf (s .pages) n) (c .level)) .low in
+      range-few (l .least) (r .edition .eight) s d (heightOf (s .pages) n) v lo hi lo n (omega (arith, c .level))

@@ -5,9 +5,11 @@ ghost use mathlib.Core.Path.{_≡_};
 ghost use mathlib.Core.Bool.{true, _&&_};
 ghost use Prim.Native.Nat.{_≤_};
 ghost use lib.Dec.{leb};
-ghost use Rattle.model.specs.Entry.{liveAt};
-ghost use Rattle.model.specs.Walk.{find};
+ghost use mathlib.Core.List.{[], _∷_};
+ghost use Rattle.model.specs.Entry.{pairOf, liveAt};
+ghost use Rattle.model.specs.Walk.{find, between};
 ghost use Rattle.model.specs.Calls.{lookedAt};
+ghost use Rattle.walk.specs.Written.{written, Space, Gathers};
 ghost use Rattle.walk.specs.Live.{live};
 ghost use Rattle.walk.specs.Ends.{startsBy};
 ghost use Rattle.walk.specs.Scan.{Stands, from, Next, Owns};
@@ -16,6 +18,14 @@ ghost use Rattle.walk.specs.Scan.{Stands, from, Next, Owns};
 pub struct Own {
     pub page: u32,
     pub next: usize,
+}
+
+// What a range asks: its low and high keys, its version, and whether the settings found are to be written or only counted.
+pub struct Query {
+    pub low: u32,
+    pub high: u32,
+    pub version: u32,
+    pub write: bool,
 }
 
 // Whether an entry is alive at v.
@@ -88,4 +98,31 @@ pub fn own_router(page: &[u8], n: usize, v: u32, key: u32) -> Own
         i += 1;
     }
     Own { page: c, next: i }
+}
+
+// A setting behind the first k of a list.
+fn put(list: &mut [u32], k: usize, e: Entry, write: bool)
+    requires { ⌜ Space write (now list) k (pairOf e ∷ []) ⌝ }
+    ensures { λ _. ⌜ now (list .exit) ≡ written write (now (list .entry)) k (pairOf e ∷ []) ⌝ }
+{
+    if write {
+        list[2 * k] = e.key;
+        list[2 * k + 1] = e.value;
+    }
+}
+
+// The settings of a leaf that a range asks for, behind the first `found` of a list; gives how many there are then.
+pub fn settings(page: &[u8], n: usize, q: Query, list: &mut [u32], found: usize) -> usize
+    requires { ⌜ Stands (now page) n × Space (q .write) (now list) found (between (q .low) (q .high) (live (q .version) (from (now page) 0 n))) ⌝ }
+    ensures { λ r. ⌜ Gathers (q .write) (now (list .entry)) (now (list .exit)) found r (between (q .low) (q .high) (live (q .version) (from (now (page .entry)) 0 n))) ⌝ }
+{
+    let mut k = found;
+    let mut i = next_place(page, n, q.version, q.low, q.high, 0);
+    while i < n {
+        let e = page::entry_at(page, i);
+        put(list, k, e, q.write);
+        k += 1;
+        i = next_place(page, n, q.version, q.low, q.high, i + 1);
+    }
+    k
 }
