@@ -2,3 +2,5 @@ pub mod Laws
 pub mod Put
 pub mod Append
 pub mod Lay
+pub mod Over
+pub mod Rows

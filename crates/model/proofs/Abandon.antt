@@ -9,15 +9,14 @@ use mathlib.Core.List.{List, [], _∷_, map}
 use lib.Dec.{leb, ltb, eqb, eqb·zero-suc}
 use lib.ListN.{length, getD, List·getD-map}
 use borrow.Author.Tests.{leb-true, eqb-true, eqb-false, le-leb, lt-ltb, lt-leb, eq-eqb, ne-eqb, not-true}
-use Rattle.model.specs.Basic.{all, has, pick, those, keep}
+use Rattle.model.specs.Basic.{all, has, pick, those, keep, inOrder}
 use Rattle.model.specs.declared.Pair.{Pair}
 use Rattle.model.specs.declared.Entry.{Entry}
 use Rattle.model.specs.Entry.{alive, pairOf, liveAt, before}
 use Rattle.model.specs.Page.{Page, free, isFree, active, pairsAt}
 use Rattle.model.specs.declared.Slot.{Slot}
 use Rattle.model.specs.Store.{Store, page, next, last}
-use Rattle.model.specs.Walk.{rootAt, below, settings, wayDown, heightOf, Seen, seenBelow, seen, keyLimit}
-use Rattle.model.specs.Basic.{inOrder}
+use Rattle.model.specs.Walk.{rootAt, heightOf, Seen, seen}
 use Rattle.model.specs.Sound.{isPage, entryOk, inside, leadsWell, keysOk}
 use Rattle.model.specs.Calls.{revivedEnd, revived, restoredEntries, restored, backBy, back}
 use Rattle.model.proofs.Lists.{both-true, both-intro}
@@ -25,8 +24,8 @@ use Rattle.model.proofs.Members.{not-both, either-true, either-left, ei
 use Rattle.model.proofs.Old.{old-none}
 use Rattle.model.proofs.Given.{Sound, GoodPage, GoodEntry, Span, span-of, of-span, entry-of, ok-entry, spansWell, livesAt, enough}
 use Rattle.model.proofs.Fits.{tame-all, limit, last-is, root-used, root-lives}
-use Rattle.model.proofs.Past.{back-lives, back-level, below-same, down-same, Steady, root-slot, root-kept, those-rise, those-all-of, those-first}
-use Rattle.model.proofs.Turns.{below-alike}
+use Rattle.model.proofs.Past.{back-lives, back-level, root-slot, root-kept, those-rise, those-all-of, those-first}
+use Rattle.model.proofs.Alike.{Alike, alike-seen}
 
 -- entries as abandon leaves them, at an older version
 module _ (v w : ℕ) (h : v < w) (lim : w < alive) where
@@ -117,26 +116,11 @@ module _ (least : ℕ) (two-or-more : 2 ≤ least) (s : Store) (d : Sound least 
   height-kept : (v : ℕ) → v < w → heightOf qs (rootAt (s .slots) v) ≡ heightOf ps (rootAt (s .slots) v)
   height-kept v h = ap pred (ap (λ (p : Page). p .level) (page-is (rootAt (s .slots) v)) ∙ back-level v w h lim (page ps (rootAt (s .slots) v)) (root-lives-at v h))
 
+  pub steady-kept : (v : ℕ) → v < w → Alike s v t v
+  steady-kept v h = record { root = root-kept w v h (s .slots); height = height-kept v h; shows = pairs-kept v h }
+
   seen-kept : (v : ℕ) → v < w → seen t v ≡ seen s v
-  seen-kept v h =
-      ap (λ (n : ℕ). seenBelow (heightOf qs n) qs v true 0 keyLimit n) (root-kept w v h (s .slots))
-      ∙ ap (λ (l : ℕ). seenBelow l qs v true 0 keyLimit (rootAt (s .slots) v)) (height-kept v h)
-      ∙ below-same ps qs v v (pairs-kept v h) (heightOf ps (rootAt (s .slots) v)) true 0 keyLimit (rootAt (s .slots) v)
-
-  pub settings-kept : (v : ℕ) → v < w → settings t v ≡ settings s v
-  settings-kept v h =
-      ap (λ (n : ℕ). below (heightOf qs n) qs v n) (root-kept w v h (s .slots))
-      ∙ ap (λ (l : ℕ). below l qs v (rootAt (s .slots) v)) (height-kept v h)
-      ∙ below-alike ps qs v v (pairs-kept v h) (heightOf ps (rootAt (s .slots) v)) (rootAt (s .slots) v)
-
-  pub steady-kept : (v : ℕ) → v < w → Steady s t v
-  steady-kept v h = record {
-    root = root-kept w v h (s .slots);
-    ways = λ k.
-        ap (λ (n : ℕ). wayDown (heightOf qs n) qs v k n []) (root-kept w v h (s .slots))
-        ∙ ap (λ (l : ℕ). wayDown l qs v k (rootAt (s .slots) v) []) (height-kept v h)
-        ∙ down-same ps qs v v (pairs-kept v h) (heightOf ps (rootAt (s .slots) v)) k (rootAt (s .slots) v) [];
-  }
+  seen-kept v h = alike-seen s v t v (steady-kept v h)
 
   -- pages
   revived-span : (a b : ℕ) → Span (last s) a b → a ≢ w → Span c a (revivedEnd w b)

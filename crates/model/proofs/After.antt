@@ -5,19 +5,18 @@ use native.Mathlib.Omega.{arith}
 use mathlib.Core.Bool.{Bool, true, false, _&&_, not}
 use mathlib.Core.Path.{_≡_, refl, ap, sym, _∙_, subst}
 use mathlib.Core.Logic.{_⊎_, inl, inr, _≢_}
-use mathlib.Core.List.{List, [], map}
+use mathlib.Core.List.{List, map}
 use lib.Dec.{leb, ltb, eqb, eqb·zero-suc}
 use lib.ListN.{length}
 use borrow.Author.Tests.{leb-true, ltb-true, ltb-false, eqb-true, le-leb, lt-ltb, eq-eqb, not-true}
-use Rattle.model.specs.Basic.{all, has, pick, those}
+use Rattle.model.specs.Basic.{all, has, pick, those, inOrder}
 use Rattle.model.specs.declared.Pair.{Pair}
 use Rattle.model.specs.declared.Entry.{Entry}
 use Rattle.model.specs.Entry.{alive, pairOf, liveAt}
 use Rattle.model.specs.Page.{Page, free, isFree, pairsAt}
 use Rattle.model.specs.declared.Slot.{Slot}
 use Rattle.model.specs.Store.{Store, page, next, last}
-use Rattle.model.specs.Walk.{rootAt, below, settings, wayDown, heightOf, Seen, seenUnder, seenBelow, seen, keyLimit}
-use Rattle.model.specs.Basic.{inOrder}
+use Rattle.model.specs.Walk.{rootAt, heightOf, Seen, seenUnder, seenBelow, seen, keyLimit}
 use Rattle.model.specs.Sound.{isPage, entryOk, inside, leadsWell, keysOk, firstVersion}
 use Rattle.model.specs.Calls.{back}
 use Rattle.model.proofs.Lists.{both-true, both-intro}
@@ -28,14 +27,14 @@ use Rattle.model.proofs.Tree.{Holds}
 use Rattle.model.proofs.Shows.{Shows, RootFair, same?}
 use Rattle.model.proofs.Main.{height-is}
 use Rattle.model.proofs.Bridge.{passesAt}
-use Rattle.model.proofs.Fits.{used-level, level-used, within-of, of-within, root-lives, last-is, limit}
+use Rattle.model.proofs.Fits.{used-level, level-used, within-of, of-within, root-lives, last-is, limit, root-used}
 use Rattle.model.proofs.Fitted.{EntryFit, PageFit}
 use Rattle.model.proofs.Inv.{Lives, Held, OldLead, Final, Inv, lives-used}
 use Rattle.model.proofs.Keeps.{Kept}
 use Rattle.model.proofs.Count.{root-low}
 use Rattle.model.proofs.Nodes.{Node, reach-node, shows-pass}
-use Rattle.model.proofs.Turns.{below-alike}
-use Rattle.model.proofs.Past.{lives-alike, level-alike, below-same, down-same, Steady, root-slot}
+use Rattle.model.proofs.Alike.{Alike, alike-seen}
+use Rattle.model.proofs.Past.{lives-alike, level-alike, root-slot}
 
 module _ (least : ℕ) (four : 4 ≤ least) (s : Store) (d : Sound least s) (o : s .opened ≡ true) where
   pub two-of : 2 ≤ least
@@ -261,29 +260,14 @@ module _ (least : ℕ) (four : 4 ≤ least) (s : Store) (d : Sound least s) (o :
     back-free = rw (eqb·zero-suc (s .current), eqb·zero-suc (s .current))
 
     past-root : (v : ℕ) → v < w → livesAt v (page (s .pages) (rootAt (s .slots) v)) ≡ true
-    past-root v h = both-intro _ _ (ap not (package.Rattle.model.proofs.Fits.root-used least two-of s d v)) (root-lives least two-of s d v (omega (arith, last-w)))
+    past-root v h = both-intro _ _ (ap not (root-used least two-of s d v)) (root-lives least two-of s d v (omega (arith, last-w)))
+
+    -- they look as they did
+    pub steady-past : (v : ℕ) → v < w → Alike s v t v
+    steady-past v h = record { root = slots .past v h; height = ap pred (level-alike w lim (s .pages) qs same back-free v h (rootAt (s .slots) v) (past-root v h)); shows = old v h }
 
     seen-past : (v : ℕ) → v < w → seen t v ≡ seen s v
-    seen-past v h =
-        ap (λ (n : ℕ). seenBelow (heightOf qs n) qs v true 0 keyLimit n) (slots .past v h)
-        ∙ ap (λ (l : ℕ). seenBelow (pred l) qs v true 0 keyLimit (rootAt (s .slots) v)) (level-alike w lim (s .pages) qs same back-free v h (rootAt (s .slots) v) (past-root v h))
-        ∙ below-same (s .pages) qs v v (old v h) (heightOf (s .pages) (rootAt (s .slots) v)) true 0 keyLimit (rootAt (s .slots) v)
-
-    -- older versions show what they showed
-    pub settings-past : (v : ℕ) → v < w → settings t v ≡ settings s v
-    settings-past v h =
-        ap (λ (n : ℕ). below (heightOf qs n) qs v n) (slots .past v h)
-        ∙ ap (λ (l : ℕ). below (pred l) qs v (rootAt (s .slots) v)) (level-alike w lim (s .pages) qs same back-free v h (rootAt (s .slots) v) (past-root v h))
-        ∙ below-alike (s .pages) qs v v (old v h) (heightOf (s .pages) (rootAt (s .slots) v)) (rootAt (s .slots) v)
-
-    pub steady-past : (v : ℕ) → v < w → Steady s t v
-    steady-past v h = record {
-      root = slots .past v h;
-      ways = λ k.
-          ap (λ (n : ℕ). wayDown (heightOf qs n) qs v k n []) (slots .past v h)
-          ∙ ap (λ (l : ℕ). wayDown (pred l) qs v k (rootAt (s .slots) v) []) (level-alike w lim (s .pages) qs same back-free v h (rootAt (s .slots) v) (past-root v h))
-          ∙ down-same (s .pages) qs v v (old v h) (heightOf (s .pages) (rootAt (s .slots) v)) k (rootAt (s .slots) v) [];
-    }
+    seen-past v h = alike-seen s v t v (steady-past v h)
 
     seen-now : seen t w ≡ seenBelow H qs w true 0 keyLimit r
     seen-now = ap (λ (n : ℕ). seenBelow (heightOf qs n) qs w true 0 keyLimit n) (slots .now)

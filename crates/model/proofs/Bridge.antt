@@ -8,12 +8,11 @@ use mathlib.Core.List.{List, [], _∷_}
 use lib.Dec.{leb, ltb, eqb, eqb·suc-zero}
 use lib.ListN.{length}
 use borrow.Author.Tests.{ltb-true, leb-true, eqb-true, le-leb}
-use Rattle.model.specs.Basic.{all, flatMap}
+use Rattle.model.specs.Basic.{all, flatMap, inOrder}
 use Rattle.model.specs.declared.Pair.{Pair}
 use Rattle.model.specs.Entry.{within}
 use Rattle.model.specs.Page.{Page, pairsAt}
 use Rattle.model.specs.Store.{page}
-use Rattle.model.specs.Basic.{inOrder}
 use Rattle.model.specs.Sound.{keysOk, startsAt, fewest}
 use Rattle.model.specs.Walk.{Seen, seenAs, seenUnder, seenBelow, spread, below, keyLimit}
 use Rattle.model.proofs.Lists.{both-true, both-intro, all-cons}

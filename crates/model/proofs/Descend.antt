@@ -152,7 +152,7 @@ module _ (least w k : ℕ) (ps : List Page) (r : ℕ) (tidy : (m : ℕ) → Tidy
 
   pub descend : (l : ℕ) (acc : List Around) (lo hi n : ℕ) (xs ys zs total : List Pair) → Way least w ps r l acc lo hi n xs ys → page ps n .level ≡ suc l → NodeAnchor l acc lo hi n → Standing least w acc l (page ps n)
       → Holds least w l ps lo hi (pairsAt w (page ps n)) zs → lo ≤ k → k < hi → total ≡ xs ++ (zs ++ ys) → Leads total (wayDown l ps w k n acc)
-  descend zero [] lo hi n xs ys zs total way e anchor stand h p q is = record {
+  descend zero acc lo hi n xs ys zs total way e anchor stand h p q is = record {
     lo = lo;
     hi = hi;
     n = n;
@@ -160,28 +160,17 @@ module _ (least w k : ℕ) (ps : List Page) (r : ℕ) (tidy : (m : ℕ) → Tidy
     ys = ys;
     way = way;
     level = e;
-    anchor = tt;
+    anchor = leaf-anchor acc anchor;
     standing = stand;
     from = p;
     upto = q;
     holds = record { same = refl; keys = h .keys; rising = h .rising };
     is = is ∙ ap (λ (us : List Pair). xs ++ (us ++ ys)) (sym (h .same));
   }
-  descend zero (a ∷ acc) lo hi n xs ys zs total way e anchor stand h p q is = record {
-    lo = lo;
-    hi = hi;
-    n = n;
-    xs = xs;
-    ys = ys;
-    way = way;
-    level = e;
-    anchor = anchor;
-    standing = stand;
-    from = p;
-    upto = q;
-    holds = record { same = refl; keys = h .keys; rising = h .rising };
-    is = is ∙ ap (λ (us : List Pair). xs ++ (us ++ ys)) (sym (h .same));
-  }
+    where
+      leaf-anchor : (up : List Around) → NodeAnchor 0 up lo hi n → LeafAnchor up lo hi n
+      leaf-anchor [] u = tt
+      leaf-anchor (x ∷ up) u = u
   descend (suc l) acc lo hi n xs ys zs total way e anchor stand h p q is =
       let a : Around = around k (pairsAt w (page ps n)) in
       let f = found-in least w k (Tree least w l ps) (pairsAt w (page ps n)) lo hi zs h p q in

@@ -9,11 +9,10 @@ use mathlib.Core.List.{List, [], _∷_}
 use lib.Dec.{ltb, eqb}
 use lib.ListN.{length}
 use borrow.Author.Tests.{ltb-true, ltb-false, eqb-true, eqb-false, lt-ltb, le-leb, ne-eqb}
-use Rattle.model.specs.Basic.{all, those, keep, has, pick}
+use Rattle.model.specs.Basic.{all, those, keep, has, pick, inOrder}
 use Rattle.model.specs.declared.Pair.{Pair}
 use Rattle.model.specs.Entry.{pair, within, placed, enterPair}
 use Rattle.model.specs.Walk.{find}
-use Rattle.model.specs.Basic.{inOrder}
 use Rattle.model.proofs.Lists.{both-true, both-intro, all-cons}
 use Rattle.model.proofs.Tree.{LeafHolds}
 use Rattle.model.proofs.Local.{applied, inRange}

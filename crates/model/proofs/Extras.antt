@@ -1,29 +1,20 @@
--- The check's number, ranges that skip pages, the table's runs, and the two editions.
+-- Check gives 0 exactly for sound stores; the tables' runs are the history's; the two editions.
 -- Assumes nothing.
-use Prim.Native.Nat.{ℕ, _≤_, _<_}
+use Prim.Native.Nat.{ℕ, _≤_}
 use native.Mathlib.Omega.{arith}
 use mathlib.Core.Bool.{Bool, true, false, _&&_}
-use mathlib.Core.Path.{_≡_, refl, ap, _∙_}
-use mathlib.Core.Logic.{_⊎_, inl, inr}
+use mathlib.Core.Path.{_≡_, refl}
 use mathlib.Core.List.{List, [], _∷_}
-use lib.Dec.{T, leb, ltb, lit≤}
-use borrow.Author.Tests.{leb-true, ltb-true, lt-leb}
-use Rattle.model.specs.Basic.{all, those}
-use Rattle.model.specs.declared.Pair.{Pair}
-use Rattle.model.specs.Entry.{within}
-use Rattle.model.specs.Page.{Page, pairsAt}
+use lib.Dec.{T, lit≤}
+use Rattle.model.specs.Basic.{all}
 use Rattle.model.specs.Store.{Store, fresh}
-use Rattle.model.specs.Walk.{below}
 use Rattle.model.specs.Sound.{sound, broken, firstBroken, rule1, rule2, rule3, rule4, rule5, rule6, rule7}
 use Rattle.model.specs.Climb.{Result, done, refused}
-use Rattle.model.specs.Histories.{Call, call, After, after, run, from}
-use Rattle.model.specs.Settings.{Machine, onward, together, fits}
-use Rattle.model.proofs.Lists.{both-true, all-cons}
+use Rattle.model.specs.Histories.{Call, callBy, After, after, run, from}
+use Rattle.model.specs.Settings.{Machine, onward, together, fits, beginning}
+use Rattle.model.proofs.Lists.{both-true}
 use Rattle.model.proofs.Members.{holds-true, true-holds}
-use Rattle.model.proofs.Tree.{Tree, tree-below}
-use Rattle.model.proofs.Local.{inRange}
-use Rattle.model.proofs.Main.{holds-range}
-use Rattle.model.proofs.History.{beginning, history-sound}
+use Rattle.model.proofs.History.{history-sound}
 
 -- check gives 0 exactly for sound stores
 sound-broken-by : (a b c d e f g : Bool) → (a && b && c && d && e && f && g) ≡ true → firstBroken 1 (a ∷ b ∷ c ∷ d ∷ e ∷ f ∷ g ∷ []) ≡ 0
@@ -55,41 +46,18 @@ pub unbroken-sound : (least : ℕ) (s : Store) → broken least s ≡ 0 → T (s
 unfolding sound broken
 unbroken-sound least s h = true-holds (rule1 least s && rule2 s && rule3 s && rule4 s && rule5 least s && rule6 s && rule7 s) (broken-by (rule1 least s) (rule2 s) (rule3 s) (rule4 s) (rule5 least s) (rule6 s) (rule7 s) h)
 
--- a range may skip what stands outside it
-pub range-outside : (lo hi a b : ℕ) (zs : List Pair) → inRange a b zs ≡ true → (b ≤ lo) ⊎ (hi < a) → those (λ (x : Pair). leb lo (x .key) && leb (x .key) hi) zs ≡ []
-range-outside lo hi a b [] i o = refl
-range-outside lo hi a b (z ∷ zs) i o =
-    let (here, rest) = all-cons (λ (x : Pair). within a b (x .key)) z zs i in
-    let (p, q) = both-true (leb a (z .key)) (ltb (z .key) b) here in
-    rw (out (leb-true a (z .key) p) (ltb-true (z .key) b q) o) (range-outside lo hi a b zs rest o)
+-- the tables' runs are the history's
+run-same : (least : ℕ) (cs : List Call) (x : After) (m : Machine) → run least x cs .store ≡ together least (record { store = x .store; machine = m }) cs .store
+run-same least [] x m = refl
+run-same least (c ∷ cs) x m = at (callBy least (x .store) c) (λ y n. run-same least cs y n)
   where
-    right : (c : Bool) → (c && false) ≡ false
-    right true = refl
-    right false = refl
-
-    out : a ≤ z .key → z .key < b → (b ≤ lo) ⊎ (hi < a) → (leb lo (z .key) && leb (z .key) hi) ≡ false
-    out p q (inl h) = ap (λ (c : Bool). c && leb (z .key) hi) (lt-leb lo (z .key) (omega arith))
-    out p q (inr h) = ap (λ (c : Bool). leb lo (z .key) && c) (lt-leb (z .key) hi (omega arith)) ∙ right (leb lo (z .key))
-
--- a page whose keys stand from a up to b, and what is below it, adds nothing to a range that ends before a or begins at b or later
-pub tree-outside : (least v : ℕ) (ps : List Page) (l a b n : ℕ) (zs : List Pair) → Tree least v l ps a b n zs → (lo hi : ℕ) → (b ≤ lo) ⊎ (hi < a)
-    → those (λ (x : Pair). leb lo (x .key) && leb (x .key) hi) (below l ps v n) ≡ []
-tree-outside least v ps l a b n zs t lo hi o =
-    ap (those (λ (x : Pair). leb lo (x .key) && leb (x .key) hi)) (tree-below least v ps l a b n zs t)
-    ∙ range-outside lo hi a b zs (holds-range least v ps l a b (pairsAt v (package.Rattle.model.specs.Store.page ps n)) zs (t .holds)) o
-
--- the table's runs are the history's
-run-same : (cs : List Call) (x : After) (m : Machine) → run x cs .store ≡ together 4 (record { store = x .store; machine = m }) cs .store
-run-same [] x m = refl
-run-same (c ∷ cs) x m = at (call (x .store) c) (λ y n. run-same cs y n)
-  where
-    at : (r : Result) → ((y : After) (n : Machine) → run y cs .store ≡ together 4 (record { store = y .store; machine = n }) cs .store)
-        → run (after (x .store) r) cs .store ≡ together 4 (onward (record { store = x .store; machine = m }) c r) cs .store
+    at : (r : Result) → ((y : After) (n : Machine) → run least y cs .store ≡ together least (record { store = y .store; machine = n }) cs .store)
+        → run least (after (x .store) r) cs .store ≡ together least (onward (record { store = x .store; machine = m }) c r) cs .store
     at (done t) ih = ih (record { number = 0; store = t }) _
     at (refused i) ih = ih (record { number = i; store = x .store }) m
 
-pub from-same : (n : ℕ) (cs : List Call) → from n cs .store ≡ together 4 (beginning n) cs .store
-from-same n cs = run-same cs (record { number = 0; store = fresh n }) _
+pub from-same : (least n : ℕ) (cs : List Call) → from least n cs .store ≡ together least (beginning n) cs .store
+from-same least n cs = run-same least cs (record { number = 0; store = fresh n }) _
 
 -- edition 1, and the edition with limits twice as large
 pub edition-one : (n : ℕ) → 6 ≤ n → n ≤ 4096 → (cs : List Call) → T (all fits cs) → T (sound 4 (together 4 (beginning n) cs .store))

@@ -10,17 +10,16 @@ use mathlib.Core.List.{List, [], _∷_, map}
 use lib.Dec.{T, leb, ltb, eqb}
 use lib.ListN.{length, take, drop}
 use borrow.Author.Tests.{leb-true, ltb-true, eqb-true, eqb-false, le-leb, lt-ltb, eq-eqb, ne-eqb, not-true, not-false, leb-false}
-use Rattle.model.specs.Basic.{all, has, pick, those}
+use Rattle.model.specs.Basic.{all, has, pick, those, inOrder}
 use Rattle.model.specs.declared.Pair.{Pair}
 use Rattle.model.specs.declared.Entry.{Entry}
-use Rattle.model.specs.Entry.{pair, placed, enterPair, alive, pairOf, within, liveAt, before, endThose, endOne}
+use Rattle.model.specs.Entry.{pair, placed, enterPair, alive, pairOf, within, liveAt, before}
 use Rattle.model.specs.Page.{Page, Change, isFree, pairsAt, changed}
 use Rattle.model.specs.declared.Slot.{Slot}
 use Rattle.model.specs.Store.{Store, page, next, lastOf, last}
 use Rattle.model.specs.Walk.{Around, around, rootFrom, rootAt, heightOf, settings, wayDown, Seen, seenAs, seenUnder, seen, keyLimit, lookup}
-use Rattle.model.specs.Basic.{inOrder}
 use Rattle.model.specs.Sound.{sound, isPage, inside, keysOk, fewest, firstVersion}
-use Rattle.model.proofs.Lists.{both-true, both-intro, all-cons}
+use Rattle.model.proofs.Lists.{both-true, both-intro, all-cons, shorter}
 use Rattle.model.proofs.Members.{holds-true, not-both, either-true, either-left, either-right, bool-cases, In, in-left, in-right, all-in, all-by, all-implies, in-map, map-in, in-those, has-in, in-has}
 use Rattle.model.proofs.Given.{Sound, from-tests, GoodEntry, span-of, entry-of, numbers, livesAt, enough, used-in, high-used}
 use Rattle.model.proofs.Walks.{Reach, Self, reach-self, seen-reached, IsSeen, reached-under}
@@ -31,7 +30,7 @@ use Rattle.model.proofs.Undo.{TamePage, Good, Next, Beside, WayGood, Re
 use Rattle.model.proofs.Edit.{leaf-insert, leaf-delete, length-enter, keep-all, dropped-one}
 use Rattle.model.proofs.Main.{Fit, leafPairs, Changed, update-changes}
 use Rattle.model.proofs.Place.{byKey}
-use Rattle.model.proofs.Tree.{Row, Holds, Tree}
+use Rattle.model.proofs.Tree.{Row, Holds, Tree, row-split}
 use Rattle.model.proofs.Shows.{Tidy, Shows, Some, Touched, LastIs, HeadIs}
 use Rattle.model.proofs.Climbs.{touched-tree, apart-tree}
 use Rattle.model.proofs.Descend.{Found, found-in}
@@ -287,7 +286,7 @@ module _ (least : ℕ) (two-or-more : 2 ≤ least) (s : Store) (d : Sound least 
           left (some x) i t = (
             child-good l _ (child-of w n l x e (subst (In x) (sym (f .split)) (in-left x (f .before) (a .own ∷ f .after) (subst (In x) (sym (i .1)) (in-right x (i .0) (x ∷ []) (inl refl)))))),
             λ (z : x .value ≡ a .own .value).
-                let r = package.Rattle.model.proofs.Tree.row-split (Tree least w l ps) (f .low) (i .0) (x ∷ []) lo (f .befores) (subst (λ (us : List Pair). Row (Tree least w l ps) (f .low) us lo (f .befores)) (i .1) (f .lefts)) in
+                let r = row-split (Tree least w l ps) (f .low) (i .0) (x ∷ []) lo (f .befores) (subst (λ (us : List Pair). Row (Tree least w l ps) (f .low) us lo (f .befores)) (i .1) (f .lefts)) in
                 let q = r .two in
                 apart-tree least two-or-more w limit ps l (f .low) (f .mid) (r .mid) (q .mid) (a .own .value) (x .value) (q .mine) (f .here .level) t (q .here) (inl (omega (arith, q .rest .met))) (sym z),
           )
@@ -315,16 +314,6 @@ module _ (least : ℕ) (two-or-more : 2 ≤ least) (s : Store) (d : Sound least 
       leads = good-down k (heightOf ps (root w)) [] 0 keyLimit (root w) (settings s w) (root-level w) (holds-all w now) (omega arith) h
           (record { level = root-level w; endless = endless (root w) (root-used w) (root-lives w now) });
     }
-
-    -- an entry more or less
-    shorter : (f : Entry → Bool) (u : ℕ) (es : List Entry) → length (endThose f u es) ≤ length es
-    shorter f u [] = omega arith
-    shorter f u (e ∷ es) = at (f e) (eqb (e .start) u) (shorter f u es)
-      where
-        at : (b c : Bool) → length (endThose f u es) ≤ length es → length (endOne b c u e (endThose f u es)) ≤ suc (length es)
-        at false c ih = omega arith
-        at true true ih = omega arith
-        at true false ih = omega arith
 
     few-entries : (n : ℕ) → length (page ps n .entries) ≤ 5 * least
     few-entries n = at (bool-cases (isFree (page ps n)))

@@ -9,14 +9,13 @@ use mathlib.Core.List.{List, [], _∷_, map}
 use lib.Dec.{leb, ltb, eqb}
 use lib.ListN.{length}
 use borrow.Author.Tests.{ltb-true, ltb-false, eqb-true, eqb-false, lt-ltb, le-leb, eq-eqb}
-use Rattle.model.specs.Basic.{those, has, pick, all}
+use Rattle.model.specs.Basic.{those, has, pick, all, inOrder}
 use Rattle.model.specs.declared.Entry.{Entry}
 use Rattle.model.specs.declared.Pair.{Pair}
 use Rattle.model.specs.Entry.{pairOf, alive, liveAt, born, before, placed, enter, enterPair, endOne, endThose, endedAt}
 use Rattle.model.specs.Page.{Page, Change, bornAll, enterAll, pairsAt, changed, wanted, killed, filled}
 use Rattle.model.specs.Walk.{keyLimit}
-use Rattle.model.specs.Basic.{inOrder}
-use Rattle.model.proofs.Lists.{both-true, both-intro, all-enter, all-end}
+use Rattle.model.proofs.Lists.{both-true, both-intro, all-enter, all-end, shorter}
 use Rattle.model.proofs.Members.{not-both, either-true, either-left, either-right, bool-cases, In, all-in, all-by, in-map, map-in, in-those, those-in}
 use Rattle.model.proofs.Place.{byKey, shown, show-enter, show-end, born-live}
 use Rattle.model.proofs.Edit.{lt}
@@ -61,20 +60,20 @@ before-trans e f g (inr a) (inl b) = inl (omega (arith, a .0))
 before-trans e f g (inr a) (inr b) = inr (a .0 ∙ b .0, omega (arith, a .1, b .1))
 
 -- members after the steps of a change
+in-placed : {A : Type 0} (c : Bool) (b x : A) (xs ys : List A) (e : A) → In e (placed c b x xs ys) → (In e ys → (e ≡ b) ⊎ In e xs) → (e ≡ b) ⊎ In e (x ∷ xs)
+in-placed true b x xs ys e (inl z) f = inl z
+in-placed true b x xs ys e (inr z) f = inr z
+in-placed false b x xs ys e (inl z) f = inr (inl z)
+in-placed false b x xs ys e (inr z) f = by (f z)
+  where
+    by : (e ≡ b) ⊎ In e xs → (e ≡ b) ⊎ In e (x ∷ xs)
+    by (inl q) = inl q
+    by (inr q) = inr (inr q)
+
 pub in-enter : (b e : Entry) (es : List Entry) → In e (enter b es) → (e ≡ b) ⊎ In e es
 in-enter b e [] (inl z) = inl z
 in-enter b e [] (inr z) = absurd z
-in-enter b e (x ∷ xs) i = at (before b x) i (λ j. in-enter b e xs j)
-  where
-    at : (c : Bool) → In e (placed c b x xs (enter b xs)) → (In e (enter b xs) → (e ≡ b) ⊎ In e xs) → (e ≡ b) ⊎ In e (x ∷ xs)
-    at true (inl z) ih = inl z
-    at true (inr z) ih = inr z
-    at false (inl z) ih = inr (inl z)
-    at false (inr z) ih = by (ih z)
-      where
-        by : (e ≡ b) ⊎ In e xs → (e ≡ b) ⊎ In e (x ∷ xs)
-        by (inl q) = inl q
-        by (inr q) = inr (inr q)
+in-enter b e (x ∷ xs) i = in-placed (before b x) b x xs (enter b xs) e i (λ j. in-enter b e xs j)
 
 pub in-born : (w : ℕ) (xs : List Pair) (e : Entry) (es : List Entry) → In e (bornAll w xs es) → ((x : Pair) × (In x xs) × (e ≡ born w x)) ⊎ In e es
 in-born w [] e es i = inr i
@@ -179,17 +178,7 @@ enter-self p (u ∷ us) = at (ltb (p .key) (u .key)) (enter-self p us)
 pub entered-in : (p y : Pair) (us : List Pair) → In y (enterPair p us) → (y ≡ p) ⊎ In y us
 entered-in p y [] (inl z) = inl z
 entered-in p y [] (inr z) = absurd z
-entered-in p y (u ∷ us) i = at (ltb (p .key) (u .key)) i (λ j. entered-in p y us j)
-  where
-    at : (c : Bool) → In y (placed c p u us (enterPair p us)) → (In y (enterPair p us) → (y ≡ p) ⊎ In y us) → (y ≡ p) ⊎ In y (u ∷ us)
-    at true (inl z) ih = inl z
-    at true (inr z) ih = inr z
-    at false (inl z) ih = inr (inl z)
-    at false (inr z) ih = by (ih z)
-      where
-        by : (y ≡ p) ⊎ In y us → (y ≡ p) ⊎ In y (u ∷ us)
-        by (inl q) = inl q
-        by (inr q) = inr (inr q)
+entered-in p y (u ∷ us) i = in-placed (ltb (p .key) (u .key)) p u us (enterPair p us) y i (λ j. entered-in p y us j)
 
 pub enterAll-in : (xs : List Pair) (y : Pair) (us : List Pair) → In y (enterAll xs us) → In y xs ⊎ In y us
 enterAll-in [] y us i = inr i
@@ -316,15 +305,6 @@ module _ (w : ℕ) (lim : w < alive) where
         at : (e : Entry) → ((x : Pair) × (In x (c .take)) × (e ≡ born w x)) ⊎ In e (endThose drop w (p .entries)) → EntryFit N w (changed w c p) e
         at e (inl z) = subst (EntryFit N w (changed w c p)) (sym (z .2)) (born-fit (changed w c p) (z .0) (g .span .starts) (omega arith) (all-in (kindOk N (p .level)) (z .0) (c .take) kinds (z .1)))
         at e (inr z) = old e z
-
-    shorter : (f : Entry → Bool) (u : ℕ) (es : List Entry) → length (endThose f u es) ≤ length es
-    shorter f u [] = omega arith
-    shorter f u (e ∷ es) = at (f e) (eqb (e .start) u) (shorter f u es)
-      where
-        at : (b c : Bool) → length (endThose f u es) ≤ length es → length (endOne b c u e (endThose f u es)) ≤ suc (length es)
-        at false c ih = omega arith
-        at true true ih = omega arith
-        at true false ih = omega arith
 
     -- a page killed
     pub killed-fit : (p : Page) → PageFit least N w p → p .start < w → PageFit least N w (killed w p)

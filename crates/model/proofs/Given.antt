@@ -10,14 +10,13 @@ use lib.Dec.{leb, ltb, eqb}
 use lib.ListN.{length, take, drop, length-drop, List·getD-eq-default}
 use lib.Seq.{getD-drop, getD-take, length-take-le}
 use borrow.Author.Tests.{leb-true, ltb-true, eqb-true, le-leb, lt-ltb, eq-eqb, not-true, ltb-false}
-use Rattle.model.specs.Basic.{all, has, isEmpty, pick}
+use Rattle.model.specs.Basic.{all, has, isEmpty, pick, inOrder}
 use Rattle.model.specs.declared.Entry.{Entry}
 use Rattle.model.specs.Entry.{alive, within, before}
 use Rattle.model.specs.Page.{Page, free, isFree}
 use Rattle.model.specs.declared.Slot.{Slot}
 use Rattle.model.specs.Store.{Store, page, next, lastOf, last}
 use Rattle.model.specs.Walk.{Seen, seen, keyLimit}
-use Rattle.model.specs.Basic.{inOrder}
 use Rattle.model.specs.Sound.{pagesPass, isPage, spanOk, entryOk, pageOk, zeroed, pageFine, firstVersion, inside, leadsWell, versions, keysOk, fewest, same, reachedWell, sound, rule1, rule2, rule3, rule4, rule5, rule6, rule7}
 use Rattle.model.proofs.Lists.{both-true, both-intro}
 use Rattle.model.proofs.Members.{not-both, either-true, either-left, either-right, bool-cases, In, all-in, all-by, all-at, all-places, in-count, count-in}
@@ -69,14 +68,14 @@ eq-same : (a b : Bool) → a ≡ b → same a b ≡ true
 eq-same true b e = sym e
 eq-same false b e = ap not (sym e)
 
-reached-at : (v : ℕ) (ns : List ℕ) (n : ℕ) (ps : List Page) → reachedWell v ns n ps ≡ true → (i : ℕ) → i < length ps → livesAt v (page ps i) ≡ has (n + i) ns
+pub reached-at : (v : ℕ) (ns : List ℕ) (n : ℕ) (ps : List Page) → reachedWell v ns n ps ≡ true → (i : ℕ) → i < length ps → livesAt v (page ps i) ≡ has (n + i) ns
 reached-at v ns n [] h i l = absurd (omega arith)
 reached-at v ns n (p ∷ ps) h zero l =
     same-eq (livesAt v p) (has n ns) (both-true (same (livesAt v p) (has n ns)) (reachedWell v ns (suc n) ps) h .0) ∙ ap (λ (k : ℕ). has k ns) (omega arith)
 reached-at v ns n (p ∷ ps) h (suc i) l =
     reached-at v ns (suc n) ps (both-true (same (livesAt v p) (has n ns)) (reachedWell v ns (suc n) ps) h .1) i (omega arith) ∙ ap (λ (k : ℕ). has k ns) (omega arith)
 
-at-reached : (v : ℕ) (ns : List ℕ) (n : ℕ) (ps : List Page) → ((i : ℕ) → i < length ps → livesAt v (page ps i) ≡ has (n + i) ns) → reachedWell v ns n ps ≡ true
+pub at-reached : (v : ℕ) (ns : List ℕ) (n : ℕ) (ps : List Page) → ((i : ℕ) → i < length ps → livesAt v (page ps i) ≡ has (n + i) ns) → reachedWell v ns n ps ≡ true
 at-reached v ns n [] h = refl
 at-reached v ns n (p ∷ ps) h =
     both-intro (same (livesAt v p) (has n ns)) (reachedWell v ns (suc n) ps) (eq-same (livesAt v p) (has n ns) (h 0 (omega arith) ∙ ap (λ (k : ℕ). has k ns) (omega arith)))
@@ -94,7 +93,7 @@ used-in ps n h = at (bool-cases (ltb n (length ps)))
     at (inr e) = absurd (not-both (isFree (page ps n)) (ap isFree (page-out ps n (ltb-false n (length ps) e))) h)
 
 -- the first five pages
-front-at : (ps : List Page) → all (λ (p : Page). isFree p && zeroed p) (take 5 ps) ≡ true → 6 ≤ length ps → (n : ℕ) → n < 5 → (isFree (page ps n) && zeroed (page ps n)) ≡ true
+pub front-at : (ps : List Page) → all (λ (p : Page). isFree p && zeroed p) (take 5 ps) ≡ true → 6 ≤ length ps → (n : ℕ) → n < 5 → (isFree (page ps n) && zeroed (page ps n)) ≡ true
 front-at ps h l n q =
     ap (λ (p : Page). isFree p && zeroed p) (sym (getD-take 5 ps n free q))
     ∙ all-at (λ (p : Page). isFree p && zeroed p) free (take 5 ps) h n (omega (arith, length-take-le 5 ps (omega arith)))
@@ -105,7 +104,7 @@ at-front ps l h =
     (λ n q. ap (λ (p : Page). isFree p && zeroed p) (getD-take 5 ps n free (omega (arith, length-take-le 5 ps (omega arith))) ∙ h n (omega (arith, length-take-le 5 ps (omega arith)))))
 
 -- a test on every used page
-passes-at : (f : Page → Bool) (s : Store) → pagesPass f s ≡ true → ((n : ℕ) → n < 5 → isFree (page (s .pages) n) ≡ true) → (n : ℕ) → isFree (page (s .pages) n) ≡ false → f (page (s .pages) n) ≡ true
+pub passes-at : (f : Page → Bool) (s : Store) → pagesPass f s ≡ true → ((n : ℕ) → n < 5 → isFree (page (s .pages) n) ≡ true) → (n : ℕ) → isFree (page (s .pages) n) ≡ false → f (page (s .pages) n) ≡ true
 passes-at f s h front n u =
     let inn : n < length (s .pages) = used-in (s .pages) n u in
     let five : 5 ≤ n = high in
@@ -124,7 +123,7 @@ passes-at f s h front n u =
     at (inl e) = absurd (not-both (isFree (page (s .pages) n)) e u)
     at (inr e) = e
 
-at-passes : (f : Page → Bool) (s : Store) → ((n : ℕ) → isFree (page (s .pages) n) ≡ false → f (page (s .pages) n) ≡ true) → pagesPass f s ≡ true
+pub at-passes : (f : Page → Bool) (s : Store) → ((n : ℕ) → isFree (page (s .pages) n) ≡ false → f (page (s .pages) n) ≡ true) → pagesPass f s ≡ true
 at-passes f s h = all-places (λ (p : Page). isFree p || f p) free (drop 5 (s .pages)) (λ n l. subst (λ (p : Page). (isFree p || f p) ≡ true) (sym (getD-drop 5 (s .pages) n free)) (at n (bool-cases (isFree (page (s .pages) (5 + n))))))
   where
     at : (n : ℕ) → (isFree (page (s .pages) (5 + n)) ≡ true) ⊎ (isFree (page (s .pages) (5 + n)) ≡ false) → (isFree (page (s .pages) (5 + n)) || f (page (s .pages) (5 + n))) ≡ true
@@ -148,7 +147,7 @@ zeroed-free p z f =
     let (c, d) = both-true (eqb (p .start) 0) (eqb (p .end) 0) a in
     λ i. record { level = eqb-true (p .level) 0 f i; start = eqb-true (p .start) 0 c i; end = eqb-true (p .end) 0 d i; entries = empty-is (p .entries) b i }
 
-good-page : (least : ℕ) (s : Store) (p : Page) → pageOk least (last s) (length (s .pages)) p ≡ true → GoodPage least s p
+pub good-page : (least : ℕ) (s : Store) (p : Page) → pageOk least (last s) (length (s .pages)) p ≡ true → GoodPage least s p
 good-page least s p h =
     let (a, entries) = both-true (leb (p .level) 7 && leb (length (p .entries)) (5 * least) && spanOk (last s) (p .start) (p .end) && inOrder before (p .entries)) (all (entryOk (last s) (length (s .pages)) (p .level)) (p .entries)) h in
     let (b, order) = both-true (leb (p .level) 7 && leb (length (p .entries)) (5 * least) && spanOk (last s) (p .start) (p .end)) (inOrder before (p .entries)) a in
@@ -164,7 +163,7 @@ page-good least s p g =
 fine-free : (least l size : ℕ) (p : Page) → pageFine least l size p ≡ true → isFree p ≡ true → p ≡ free
 fine-free least l size p h f = zeroed-free p (subst (λ (b : Bool). pick b (zeroed p) (pageOk least l size p) ≡ true) f h) f
 
-fine-used : (least l size : ℕ) (p : Page) → pageFine least l size p ≡ true → isFree p ≡ false → pageOk least l size p ≡ true
+pub fine-used : (least l size : ℕ) (p : Page) → pageFine least l size p ≡ true → isFree p ≡ false → pageOk least l size p ≡ true
 fine-used least l size p h u = subst (λ (b : Bool). pick b (zeroed p) (pageOk least l size p) ≡ true) u h
 
 to-fine : (least l size : ℕ) (p : Page) → (isFree p ≡ true → p ≡ free) → (isFree p ≡ false → pageOk least l size p ≡ true) → pageFine least l size p ≡ true
@@ -174,7 +173,7 @@ to-fine least l size p h g = at (bool-cases (isFree p))
     at (inl e) = ap (pageFine least l size) (h e)
     at (inr e) = subst (λ (b : Bool). pick b (zeroed p) (pageOk least l size p) ≡ true) (sym e) (g e)
 
-version-in : (s : Store) (v : ℕ) → v ≤ last s → In v (versions s)
+pub version-in : (s : Store) (v : ℕ) → v ≤ last s → In v (versions s)
 version-in s v h = in-count v 0 (suc (last s)) (omega arith) (omega arith)
 
 -- From the tests to the record.
@@ -281,7 +280,7 @@ pub record GoodEntry (s : Store) (p : Page) (e : Entry) : Type 0 where
   pub sooner : e .end ≤ p .end
   pub leads : leadsWell s p e ≡ true
 
-entry-ok : (s : Store) (p : Page) (e : Entry) → entryOk (last s) (length (s .pages)) (p .level) e ≡ true → (inside e p && leadsWell s p e) ≡ true → GoodEntry s p e
+pub entry-ok : (s : Store) (p : Page) (e : Entry) → entryOk (last s) (length (s .pages)) (p .level) e ≡ true → (inside e p && leadsWell s p e) ≡ true → GoodEntry s p e
 entry-ok s p e h g =
     let kind : Bool = pick (eqb (p .level) 1) (leb 1 (e .start) && ltb (e .value) 4294967296) (isPage (length (s .pages)) (e .value)) in
     let (a, k) = both-true (spanOk (last s) (e .start) (e .end) && ltb (e .key) keyLimit) kind h in

@@ -13,12 +13,12 @@ use Rattle.model.specs.declared.Pair.{Pair}
 use Rattle.model.specs.Entry.{pair, enterPair}
 use Rattle.model.specs.Page.{Change}
 use Rattle.model.specs.Store.{Store, next, lastOf, last, fresh}
-use Rattle.model.specs.Walk.{settings, lookup, find, keyLimit}
+use Rattle.model.specs.Walk.{rangeOf, between, settings, lookup, find, keyLimit}
 use Rattle.model.specs.Sound.{sound}
 use Rattle.model.specs.Climb.{Result, done, refused}
 use Rattle.model.specs.Calls.{rule, insert, delete, begin, commit, abandon, abandoned}
 use Rattle.model.specs.Histories.{Call, begins, commits, abandons, inserts, deletes, callBy}
-use Rattle.model.specs.Settings.{Machine, start, put, edited, step, Both, onward, together, fits}
+use Rattle.model.specs.Settings.{Machine, put, edited, step, Both, onward, together, fits, beginning}
 use Rattle.model.proofs.Lists.{all-cons}
 use Rattle.model.proofs.Members.{holds-true, true-holds, not-both, bool-cases}
 use Rattle.model.proofs.Local.{applied}
@@ -26,10 +26,12 @@ use Rattle.model.proofs.Given.{Sound, to-tests}
 use Rattle.model.proofs.Main.{Changed}
 use Rattle.model.proofs.Edit.{keep-all}
 use Rattle.model.proofs.Fits.{numbered-by, insert-by, delete-by, insert-changes, delete-changes}
+use Rattle.model.proofs.Ranges.{range-is}
 use Rattle.model.proofs.Lookups.{lookup-is}
 use Rattle.model.proofs.Preserve.{Sounds, insert-keeps, delete-keeps}
 use Rattle.model.proofs.Turns.{store, commit-sound, begin-sound, begin-shows, fresh-sound, fresh-shows}
-use Rattle.model.proofs.Abandon.{abandon-sound, settings-kept}
+use Rattle.model.proofs.Abandon.{abandon-sound, steady-kept}
+use Rattle.model.proofs.Alike.{alike-settings}
 
 -- the store is sound and shows what the machine has
 pub record Agrees (least : ℕ) (b : Both) : Type 0 where
@@ -105,7 +107,7 @@ module _ (least : ℕ) (four : 4 ≤ least) (b : Both) (a : Agrees least b) wher
   abandons-then = numbered-by (Then abandons) (rule 7 (not (s .opened)) ∷ []) (done (abandoned s)) (λ n. a) (λ f. go (not-false (s .opened) (f .0)))
     where
       go : s .opened ≡ true → Agrees least (record { store = abandoned s; machine = step m abandons })
-      go o = record { is-sound = abandon-sound least two s d o; current = a .current; opened = refl; shows = λ v z. settings-kept least two s d o v (omega arith) ∙ a .shows v (omega (arith, last-open o)) }
+      go o = record { is-sound = abandon-sound least two s d o; current = a .current; opened = refl; shows = λ v z. alike-settings s v (abandoned s) v (steady-kept least two s d o v (omega arith)) ∙ a .shows v (omega (arith, last-open o)) }
 
   -- an edit
   edit-then : (o : s .opened ≡ true) (c : Call) (ch : Change) (g : List Pair → List Pair) → ((us : List Pair) → applied ch us ≡ g us) → ((n : Machine) → step n c ≡ edited g n) → (r : Result) → Sounds least four s d o r → Changed s ch r → Then c r
@@ -126,7 +128,7 @@ module _ (least : ℕ) (four : 4 ≤ least) (b : Both) (a : Agrees least b) wher
       at : (v : ℕ) → v ≤ last t → (ltb v (next s) ≡ true) ⊎ (ltb v (next s) ≡ false) → settings t v ≡ put (suc (m .current)) (g (m .shows (suc (m .current)))) (m .shows) v
       at v z (inl q) =
           let less : v < next s = ltb-true v (next s) q in
-          f .past v less ∙ a .shows v (omega (arith, last-open o)) ∙ sym (put-away (suc (m .current)) v (g (m .shows (suc (m .current)))) (m .shows) (λ (y : v ≡ suc (m .current)). omega (arith, a .current)))
+          alike-settings s v t v (f .steady v less) ∙ a .shows v (omega (arith, last-open o)) ∙ sym (put-away (suc (m .current)) v (g (m .shows (suc (m .current)))) (m .shows) (λ (y : v ≡ suc (m .current)). omega (arith, a .current)))
       at v z (inr q) =
           let eq : v ≡ next s = omega (arith, ltb-false v (next s) q, last-t) in
           ap (settings t) eq ∙ e ∙ ap (applied ch) w-shows ∙ same (m .shows (suc (m .current))) ∙ sym (put-here (suc (m .current)) v (g (m .shows (suc (m .current)))) (m .shows) (omega (arith, a .current)))
@@ -172,9 +174,6 @@ many-calls least four (c ∷ cs) h b a =
     let (x, y) = all-cons fits c cs h in
     many-calls least four cs y (onward b c (callBy least (b .store) c)) (one-call least four b a c x)
 
-abbrev pub beginning : ℕ → Both
-beginning n = record { store = fresh n; machine = start }
-
 pub fresh-agrees : (least : ℕ) → 4 ≤ least → (n : ℕ) → 6 ≤ n → n ≤ 4096 → Agrees least (beginning n)
 fresh-agrees least four n six most = record {
   is-sound = fresh-sound least (omega arith) n six most;
@@ -206,3 +205,9 @@ pub history-lookup : (least : ℕ) → 4 ≤ least → (n : ℕ) → 6 ≤ n →
 history-lookup least four n six most cs h k v low z =
     let a = history least four n six most cs (holds-true (all fits cs) h) in
     lookup-is least (omega arith) (together least (beginning n) cs .store) (a .is-sound) k v low z ∙ ap (find k) (a .shows v z)
+
+pub history-range : (least : ℕ) → 4 ≤ least → (n : ℕ) → 6 ≤ n → n ≤ 4096 → (cs : List Call) → T (all fits cs) → (lo hi v : ℕ) → lo < keyLimit → v ≤ last (together least (beginning n) cs .store)
+    → rangeOf (together least (beginning n) cs .store) lo hi v ≡ between lo hi (together least (beginning n) cs .machine .shows v)
+history-range least four n six most cs h lo hi v low z =
+    let a = history least four n six most cs (holds-true (all fits cs) h) in
+    range-is least (omega arith) (together least (beginning n) cs .store) (a .is-sound) lo hi v low z ∙ ap (between lo hi) (a .shows v z)

@@ -10,13 +10,12 @@ use lib.Dec.{leb, ltb, eqb}
 use lib.ListN.{length, set, length-set}
 use lib.Seq.{getD-set-same, getD-set-other}
 use borrow.Author.Tests.{ltb-true, eqb-true, eqb-false, lt-ltb, le-leb, eq-eqb, ne-eqb, not-true}
-use Rattle.model.specs.Basic.{has, all}
+use Rattle.model.specs.Basic.{has, all, inOrder}
 use Rattle.model.specs.declared.Entry.{Entry}
 use Rattle.model.specs.declared.Pair.{Pair}
 use Rattle.model.specs.Entry.{pair, alive, within, liveAt, born, endThose, endedAt}
 use Rattle.model.specs.Page.{Page, Change, free, isFree, active, goneIf, gone, pairsAt, changed, wanted, killed, filled}
 use Rattle.model.specs.Store.{page}
-use Rattle.model.specs.Basic.{inOrder}
 use Rattle.model.proofs.Lists.{both-true, both-intro}
 use Rattle.model.proofs.Members.{not-both, In, in-left, in-right, in-append, in-map, map-in}
 use Rattle.model.proofs.Place.{byKey, show-changed, show-filled}

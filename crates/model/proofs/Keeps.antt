@@ -11,14 +11,13 @@ use lib.Dec.{leb, ltb, lit<}
 use lib.ListN.{length, set, length-append}
 use lib.Seq.{getD-set-other}
 use borrow.Author.Tests.{ltb-true, ltb-false, leb-true, leb-false, lt-ltb, ne-eqb}
-use Rattle.model.specs.Basic.{keep, those, all, any}
+use Rattle.model.specs.Basic.{keep, those, all, any, inOrder}
 use Rattle.model.specs.declared.Entry.{Entry}
 use Rattle.model.specs.declared.Pair.{Pair}
 use Rattle.model.specs.Entry.{pair, pairOf, alive, within, liveAt}
 use Rattle.model.specs.Page.{Page, Change, free, isFree, pairsAt, changed, wanted, killed, filled, gone}
 use Rattle.model.specs.Store.{page, freeOnes}
 use Rattle.model.specs.Walk.{Around, keyLimit}
-use Rattle.model.specs.Basic.{inOrder}
 use Rattle.model.specs.Sound.{fewest}
 use Rattle.model.specs.Rules
 use Rattle.model.specs.Climb
@@ -35,7 +34,7 @@ use Rattle.model.proofs.Numbers.{Members, moved-retire, length-retire, 
 use Rattle.model.proofs.Climbs
 use Rattle.model.proofs.Climbs.{Pending, Grouped, made-of, rise, standing-lives, GroupOf, group-of, flat}
 use Rattle.model.proofs.Fitted.{kindOk, PageFit, shown-kinds, wanted-kinds}
-use Rattle.model.proofs.Redo.{values, Distinct, in-frees, Spare, unused, member, in-usable, Now, same, went, came, Redone, RedoneOr, redone-by}
+use Rattle.model.proofs.Redo.{values, Distinct, in-frees, Spare, unused, member, in-usable, Now, same, went, came, Redone, RedoneOr, redone-by, page-set-at}
 use Rattle.model.proofs.Inv.{Final, Pend, Inv, gone-cases, inv-placed, inv-up, inv-root, inv-crowned, inv-deposed}
 
 -- the keys of a row rise
@@ -266,7 +265,7 @@ module _ (least : ℕ) (two-or-more : 2 ≤ least) (w : ℕ) (lim : w < alive) (
         })
       where
         low-placed : (m : ℕ) → page (set ps (p .n) (changed w c (page ps (p .n)))) m .level ≤ 7
-        low-placed m = at (package.Rattle.model.proofs.Redo.page-set-at ps (p .n) m (changed w c (page ps (p .n))) (in-list ps (p .n) l (p .level)))
+        low-placed m = at (page-set-at ps (p .n) m (changed w c (page ps (p .n))) (in-list ps (p .n) l (p .level)))
           where
             at : ((m ≡ p .n) × (page (set ps (p .n) (changed w c (page ps (p .n)))) m ≡ changed w c (page ps (p .n)))) ⊎ ((m ≢ p .n) × (page (set ps (p .n) (changed w c (page ps (p .n)))) m ≡ page ps m))
                 → page (set ps (p .n) (changed w c (page ps (p .n)))) m .level ≤ 7
@@ -403,7 +402,7 @@ module _ (least : ℕ) (two-or-more : 2 ≤ least) (w : ℕ) (lim : w < alive) (
     unfolding Climb.rootGo
     root-go true (x ∷ []) f = record {
       inv = inv-deposed least two-or-more w lim pos N ps r l x (subst (λ (us : List Pair). Inv least two-or-more w lim pos N ps (λ (m : ℕ). m ≡ r) (Pend least two-or-more w lim pos N ps r us)) f vr) level;
-      low = λ m d. low-deposed m (package.Rattle.model.proofs.Redo.page-set-at ps r m (gone w (page ps r)) (in-list ps r l level));
+      low = λ m d. low-deposed m (page-set-at ps r m (gone w (page ps r)) (in-list ps r l level));
     }
       where
         gone-low : ((page ps r .start ≡ w) × (gone w (page ps r) ≡ free)) ⊎ ((page ps r .start ≢ w) × (gone w (page ps r) ≡ killed w (page ps r))) → gone w (page ps r) .level ≤ 7

@@ -1,10 +1,12 @@
--- Facts on the lists of the specification.
+-- Tests over lists, and what entering and ending entries does to them.
 -- Assumes nothing.
-use Prim.Native.Nat.{ℕ}
+use Prim.Native.Nat.{ℕ, suc, _≤_}
+use native.Mathlib.Omega.{arith}
 use mathlib.Core.Bool.{Bool, true, false, _&&_}
 use mathlib.Core.Path.{_≡_, refl, ap}
 use mathlib.Core.List.{List, [], _∷_, map}
 use lib.Dec.{eqb}
+use lib.ListN.{length}
 use Rattle.model.specs.Basic.{keep, those, all}
 use Rattle.model.specs.declared.Entry.{Entry}
 use Rattle.model.specs.Entry.{before, placed, enter, endOne, endThose, endedAt}
@@ -54,3 +56,13 @@ all-end f g w y (e ∷ es) ok =
     at false c here ih = both-intro (f e) _ here ih
     at true true here ih = ih
     at true false here ih = both-intro (f (endedAt w e)) _ (y e here) ih
+
+-- ending entries adds none
+pub shorter : (f : Entry → Bool) (u : ℕ) (es : List Entry) → length (endThose f u es) ≤ length es
+shorter f u [] = omega arith
+shorter f u (e ∷ es) = at (f e) (eqb (e .start) u) (shorter f u es)
+  where
+    at : (b c : Bool) → length (endThose f u es) ≤ length es → length (endOne b c u e (endThose f u es)) ≤ suc (length es)
+    at false c ih = omega arith
+    at true true ih = omega arith
+    at true false ih = omega arith

@@ -8,11 +8,10 @@ use mathlib.Core.Logic.{_⊎_, inl, inr}
 use mathlib.Core.List.{List, [], _∷_, _++_, map}
 use lib.Dec.{leb, ltb, eqb}
 use borrow.Author.Tests.{ltb-true, leb-true, lt-ltb, le-ltb, le-leb, ne-eqb, eq-eqb, eqb-true}
-use Rattle.model.specs.Basic.{all, has, those, keep}
+use Rattle.model.specs.Basic.{all, has, those, keep, inOrder}
 use Rattle.model.specs.declared.Pair.{Pair}
 use Rattle.model.specs.Entry.{within, placed, enterPair}
 use Rattle.model.specs.Page.{Page, Change, enterAll}
-use Rattle.model.specs.Basic.{inOrder}
 use Rattle.model.specs.Rules
 use Rattle.model.specs.Rules.{samePair}
 use Rattle.model.proofs.Lists.{both-true, both-intro, all-cons}

@@ -2,20 +2,19 @@
 -- Assumes nothing.
 use Prim.Native.Nat.{ℕ, zero, suc, _≤_, _<_}
 use native.Mathlib.Omega.{arith}
-use mathlib.Core.Bool.{Bool, true, false, _&&_}
+use mathlib.Core.Bool.{Bool, true, false}
 use mathlib.Core.Option.{none, some}
 use mathlib.Core.Path.{_≡_, refl, ap, sym, _∙_, subst}
 use mathlib.Core.Logic.{_⊎_, inl, inr}
 use mathlib.Core.List.{List, [], _∷_, _++_}
 use lib.Dec.{T, leb, ltb, eqb}
 use borrow.Author.Tests.{leb-true, ltb-true, ne-eqb}
-use Rattle.model.specs.Basic.{pick}
+use Rattle.model.specs.Basic.{pick, inOrder}
 use Rattle.model.specs.declared.Pair.{Pair}
 use Rattle.model.specs.Entry.{within}
 use Rattle.model.specs.Page.{Page, pairsAt}
 use Rattle.model.specs.Store.{Store, page, last}
-use Rattle.model.specs.Walk.{Around, around, find, lookup, settings, between, rootAt, heightOf, wayDown, leafOf, keyLimit}
-use Rattle.model.specs.Basic.{inOrder}
+use Rattle.model.specs.Walk.{Around, around, find, lookup, settings, rootAt, heightOf, wayDown, leafOf, keyLimit}
 use Rattle.model.specs.Sound.{sound}
 use Rattle.model.proofs.Lists.{both-true, all-cons}
 use Rattle.model.proofs.Members.{holds-true}
@@ -23,7 +22,6 @@ use Rattle.model.proofs.Tree.{Row, Holds, Tree}
 use Rattle.model.proofs.Local.{inRange, order-append}
 use Rattle.model.proofs.Descend.{found-in}
 use Rattle.model.proofs.Main.{row-range, holds-range}
-use Rattle.model.proofs.Edit.{rising-those}
 use Rattle.model.proofs.Given.{Sound, from-tests}
 use Rattle.model.proofs.Fits.{holds-all}
 
@@ -88,12 +86,6 @@ module _ (least : ℕ) (two-or-more : 2 ≤ least) (s : Store) (d : Sound least 
   pub settings-low : (v : ℕ) → v ≤ last s → inRange 0 keyLimit (settings s v) ≡ true
   settings-low v h = holds-range least v (s .pages) (heightOf (s .pages) (rootAt (s .slots) v)) 0 keyLimit (pairsAt v (page (s .pages) (rootAt (s .slots) v))) (settings s v) (holds-all least two-or-more s d v h)
 
-  pub range-rise : (lo hi v : ℕ) → v ≤ last s → rising (between lo hi (settings s v)) ≡ true
-  range-rise lo hi v h = rising-those (λ (x : Pair). leb lo (x .key) && leb (x .key) hi) (settings s v) (settings-rise v h)
-
 -- For every sound store, key and version: the way down finds what the walk over all settings finds.
 pub lookup-sound : (least : ℕ) → 2 ≤ least → (s : Store) → T (sound least s) → (k v : ℕ) → k < keyLimit → v ≤ last s → lookup s k v ≡ find k (settings s v)
 lookup-sound least two s sure k v low h = lookup-is least two s (from-tests least s (holds-true (sound least s) sure)) k v low h
-
-pub range-sound : (least : ℕ) → 2 ≤ least → (s : Store) → T (sound least s) → (lo hi v : ℕ) → v ≤ last s → rising (between lo hi (settings s v)) ≡ true
-range-sound least two s sure lo hi v h = range-rise least two s (from-tests least s (holds-true (sound least s) sure)) lo hi v h

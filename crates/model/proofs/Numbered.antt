@@ -18,12 +18,12 @@ use Rattle.model.specs.Sound.{sound}
 use Rattle.model.specs.Climb.{Result, done, refused}
 use Rattle.model.specs.Calls.{rule, insert, delete, begin, commit, abandon, abandoned}
 use Rattle.model.specs.Histories.{Call, begins, commits, abandons, inserts, deletes, callBy}
-use Rattle.model.specs.Settings.{Machine, step, Both, onward, together, fits, Tally, nothingYet, putCount, countedBy, tallied}
+use Rattle.model.specs.Settings.{Machine, step, Both, onward, together, fits, Tally, nothingYet, putCount, countedBy, tallied, beginning}
 use Rattle.model.proofs.Lists.{all-cons}
 use Rattle.model.proofs.Members.{holds-true, true-holds, not-both, bool-cases}
 use Rattle.model.proofs.Given.{to-tests}
 use Rattle.model.proofs.Fits.{numbered-by, insert-by, delete-by}
-use Rattle.model.proofs.History.{Agrees, one-call, beginning, fresh-agrees}
+use Rattle.model.proofs.History.{Agrees, one-call, fresh-agrees}
 use Rattle.model.proofs.Theorems.{OneMore, OneLess, insert-counts, delete-counts}
 
 pub record Counts (b : Both) (t : Tally) : Type 0 where

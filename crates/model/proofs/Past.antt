@@ -1,28 +1,27 @@
--- Older versions: pages that abandon leaves alike live alike then, and walks see the same.
+-- Older versions: pages that abandon leaves alike live alike then, and the directory has the same roots.
 -- Assumes nothing.
-use Prim.Native.Nat.{ℕ, zero, suc, _≤_, _<_}
+use Prim.Native.Nat.{ℕ, _≤_, _<_}
 use native.Mathlib.Omega.{arith}
 use mathlib.Core.Bool.{Bool, true, false, _&&_, not}
-use mathlib.Core.Path.{_≡_, refl, ap, ap₂, sym, _∙_, subst}
+use mathlib.Core.Path.{_≡_, refl, ap, sym, _∙_, subst}
 use mathlib.Core.Logic.{_⊎_, inl, inr, _≢_}
 use mathlib.Core.List.{List, [], _∷_, _++_, map}
 use lib.Dec.{leb, ltb, eqb}
 use lib.ListN.{getD, List·getD-map}
 use borrow.Author.Tests.{ltb-true, leb-true, eqb-true, eqb-false, lt-ltb, le-leb, lt-leb, ne-eqb, not-true}
-use Rattle.model.specs.Basic.{all, those, keep, pick}
-use Rattle.model.specs.declared.Pair.{Pair}
+use Rattle.model.specs.Basic.{all, those, keep, pick, inOrder}
 use Rattle.model.specs.Entry.{alive, within}
-use Rattle.model.specs.Page.{Page, free, isFree, active, pairsAt}
+use Rattle.model.specs.Page.{Page, free, isFree, active}
 use Rattle.model.specs.declared.Slot.{Slot}
-use Rattle.model.specs.Store.{Store, page}
-use Rattle.model.specs.Walk.{rootFrom, rootAt, Around, around, wayDown, way, Seen, seenAs, seenUnder, seenBelow, spread}
-use Rattle.model.specs.Basic.{inOrder}
+use Rattle.model.specs.Store.{page}
+use Rattle.model.specs.Walk.{rootFrom, rootAt}
 use Rattle.model.specs.Sound.{firstVersion}
 use Rattle.model.specs.Climb
 use Rattle.model.specs.Calls.{revivedEnd, backBy, back}
 use Rattle.model.proofs.Lists.{both-true, both-intro, all-cons}
 use Rattle.model.proofs.Members.{not-both, In, all-in, all-by, in-those, in-append}
 use Rattle.model.proofs.Given.{livesAt}
+use Rattle.model.proofs.Local.{all-append}
 
 module _ (v w : ℕ) (old : v < w) (lim : w < alive) where
   and-false : (b c : Bool) → c ≡ false → (b && c) ≡ false
@@ -65,42 +64,6 @@ module _ (w : ℕ) (lim : w < alive) (ps qs : List Page) (same : map (back w) qs
 
     pub level-alike : (n : ℕ) → livesAt v (page ps n) ≡ true → page qs n .level ≡ page ps n .level
     level-alike n h = sym (back-level v w old lim (page qs n) (lives-alike n ∙ h)) ∙ ap (λ (p : Page). p .level) (back-page n z) ∙ back-level v w old lim (page ps n) h
-
--- walks over pages that show the same
-spread-cong : {A : Type 0} (f g : ℕ → ℕ → ℕ → List A) → ((a b n : ℕ) → f a b n ≡ g a b n) → (xs : List Pair) (hi : ℕ) → spread f xs hi ≡ spread g xs hi
-spread-cong f g h [] hi = refl
-spread-cong f g h (x ∷ []) hi = h (x .key) hi (x .value)
-spread-cong f g h (x ∷ y ∷ zs) hi = ap₂ _++_ (h (x .key) (y .key) (x .value)) (spread-cong f g h (y ∷ zs) hi)
-
-module _ (ps qs : List Page) (u v : ℕ) (same : (n : ℕ) → pairsAt v (page qs n) ≡ pairsAt u (page ps n)) where
-  as-same : (l : ℕ) (b : Bool) (lo hi n : ℕ) → seenAs l qs v b lo hi n ≡ seenAs l ps u b lo hi n
-  as-same l b lo hi n = ap (λ (xs : List Pair). record { number = n; up = l; isRoot = b; low = lo; high = hi; pairs = xs }) (same n)
-
-  under-same : (l hi n : ℕ) → seenUnder l qs v hi n ≡ seenUnder l ps u hi n
-  under-same zero hi n = refl
-  under-same (suc l) hi n =
-      spread-cong (λ (a b i : ℕ). seenAs l qs v false a b i ∷ seenUnder l qs v b i) (λ (a b i : ℕ). seenAs l ps u false a b i ∷ seenUnder l ps u b i)
-      (λ a b i. ap₂ {C = List Seen} (λ (x : Seen) (xs : List Seen). x ∷ xs) (as-same l false a b i) (under-same l b i)) (pairsAt v (page qs n)) hi
-      ∙ ap (λ (xs : List Pair). spread (λ (a b i : ℕ). seenAs l ps u false a b i ∷ seenUnder l ps u b i) xs hi) (same n)
-
-  pub below-same : (l : ℕ) (b : Bool) (lo hi n : ℕ) → seenBelow l qs v b lo hi n ≡ seenBelow l ps u b lo hi n
-  below-same l b lo hi n = ap₂ {C = List Seen} (λ (x : Seen) (xs : List Seen). x ∷ xs) (as-same l b lo hi n) (under-same l hi n)
-
--- ways down over pages that show the same
-module _ (ps qs : List Page) (u v : ℕ) (same : (n : ℕ) → pairsAt v (page qs n) ≡ pairsAt u (page ps n)) where
-  pub down-same : (l k n : ℕ) (acc : List Around) → wayDown l qs v k n acc ≡ wayDown l ps u k n acc
-  down-same zero k n acc = refl
-  down-same (suc l) k n acc =
-      ap (λ (us : List Pair). wayDown l qs v k (around k us .own .value) (around k us ∷ acc)) (same n)
-      ∙ down-same l k (around k (pairsAt u (page ps n)) .own .value) (around k (pairsAt u (page ps n)) ∷ acc)
-
--- a lookup at version v visits the same pages: the root, and the way down for each key
-pub record Steady (s t : Store) (v : ℕ) : Type 0 where
-  pub root : rootAt (t .slots) v ≡ rootAt (s .slots) v
-  pub ways : (k : ℕ) → way t v k ≡ way s v k
-
-pub steady-trans : (s t u : Store) (v : ℕ) → Steady s t v → Steady t u v → Steady s u v
-steady-trans s t u v a b = record { root = b .root ∙ a .root; ways = λ k. b .ways k ∙ a .ways k }
 
 -- the directory
 abbrev pub bySlot : Slot → Slot → Bool
@@ -160,7 +123,7 @@ module _ (w : ℕ) where
   snoc-rise n (x ∷ xs) o h =
       let (a, b) = both-true (all (bySlot x) xs) (inOrder bySlot xs) o in
       let (c, d) = all-cons (λ (y : Slot). ltb (y .version) w) x xs h in
-      both-intro _ _ (package.Rattle.model.proofs.Local.all-append (bySlot x) xs (record { version = w; root = n } ∷ []) a (both-intro _ _ c refl)) (snoc-rise n xs b d)
+      both-intro _ _ (all-append (bySlot x) xs (record { version = w; root = n } ∷ []) a (both-intro _ _ c refl)) (snoc-rise n xs b d)
 
   pub put-rise : (n : ℕ) (xs : List Slot) → inOrder bySlot xs ≡ true → all (λ (x : Slot). leb (x .version) w) xs ≡ true → inOrder bySlot (Climb.putSlot w n xs) ≡ true
   unfolding Climb.putSlot

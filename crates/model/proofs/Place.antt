@@ -7,12 +7,11 @@ use mathlib.Core.Path.{_≡_, refl, ap, sym, _∙_}
 use mathlib.Core.List.{List, [], _∷_, map}
 use lib.Dec.{leb, ltb, eqb}
 use borrow.Author.Tests.{ltb-true, ltb-false, leb-true, lt-ltb, le-ltb, le-leb}
-use Rattle.model.specs.Basic.{keep, those, has, all}
+use Rattle.model.specs.Basic.{keep, those, has, all, inOrder}
 use Rattle.model.specs.declared.Entry.{Entry}
 use Rattle.model.specs.declared.Pair.{Pair}
 use Rattle.model.specs.Entry.{pairOf, alive, liveAt, born, before, placed, enter, enterPair, endOne, endThose, endedAt}
 use Rattle.model.specs.Page.{Page, Change, bornAll, enterAll, pairsAt, changed, wanted, filled}
-use Rattle.model.specs.Basic.{inOrder}
 use Rattle.model.proofs.Lists.{both-true, both-intro, all-cons, all-enter, all-end}
 
 module _ (w : ℕ) where

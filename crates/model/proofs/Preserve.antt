@@ -28,14 +28,15 @@ use Rattle.model.proofs.Walks.{Self, Above, last-step}
 use Rattle.model.proofs.Local.{applied}
 use Rattle.model.proofs.Undo.{climb-fine, RootedFine}
 use Rattle.model.proofs.Climbs.{Pending, RootedShows, climb-shows}
-use Rattle.model.proofs.Main.{Fit, pending}
+use Rattle.model.proofs.Main.{Fit, pending, root-new}
 use Rattle.model.proofs.Edit.{length-enter}
 use Rattle.model.proofs.Fits.{level-used, reached-of, lives-of, reach-level, root-level, ready, fit-insert, fit-delete, insert-by, delete-by, last-is}
 use Rattle.model.proofs.Fitted.{kindOk, EntryFit, PageFit}
 use Rattle.model.proofs.Inv.{Lives, Held, OldLead, Pend, Inv}
 use Rattle.model.proofs.Keeps.{Keeps, RootedKeeps, climb-keeps}
-use Rattle.model.proofs.Past.{Steady, root-past, put-rise, put-all, put-first}
-use Rattle.model.proofs.After.{two-of, lim, pos, SlotsOk, sound-after, settings-past, steady-past}
+use Rattle.model.proofs.Alike.{Alike}
+use Rattle.model.proofs.Past.{root-past, put-rise, put-all, put-first}
+use Rattle.model.proofs.After.{two-of, lim, pos, SlotsOk, sound-after, steady-past}
 
 module _ (least : ℕ) (four : 4 ≤ least) (s : Store) (d : Sound least s) (o : s .opened ≡ true) where
   abbrev two′ : 2 ≤ least
@@ -149,8 +150,7 @@ module _ (least : ℕ) (four : 4 ≤ least) (s : Store) (d : Sound least s) (o :
     pub sound-now : Sound least t
     pub current : t .current ≡ s .current
     pub opened : t .opened ≡ s .opened
-    pub past : (v : ℕ) → v < w → settings t v ≡ settings s v
-    pub steady : (v : ℕ) → v < w → Steady s t v
+    pub steady : (v : ℕ) → v < w → Alike s v t v
 
   abbrev pub Sounds : Result → Type 0
   Sounds (done t) = Follows t
@@ -172,7 +172,7 @@ module _ (least : ℕ) (four : 4 ≤ least) (s : Store) (d : Sound least s) (o :
       }
     where
       put-now : rootAt (Climb.putSlot w n (s .slots)) w ≡ n
-      put-now = package.Rattle.model.proofs.Main.root-new w n (s .slots)
+      put-now = root-new w n (s .slots)
 
   module _ (k : ℕ) (c : Change) (low : k < keyLimit) (f : Fit least s k c) (takes : all (kindOk N 1) (c .take) ≡ true)
       (upper : (n : ℕ) → page ps n .level ≡ 1 → length (wanted w c (page ps n)) ≤ suc (5 * least)) where
@@ -213,14 +213,12 @@ module _ (least : ℕ) (four : 4 ≤ least) (s : Store) (d : Sound least s) (o :
       sound-now = sound-after least four s d o (s .slots) qs r total a b (e .undone) (e .old) slots-same;
       current = refl;
       opened = refl;
-      past = settings-past least four s d o (s .slots) qs r total a b (e .undone) (e .old) slots-same;
       steady = steady-past least four s d o (s .slots) qs r total a b (e .undone) (e .old) slots-same;
     }
     rooted (moves n qs) a b e = slotted (leb (length (Climb.putSlot w n (s .slots))) (64 * least)) n qs refl (λ ok. record {
       sound-now = sound-after least four s d o (Climb.putSlot w n (s .slots)) qs n total a b (e .undone) (e .old) ok;
       current = refl;
       opened = refl;
-      past = settings-past least four s d o (Climb.putSlot w n (s .slots)) qs n total a b (e .undone) (e .old) ok;
       steady = steady-past least four s d o (Climb.putSlot w n (s .slots)) qs n total a b (e .undone) (e .old) ok;
     })
     rooted lacks a b e = tt

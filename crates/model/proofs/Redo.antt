@@ -10,13 +10,12 @@ use lib.Dec.{leb, ltb}
 use lib.ListN.{length, getD, set, take, drop, length-set, length-drop, take-append-drop}
 use lib.Seq.{getD-set-same, getD-set-other, getD-drop, drop-cons, length-take-le}
 use borrow.Author.Tests.{leb-true, leb-false, eqb-true, le-leb, lt-ltb, ltb-true, ne-eqb}
-use Rattle.model.specs.Basic.{keep, those, all}
+use Rattle.model.specs.Basic.{keep, those, all, inOrder}
 use Rattle.model.specs.declared.Pair.{Pair}
 use Rattle.model.specs.Entry.{pair}
 use Rattle.model.specs.Page.{Page, free, isFree, active, filled, gone}
 use Rattle.model.specs.Store.{page, freeFrom, freeOnes}
 use Rattle.model.specs.Walk.{keyLimit}
-use Rattle.model.specs.Basic.{inOrder}
 use Rattle.model.specs.Rules
 use Rattle.model.specs.Rules.{retire, usable, Rebuilt, rebuilt, short, lowKey}
 use Rattle.model.proofs.Lists.{both-true, both-intro, all-cons}

@@ -11,13 +11,12 @@ use lib.Dec.{leb, ltb, eqb}
 use lib.ListN.{length, set}
 use lib.Seq.{getD-set-same, getD-set-other}
 use borrow.Author.Tests.{ltb-true, leb-true, eqb-true, eqb-false}
-use Rattle.model.specs.Basic.{all}
+use Rattle.model.specs.Basic.{all, inOrder}
 use Rattle.model.specs.declared.Entry.{Entry}
 use Rattle.model.specs.declared.Pair.{Pair}
 use Rattle.model.specs.Entry.{alive, within}
 use Rattle.model.specs.Page.{Page, Change, free, pairsAt, wanted, changed}
 use Rattle.model.specs.Store.{page}
-use Rattle.model.specs.Basic.{inOrder}
 use Rattle.model.specs.Sound.{fewest}
 use Rattle.model.specs.Walk.{Around, keyLimit}
 use Rattle.model.proofs.Lists.{both-true, all-cons}

@@ -1,4 +1,4 @@
--- For a committed version, the pages that a lookup visits are the same after any later calls.
+-- A committed version looks the same after any later calls: the pages that lookups and ranges visit, and what they find.
 -- Assumes nothing.
 use Prim.Native.Nat.{ℕ, _≤_}
 use native.Mathlib.Omega.{arith}
@@ -10,27 +10,28 @@ use lib.Dec.{T, leb}
 use borrow.Author.Tests.{ltb-true, not-false}
 use Rattle.model.specs.Basic.{all}
 use Rattle.model.specs.Store.{Store, next}
+use Rattle.model.specs.Walk.{settings, lookup, lookupVisits, rangeOf, rangeVisits}
 use Rattle.model.specs.Sound.{sound}
 use Rattle.model.specs.Climb.{Result, done, refused}
 use Rattle.model.specs.Calls.{rule, insert, delete, begin, commit, abandon, abandoned}
 use Rattle.model.specs.Histories.{Call, begins, commits, abandons, inserts, deletes, callBy}
-use Rattle.model.specs.Settings.{Both, onward, together, fits}
+use Rattle.model.specs.Settings.{Both, onward, together, fits, lent}
 use Rattle.model.proofs.Lists.{all-cons}
 use Rattle.model.proofs.Members.{holds-true, not-both, bool-cases}
 use Rattle.model.proofs.Fits.{numbered-by, insert-by, delete-by}
-use Rattle.model.proofs.Past.{Steady, steady-trans}
+use Rattle.model.proofs.Alike.{Alike, alike-self, alike-trans, alike-settings, alike-lookup, alike-visits, alike-range, alike-range-visits}
 use Rattle.model.proofs.Preserve.{Sounds, insert-keeps, delete-keeps}
 use Rattle.model.proofs.Abandon.{steady-kept}
 use Rattle.model.proofs.History.{Agrees, one-call}
-use Rattle.model.proofs.Undone.{lent, lent-agrees}
+use Rattle.model.proofs.Undone.{lent-agrees}
 
 -- versions committed before stay committed, and their ways stay
 pub record Onward (s t : Store) : Type 0 where
   pub current : s .current ≤ t .current
-  pub steady : (v : ℕ) → v ≤ s .current → Steady s t v
+  pub steady : (v : ℕ) → v ≤ s .current → Alike s v t v
 
 itself : (s : Store) → Onward s s
-itself s = record { current = omega arith; steady = λ v h. record { root = refl; ways = λ k. refl } }
+itself s = record { current = omega arith; steady = λ v h. alike-self s v }
 
 module _ (least : ℕ) (four : 4 ≤ least) (b : Both) (a : Agrees least b) where
   abbrev s : Store
@@ -47,10 +48,10 @@ module _ (least : ℕ) (four : 4 ≤ least) (b : Both) (a : Agrees least b) wher
   unfolding begin commit abandon abandoned
   goes begins h =
       numbered-by (Goes begins) (rule 8 (s .opened) ∷ rule 9 (leb 1048574 (s .current)) ∷ []) (done (record { current = s .current; opened = true; slots = s .slots; pages = s .pages })) (λ n. itself s)
-      (λ f. record { current = omega arith; steady = λ v z. record { root = refl; ways = λ k. refl } })
+      (λ f. record { current = omega arith; steady = λ v z. record { root = refl; height = refl; shows = λ n. refl } })
   goes commits h =
       numbered-by (Goes commits) (rule 7 (not (s .opened)) ∷ []) (done (record { current = next s; opened = false; slots = s .slots; pages = s .pages })) (λ n. itself s)
-      (λ f. record { current = omega arith; steady = λ v z. record { root = refl; ways = λ k. refl } })
+      (λ f. record { current = omega arith; steady = λ v z. record { root = refl; height = refl; shows = λ n. refl } })
   goes abandons h =
       numbered-by (Goes abandons) (rule 7 (not (s .opened)) ∷ []) (done (abandoned s)) (λ n. itself s)
       (λ f. record { current = omega arith; steady = λ v z. steady-kept least (omega arith) s (a .is-sound) (not-false (s .opened) (f .0)) v (omega arith) })
@@ -73,9 +74,30 @@ goes-on least four (c ∷ cs) h b a =
     let later = goes-on least four cs y (onward b c (callBy least (b .store) c)) (one-call least four b a c x) in
     record {
       current = omega (arith, first .current, later .current);
-      steady = λ v z. steady-trans (b .store) (onward b c (callBy least (b .store) c) .store) (together least (onward b c (callBy least (b .store) c)) cs .store) v (first .steady v z) (later .steady v (omega (arith, first .current)));
+      steady = λ v z. alike-trans (b .store) v (onward b c (callBy least (b .store) c) .store) v (together least (onward b c (callBy least (b .store) c)) cs .store) v (first .steady v z) (later .steady v (omega (arith, first .current)));
     }
 
--- For every sound store, committed version and key, and any later calls: the root and the way down are the same.
-pub same-pages : (least : ℕ) → 4 ≤ least → (s : Store) → T (sound least s) → (cs : List Call) → T (all fits cs) → (v : ℕ) → v ≤ s .current → Steady s (together least (lent s) cs .store) v
-same-pages least four s sure cs h v z = goes-on least four cs (holds-true (all fits cs) h) (lent s) (lent-agrees least s sure) .steady v z
+-- For every sound store, committed version and later calls: the version looks as it did, root and pages.
+pub views-stay : (least : ℕ) → 4 ≤ least → (s : Store) → T (sound least s) → (cs : List Call) → T (all fits cs) → (v : ℕ) → v ≤ s .current → Alike s v (together least (lent s) cs .store) v
+views-stay least four s sure cs h v z = goes-on least four cs (holds-true (all fits cs) h) (lent s) (lent-agrees least s sure) .steady v z
+
+module _ (least : ℕ) (four : 4 ≤ least) (s : Store) (sure : T (sound least s)) (cs : List Call) (h : T (all fits cs)) (v : ℕ) (z : v ≤ s .current) where
+  abbrev later : Store
+  later = together least (lent s) cs .store
+
+  -- So a lookup visits the same pages, one after the other, and a range too,
+  pub same-pages : (k : ℕ) → lookupVisits later k v ≡ lookupVisits s k v
+  same-pages = alike-visits s v later v (views-stay least four s sure cs h v z)
+
+  pub same-range-pages : (lo hi : ℕ) → rangeVisits later lo hi v ≡ rangeVisits s lo hi v
+  same-range-pages = alike-range-visits s v later v (views-stay least four s sure cs h v z)
+
+  -- and they find the same.
+  pub same-lookup : (k : ℕ) → lookup later k v ≡ lookup s k v
+  same-lookup = alike-lookup s v later v (views-stay least four s sure cs h v z)
+
+  pub same-range : (lo hi : ℕ) → rangeOf later lo hi v ≡ rangeOf s lo hi v
+  same-range = alike-range s v later v (views-stay least four s sure cs h v z)
+
+  pub same-settings : settings later v ≡ settings s v
+  same-settings = alike-settings s v later v (views-stay least four s sure cs h v z)

@@ -5,31 +5,33 @@ use native.Mathlib.Omega.{arith}
 use mathlib.Core.Bool.{Bool, true, false, _||_, not}
 use mathlib.Core.Option.{some}
 use mathlib.Core.Path.{_≡_, refl, ap, sym, _∙_, subst}
+use mathlib.Core.Logic.{_⊎_, inl, inr, _≢_}
 use mathlib.Core.List.{List, [], _∷_}
 use lib.Dec.{T, ltb, eqb}
 use lib.ListN.{length}
 use borrow.Author.Tests.{eqb-true}
-use Rattle.model.specs.Basic.{all, has, pick, those, keep}
+use Rattle.model.specs.Basic.{all, has, pick, those, keep, inOrder}
 use Rattle.model.specs.declared.Pair.{Pair}
 use Rattle.model.specs.Entry.{pair, enterPair}
+use Rattle.model.specs.Page.{pairsAt}
 use Rattle.model.specs.Store.{Store, page, next, last, lastOf}
-use Rattle.model.specs.Walk.{settings, lookup, find, rootAt, keyLimit}
-use Rattle.model.specs.Basic.{inOrder}
-use Rattle.model.specs.Sound.{sound}
+use Rattle.model.specs.Walk.{settings, lookup, find, rootAt, heightOf, Seen, seen, keyLimit}
+use Rattle.model.specs.Sound.{sound, fewest}
 use Rattle.model.specs.Climb.{Result, done, refused, update}
 use Rattle.model.specs.Calls.{isSome, insert, delete}
 use Rattle.model.specs.Histories.{Call, callBy, after}
-use Rattle.model.specs.Settings.{Machine, onward, fits}
+use Rattle.model.specs.Settings.{Machine, onward, fits, lent}
 use Rattle.model.proofs.Lists.{both-true}
-use Rattle.model.proofs.Members.{holds-true, true-holds, not-both}
+use Rattle.model.proofs.Members.{holds-true, true-holds, not-both, In}
 use Rattle.model.proofs.Edit.{lt, length-enter, keep-all, those-one}
 use Rattle.model.proofs.Given.{Sound, from-tests, to-tests}
 use Rattle.model.proofs.Main.{Changed, update-changes}
-use Rattle.model.proofs.Fits.{insert-by, delete-by, fit-insert, fit-delete, shows-all}
+use Rattle.model.proofs.Walks.{seen-reached}
+use Rattle.model.proofs.Fits.{insert-by, delete-by, fit-insert, fit-delete, shows-all, count-of}
 use Rattle.model.proofs.Lookups.{lookup-is, settings-rise}
 use Rattle.model.proofs.Count.{root-low, root-lower}
 use Rattle.model.proofs.History.{one-call}
-use Rattle.model.proofs.Undone.{lent, lent-agrees}
+use Rattle.model.proofs.Undone.{lent-agrees}
 
 store-after : (s : Store) (m : Machine) (c : Call) (r : Result) → onward (record { store = s; machine = m }) c r .store ≡ after s r .store
 store-after s m c (done t) = refl
@@ -58,6 +60,16 @@ pub roots-lower : (least : ℕ) → 8 ≤ least → (s : Store) → T (sound lea
 roots-lower least eight s sure v h =
     let d = from-tests least s (holds-true (sound least s) sure) in
     root-lower least v (s .pages) (rootAt (s .slots) v) (settings s v) (shows-all least (omega arith) s d v h) (d .short) eight
+
+-- "Every page that a version reaches, its root aside, holds at least four entries alive at that version."
+pub balanced : (least : ℕ) → 2 ≤ least → (s : Store) → T (sound least s) → (v : ℕ) → v ≤ last s → (x : Seen) → In x (seen s v) → x .number ≢ rootAt (s .slots) v → least ≤ length (pairsAt v (page (s .pages) (x .number)))
+balanced least two s sure v h x i other =
+    let r : ℕ = rootAt (s .slots) v in
+    at (count-of least two s (from-tests least s (holds-true (sound least s) sure)) v h (x .up) (x .number) (seen-reached (s .pages) v (heightOf (s .pages) r) 0 keyLimit r true x i .is-reached))
+  where
+    at : ((x .number ≡ rootAt (s .slots) v) × (fewest least true (x .up) ≤ length (pairsAt v (page (s .pages) (x .number))))) ⊎ (least ≤ length (pairsAt v (page (s .pages) (x .number)))) → least ≤ length (pairsAt v (page (s .pages) (x .number)))
+    at (inl z) = absurd (other (z .0))
+    at (inr z) = z
 
 -- The tests for 10 and 11 are on the settings.
 pub alive-is : (least : ℕ) → 2 ≤ least → (s : Store) → T (sound least s) → s .opened ≡ true → (k : ℕ) → k < keyLimit → isSome (lookup s k (next s)) ≡ isSome (find k (settings s (next s)))

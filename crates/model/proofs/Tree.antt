@@ -9,12 +9,11 @@ use mathlib.Core.List.{List, [], _∷_, _++_, append-assoc}
 use lib.Dec.{leb, ltb}
 use lib.ListN.{length}
 use borrow.Author.Tests.{ltb-true, leb-true, lt-ltb, le-leb}
-use Rattle.model.specs.Basic.{all, flatMap}
+use Rattle.model.specs.Basic.{all, flatMap, inOrder}
 use Rattle.model.specs.declared.Pair.{Pair}
 use Rattle.model.specs.Entry.{within}
 use Rattle.model.specs.Page.{Page, pairsAt}
 use Rattle.model.specs.Store.{page}
-use Rattle.model.specs.Basic.{inOrder}
 use Rattle.model.specs.Walk.{below}
 use Rattle.model.proofs.Lists.{both-true, both-intro, all-cons}
 

@@ -1,30 +1,29 @@
 -- Open, commit and a fresh store are sound.
 -- Assumes nothing.
-use Prim.Native.Nat.{ℕ, zero, suc, _≤_, _<_, pred}
+use Prim.Native.Nat.{ℕ, suc, _≤_, _<_, pred}
 use native.Mathlib.Omega.{arith}
 use mathlib.Core.Bool.{Bool, true, false, _&&_, _||_, not}
 use mathlib.Core.Path.{_≡_, refl, ap, ap₂, sym, _∙_, subst}
 use mathlib.Core.Logic.{_⊎_, inl, inr, _≢_}
-use mathlib.Core.List.{List, [], _∷_, _++_, map}
+use mathlib.Core.List.{List, [], _∷_, map}
 use lib.Dec.{leb, ltb}
 use lib.ListN.{length, replicate, length-set, length-replicate, getD-replicate, List·getD-eq-default}
 use lib.Seq.{getD-set-same, getD-set-other}
 use borrow.Author.Tests.{leb-true, leb-false, ltb-true, ltb-false, le-leb, lt-ltb, ne-eqb}
 use Rattle.model.specs.Basic.{all, has, pick}
-use Rattle.model.specs.declared.Pair.{Pair}
 use Rattle.model.specs.declared.Entry.{Entry}
 use Rattle.model.specs.Entry.{alive}
 use Rattle.model.specs.Page.{Page, free, isFree, pairsAt, filled}
 use Rattle.model.specs.declared.Slot.{Slot}
 use Rattle.model.specs.Store.{Store, page, last, fresh}
-use Rattle.model.specs.Walk.{rootFrom, rootAt, below, settings, heightOf, Seen, seenBelow, seen, keyLimit}
+use Rattle.model.specs.Walk.{rootFrom, below, settings, heightOf, Seen, seenBelow, seen, keyLimit}
 use Rattle.model.specs.Sound.{entryOk, inside, leadsWell, keysOk}
 use Rattle.model.proofs.Lists.{both-intro, all-cons}
 use Rattle.model.proofs.Members.{not-both, either-left, either-right, bool-cases, In, all-by, all-implies}
 use Rattle.model.proofs.Between.{outside, still, pairs-still, leb-still, ltb-still}
 use Rattle.model.proofs.Shows.{same?}
 use Rattle.model.proofs.Given.{Sound, GoodPage, GoodEntry, Span, span-of, of-span, entry-of, ok-entry, spansWell, numbers, livesAt, enough}
-use Rattle.model.proofs.Past.{below-same}
+use Rattle.model.proofs.Alike.{Alike, alike-seen, alike-settings}
 
 abbrev pub store : ℕ → Bool → List Slot → List Page → Store
 store c b xs ps = record { current = c; opened = b; slots = xs; pages = ps }
@@ -56,14 +55,6 @@ root-next c r [] h = refl
 root-next c r (x ∷ xs) h =
     let (a, b) = all-cons (λ (y : Slot). leb (y .version) c) x xs h in
     ap (λ (b : Bool). rootFrom (pick b (x .root) r) xs (suc c)) (le-leb (x .version) (suc c) (omega (arith, leb-true (x .version) c a)) ∙ sym a) ∙ root-next c _ xs b
-
-pub below-alike : (ps qs : List Page) (u v : ℕ) → ((n : ℕ) → pairsAt v (page qs n) ≡ pairsAt u (page ps n)) → (l n : ℕ) → below l qs v n ≡ below l ps u n
-below-alike ps qs u v h zero n = h n
-below-alike ps qs u v h (suc l) n = flat (pairsAt v (page qs n)) (below-alike ps qs u v h l) ∙ ap (package.Rattle.model.specs.Basic.flatMap (λ (r : Pair). below l ps u (r .value))) (h n)
-  where
-    flat : (us : List Pair) → ((i : ℕ) → below l qs v i ≡ below l ps u i) → package.Rattle.model.specs.Basic.flatMap (λ (r : Pair). below l qs v (r .value)) us ≡ package.Rattle.model.specs.Basic.flatMap (λ (r : Pair). below l ps u (r .value)) us
-    flat [] f = refl
-    flat (x ∷ us) f = ap₂ _++_ (f (x .value)) (flat us f)
 
 module _ (least c : ℕ) (xs : List Slot) (ps : List Page) (d : Sound least (store c false xs ps)) (room : c < 1048574) where
   abbrev s : Store
@@ -101,8 +92,12 @@ module _ (least c : ℕ) (xs : List Slot) (ps : List Page) (d : Sound least (sto
           let h = span-of c (page ps n .start) (page ps n .end) (d .pages n u .span) in
           sym (ap₂ (λ (a b : Bool). not (isFree (page ps n)) && (a && b)) (leb-still c (suc c) (omega arith) (page ps n .start) (outside-start _ _ h)) (ltb-still c (suc c) (omega arith) (page ps n .end) (outside-end _ _ h)))
 
+  -- the open version looks as the last one
+  pub begin-alike : Alike s c t (suc c)
+  begin-alike = record { root = root-next c 0 xs (d .upto); height = refl; shows = pairs-next }
+
   seen-next : seen t (suc c) ≡ seen s c
-  seen-next = ap (λ (n : ℕ). seenBelow (heightOf ps n) ps (suc c) true 0 keyLimit n) (root-next c 0 xs (d .upto)) ∙ below-same ps ps c (suc c) pairs-next (heightOf ps (rootAt xs c)) true 0 keyLimit (rootAt xs c)
+  seen-next = alike-seen s c t (suc c) begin-alike
 
   wider : (a b : ℕ) → Span c a b → Span (suc c) a b
   wider a b h = record { starts = omega (arith, h .starts); ends = at (h .ends); some = h .some }
@@ -160,9 +155,8 @@ module _ (least c : ℕ) (xs : List Slot) (ps : List Page) (d : Sound least (sto
       reached-at v n five inn (inr z) = subst (λ (u : ℕ). livesAt u (page ps n) ≡ has n (numbers t u)) (sym z)
           (lives-next n ∙ d .reached c (omega arith) n five inn ∙ ap (λ (ys : List Seen). has n (map (λ (x : Seen). x .number) ys)) (sym seen-next))
 
-  -- the open version shows what the last one shows
   pub begin-shows : settings t (suc c) ≡ settings s c
-  begin-shows = ap (λ (n : ℕ). below (heightOf ps n) ps (suc c) n) (root-next c 0 xs (d .upto)) ∙ below-alike ps ps c (suc c) pairs-next (heightOf ps (rootAt xs c)) (rootAt xs c)
+  begin-shows = alike-settings s c t (suc c) begin-alike
 
 -- a fresh store
 module _ (least : ℕ) (one : 1 ≤ least) (n : ℕ) (six : 6 ≤ n) (most : n ≤ 4096) where

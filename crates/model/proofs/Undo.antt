@@ -239,7 +239,7 @@ module _ (least u : ℕ) where
     pub good : AllGood l ps rs
 
   -- what is shown of each outcome
-  abbrev WorkedFine : ℕ → List Page → Worked → Type 0
+  abbrev pub WorkedFine : ℕ → List Page → Worked → Type 0
   WorkedFine l ps (settled qs) = Fine (suc l) ps qs
   WorkedFine l ps (upward c qs) = Fine (suc l) ps qs
   WorkedFine l ps lacking = Unit {0}
@@ -351,7 +351,7 @@ module _ (least u : ℕ) where
     keep-beside : (k : ℕ) (a : Around) → l < k → Beside k ps a → Beside k qs a
     keep-beside k a h s = record { own = keep-good k _ h (s .own); left = keep-next k _ (a .left) h (s .left); right = keep-next k _ (a .right) h (s .right) }
 
-    keep-way : (k r : ℕ) (up : List Around) → l < k → WayGood k ps r up → WayGood k qs r up
+    pub keep-way : (k r : ℕ) (up : List Around) → l < k → WayGood k ps r up → WayGood k qs r up
     keep-way k r [] h g = keep-good k r h g
     keep-way k r (a ∷ up) h g = (keep-beside k a h (g .0), keep-way (suc k) r up (omega arith) (g .1))
 

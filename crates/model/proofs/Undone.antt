@@ -1,4 +1,4 @@
--- An update that is abandoned, whatever inserts and deletes it held, leaves the store as it was before the open.
+-- An update that is abandoned, whatever calls it held, leaves the store as it was before the open.
 -- Assumes nothing.
 use Prim.Native.Nat.{ℕ, suc, _≤_, _<_}
 use native.Mathlib.Omega.{arith}
@@ -15,12 +15,11 @@ use Rattle.model.specs.Entry.{alive}
 use Rattle.model.specs.Page.{Page, free, isFree}
 use Rattle.model.specs.declared.Slot.{Slot}
 use Rattle.model.specs.Store.{Store, page}
-use Rattle.model.specs.Walk.{settings}
 use Rattle.model.specs.Sound.{sound}
 use Rattle.model.specs.Climb.{Result, done, refused}
 use Rattle.model.specs.Calls.{insert, delete, begin, abandon, abandoned, revivedEnd, revived, restoredEntries, backBy, back}
 use Rattle.model.specs.Histories.{Call, begins, commits, abandons, inserts, deletes, callBy}
-use Rattle.model.specs.Settings.{step, Both, onward, together, fits, isEdit}
+use Rattle.model.specs.Settings.{step, Both, onward, together, fits, isInside, lent}
 use Rattle.model.proofs.Lists.{all-cons}
 use Rattle.model.proofs.Members.{holds-true, true-holds, not-both, bool-cases, In, all-in, all-by}
 use Rattle.model.proofs.Local.{those-all}
@@ -30,13 +29,34 @@ use Rattle.model.proofs.Fits.{insert-undone, delete-undone}
 use Rattle.model.proofs.Turns.{store}
 use Rattle.model.proofs.History.{Agrees, one-call, many-calls}
 
--- An abandon after any inserts and deletes leaves what an abandon before them leaves.
-pub edits-undone : (least : ℕ) → 4 ≤ least → (cs : List Call) → all isEdit cs ≡ true → all fits cs ≡ true → (b : Both) → Agrees least b → abandoned (together least b cs .store) ≡ abandoned (b .store)
-edits-undone least four [] e h b a = refl
-edits-undone least four (c ∷ cs) e h b a =
-    let (e₁, e₂) = all-cons isEdit c cs e in
+-- another open is refused
+begin-open : (s : Store) → s .opened ≡ true → begin s ≡ refused 8
+unfolding begin
+begin-open s o = rw o refl
+
+-- an open update stays open
+inside-open : (b : Both) (c : Call) → isInside c ≡ true → (r : Result) → b .machine .opened ≡ true → onward b c r .machine .opened ≡ true
+inside-open b c i (refused n) o = o
+inside-open b begins i (done t) o = refl
+inside-open b commits i (done t) o = absurd (not-both false i refl)
+inside-open b abandons i (done t) o = absurd (not-both false i refl)
+inside-open b (inserts k x) i (done t) o = o
+inside-open b (deletes k) i (done t) o = o
+
+still-open : (least : ℕ) (cs : List Call) → all isInside cs ≡ true → (b : Both) → b .machine .opened ≡ true → together least b cs .machine .opened ≡ true
+still-open least [] e b o = o
+still-open least (c ∷ cs) e b o =
+    let (x, y) = all-cons isInside c cs e in
+    still-open least cs y (onward b c (callBy least (b .store) c)) (inside-open b c x (callBy least (b .store) c) o)
+
+-- An abandon after any calls inside an update leaves what an abandon before them leaves.
+pub inside-undone : (least : ℕ) → 4 ≤ least → (cs : List Call) → all isInside cs ≡ true → all fits cs ≡ true → (b : Both) → Agrees least b → b .machine .opened ≡ true
+    → abandoned (together least b cs .store) ≡ abandoned (b .store)
+inside-undone least four [] e h b a o = refl
+inside-undone least four (c ∷ cs) e h b a o =
+    let (e₁, e₂) = all-cons isInside c cs e in
     let (h₁, h₂) = all-cons fits c cs h in
-    edits-undone least four cs e₂ h₂ (onward b c (callBy least (b .store) c)) (one-call least four b a c h₁) ∙ one c e₁
+    inside-undone least four cs e₂ h₂ (onward b c (callBy least (b .store) c)) (one-call least four b a c h₁) (inside-open b c e₁ (callBy least (b .store) c) o) ∙ one c e₁
   where
     sure : T (sound least (b .store))
     sure = true-holds (sound least (b .store)) (to-tests least (b .store) (a .is-sound))
@@ -45,8 +65,11 @@ edits-undone least four (c ∷ cs) e h b a =
     by (done t) u = u
     by (refused n) u = refl
 
-    one : (c′ : Call) → isEdit c′ ≡ true → abandoned (onward b c (callBy least (b .store) c′) .store) ≡ abandoned (b .store)
-    one begins z = absurd (not-both false z refl)
+    again : begin (b .store) ≡ refused 8
+    again = begin-open (b .store) (a .opened ∙ o)
+
+    one : (c′ : Call) → isInside c′ ≡ true → abandoned (onward b c (callBy least (b .store) c′) .store) ≡ abandoned (b .store)
+    one begins z = ap (λ (r : Result). abandoned (onward b c r .store)) again
     one commits z = absurd (not-both false z refl)
     one abandons z = absurd (not-both false z refl)
     one (inserts k x) z = by (insert least (b .store) k x) (insert-undone least (omega arith) (b .store) sure k x)
@@ -110,19 +133,6 @@ together-append : (least : ℕ) (b : Both) (cs ds : List Call) → together leas
 together-append least b [] ds = refl
 together-append least b (c ∷ cs) ds = together-append least (onward b c (callBy least (b .store) c)) cs ds
 
-still-open : (least : ℕ) (cs : List Call) → all isEdit cs ≡ true → (b : Both) → b .machine .opened ≡ true → together least b cs .machine .opened ≡ true
-still-open least [] e b o = o
-still-open least (c ∷ cs) e b o = let (x, y) = all-cons isEdit c cs e in still-open least cs y (onward b c (callBy least (b .store) c)) (by c x (callBy least (b .store) c))
-  where
-    by : (c′ : Call) → isEdit c′ ≡ true → (r : Result) → onward b c′ r .machine .opened ≡ true
-    by begins z r = absurd (not-both false z refl)
-    by commits z r = absurd (not-both false z refl)
-    by abandons z r = absurd (not-both false z refl)
-    by (inserts k x) z (done t) = o
-    by (inserts k x) z (refused n) = o
-    by (deletes k) z (done t) = o
-    by (deletes k) z (refused n) = o
-
 module _ (least : ℕ) (four : 4 ≤ least) (b : Both) (a : Agrees least b) (shut : b .store .opened ≡ false) (room : b .store .current < 1048574) where
   abbrev s : Store
   s = b .store
@@ -141,8 +151,8 @@ module _ (least : ℕ) (four : 4 ≤ least) (b : Both) (a : Agrees least b) (shu
   unfolding abandon
   abandon-is t o = rw o
 
-  -- The whole: open, inserts and deletes, abandon.
-  pub update-abandoned : (cs : List Call) → all isEdit cs ≡ true → all fits cs ≡ true → together least b (begins ∷ (cs ++ (abandons ∷ []))) .store ≡ s
+  -- The whole: open, calls inside, abandon.
+  pub update-abandoned : (cs : List Call) → all isInside cs ≡ true → all fits cs ≡ true → together least b (begins ∷ (cs ++ (abandons ∷ []))) .store ≡ s
   update-abandoned cs e h =
       let agreed : Agrees least begun = subst (Agrees least) onward-begin (one-call least four b a begins refl) in
       let after : Both = together least begun cs in
@@ -150,18 +160,14 @@ module _ (least : ℕ) (four : 4 ≤ least) (b : Both) (a : Agrees least b) (shu
       ap (λ (x : Both). together least x (cs ++ (abandons ∷ [])) .store) onward-begin
       ∙ ap (λ (x : Both). x .store) (together-append least begun cs (abandons ∷ []))
       ∙ abandon-is after open-after
-      ∙ edits-undone least four cs e h begun agreed
+      ∙ inside-undone least four cs e h begun agreed refl
       ∙ begun-abandoned least (s .current) (s .slots) (s .pages) (subst (λ (q : Bool). Sound least (store (s .current) q (s .slots) (s .pages))) shut (a .is-sound))
       ∙ ap (λ (q : Bool). store (s .current) q (s .slots) (s .pages)) (sym shut)
-
--- "For a sound store lent from elsewhere, the settings its walks show stand for the history so far."
-abbrev pub lent : Store → Both
-lent s = record { store = s; machine = record { current = s .current; opened = s .opened; shows = settings s } }
 
 pub lent-agrees : (least : ℕ) (s : Store) → T (sound least s) → Agrees least (lent s)
 lent-agrees least s sure = record { is-sound = from-tests least s (holds-true (sound least s) sure); current = refl; opened = refl; shows = λ v h. refl }
 
 -- For every sound store with no update open: an update that is abandoned leaves it as it was.
-pub abandoned-update : (least : ℕ) → 4 ≤ least → (s : Store) → T (sound least s) → s .opened ≡ false → s .current < 1048574 → (cs : List Call) → T (all isEdit cs) → T (all fits cs)
+pub abandoned-update : (least : ℕ) → 4 ≤ least → (s : Store) → T (sound least s) → s .opened ≡ false → s .current < 1048574 → (cs : List Call) → T (all isInside cs) → T (all fits cs)
     → together least (lent s) (begins ∷ (cs ++ (abandons ∷ []))) .store ≡ s
-abandoned-update least four s sure shut room cs e h = update-abandoned least four (lent s) (lent-agrees least s sure) shut room cs (holds-true (all isEdit cs) e) (holds-true (all fits cs) h)
+abandoned-update least four s sure shut room cs e h = update-abandoned least four (lent s) (lent-agrees least s sure) shut room cs (holds-true (all isInside cs) e) (holds-true (all fits cs) h)

@@ -2,10 +2,10 @@
 -- Assumes nothing.
 use Prim.Native.Nat.{ℕ, zero, suc}
 use mathlib.Core.Bool.{Bool, true, false, _&&_, _||_}
-use mathlib.Core.Option.{Option, none, some}
 use mathlib.Core.List.{List, [], _∷_, _++_}
 use lib.Dec.{eqb}
 
+-- the first of two where a test holds, else the second
 abbrev pub pick {ℓ} : {A : Type ℓ} → Bool → A → A → A
 pick true a b = a
 pick false a b = b
@@ -21,10 +21,12 @@ module _ {A : Type 0} where
   those f [] = []
   those f (x ∷ xs) = keep (f x) x (those f xs)
 
+  -- each passes
   abbrev pub all : (A → Bool) → List A → Bool
   all f [] = true
   all f (x ∷ xs) = f x && all f xs
 
+  -- one passes
   abbrev pub any : (A → Bool) → List A → Bool
   any f [] = false
   any f (x ∷ xs) = f x || any f xs
@@ -34,14 +36,11 @@ module _ {A : Type 0} where
   inOrder f [] = true
   inOrder f (x ∷ xs) = all (f x) xs && inOrder f xs
 
-  abbrev pub toList : Option A → List A
-  toList none = []
-  toList (some a) = a ∷ []
-
   abbrev pub isEmpty : List A → Bool
   isEmpty [] = true
   isEmpty (x ∷ xs) = false
 
+-- what each element makes, one after the other
 abbrev pub flatMap {ℓ} : {A B : Type ℓ} → (A → List B) → List A → List B
 flatMap f [] = []
 flatMap f (x ∷ xs) = f x ++ flatMap f xs

@@ -1,4 +1,5 @@
--- The calls, and the numbers that they give.
+-- The calls on a store that is sound, and "Numbers the console gets back". Numbers 1 to 4 are given before (Judged), 12 and 13 by the
+-- page rules (Climb).
 -- Assumes nothing.
 use Prim.Native.Nat.{ℕ, zero, suc, _*_}
 use mathlib.Core.Bool.{Bool, true, false, _||_, not}
@@ -22,7 +23,7 @@ abbrev pub isSome : Option ℕ → Bool
 isSome none = false
 isSome (some x) = true
 
--- the first test that holds gives its number
+-- "Of several, the smallest": a call's refusals are a list, the smallest number first, and the first test that holds gives its number
 pub record Rule : Type 0 where
   pub number : ℕ
   pub holds : Bool
@@ -34,21 +35,25 @@ numbered (x ∷ xs) r = elim (x .holds) [ true ↦ refused (x .number) | false �
 abbrev pub rule : ℕ → Bool → Rule
 rule n b = record { number = n; holds = b }
 
+-- 5 "key too large", 7 "no update open", 10 "key alive"
 unfoldable pub insert : ℕ → Store → ℕ → ℕ → Result
 insert least s k x =
     let r = update least s k (record { drop = []; take = pair k x ∷ [] }) in
     numbered (rule 5 (leb keyLimit k) ∷ rule 7 (not (s .opened)) ∷ rule 10 (isSome (lookup s k (next s))) ∷ []) r
 
+-- 11 "key not alive"
 unfoldable pub delete : ℕ → Store → ℕ → Result
 delete least s k =
     let r = update least s k (record { drop = k ∷ []; take = [] }) in
     numbered (rule 5 (leb keyLimit k) ∷ rule 7 (not (s .opened)) ∷ rule 11 (not (isSome (lookup s k (next s)))) ∷ []) r
 
+-- open: 8 "update already open", 9 "current is 1,048,574"
 unfoldable pub begin : Store → Result
 begin s =
     numbered (rule 8 (s .opened) ∷ rule 9 (leb 1048574 (s .current)) ∷ [])
     (done (record { current = s .current; opened = true; slots = s .slots; pages = s .pages }))
 
+-- "Commit raises the current version and clears the flag, even if nothing changed."
 unfoldable pub commit : Store → Result
 commit s =
     numbered (rule 7 (not (s .opened)) ∷ [])
@@ -76,6 +81,7 @@ backBy false w p = restored w p
 abbrev pub back : ℕ → Page → Page
 back w p = backBy (active w p) w p
 
+-- "its slot and the flag are cleared"
 unfoldable pub abandoned : Store → Store
 abandoned s = record {
   current = s .current;
@@ -89,7 +95,7 @@ abandon s = numbered (rule 7 (not (s .opened)) ∷ []) (done (abandoned s))
 
 -- ---- reading
 
--- the number of the first rule that holds, or 0
+-- the number of the first test that holds, or 0
 abbrev pub firstOf : List Rule → ℕ
 firstOf [] = 0
 firstOf (x ∷ xs) = elim (x .holds) [ true ↦ x .number | false ↦ firstOf xs ]
@@ -103,6 +109,7 @@ abbrev pub lookedBy : ℕ → Option ℕ → Looked
 lookedBy zero o = lookedAt o
 lookedBy (suc n) o = Refused (suc n)
 
+-- 6 "version above last"
 unfoldable pub get : Store → ℕ → ℕ → Looked
 get s k v = lookedBy (firstOf (rule 5 (leb keyLimit k) ∷ rule 6 (ltb (last s) v) ∷ [])) (lookup s k v)
 
@@ -131,15 +138,17 @@ pub record Ranged : Type 0 where
   pub count : ℕ
   pub written : List ℕ
 
--- "gives the count of settings found, as does 14"; room: how many numbers the caller's list holds
+-- "gives the count of settings found, as does 14": "caller's list holds fewer numbers than twice the settings found"
 unfoldable pub rangedIn : ℕ → List Pair → Ranged
 rangedIn zero xs = record { number = 0; count = length xs; written = flatMap pairNumbers xs }
 rangedIn (suc n) xs = record { number = suc n; count = length xs; written = [] }
 
+-- room: how many numbers the caller's list holds; "any result not named here is 0"
 unfoldable pub rangedBy : ℕ → ℕ → List Pair → Ranged
 rangedBy zero room xs = rangedIn (firstOf (rule 14 (ltb room (2 * length xs)) ∷ [])) xs
 rangedBy (suc n) room xs = record { number = suc n; count = 0; written = [] }
 
+-- 5 "key too large, or range low above high"
 unfoldable pub range : Store → ℕ → ℕ → ℕ → ℕ → Ranged
 range s lo hi v room =
     rangedBy (firstOf (rule 5 (leb keyLimit lo || leb keyLimit hi || ltb hi lo) ∷ rule 6 (ltb (last s) v) ∷ [])) room (rangeOf s lo hi v)

@@ -14,7 +14,7 @@ use Rattle.model.specs.Store.{Store, page, freeOnes, next}
 use Rattle.model.specs.Walk.{rootAt, Around, way}
 use Rattle.model.specs.Rules.{Rebuilt, rebuilt, short, rebuild, Worked, settled, upward, lacking, roomy, work}
 
--- What comes of the root: it stays, or another page is the root, or there is no page.
+-- What comes of the root: it stays the root, or another page becomes it, or a page is lacking.
 pub data Rooted : Type 0 where
   stays : List Page → Rooted
   moves : ℕ → List Page → Rooted
@@ -31,6 +31,7 @@ newRoot w level (rebuilt ps []) = lacks
 newRoot w level (rebuilt ps (x ∷ [])) = moves (x .value) ps
 newRoot w level (rebuilt ps (x ∷ y ∷ zs)) = topped w level ps (x ∷ y ∷ zs) (freeOnes ps)
 
+-- the root takes its change in place "if it then has at most 20 entries", or is rebuilt alone
 unfoldable pub rootStay : ℕ → Bool → ℕ → List Page → ℕ → Change → Page → Rooted
 rootStay least true w ps r c p = stays (set ps r (changed w c p))
 rootStay least false w ps r c p = newRoot w (p .level) (rebuild least w (p .level) ps (record { routers = pair 0 r ∷ []; pairs = wanted w c p }))
@@ -59,10 +60,12 @@ climb least w r (a ∷ up) c ps = goOn (work least w ps a c) (λ (c′ : Change)
 unfoldable pub putSlot : ℕ → ℕ → List Slot → List Slot
 putSlot w n xs = those (λ (x : Slot). not (eqb (x .version) w)) xs ++ (record { version = w; root = n } ∷ [])
 
+-- what a call gives: the store after it, or a number
 pub data Result : Type 0 where
   done : Store → Result
   refused : ℕ → Result
 
+-- 12 "the rules need a page and none is free", 13 "the rules need a 257th slot"
 unfoldable pub slotted : Bool → Store → List Slot → List Page → Result
 slotted true s xs ps = done (record { current = s .current; opened = s .opened; slots = xs; pages = ps })
 slotted false s xs ps = refused 13

@@ -7,7 +7,7 @@ use lib.Dec.{leb, ltb, eqb}
 use Rattle.model.specs.declared.Pair.{Pair}
 use Rattle.model.specs.declared.Entry.{Entry}
 
--- the end of what is alive
+-- "End 1,048,575 means alive."
 abbrev pub alive : ℕ
 alive = 1048575
 
@@ -17,34 +17,36 @@ pairOf e = record { key = e .key; value = e .value }
 abbrev pub pair : ℕ → ℕ → Pair
 pair k x = record { key = k; value = x }
 
--- v is in the span from a up to, not including, b
+-- "A span runs from start up to but not including end.": v is in the span of a and b
 abbrev pub within : ℕ → ℕ → ℕ → Bool
 within a b v = leb a v && ltb v b
 
 abbrev pub liveAt : ℕ → Entry → Bool
 liveAt v e = within (e .start) (e .end) v
 
--- an entry of version w for a pair
+-- an entry for a pair that starts at version w and is alive
 abbrev pub born : ℕ → Pair → Entry
 born w p = record { key = p .key; start = w; end = alive; value = p .value }
 
 abbrev pub endedAt : ℕ → Entry → Entry
 endedAt w e = record { key = e .key; start = e .start; end = w; value = e .value }
 
--- by key, then start
+-- "Entries stand by key, then start"
 abbrev pub before : Entry → Entry → Bool
 before e f = ltb (e .key) (f .key) || (eqb (e .key) (f .key) && ltb (e .start) (f .start))
 
--- an entry put into its place
+-- e into its place in x ∷ xs: in front, or further back, which makes ys of xs
 abbrev pub placed : {A : Type 0} → Bool → A → A → List A → List A → List A
 placed true e x xs ys = e ∷ x ∷ xs
 placed false e x xs ys = x ∷ ys
 
+-- an entry put into its place
 abbrev pub enter : Entry → List Entry → List Entry
 enter e [] = e ∷ []
 enter e (x ∷ xs) = placed (before e x) e x xs (enter e xs)
 
--- To end an entry at w: if it starts at w it is removed, otherwise its end becomes w. First: is it one to end? Second: does it start at w?
+-- "To end an entry: if it starts at the open version it is removed, otherwise its end becomes the open version." The tests: is it one
+-- to end, and does it start at w?
 abbrev pub endOne : Bool → Bool → ℕ → Entry → List Entry → List Entry
 endOne false a w e es = e ∷ es
 endOne true true w e es = es

@@ -6,6 +6,7 @@ pub mod Store
 pub mod Header
 pub mod Walk
 pub mod Sound
+pub mod Quick
 pub mod Rules
 pub mod Climb
 pub mod Calls
@@ -16,6 +17,13 @@ pub mod Layout
 pub mod Clean
 pub mod Judged
 pub mod Lent
+pub mod Ended
+pub mod Needs
+pub mod Plan
+pub mod Replay
+pub mod Table
+pub mod AlsoRun
+pub mod Vectors
+pub mod Figures
+pub mod Samples
 pub mod Proved
-pub mod ProvedBytes
-pub mod ProvedSound

@@ -9,6 +9,7 @@ use Rattle.model.specs.declared.Pair.{Pair}
 use Rattle.model.specs.declared.Entry.{Entry}
 use Rattle.model.specs.Entry.{alive, pairOf, liveAt, born, enter, enterPair, endThose}
 
+-- level 0 is a free page, 1 a leaf, higher an index page
 pub record Page : Type 0 where
   pub level : ℕ
   pub start : ℕ
@@ -29,11 +30,12 @@ filled w level ps = record { level = level; start = w; end = alive; entries = ma
 abbrev pub pairsAt : ℕ → Page → List Pair
 pairsAt v p = map pairOf (those (liveAt v) (p .entries))
 
--- A change to a page: the keys whose entries end, and the pairs that come in.
+-- A change to a page: the keys whose live entries end, and the pairs that come in.
 pub record Change : Type 0 where
   pub drop : List ℕ
   pub take : List Pair
 
+-- pairs put into their places, in a list of pairs and in one of entries
 abbrev pub enterAll : List Pair → List Pair → List Pair
 enterAll [] ps = ps
 enterAll (x ∷ xs) ps = enterAll xs (enterPair x ps)
@@ -46,7 +48,7 @@ bornAll w (x ∷ xs) es = bornAll w xs (enter (born w x) es)
 abbrev pub wanted : ℕ → Change → Page → List Pair
 wanted w c p = enterAll (c .take) (those (λ (x : Pair). not (has (x .key) (c .drop))) (pairsAt w p))
 
--- the change made in place
+-- the page with the change made in place
 abbrev pub changed : ℕ → Change → Page → Page
 changed w c p = record {
   level = p .level;
@@ -59,10 +61,11 @@ changed w c p = record {
 abbrev pub killed : ℕ → Page → Page
 killed w p = record { level = p .level; start = p .start; end = w; entries = endThose (liveAt w) w (p .entries) }
 
--- "A page is active if it starts at the open version." A page that goes: an active one is freed, another killed.
+-- "A page is active if it starts at the open version."
 abbrev pub active : ℕ → Page → Bool
 active w p = eqb (p .start) w
 
+-- a page that goes: an active one is freed, another killed
 abbrev pub goneIf : Bool → ℕ → Page → Page
 goneIf true w p = free
 goneIf false w p = killed w p

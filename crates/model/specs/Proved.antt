@@ -1,11 +1,99 @@
--- The one claim: each fact of the table holds.
+-- What the checker finds by computing, each claim one line.
+-- Assumes nothing.
 use lib.Dec.{T}
+use mathlib.Core.Path.{_≡_, refl}
+use mathlib.Core.List.{map}
 use Rattle.model.specs.Basic.{all}
+use Rattle.model.specs.Store.{fresh}
 use Rattle.model.specs.Rules
 use Rattle.model.specs.Climb
-use Rattle.model.specs.Calls.{insert, delete, begin, commit, abandon, abandoned}
-use Rattle.model.specs.Histories.{holds, table}
+use Rattle.model.specs.Calls
+use Rattle.model.specs.Sound
+use Rattle.model.specs.Sound.{sound}
+use Rattle.model.specs.Field
+use Rattle.model.specs.Layout
+use Rattle.model.specs.Layout.{encode, decode, entryBytes}
+use Rattle.model.specs.Replay.{History, holds, soundWay, readBack}
+use Rattle.model.specs.Table.{table}
+use Rattle.model.specs.AlsoRun.{alsoRun}
+use Rattle.model.specs.Vectors.{freshBytes, entryForty, fortyBytes}
+use Rattle.model.specs.Figures.{Figure, made, figures}
+use Rattle.model.specs.Samples.{twoLevels, fromElsewhere, served}
 
-pub proved : T (all holds table)
-unfolding insert delete begin commit abandon abandoned Rules.withNeighbour Rules.gatherBy Rules.partsBy Rules.parts Rules.usable Rules.rebuildWith Rules.rebuild Rules.exchange Rules.handUp Rules.regroup Rules.workBy Rules.work Climb.topped Climb.newRoot Climb.rootStay Climb.rootGo Climb.workRoot Climb.climb Climb.putSlot Climb.slotted Climb.rooted Climb.update
-proved = tt
+-- ---- what is computed with
+
+updating : Unit {0}
+unfolding Rules.withNeighbour Rules.gatherBy Rules.partsBy Rules.parts Rules.usable Rules.rebuildWith Rules.rebuild Rules.exchange Rules.handUp Rules.regroup Rules.workBy Rules.work Climb.topped Climb.newRoot Climb.rootStay Climb.rootGo Climb.workRoot Climb.climb Climb.putSlot Climb.slotted Climb.rooted Climb.update
+updating = tt
+
+calling : Unit {0}
+unfolding updating Calls.insert Calls.delete Calls.begin Calls.commit Calls.abandon Calls.abandoned Calls.get Calls.range Calls.rangedBy Calls.rangedIn
+calling = tt
+
+judging : Unit {0}
+unfolding Sound.sound Sound.rule1 Sound.rule2 Sound.rule3 Sound.rule4 Sound.rule5 Sound.rule6 Sound.rule7
+judging = tt
+
+writing : Unit {0}
+unfolding Layout.encode Layout.headerBytes Layout.slotsBytes Layout.slotBytes Layout.pagesBytes Layout.encodePage Layout.headBytes Layout.entriesBytes Layout.entryBytes Layout.padded Field.packed Field.lay Field.zeros Field.putField Field.setBit Field.putBit
+writing = tt
+
+reading : Unit {0}
+unfolding Layout.decode Layout.readHeader Layout.readSlots Layout.readSlot Layout.readPages Layout.pageOf Layout.decodePage Layout.readEntries Layout.readEntry Layout.countOf Field.field Field.bitAt
+reading = tt
+
+-- ---- "Histories to replay (P: to be proved)"
+
+-- P1 to P12
+pub P1-to-P12 : T (all holds table)
+unfolding calling writing
+P1-to-P12 = tt
+
+-- every store on the way of each is sound
+pub table-sound : T (all soundWay table)
+unfolding calling judging
+table-sound = tt
+
+-- the bytes of each last store hold that store
+pub table-read-back : T (all readBack table)
+unfolding calling writing reading
+table-read-back = tt
+
+-- "Also run"; the stores that these begin with are sound
+pub also-run : T (all holds alsoRun)
+unfolding calling writing
+also-run = tt
+
+pub also-sound : T (all (λ (h : History). sound 4 (h .store)) alsoRun)
+unfolding judging
+also-sound = tt
+
+-- ---- outside vectors
+
+-- document 01's bytes
+pub fresh-bytes : encode 4 (fresh 6) ≡ freshBytes
+unfolding writing
+fresh-bytes = refl
+
+pub forty-bytes : entryBytes entryForty ≡ fortyBytes
+unfolding writing
+forty-bytes = refl
+
+-- document 004's figures
+pub figures-drawn : map made figures ≡ map (λ (f : Figure). f .shows) figures
+unfolding calling
+figures-drawn = refl
+
+-- ---- the samples
+
+pub two-levels-sound : T (sound 4 twoLevels)
+unfolding judging
+two-levels-sound = tt
+
+pub from-elsewhere-sound : T (sound 4 fromElsewhere)
+unfolding judging
+from-elsewhere-sound = tt
+
+pub samples-served : T (all holds served)
+unfolding calling
+samples-served = tt

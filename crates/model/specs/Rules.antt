@@ -1,4 +1,4 @@
--- "The page rules for an update": one change, worked from the leaf up. `least` is the least number of live entries, from which the other limits come: 4 in edition 1.
+-- "The page rules for an update": the work of one level. The arguments are least, the edition's 4 (Limits), and w, the open version.
 -- Assumes nothing.
 use Prim.Native.Nat.{ℕ, _+_, _*_, _/_}
 use mathlib.Core.Bool.{Bool, true, false, _&&_, not}
@@ -24,7 +24,7 @@ withNeighbour w ps a want l (some r) = record { routers = a .own ∷ r ∷ []; p
 withNeighbour w ps a want (some l) none = record { routers = l ∷ a .own ∷ []; pairs = pairsAt w (page ps (l .value)) ++ want }
 withNeighbour w ps a want none none = record { routers = a .own ∷ []; pairs = want }
 
--- "If the page isn't the root and the list has under 8"
+-- "Gather the wanted list. If the page isn't the root and the list has under 8, add .." The test: has it under 8?
 unfoldable pub gatherBy : Bool → ℕ → List Page → Around → List Pair → Group
 gatherBy true w ps a want = withNeighbour w ps a want (a .left) (a .right)
 gatherBy false w ps a want = record { routers = a .own ∷ []; pairs = want }
@@ -50,8 +50,7 @@ abbrev pub retire : ℕ → List Page → List Pair → List Page
 retire w ps [] = ps
 retire w ps (r ∷ rs) = retire w (set ps (r .value) (gone w (page ps (r .value)))) rs
 
--- The pages after a group is rebuilt, and the routers that lead to the pages now used.
--- "The first new low key is the lowest old one; the second is the second page's first key."
+-- The pages after a group is rebuilt and the routers that lead to those now used, or that there are too few free pages.
 pub data Rebuilt : Type 0 where
   rebuilt : List Page → List Pair → Rebuilt
   short : Rebuilt
@@ -60,6 +59,7 @@ abbrev pub lowKey : List Pair → ℕ
 lowKey [] = 0
 lowKey (x ∷ xs) = x .key
 
+-- "the lower half goes to the first"; "The first new low key is the lowest old one; the second is the second page's first key."
 unfoldable pub rebuildWith : ℕ → ℕ → List Page → List Pair → Parts → List ℕ → Rebuilt
 rebuildWith w level ps rs (one x) [] = short
 rebuildWith w level ps rs (one x) (n ∷ ns) = rebuilt (set (retire w ps rs) n (filled w level x)) (pair (lowKey rs) n ∷ [])
@@ -81,7 +81,7 @@ without xs ys = those (λ (x : Pair). not (any (samePair x) ys)) xs
 unfoldable pub exchange : List Pair → List Pair → Change
 exchange olds news = record { drop = map (λ (x : Pair). x .key) (without olds news); take = without news olds }
 
--- What comes of a page that is not the root: it took the change in place, or its parent has a change to take, or there is no page.
+-- What comes of a page that is not the root: it took the change in place, or its parent has a change to take, or a page is lacking.
 pub data Worked : Type 0 where
   settled : List Page → Worked
   upward : Change → List Page → Worked
@@ -95,6 +95,7 @@ handUp olds short = lacking
 abbrev pub roomy : ℕ → ℕ → Change → Page → Bool
 roomy least w c p = leb (length (changed w c p .entries)) (5 * least)
 
+-- else the group is rebuilt, and its parent has the routers to exchange
 unfoldable pub regroup : ℕ → ℕ → ℕ → List Page → Group → Worked
 regroup least w level ps g = handUp (g .routers) (rebuild least w level ps g)
 

@@ -1,4 +1,5 @@
--- What the accepted calls leave at each version, with no pages: the machine that a store's history is held to.
+-- "The settings alive at a committed version are what the accepted inserts and deletes of the updates committed up to it, applied in
+-- order from a fresh store, leave": a machine with no pages, which a store's history is held to.
 -- Assumes nothing.
 use Prim.Native.Nat.{ℕ, suc}
 use mathlib.Core.Bool.{Bool, true, false, not}
@@ -7,16 +8,18 @@ use lib.Dec.{ltb, eqb}
 use Rattle.model.specs.Basic.{those, pick}
 use Rattle.model.specs.declared.Pair.{Pair}
 use Rattle.model.specs.Entry.{pair, enterPair}
-use Rattle.model.specs.Store.{Store}
+use Rattle.model.specs.Store.{Store, fresh}
+use Rattle.model.specs.Walk.{settings}
 use Rattle.model.specs.Climb.{Result, done, refused}
 use Rattle.model.specs.Histories.{Call, begins, commits, abandons, inserts, deletes, callBy}
 
--- the settings of each version up to the last one
+-- current version, whether an update is open, and the settings of each version up to the last
 pub record Machine : Type 0 where
   pub current : ℕ
   pub opened : Bool
   pub shows : ℕ → List Pair
 
+-- beside a fresh store
 abbrev pub start : Machine
 start = record { current = 0; opened = false; shows = λ (v : ℕ). [] }
 
@@ -24,10 +27,12 @@ start = record { current = 0; opened = false; shows = λ (v : ℕ). [] }
 abbrev pub put : ℕ → List Pair → (ℕ → List Pair) → ℕ → List Pair
 put w us f v = pick (eqb v w) us (f v)
 
+-- the settings of the open version changed
 abbrev pub edited : (List Pair → List Pair) → Machine → Machine
 edited g m = record { current = m .current; opened = m .opened; shows = put (suc (m .current)) (g (m .shows (suc (m .current)))) (m .shows) }
 
--- an accepted call: the open version begins with the settings of the current one, and the edits change it alone
+-- An accepted call. An update begins with the settings of the current version; "At the open version the open update's accepted calls so
+-- far are applied too."
 abbrev pub step : Machine → Call → Machine
 step m begins = record { current = m .current; opened = true; shows = put (suc (m .current)) (m .shows (m .current)) (m .shows) }
 step m commits = record { current = suc (m .current); opened = false; shows = m .shows }
@@ -48,7 +53,15 @@ abbrev pub together : ℕ → Both → List Call → Both
 together least b [] = b
 together least b (c ∷ cs) = together least (onward b c (callBy least (b .store) c)) cs
 
--- a value is 32 bits
+-- at the start: a fresh store of n pages
+abbrev pub beginning : ℕ → Both
+beginning n = record { store = fresh n; machine = start }
+
+-- "For a sound store lent from elsewhere, the settings its walks show stand for the history so far."
+abbrev pub lent : Store → Both
+lent s = record { store = s; machine = record { current = s .current; opened = s .opened; shows = settings s } }
+
+-- "a value is any 32 bits"
 abbrev pub fits : Call → Bool
 fits begins = true
 fits commits = true
@@ -56,15 +69,15 @@ fits abandons = true
 fits (inserts k x) = ltb x 4294967296
 fits (deletes k) = true
 
--- inserts and deletes
-abbrev pub isEdit : Call → Bool
-isEdit begins = false
-isEdit commits = false
-isEdit abandons = false
-isEdit (inserts k x) = true
-isEdit (deletes k) = true
+-- the calls that may stand inside an open update: all but commit and abandon, which end it. Another open is refused there.
+abbrev pub isInside : Call → Bool
+isInside begins = true
+isInside commits = false
+isInside abandons = false
+isInside (inserts k x) = true
+isInside (deletes k) = true
 
--- how many inserts and deletes were accepted in the updates up to each version
+-- "their number is those inserts less those deletes": how many were accepted in the updates up to each version
 pub record Tally : Type 0 where
   pub added : ℕ → ℕ
   pub removed : ℕ → ℕ

@@ -1,4 +1,4 @@
--- What the store shows at a version: its root, its settings.
+-- What a store shows at a version: its root and settings, what a lookup and a range find there, and the pages that each visits.
 -- Assumes nothing.
 use Prim.Native.Nat.{ℕ, zero, suc, pred}
 use mathlib.Core.Bool.{Bool, true, false, _&&_}
@@ -11,6 +11,10 @@ use Rattle.model.specs.Entry.{pair}
 use Rattle.model.specs.Page.{Page, pairsAt}
 use Rattle.model.specs.declared.Slot.{Slot}
 use Rattle.model.specs.Store.{Store, page}
+
+-- "Keys are 0 to 16,777,215"
+abbrev pub keyLimit : ℕ
+keyLimit = 16777216
 
 -- "The root of v is the last slot at or below v."
 abbrev pub rootFrom : ℕ → List Slot → ℕ → ℕ
@@ -25,9 +29,11 @@ abbrev pub below : ℕ → List Page → ℕ → ℕ → List Pair
 below zero ps v n = pairsAt v (page ps n)
 below (suc up) ps v n = flatMap (λ (r : Pair). below up ps v (r .value)) (pairsAt v (page ps n))
 
+-- how far a page stands above the leaves
 abbrev pub heightOf : List Page → ℕ → ℕ
 heightOf ps n = pred (page ps n .level)
 
+-- the settings of a version, by key: all that its walk shows
 abbrev pub settings : Store → ℕ → List Pair
 settings s v = below (heightOf (s .pages) (rootAt (s .slots) v)) (s .pages) v (rootAt (s .slots) v)
 
@@ -35,7 +41,7 @@ settings s v = below (heightOf (s .pages) (rootAt (s .slots) v)) (s .pages) v (r
 abbrev pub between : ℕ → ℕ → List Pair → List Pair
 between lo hi xs = those (λ (x : Pair). leb lo (x .key) && leb (x .key) hi) xs
 
--- the live list around the place of a key: the last pair whose key is at most it, and its neighbours
+-- the place of a key among routers: the last one at or below it, and its neighbours
 pub record Around : Type 0 where
   pub left : Option Pair
   pub own : Pair
@@ -60,14 +66,17 @@ wayDown (suc up) ps v k n acc =
 abbrev pub way : Store → ℕ → ℕ → List Around
 way s v k = let r = rootAt (s .slots) v in wayDown (heightOf (s .pages) r) (s .pages) v k r []
 
+-- the leaf at the end of a way that begins at root r
 abbrev pub leafOf : ℕ → List Around → ℕ
 leafOf r [] = r
 leafOf r (a ∷ up) = a .own .value
 
+-- the value of a key
 abbrev pub find : ℕ → List Pair → Option ℕ
 find k [] = none
 find k (x ∷ xs) = pick (eqb (x .key) k) (some (x .value)) (find k xs)
 
+-- what a lookup finds
 abbrev pub lookup : Store → ℕ → ℕ → Option ℕ
 lookup s k v = find k (pairsAt v (page (s .pages) (leafOf (rootAt (s .slots) v) (way s v k))))
 
@@ -107,7 +116,8 @@ rangePath (suc up) ps v hi at n = n ∷ flatMap (λ (r : Pair). rangePath up ps 
 abbrev pub rangeVisits : Store → ℕ → ℕ → ℕ → List ℕ
 rangeVisits s lo hi v = let r = rootAt (s .slots) v in rangePath (heightOf (s .pages) r) (s .pages) v hi lo r
 
--- A page that a walk reaches: its number, how far above the leaves, whether it is the root, the keys it may hold (from low up to, not including, high), and its pairs alive then.
+-- A page that a walk over all entries alive then reaches: its number, how far it stands above the leaves, whether it is the root, the
+-- keys that it may hold (from low up to, not including, high), and its pairs alive then.
 pub record Seen : Type 0 where
   pub number : ℕ
   pub up : ℕ
@@ -116,7 +126,7 @@ pub record Seen : Type 0 where
   pub high : ℕ
   pub pairs : List Pair
 
--- what a walk makes of each router: its own low key, and the next one's or the page's high key
+-- what a walk makes of each router, given its low key, the next one's (behind the last the page's high key), and its page
 abbrev pub spread {ℓ} : {A : Type ℓ} → (ℕ → ℕ → ℕ → List A) → List Pair → ℕ → List A
 spread f [] high = []
 spread f (x ∷ []) high = f (x .key) high (x .value)
@@ -134,9 +144,6 @@ seenUnder (suc up) ps v high n =
 
 abbrev pub seenBelow : ℕ → List Page → ℕ → Bool → ℕ → ℕ → ℕ → List Seen
 seenBelow up ps v b low high n = seenAs up ps v b low high n ∷ seenUnder up ps v high n
-
-abbrev pub keyLimit : ℕ
-keyLimit = 16777216
 
 abbrev pub seen : Store → ℕ → List Seen
 seen s v = let r = rootAt (s .slots) v in seenBelow (heightOf (s .pages) r) (s .pages) v true 0 keyLimit r

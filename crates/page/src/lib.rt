@@ -2,11 +2,16 @@
 use model::Entry;
 use model::Limits;
 ghost use mathlib.Core.Path.{_≡_};
-ghost use Prim.Native.Nat.{ℕ, _+_, _*_, _^_, _≤_, _<_};
+ghost use Prim.Native.Nat.{ℕ, _+_, _*_, _-_, _^_, _≤_, _<_};
 ghost use lib.ListN.{length};
 ghost use Rattle.model.specs.Limits.{Edition};
-ghost use Rattle.model.specs.Layout.{readEntry};
-ghost use Rattle.page.specs.Head.{readHead};
+ghost use Rattle.model.specs.Field.{lay, zeros};
+ghost use Rattle.model.specs.Layout.{entryParts, readEntry, countOf, encodePage, decodePage};
+ghost use Rattle.page.specs.Head.{readHead, putHead, HeadFits};
+ghost use Rattle.page.specs.Read.{Sized};
+ghost use Rattle.page.specs.Exact.{Exact};
+ghost use Rattle.page.specs.Stage.{blanked};
+ghost use Rattle.page.specs.Insert.{withEntry};
 
 // The front of a page: "level 4 bits, entry count 5, start 20, end 20".
 pub struct Head {
@@ -48,4 +53,89 @@ pub fn entry_at(page: &[u8], i: usize) -> Entry
         end: bits::field(page, o + 44, 20),
         value: bits::field(page, o + 64, 32),
     }
+}
+
+// Makes every byte zero.
+pub fn clear(page: &mut [u8])
+    ensures { λ _. ⌜ now (page .exit) ≡ zeros (length (now (page .entry))) ⌝ }
+{
+    let n = page.len();
+    let mut i = 0;
+    while i < n {
+        page[i] = 0;
+        i += 1;
+    }
+}
+
+// Writes the front of a page.
+pub fn put_head(page: &mut [u8], l: Limits, h: Head)
+    requires { ⌜ Edition l × HeadFits (l .least) h × (16 ≤ length (now page)) × (length (now page) ≤ 2 ^ 40) ⌝ }
+    ensures { λ _. ⌜ now (page .exit) ≡ putHead (l .least) (now (page .entry)) h ⌝ }
+{
+    let w = l.counter;
+    bits::put_field(page, 0, 4, h.level as u64);
+    bits::put_field(page, 4, w, h.count as u64);
+    bits::put_field(page, 4 + w, 20, h.start as u64);
+    bits::put_field(page, 24 + w, 20, h.end as u64);
+}
+
+// Writes entry i of a page.
+pub fn put_entry(page: &mut [u8], i: usize, e: Entry)
+    requires { ⌜ (16 + 12 * i + 12 ≤ length (now page)) × (length (now page) ≤ 2 ^ 40) × Sized e ⌝ }
+    ensures { λ _. ⌜ now (page .exit) ≡ lay (now (page .entry)) (128 + 96 * i) (entryParts e) ⌝ }
+{
+    let o = 128 + 96 * i;
+    bits::put_field(page, o, 24, e.key as u64);
+    bits::put_field(page, o + 24, 20, e.start as u64);
+    bits::put_field(page, o + 44, 20, e.end as u64);
+    bits::put_field(page, o + 64, 32, e.value as u64);
+}
+
+// Entries from j up to, not including, n become unused.
+pub fn blank(page: &mut [u8], j: usize, n: usize)
+    requires { ⌜ (16 + 12 * n ≤ length (now page)) × (length (now page) ≤ 2 ^ 40) × (j ≤ n) ⌝ }
+    ensures { λ _. ⌜ now (page .exit) ≡ blanked (now (page .entry)) j (n - j) ⌝ }
+{
+    let mut k = j;
+    while k < n {
+        put_entry(
+            page,
+            k,
+            Entry {
+                key: 0,
+                start: 0,
+                end: 0,
+                value: 0,
+            },
+        );
+        k += 1;
+    }
+}
+
+// Inserts e at place i of a page with room, in place: those from i on move up by one.
+pub fn insert_entry(page: &mut [u8], l: Limits, i: usize, e: Entry)
+    requires { ⌜ Edition l × Exact (l .least) (now page) × (countOf (l .least) (now page) < 5 * l .least) × (i ≤ countOf (l .least) (now page)) × Sized e ⌝ }
+    ensures { λ _. ⌜ now (page .exit) ≡ encodePage (l .least) (withEntry i e (decodePage (l .least) (now (page .entry)))) ⌝ }
+{
+    let h = head_of(page, l);
+    let count = h.count;
+    let mut x = e;
+    let mut k = i;
+    while k < count {
+        let y = entry_at(page, k);
+        put_entry(page, k, x);
+        x = y;
+        k += 1;
+    }
+    put_entry(page, count, x);
+    put_head(
+        page,
+        l,
+        Head {
+            level: h.level,
+            count: count + 1,
+            start: h.start,
+            end: h.end,
+        },
+    );
 }

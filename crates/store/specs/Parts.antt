@@ -79,3 +79,7 @@ module _ (least : ℕ) (s : List ℕ) (n : ℕ) (q : List ℕ) (len : length q �
       getD-take (64 * least) (drop (m * (64 * least)) t) i 0 k ∙ getD-drop (m * (64 * least)) t i 0
       ∙ byte-other (m * (64 * least) + i) (apart m n (64 * least) i k ne)
       ∙ sym (getD-take (64 * least) (drop (m * (64 * least)) s) i 0 k ∙ getD-drop (m * (64 * least)) s i 0)
+
+pub page-take : (least : ℕ) (s : List ℕ) (n : ℕ) → pageOf least s n ≡ take (64 * least) (drop (n * (64 * least)) s)
+unfolding pageOf
+page-take least s n = refl

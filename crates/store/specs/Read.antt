@@ -76,6 +76,20 @@ module _ (least : ℕ) (s : List ℕ) where
   unfolding decode
   behind = refl
 
+  -- "page 0, header" and "pages 1 to 4" stand as free ones
+  pub front-five : take 5 (decode least s .pages) ≡ replicate 5 free
+  unfolding decode
+  front-five = refl
+
+  pub front-free : (n : ℕ) → n < 5 → page (decode least s .pages) n ≡ free
+  unfolding decode
+  front-free zero h = refl
+  front-free (suc zero) h = refl
+  front-free (suc (suc zero)) h = refl
+  front-free (suc (suc (suc zero))) h = refl
+  front-free (suc (suc (suc (suc zero)))) h = refl
+  front-free (suc (suc (suc (suc (suc n))))) h = absurd (omega arith)
+
   pub page-at : (n : ℕ) → 5 ≤ n → n < sizeOf least s → page (decode least s .pages) n ≡ decodePage least (pageOf least s n)
   unfolding decode
   page-at n h l =

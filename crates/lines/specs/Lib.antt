@@ -1,0 +1,3 @@
+pub mod Console
+pub mod Words
+pub mod Examples

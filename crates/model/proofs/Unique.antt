@@ -1,0 +1,158 @@
+-- The nine calls on lent bytes, taken as one. `unique`: no second outcome meets a call's contract. `refused`: every number but 0 leaves
+-- store and list untouched. `blank`: with such a number every result is 0, but for check's rule with 4 and a range's count with 14.
+-- Assumes nothing.
+use Prim.Native.Nat.{ℕ, zero, suc, _*_}
+use mathlib.Core.Bool.{Bool, true, false}
+use mathlib.Core.Path.{_≡_, refl, sym, _∙_, subst}
+use mathlib.Core.Logic.{_≢_}
+use mathlib.Core.List.{List, [], _∷_}
+use lib.Dec.{ltb}
+use lib.ListN.{length}
+use Rattle.model.specs.Basic.{pick}
+use Rattle.model.specs.declared.Pair.{Pair}
+use Rattle.model.specs.declared.Looked.{Looked}
+use Rattle.model.specs.declared.Looked.the-variants.{Value, Absent, Refused}
+use Rattle.model.specs.declared.Verdict.{Verdict}
+use Rattle.model.specs.Store.{Store, fresh}
+use Rattle.model.specs.Layout.{bit, sizeOf, encode, decode}
+use Rattle.model.specs.Judged
+use Rattle.model.specs.Judged.{lengthOk, magicOk, editionOk, brokenIn, judged, verdict, ruled}
+use Rattle.model.specs.Climb
+use Rattle.model.specs.Climb.{Result}
+use Rattle.model.specs.Calls
+use Rattle.model.specs.Calls.{lookedNumber, lookedFound, lookedValue, Ranged, rule, firstOf}
+use Rattle.model.specs.Ended.{Asked, toFresh, toCheck, toOpen, toCommit, toAbandon, toInsert, toDelete, toLookup, toRange, Ended, ended, Meets, Untouched, Named, Zeros}
+use Rattle.model.specs.Lent
+use Rattle.model.specs.Lent.{Outcome, Listed, listed, left, judgedFirst, openLent, insertLent, deleteLent, commitLent, abandonLent, freshLent, lookupLent, rangeLent}
+
+-- Two outcomes that meet a call's contract are the same: number, results, store and list.
+pub unique : (least : ℕ) (c : Asked) (b ns : List ℕ) (e f : Ended) → Meets least c b ns e → Meets least c b ns f → e ≡ f
+unique least c b ns e f p q = p ∙ sym q
+
+-- ---- "Every number but 0 leaves store and list untouched."
+
+abbrev StoreSame : List ℕ → Outcome → Type 0
+StoreSame b o = o .number ≢ 0 → o .store ≡ b
+
+left-same : (least : ℕ) (b : List ℕ) (r : Result) → StoreSame b (left least b r)
+left-same least b (Climb.done t) h = absurd (h refl)
+left-same least b (Climb.refused n) h = refl
+
+lent-same : (least : ℕ) (f : Store → Result) (b : List ℕ) → StoreSame b (Lent.lent least f b)
+unfolding Lent.lent
+lent-same least f b = at (judged least b .number)
+  where
+    at : (n : ℕ) → StoreSame b (judgedFirst n (λ m. record { number = m; store = b }) (left least b (f (decode least b))))
+    at zero = left-same least b (f (decode least b))
+    at (suc n) = λ h. refl
+
+fresh-same : (least : ℕ) (b : List ℕ) → StoreSame b (freshLent least b)
+unfolding Lent.freshLent
+fresh-same least b = at (lengthOk least b)
+  where
+    at : (t : Bool) → StoreSame b (pick t (record { number = 0; store = encode least (fresh (sizeOf least b)) }) (record { number = 1; store = b }))
+    at true h = absurd (h refl)
+    at false h = refl
+
+module _ (least : ℕ) (b : List ℕ) (lo hi v : ℕ) (ns : List ℕ) where
+  abbrev ListSame : Listed → Type 0
+  ListSame r = r .number ≢ 0 → r .list ≡ ns
+
+  room-same : (n : ℕ) (xs : List Pair) → ListSame (listed ns (Calls.rangedIn n xs))
+  unfolding Calls.rangedIn
+  room-same zero xs h = absurd (h refl)
+  room-same (suc n) xs h = refl
+
+  by-same : (n : ℕ) (xs : List Pair) → ListSame (listed ns (Calls.rangedBy n (length ns) xs))
+  unfolding Calls.rangedBy
+  by-same zero xs = room-same _ xs
+  by-same (suc n) xs = λ h. refl
+
+  range-same : ListSame (rangeLent least b lo hi v ns)
+  unfolding Lent.rangeLent Calls.range
+  range-same = at (judged least b .number)
+    where
+      at : (n : ℕ) → ListSame (judgedFirst n (λ m. record { number = m; count = 0; list = ns }) (listed ns (Calls.range (decode least b) lo hi v (length ns))))
+      at zero = by-same _ _
+      at (suc n) = λ h. refl
+
+leaves : (least : ℕ) (c : Asked) (b ns : List ℕ) → ended least c b ns .number ≢ 0 → Untouched b ns (ended least c b ns)
+unfolding Lent.openLent Lent.commitLent Lent.abandonLent Lent.insertLent Lent.deleteLent
+leaves least toFresh b ns h = record { store = fresh-same least b h; list = refl }
+leaves least toCheck b ns h = record { store = refl; list = refl }
+leaves least toOpen b ns h = record { store = lent-same least _ b h; list = refl }
+leaves least toCommit b ns h = record { store = lent-same least _ b h; list = refl }
+leaves least toAbandon b ns h = record { store = lent-same least _ b h; list = refl }
+leaves least (toInsert k x) b ns h = record { store = lent-same least _ b h; list = refl }
+leaves least (toDelete k) b ns h = record { store = lent-same least _ b h; list = refl }
+leaves least (toLookup k v) b ns h = record { store = refl; list = refl }
+leaves least (toRange lo hi v) b ns h = record { store = refl; list = range-same least b lo hi v ns h }
+
+pub refused : (least : ℕ) (c : Asked) (b ns : List ℕ) (e : Ended) → Meets least c b ns e → e .number ≢ 0 → Untouched b ns e
+refused least c b ns e m h = subst (Untouched b ns) (sym m) (leaves least c b ns (subst (λ (x : Ended). x .number ≢ 0) m h))
+
+-- ---- "any result not named here is 0"
+
+abbrev RuleBlank : Verdict → Type 0
+RuleBlank v = v .number ≢ 0 → v .number ≢ 4 → v .rule ≡ 0
+
+check-blank : (least : ℕ) (b : List ℕ) → RuleBlank (judged least b)
+unfolding Judged.judged
+check-blank least b = at (lengthOk least b) (magicOk b) (editionOk least b)
+  where
+    by : (n : ℕ) → RuleBlank (ruled n)
+    by zero h k = refl
+    by (suc n) h k = absurd (k refl)
+
+    at : (x y z : Bool) → RuleBlank (pick x (pick y (pick z (ruled (brokenIn least b)) (verdict 3 0)) (verdict 2 0)) (verdict 1 0))
+    at true true true h k = by (brokenIn least b) h k
+    at true true false h k = refl
+    at true false z h k = refl
+    at false y z h k = refl
+
+looked-blank : (r : Looked) → lookedNumber r ≢ 0 → Zeros (bit (lookedFound r) ∷ lookedValue r ∷ [])
+looked-blank (Value x) h = absurd (h refl)
+looked-blank Absent h = absurd (h refl)
+looked-blank (Refused n) h = refl
+
+abbrev CountBlank : Ranged → Type 0
+CountBlank r = r .number ≢ 0 → r .number ≢ 14 → r .count ≡ 0
+
+count-blank : (n room : ℕ) (xs : List Pair) → CountBlank (Calls.rangedBy n room xs)
+unfolding Calls.rangedBy Calls.rangedIn
+count-blank zero room xs h k = at (ltb room (2 * length xs)) h k
+  where
+    at : (t : Bool) → CountBlank (Calls.rangedIn (firstOf (rule 14 t ∷ [])) xs)
+    at true h k = absurd (k refl)
+    at false h k = absurd (h refl)
+count-blank (suc n) room xs h k = refl
+
+abbrev ListedBlank : Listed → Type 0
+ListedBlank r = r .number ≢ 0 → r .number ≢ 14 → r .count ≡ 0
+
+range-blank : (least : ℕ) (b : List ℕ) (lo hi v : ℕ) (ns : List ℕ) → ListedBlank (rangeLent least b lo hi v ns)
+unfolding Lent.rangeLent Calls.range
+range-blank least b lo hi v ns = at (judged least b .number)
+  where
+    at : (n : ℕ) → ListedBlank (judgedFirst n (λ m. record { number = m; count = 0; list = ns }) (listed ns (Calls.range (decode least b) lo hi v (length ns))))
+    at zero = count-blank _ (length ns) _
+    at (suc n) = λ h k. refl
+
+zero-one : (x : ℕ) → x ≡ 0 → Zeros (x ∷ [])
+zero-one x e = rw e
+
+blanks : (least : ℕ) (c : Asked) (b ns : List ℕ) → ended least c b ns .number ≢ 0 → (Named c (ended least c b ns .number) → ⊥) → Zeros (ended least c b ns .results)
+blanks least toFresh b ns h k = refl
+blanks least toCheck b ns h k = zero-one _ (check-blank least b h k)
+blanks least toOpen b ns h k = refl
+blanks least toCommit b ns h k = refl
+blanks least toAbandon b ns h k = refl
+blanks least (toInsert i x) b ns h k = refl
+blanks least (toDelete i) b ns h k = refl
+blanks least (toLookup i v) b ns h k = looked-blank (lookupLent least b i v) h
+blanks least (toRange lo hi v) b ns h k = zero-one _ (range-blank least b lo hi v ns h k)
+
+pub blank : (least : ℕ) (c : Asked) (b ns : List ℕ) (e : Ended) → Meets least c b ns e → e .number ≢ 0 → (Named c (e .number) → ⊥) → Zeros (e .results)
+blank least c b ns e m h k =
+    subst (λ (x : Ended). Zeros (x .results)) (sym m)
+    (blanks least c b ns (subst (λ (x : Ended). x .number ≢ 0) m h) (subst (λ (x : Ended). Named c (x .number) → ⊥) m k))

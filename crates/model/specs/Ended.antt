@@ -1,0 +1,78 @@
+-- The nine calls on lent bytes taken as one: what any of them gives and leaves.
+-- That no second outcome meets a contract, and that a number other than 0 leaves everything as it was, stands in proofs/Unique.
+-- Assumes nothing.
+use Prim.Native.Nat.{ℕ}
+use mathlib.Core.Bool.{true}
+use mathlib.Core.Path.{_≡_}
+use mathlib.Core.List.{List, [], _∷_}
+use lib.Dec.{eqb}
+use Rattle.model.specs.Basic.{all}
+use Rattle.model.specs.declared.Looked.{Looked}
+use Rattle.model.specs.declared.Verdict.{Verdict}
+use Rattle.model.specs.Layout.{bit}
+use Rattle.model.specs.Judged.{judged}
+use Rattle.model.specs.Calls.{lookedNumber, lookedFound, lookedValue}
+use Rattle.model.specs.Lent.{Outcome, Listed, openLent, insertLent, deleteLent, commitLent, abandonLent, freshLent, lookupLent, rangeLent}
+
+-- the calls, with the numbers that they take
+pub data Asked : Type 0 where
+  toFresh toCheck toOpen toCommit toAbandon : Asked
+  toInsert : ℕ → ℕ → Asked
+  toDelete : ℕ → Asked
+  toLookup : ℕ → ℕ → Asked
+  toRange : ℕ → ℕ → ℕ → Asked
+
+-- what a call gives and leaves: its number, its other results, the store's bytes and the caller's list after it
+pub record Ended : Type 0 where
+  pub number : ℕ
+  pub results : List ℕ
+  pub store : List ℕ
+  pub list : List ℕ
+
+abbrev pub ofOutcome : List ℕ → Outcome → Ended
+ofOutcome ns o = record { number = o .number; results = []; store = o .store; list = ns }
+
+abbrev pub ofVerdict : List ℕ → List ℕ → Verdict → Ended
+ofVerdict b ns v = record { number = v .number; results = v .rule ∷ []; store = b; list = ns }
+
+abbrev pub ofLooked : List ℕ → List ℕ → Looked → Ended
+ofLooked b ns r = record { number = lookedNumber r; results = bit (lookedFound r) ∷ lookedValue r ∷ []; store = b; list = ns }
+
+abbrev pub ofListed : List ℕ → Listed → Ended
+ofListed b r = record { number = r .number; results = r .count ∷ []; store = b; list = r .list }
+
+-- what the definitions say of a call, for any bytes lent as a store and any list
+abbrev pub ended : ℕ → Asked → List ℕ → List ℕ → Ended
+ended least toFresh b ns = ofOutcome ns (freshLent least b)
+ended least toCheck b ns = ofVerdict b ns (judged least b)
+ended least toOpen b ns = ofOutcome ns (openLent least b)
+ended least toCommit b ns = ofOutcome ns (commitLent least b)
+ended least toAbandon b ns = ofOutcome ns (abandonLent least b)
+ended least (toInsert k x) b ns = ofOutcome ns (insertLent least b k x)
+ended least (toDelete k) b ns = ofOutcome ns (deleteLent least b k)
+ended least (toLookup k v) b ns = ofLooked b ns (lookupLent least b k v)
+ended least (toRange lo hi v) b ns = ofListed b (rangeLent least b lo hi v ns)
+
+-- a call's contract, said of an outcome
+abbrev pub Meets : ℕ → Asked → List ℕ → List ℕ → Ended → Type 0
+Meets least c b ns e = e ≡ ended least c b ns
+
+-- store and list are as they were
+pub record Untouched (b ns : List ℕ) (e : Ended) : Type 0 where
+  pub store : e .store ≡ b
+  pub list : e .list ≡ ns
+
+-- "any result not named here is 0": the numbers besides 0 that come with a result
+abbrev pub Named : Asked → ℕ → Type 0
+Named toFresh n = ⊥
+Named toCheck n = n ≡ 4
+Named toOpen n = ⊥
+Named toCommit n = ⊥
+Named toAbandon n = ⊥
+Named (toInsert k x) n = ⊥
+Named (toDelete k) n = ⊥
+Named (toLookup k v) n = ⊥
+Named (toRange lo hi v) n = n ≡ 14
+
+abbrev pub Zeros : List ℕ → Type 0
+Zeros xs = all (λ (x : ℕ). eqb x 0) xs ≡ true

@@ -1,0 +1,30 @@
+-- The bytes that document 01 writes out.
+-- Assumes nothing.
+use Prim.Native.Nat.{ℕ}
+use mathlib.Core.List.{List, [], _∷_, _++_}
+use lib.ListN.{replicate}
+use Rattle.model.specs.declared.Entry.{Entry}
+use Rattle.model.specs.Entry.{pair, born}
+
+-- "header `52 43 53 54 01 00 30 00 00 00 20`"
+abbrev pub headerBytes : List ℕ
+headerBytes = 0x52 ∷ 0x43 ∷ 0x53 ∷ 0x54 ∷ 0x01 ∷ 0x00 ∷ 0x30 ∷ 0x00 ∷ 0x00 ∷ 0x00 ∷ 0x20 ∷ []
+
+-- "first slot `00 00 00 05`"
+abbrev pub slotBytes : List ℕ
+slotBytes = 0x00 ∷ 0x00 ∷ 0x00 ∷ 0x05 ∷ []
+
+-- "page 5 begins `10 00 00 07 FF FF 80`"
+abbrev pub pageBytes : List ℕ
+pageBytes = 0x10 ∷ 0x00 ∷ 0x00 ∷ 0x07 ∷ 0xff ∷ 0xff ∷ 0x80 ∷ []
+
+-- "A fresh 6-page store: .. all else is zero": 256 bytes of header, four pages of slots, page 5
+abbrev pub freshBytes : List ℕ
+freshBytes = headerBytes ++ replicate 245 0 ++ slotBytes ++ replicate 1020 0 ++ pageBytes ++ replicate 249 0
+
+-- "Key 40, value 7, inserted in version 1: `00 00 28 00 00 1F FF FF 00 00 00 07`"
+abbrev pub entryForty : Entry
+entryForty = born 1 (pair 40 7)
+
+abbrev pub fortyBytes : List ℕ
+fortyBytes = 0x00 ∷ 0x00 ∷ 0x28 ∷ 0x00 ∷ 0x00 ∷ 0x1f ∷ 0xff ∷ 0xff ∷ 0x00 ∷ 0x00 ∷ 0x00 ∷ 0x07 ∷ []

@@ -1,0 +1,84 @@
+-- Bytes of a page that pass rule 1's test of zero bits are exact. Assumes nothing.
+use Prim.Native.Nat.{ℕ, zero, suc, _+_, _*_, _-_, _^_, _<_, _≤_}
+use mathlib.Core.Path.{_≡_, refl, ap, sym, _∙_}
+use mathlib.Core.Bool.{Bool, true, false, _&&_}
+use mathlib.Core.List.{List, [], _∷_, _++_, append-assoc}
+use native.Mathlib.Omega.{arith}
+use borrow.Author.Tests.{leb-true, eqb-true}
+use lib.Dec.{leb, eqb}
+use lib.ListN.{length, take, drop}
+use lib.Seq.{take-all}
+use Rattle.bits.specs.Lay.{two-parts}
+use Rattle.bits.specs.Over.{zeros-append, zero-part}
+use Rattle.model.specs.declared.Entry.{Entry}
+use Rattle.model.specs.Limits.{countBits}
+use Rattle.model.specs.Field.{field, Bytes, zeros}
+use Rattle.model.specs.Layout.{entriesBytes, readEntries, padded, encodePage, decodePage, countOf}
+use Rattle.model.specs.Clean.{cleanPage}
+use Rattle.model.proofs.Lists.{both-true}
+use Rattle.page.specs.declared.Head.{Head}
+use Rattle.page.specs.Editions.{Counts, count-bits}
+use Rattle.page.specs.Head.{readHead, headOf, frontBytes}
+use Rattle.page.specs.Read.{length-entries, level-of, start-of, end-of, count-of, entries-of}
+use Rattle.page.specs.Entries.{entries-part, padded-bytes}
+use Rattle.page.specs.Front.{head-part}
+use Rattle.page.specs.Exact.{Exact, bodyBytes, encode-is, head-is}
+
+pub record Clean (least : ℕ) (p : List ℕ) : Type 0 where
+  pub size : length p ≡ 64 * least
+  pub bytes : Bytes p
+  pub room : countOf least p ≤ 5 * least
+  pub spare : field p (44 + countBits least) (128 - (44 + countBits least)) ≡ 0
+  pub rest : field p (128 + 96 * countOf least p) (512 * least - (128 + 96 * countOf least p)) ≡ 0
+
+-- the test gives the record
+pub clean-page : (least : ℕ) (p : List ℕ) → length p ≡ 64 * least → Bytes p → cleanPage least p ≡ true → Clean least p
+unfolding cleanPage
+clean-page least p n b e =
+    let c : ℕ = countOf least p in
+    let x = both-true (leb c (5 * least)) (eqb (field p (44 + countBits least) (128 - (44 + countBits least))) 0 && eqb (field p (128 + 96 * c) (512 * least - (128 + 96 * c))) 0) e in
+    let y = both-true (eqb (field p (44 + countBits least) (128 - (44 + countBits least))) 0) (eqb (field p (128 + 96 * c) (512 * least - (128 + 96 * c))) 0) (x .1) in
+    record { size = n; bytes = b; room = leb-true _ _ (x .0); spare = eqb-true _ _ (y .0); rest = eqb-true _ _ (y .1) }
+
+module _ (least : ℕ) (four : 4 ≤ least) (eight : least ≤ 8) (p : List ℕ) (c : Clean least p) where
+  abbrev n : ℕ
+  n = countOf least p
+
+  -- the bytes behind the entries in use
+  abbrev left : ℕ
+  left = 64 * least - 16 - 12 * n
+
+  entries : entriesBytes (padded least (decodePage least p .entries)) ≡ take (12 * n) (drop 16 p) ++ zeros (12 * (5 * least - n))
+  entries =
+      let k : readHead least p .count ≡ n = sym (count-of least p) in
+      let es : decodePage least p .entries ≡ readEntries p 128 n = entries-of least p ∙ ap (readEntries p 128) k in
+      rw (es, padded-bytes least (readEntries p 128 n), entries-part p 16 n (c .bytes) (omega (arith, c .size, c .room)), length-entries p 128 n)
+
+  rest-is : take left (drop (16 + 12 * n) p) ≡ zeros left
+  rest-is =
+      let a : 128 + 96 * n ≡ 8 * (16 + 12 * n) = omega arith in
+      let b : 512 * least - (128 + 96 * n) ≡ 8 * left = omega arith in
+      zero-part p (16 + 12 * n) left (c .bytes) (omega (arith, c .size, c .room)) (ap (λ (x : ℕ). field p x (8 * left)) (sym a) ∙ ap (field p (128 + 96 * n)) (sym b) ∙ c .rest)
+
+  pub exact : Exact least p
+  exact = record { size = c .size; room = c .room; same = same }
+    where
+      a : ℕ
+      a = 12 * (5 * least - n)
+
+      b : ℕ
+      b = 4 * least - 16
+
+      joined : zeros a ++ zeros b ≡ take left (drop (16 + 12 * n) p)
+      joined = let e : a + b ≡ left = omega (arith, c .room) in zeros-append a b ∙ ap zeros e ∙ sym rest-is
+
+      same : encodePage least (decodePage least p) ≡ p
+      same =
+          let x : List ℕ = take (12 * n) (drop 16 p) in
+          let e1 : (x ++ zeros a) ++ zeros b ≡ x ++ take left (drop (16 + 12 * n) p) = append-assoc x (zeros a) (zeros b) ∙ ap (λ (y : List ℕ). x ++ y) joined in
+          let e2 : x ++ take left (drop (16 + 12 * n) p) ≡ take (12 * n + left) (drop 16 p) = two-parts p 16 (12 * n) left in
+          let e3 : take 16 (drop 0 p) ++ take (12 * n + left) (drop 16 p) ≡ take (16 + (12 * n + left)) (drop 0 p) = two-parts p 0 16 (12 * n + left) in
+          let front : frontBytes least (readHead least p) ≡ take 16 (drop 0 p) = head-part least eight p (c .bytes) (omega (arith, c .size)) (c .spare) in
+          encode-is least (decodePage least p)
+          ∙ ap (λ (h : Head). frontBytes least h ++ bodyBytes least (padded least (decodePage least p .entries))) (head-is least p)
+          ∙ rw (front, entries, e1, e2, e3) (take-all (16 + (12 * n + left)) p (omega (arith, c .size, c .room)))

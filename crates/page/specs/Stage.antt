@@ -1,0 +1,194 @@
+-- A page whose entries are written over one after the other, from the front: the stages of every writer of a page. Assumes nothing.
+use Prim.Native.Nat.{ℕ, zero, suc, _+_, _*_, _-_, _^_, _<_, _≤_}
+use mathlib.Core.Path.{_≡_, refl, ap, sym, _∙_}
+use mathlib.Core.List.{List, [], _∷_, _++_, append-assoc, append-nil}
+use native.Mathlib.Omega.{arith}
+use lib.ListN.{length, getD, set, take, drop, replicate, length-append, length-drop, length-replicate, take-append-drop, replicate-append-replicate}
+use lib.Seq.{drop-cons, set-at, getD-append-add, getD-drop, length-take-le, take-append-le, drop-at, drop-drop}
+use Rattle.model.specs.declared.Entry.{Entry}
+use Rattle.model.specs.Field.{lay, zeros}
+use Rattle.model.specs.Page.{Page}
+use Rattle.model.specs.Layout.{entryParts, entriesBytes, readEntry, readEntries, unused, padded, encodePage, decodePage, countOf}
+use Rattle.page.specs.declared.Head.{Head}
+use Rattle.page.specs.Head.{readHead, headOf, frontBytes, putHead, HeadFits}
+use Rattle.page.specs.Read.{Sized, sized-unused, sized-entries, length-entries, entries-of, count-of}
+use Rattle.page.specs.Entries.{entry-put, entry-get, length-padded, padded-get, padded-sized}
+use Rattle.page.specs.Front.{head-length, head-put}
+use Rattle.page.specs.Exact.{Exact, bodyBytes, body-length, encode-is, head-is}
+
+-- a list whose first are these
+unfoldable pub over : List Entry → List Entry → List Entry
+over out l = out ++ drop (length out) l
+
+-- the entries of a page that are in use
+abbrev pub entriesIn : ℕ → List ℕ → List Entry
+entriesIn least p = readEntries p 128 (countOf least p)
+
+-- a page whose first entries are these, its front and its other entries as they were
+unfoldable pub staged : ℕ → List ℕ → List Entry → List ℕ
+staged least p out = frontBytes least (readHead least p) ++ bodyBytes least (over out (padded least (entriesIn least p)))
+
+-- so many entries from j on made unused
+unfoldable pub blanked : List ℕ → ℕ → ℕ → List ℕ
+blanked s j zero = s
+blanked s j (suc n) = lay (blanked s j n) (128 + 96 * (j + n)) (entryParts unused)
+
+pub blanked-none : (s : List ℕ) (j : ℕ) → s ≡ blanked s j (j - j)
+unfolding blanked
+blanked-none s j = let e : j - j ≡ 0 = omega arith in rw e
+
+pub blanked-more : (s : List ℕ) (j k : ℕ) → j ≤ k → lay (blanked s j (k - j)) (128 + 96 * k) (entryParts unused) ≡ blanked s j (k + 1 - j)
+unfolding blanked
+blanked-more s j k h =
+    let e : k + 1 - j ≡ suc (k - j) = omega arith in
+    let f : j + (k - j) ≡ k = omega arith in
+    rw (e, f)
+
+-- a page with this front and these entries
+abbrev pub pageWith : Head → List Entry → Page
+pageWith h es = record { level = h .level; start = h .start; end = h .end; entries = es }
+
+-- ---- lists
+
+pub length-over : (out l : List Entry) → length out ≤ length l → length (over out l) ≡ length l
+unfolding over
+length-over out l h = simp (length-append, length-drop) (omega arith)
+
+over-put : (out l : List Entry) (x : Entry) → length out < length l → set (over out l) (length out) x ≡ over (out ++ x ∷ []) l
+unfolding over
+over-put out l x h =
+    let e : length (out ++ x ∷ []) ≡ suc (length out) = length-append out (x ∷ []) ∙ omega arith in
+    rw (e, append-assoc out (x ∷ []) (drop (suc (length out)) l), drop-cons l (length out) unused h)
+    (set-at out (getD l (length out) unused) (drop (suc (length out)) l) x (length out) refl)
+
+over-high : (out l : List Entry) (i : ℕ) → length out ≤ i → getD (over out l) i unused ≡ getD l i unused
+unfolding over
+over-high out l i h =
+    let e : i ≡ length out + (i - length out) = omega arith in
+    let f : length out + (i - length out) ≡ i = omega arith in
+    ap (λ (x : ℕ). getD (out ++ drop (length out) l) x unused) e ∙ getD-append-add out (drop (length out) l) (i - length out) unused
+    ∙ getD-drop (length out) l (i - length out) unused ∙ ap (λ (x : ℕ). getD l x unused) f
+
+-- its own first ones
+over-own : (l : List Entry) (i : ℕ) → i ≤ length l → over (take i l) l ≡ l
+unfolding over
+over-own l i h = rw (length-take-le i l h) (take-append-drop i l)
+
+drop-unused : (n k t : ℕ) → n + k ≡ t → drop n (replicate t unused) ≡ replicate k unused
+drop-unused n k t e = rw (← e, ← replicate-append-replicate n k unused) (drop-at (replicate n unused) (replicate k unused) n (length-replicate n unused))
+
+-- at least as many as were in use
+over-padded : (least : ℕ) (out es : List Entry) → length es ≤ length out → length out ≤ 5 * least → over out (padded least es) ≡ padded least out
+unfolding over padded
+over-padded least out es h k =
+    let n : ℕ = length out - length es in
+    let u : List Entry = replicate (5 * least - length es) unused in
+    let e : length out ≡ length es + n = omega arith in
+    let d : drop (length out) (es ++ u) ≡ drop n u
+    = ap (λ (x : ℕ). drop x (es ++ u)) e ∙ sym (drop-drop n (length es) (es ++ u)) ∙ ap (drop n) (drop-at es u (length es) refl) in
+    ap (λ (x : List Entry). out ++ x) (d ∙ drop-unused n (5 * least - length out) (5 * least - length es) (omega arith))
+
+padded-unused : (least : ℕ) (out : List Entry) (n : ℕ) → length out + n ≤ 5 * least → padded least (out ++ replicate n unused) ≡ padded least out
+unfolding padded
+padded-unused least out n h =
+    let e : length (out ++ replicate n unused) ≡ length out + n = length-append out (replicate n unused) ∙ ap (λ (x : ℕ). length out + x) (length-replicate n unused) in
+    let f : n + (5 * least - (length out + n)) ≡ 5 * least - length out = omega arith in
+    rw (e, append-assoc out (replicate n unused) (replicate (5 * least - (length out + n)) unused), replicate-append-replicate n (5 * least - (length out + n)) unused, f)
+
+pub length-blank : (out : List Entry) (n : ℕ) → length (out ++ replicate n unused) ≡ length out + n
+length-blank out n = length-append out (replicate n unused) ∙ ap (λ (x : ℕ). length out + x) (length-replicate n unused)
+
+-- ---- bytes
+
+module _ (least : ℕ) (four : 4 ≤ least) (eight : least ≤ 8) (p : List ℕ) (x : Exact least p) where
+  abbrev es : List Entry
+  es = entriesIn least p
+
+  abbrev l : List Entry
+  l = padded least es
+
+  pub count : length (entriesIn least p) ≡ countOf least p
+  count = length-entries p 128 (countOf least p)
+
+  full : length l ≡ 5 * least
+  full = length-padded least es (omega (arith, count, x .room))
+
+  hd : List ℕ
+  hd = frontBytes least (readHead least p)
+
+  sixteen : length hd ≡ 16
+  unfolding hd
+  sixteen = head-length least (readHead least p)
+
+  pub staged-length : (out : List Entry) → length out ≤ 5 * least → length (staged least p out) ≡ 64 * least
+  unfolding staged hd
+  staged-length out h =
+      length-append hd (bodyBytes least (over out l))
+      ∙ omega (arith, sixteen, body-length least four (over out l) (length-over out l (omega (arith, full)) ∙ full))
+
+  over-first : (i : ℕ) → i ≤ countOf least p → over (take i es) l ≡ l
+  unfolding padded
+  over-first i h =
+      let u : List Entry = replicate (5 * least - length es) unused in
+      let t : take i (es ++ u) ≡ take i es = take-append-le i es u (omega (arith, count)) in
+      rw (← t) (over-own (es ++ u) i (omega (arith, count, length-append es u)))
+
+  -- as it is
+  pub staged-from : (i : ℕ) → i ≤ countOf least p → p ≡ staged least p (take i (entriesIn least p))
+  unfolding staged
+  staged-from i h =
+      let own : over (take i es) l ≡ l = over-first i h in
+      let e : decodePage least p .entries ≡ es = entries-of least p ∙ ap (readEntries p 128) (sym (count-of least p)) in
+      sym (x .same) ∙ encode-is least (decodePage least p) ∙ ap (λ (h : Head). frontBytes least h ++ bodyBytes least (padded least (decodePage least p .entries))) (head-is least p)
+      ∙ ap (λ (y : List Entry). frontBytes least (readHead least p) ++ bodyBytes least y) (ap (padded least) e ∙ sym own)
+
+  pub staged-put : (out : List Entry) (e : Entry) → length out < 5 * least → Sized e
+      → lay (staged least p out) (128 + 96 * length out) (entryParts e) ≡ staged least p (out ++ e ∷ [])
+  unfolding staged hd
+  staged-put out e lt z =
+      entry-put hd (zeros (4 * least - 16)) (over out l) (length out) sixteen (omega (arith, full, length-over out l (omega (arith, full)))) e z
+      ∙ ap (λ (y : List Entry). hd ++ bodyBytes least y) (over-put out l e (omega (arith, full)))
+
+  pub staged-read : (out : List Entry) (i : ℕ) → length out ≤ i → i < countOf least p → readEntry (staged least p out) (128 + 96 * i) ≡ getD (entriesIn least p) i unused
+  unfolding staged hd
+  staged-read out i h lt =
+      let g : getD (over out l) i unused ≡ getD es i unused = over-high out l i h ∙ padded-get least es i in
+      entry-get hd (zeros (4 * least - 16)) (over out l) i sixteen (omega (arith, x .room, full, length-over out l (omega (arith, x .room, full)))) (rw g (sized-entries p 128 (countOf least p) i)) ∙ g
+
+  pub staged-blank : (out : List Entry) (n : ℕ) → length out + n ≤ 5 * least → blanked (staged least p out) (length out) n ≡ staged least p (out ++ replicate n unused)
+  unfolding blanked
+  staged-blank out zero le = rw (append-nil out)
+  staged-blank out (suc n) le =
+      let m : List Entry = out ++ replicate n unused in
+      let e : length out + n ≡ length m = sym (length-blank out n) in
+      let f : replicate (suc n) unused ≡ replicate n unused ++ unused ∷ [] = snoc n in
+      rw (staged-blank out n (omega arith), e, staged-put m unused (omega arith) sized-unused, f, append-assoc out (replicate n unused) (unused ∷ []))
+    where
+      snoc : (n : ℕ) → replicate (suc n) unused ≡ replicate n unused ++ unused ∷ []
+      snoc zero = refl
+      snoc (suc n) = ap (λ (x : List Entry). unused ∷ x) (snoc n)
+
+  -- and a front for them
+  pub staged-end : (out : List Entry) (h : Head) → countOf least p ≤ length out → length out ≤ 5 * least → HeadFits least h → h .count ≡ length out
+      → putHead least (staged least p out) h ≡ encodePage least (pageWith h out)
+  unfolding staged
+  staged-end out h le most f n =
+      head-put least eight (readHead least p) h (bodyBytes least (over out l)) f
+      ∙ ap (λ (y : List Entry). frontBytes least h ++ bodyBytes least y) (over-padded least out es (omega (arith, count)) most)
+      ∙ ap (λ (k : ℕ). frontBytes least (record { level = h .level; count = k; start = h .start; end = h .end }) ++ bodyBytes least (padded least out)) n
+      ∙ sym (encode-is least (pageWith h out))
+
+  -- the same where fewer are left, and the others made unused
+  pub staged-shut : (out : List Entry) (h : Head) → length out ≤ countOf least p → HeadFits least h → h .count ≡ length out
+      → putHead least (blanked (staged least p out) (length out) (countOf least p - length out)) h ≡ encodePage least (pageWith h out)
+  unfolding staged
+  staged-shut out h le f n =
+      let k : ℕ = countOf least p - length out in
+      let m : List Entry = out ++ replicate k unused in
+      let lm : length m ≡ countOf least p = length-blank out k ∙ omega arith in
+      rw (staged-blank out k (omega (arith, x .room)))
+      (head-put least eight (readHead least p) h (bodyBytes least (over m l)) f
+      ∙ ap (λ (y : List Entry). frontBytes least h ++ bodyBytes least y)
+      (over-padded least m es (omega (arith, count)) (omega (arith, x .room)) ∙ padded-unused least out k (omega (arith, x .room)))
+      ∙ ap (λ (c : ℕ). frontBytes least (record { level = h .level; count = c; start = h .start; end = h .end }) ++ bodyBytes least (padded least out)) n
+      ∙ sym (encode-is least (pageWith h out)))
