@@ -7,3 +7,4 @@ pub mod Exactly
 pub mod Holds
 pub mod Set
 pub mod Tested
+pub mod Sure
