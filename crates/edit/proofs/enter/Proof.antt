@@ -1,0 +1,59 @@
+use Rattle.edit.specs.Place.{placeOf, place-low, entered-is}
+use Rattle.page.specs.Insert.{withEntry}
+use Rattle.page.specs.Read.{count-of, entries-of, length-entries}
+use Rattle.page.specs.declared.Head.{Head}
+use Rattle.model.specs.Layout.{countOf, encodePage, decodePage, readEntries}
+use Rattle.model.specs.Entry.{born}
+use Rattle.model.specs.declared.Entry.{Entry}
+use native.Mathlib.Omega.{arith}
+use mathlib.Core.List.{List}
+use mathlib.Core.Path.{_≡_, refl, ap, sym, _∙_}
+use Prim.Native.Nat.{ℕ, _≤_, _<_, _-_, _^_, _+_, _*_, suc}
+use borrow.Author.Needs.{needs}
+use Rattle.edit.proofs.enter.Statement.{statement}
+use Rattle.edit.proofs.enter.Tie as tie
+use Rattle.edit.proofs.enter.Reads as reads
+use Rattle.edit.proofs.enter.Lts as lts
+use Rattle.edit.proofs.place.Reads as place-reads
+use Rattle.page.proofs.head_of.Reads as head-of-reads
+use Rattle.page.proofs.insert_entry.Reads as insert-entry-reads
+
+-- src/lib.rt:237:9
+head-of-requires : tie.Need-head-of-requires
+head-of-requires c κs = (c .before .before .pre .0, omega (arith, c .before .before .pre .0 .four, c .before .before .pre .1 .size), omega (arith, c .before .before .pre .0 .eight, c .before .before .pre .1 .size))
+
+counted : (c : tie.After-head-of) → c .head-of .result .count ≡ countOf (c .before .before .before .args .l .least) (c .before .before .before .args .page .now)
+counted c = let a = c .before .before .before .args in ap (λ (h : Head). h .count) (c .head-of .ensures) ∙ sym (count-of (a .l .least) (a .page .now))
+
+-- src/lib.rt:238:9
+place-requires : tie.Need-place-requires
+place-requires c κs = omega (arith, counted ((c .before)), c .before .before .before .before .pre .1 .size, c .before .before .before .before .pre .2, c .before .before .before .before .pre .0 .four, c .before .before .before .before .pre .0 .eight)
+
+-- src/lib.rt:239:5
+insert-entry-requires : tie.Need-insert-entry-requires
+insert-entry-requires c κs =
+    let a = c .before .before .before .before .before .before .args in (
+      c .before .before .before .before .before .before .pre .0,
+      c .before .before .before .before .before .before .pre .1,
+      c .before .before .before .before .before .before .pre .2,
+      rw (c .before .place .ensures, counted ((c .before .before .before))) (omega (arith, place-low (a .x .key) (a .w) (readEntries (a .page .now) 128 (countOf (a .l .least) (a .page .now))), length-entries (a .page .now) 128 (countOf (a .l .least) (a .page .now)))),
+      record { key = c .before .before .before .before .before .before .pre .4; start = c .before .before .before .before .before .before .pre .3; end = omega arith; value = omega arith },
+    )
+
+-- src/lib.rt:233:1
+same-length : tie.Need-same-length
+same-length c = search needs
+
+-- src/lib.rt:233:1
+returns : tie.Need-returns
+returns c =
+    let a = c .before .before .before .before .before .before .before .before .before .args in
+    let p : List ℕ = a .page .now in
+    let least = a .l .least in
+    let es = ap (λ (h : Head). readEntries p 128 (h .count)) (c .before .before .before .before .before .before .head-of .ensures) ∙ sym (entries-of least p) in
+    let i = c .before .before .before .before .place .ensures ∙ ap (placeOf (a .x .key) (a .w)) es in
+    c .before .before .insert-entry .ensures ∙ ap (λ (k : ℕ). encodePage least (withEntry k (born (a .w) (a .x)) (decodePage least p))) i ∙ ap (encodePage least) (entered-is (a .w) (a .x) (decodePage least p))
+
+pub enter-spec : {M : Type 1} → statement M
+enter-spec =
+    tie.close (tie.spec head-of-requires place-requires insert-entry-requires same-length returns)

@@ -1,0 +1,127 @@
+use Prim.Native.Nat.{ℕ, _≤_, _<_, _-_, _^_, _+_, _*_, suc}
+use mathlib.Core.Path.{_≡_, refl, ap, sym, _∙_}
+use mathlib.Core.List.{List, [], _∷_, _++_, append-nil}
+use mathlib.Core.Logic.{⊎-elim}
+use native.Mathlib.Omega.{arith}
+use Rattle.model.specs.declared.Entry.{Entry}
+use Rattle.model.specs.Field.{lay}
+use Rattle.model.specs.Layout.{entryParts, countOf, readEntries, unused}
+use Rattle.page.specs.Stage.{staged}
+use Rattle.page.specs.Read.{Sized, read-sized, length-entries}
+use Rattle.edit.specs.Fate.{fateOf, fate-sized, left}
+use Rattle.edit.specs.Sift.{sifted, Staged, sift-none, sift-read, sift-put, sifted-more, sifted-short}
+use lib.Seq.{length-take-le, take-all}
+use lib.ListN.{length, getD, take, length-append}
+use borrow.Author.Needs.{needs}
+use Rattle.edit.proofs.squeeze.Statement.{statement}
+use Rattle.edit.proofs.squeeze.Tie as tie
+use Rattle.edit.proofs.squeeze.Reads as reads
+use Rattle.edit.proofs.squeeze.Lts as lts
+use Rattle.edit.proofs.meet.Reads as meet-reads
+use Rattle.page.proofs.entry_at.Reads as entry-at-reads
+use Rattle.page.proofs.put_entry.Reads as put-entry-reads
+
+abbrev Inv-loop : tie.InvT-loop
+Inv-loop page₀ count rule w j₀ i₀ page j i =
+    (i ≤ count) × (j ≡ length (sifted rule w (take i (readEntries page₀ 128 count)))) × (j ≤ i) × (length page ≡ length page₀)
+    × Staged page₀ count (sifted rule w (take i (readEntries page₀ 128 count))) page
+
+abbrev μ-loop : tie.MeasureT-loop
+μ-loop page₀ count rule w j₀ i₀ page j i = count - i
+
+-- src/lib.rt:145:5
+loop-holds : tie.Need-loop-holds Inv-loop μ-loop
+unfolding sifted
+loop-holds c = let a = c .before .args in (omega arith, refl, omega arith, refl, sift-none (a .page .now) (a .count) (a .rule) (a .w))
+
+-- src/lib.rt:146:31
+entry-at-requires : tie.Need-entry-at-requires Inv-loop μ-loop
+entry-at-requires c κs = omega (arith, c .before .before .before .before .pre .1 .size, c .before .before .before .before .pre .1 .room, c .before .before .before .before .pre .0 .four, c .before .before .before .before .pre .0 .eight)
+
+-- src/lib.rt:146:13
+meet-requires : tie.Need-meet-requires Inv-loop μ-loop
+meet-requires c κs = search needs
+
+-- src/lib.rt:148:13
+put-entry-requires : tie.Need-put-entry-requires Inv-loop μ-loop
+put-entry-requires c κs = (
+  omega (arith, c .before .before .before .before .before .before .before .before .pre .1 .size, c .before .before .before .before .before .before .before .before .pre .1 .room, c .before .before .before .before .before .before .before .before .pre .0 .four, c .before .before .before .before .before .before .before .before .pre .0 .eight),
+  omega (arith, c .before .before .before .before .before .before .before .before .pre .1 .size, c .before .before .before .before .before .before .before .before .pre .0 .eight),
+  rw (c .before .before .meet .ensures, c .before .before .before .entry-at .ensures) (fate-sized _ _ _ (read-sized _ _) (c .before .before .before .before .before .before .before .before .pre .3)),
+)
+
+-- src/lib.rt:149:13
+add-j : tie.Need-add-j Inv-loop μ-loop
+add-j c = omega arith
+
+-- src/lib.rt:151:9
+add-i : tie.Need-add-i Inv-loop μ-loop
+add-i c = omega arith
+
+-- src/lib.rt:145:5
+loop-less : tie.Need-loop-less Inv-loop μ-loop
+loop-less c = omega arith
+
+-- src/lib.rt:145:5
+loop-again : tie.Need-loop-again Inv-loop μ-loop
+loop-again c =
+    let d = c .before .before .before .before .before .before .before .pre .0 in let a = c .before .before .before .before .before .before .before .args in let l = c .before .before .before .before .before .loop in let m = c .before .meet .result in
+    let p : List ℕ = a .page .now in let r = a .rule in let w = a .w in
+    let es : List Entry = readEntries p 128 (a .count) in
+    let n : length es ≡ a .count = length-entries p 128 (a .count) in
+    let out : List Entry = sifted r w (take (l .i) es) in
+    let f : m ≡ fateOf r w (getD es (l .i) unused)
+    = c .before .meet .ensures ∙ ap (fateOf r w) (c .before .before .entry-at .ensures ∙ sift-read p (l .page) (a .count) out (l .i) (a .l .least) (d .four) (d .eight) (c .before .before .before .before .before .before .before .pre .1) (c .before .before .before .before .before .before .before .pre .2) (l .inv .4) (omega arith) (omega arith)) in
+    let more : sifted r w (take (l .i + 1) es) ≡ out ++ left m = sifted-more r w es (l .i) (omega arith) ∙ ap (λ x. out ++ left x) (sym f) in
+    ⊎-elim
+    (λ t.
+    let k : left m ≡ (m .entry ∷ []) = rw (t .0 .taken) in
+    let m1 : sifted r w (take (l .i + 1) es) ≡ out ++ (m .entry ∷ []) = more ∙ ap (λ (y : List Entry). out ++ y) k in
+    let z : Sized (m .entry) = rw (c .before .meet .ensures, c .before .before .entry-at .ensures) (fate-sized _ _ _ (read-sized _ _) (c .before .before .before .before .before .before .before .pre .3)) in
+    let put : Staged p (a .count) (out ++ m .entry ∷ []) (lay (l .page) (128 + 96 * l .j) (entryParts (m .entry)))
+    = rw (l .inv .1) (sift-put p (l .page) (a .count) out (m .entry) (l .inv .4) (omega arith) z) in (
+      omega arith,
+      t .6 ∙ rw m1 (omega (arith, length-append out (m .entry ∷ []))),
+      omega (arith, t .6),
+      ap length (t .5) ∙ omega (arith, t .2 .kept .0),
+      λ least four eight x e. t .5 ∙ t .2 .ensures ∙ put least four eight x e ∙ ap (staged least p) (sym m1),
+    ))
+    (λ t.
+    let k : left m ≡ [] = rw (t .0 .left) in
+    let m1 : sifted r w (take (l .i + 1) es) ≡ out = more ∙ ap (λ (y : List Entry). out ++ y) k ∙ append-nil out in
+    (omega arith, t .2 ∙ rw m1 (l .inv .1), omega (arith, t .2), ap length (t .1) ∙ l .inv .3, λ least four eight x e. t .1 ∙ l .inv .4 least four eight x e ∙ ap (staged least p) (sym m1)))
+    (c .if1 .came)
+
+-- src/lib.rt:139:1
+same-length : tie.Need-same-length Inv-loop μ-loop
+same-length c = search needs
+
+-- src/lib.rt:139:1
+returns : tie.Need-returns Inv-loop μ-loop
+returns c =
+    let d = c .before .before .before .pre .0 in let a = c .before .before .before .args in let l = c .before .loop in
+    let p : List ℕ = a .page .now in
+    let es : List Entry = readEntries p 128 (a .count) in
+    let n : length es ≡ a .count = length-entries p 128 (a .count) in
+    let all : take (l .i) es ≡ es = take-all (l .i) es (omega arith) in
+    let e : es ≡ readEntries p 128 (countOf (a .l .least) p) = ap (readEntries p 128) (c .before .before .before .pre .2) in (
+      l .inv .4 (a .l .least) (d .four) (d .eight) (c .before .before .before .pre .1) (c .before .before .before .pre .2) ∙ ap (λ (y : List Entry). staged (a .l .least) p (sifted (a .rule) (a .w) y)) (all ∙ e),
+      l .inv .1 ∙ ap (λ (y : List Entry). length (sifted (a .rule) (a .w) y)) (all ∙ e),
+    )
+
+pub squeeze-spec : {M : Type 1} → statement M
+squeeze-spec =
+    tie.close
+    (tie.spec
+    Inv-loop
+    μ-loop
+    loop-holds
+    entry-at-requires
+    meet-requires
+    put-entry-requires
+    add-j
+    add-i
+    loop-less
+    loop-again
+    same-length
+    returns)
