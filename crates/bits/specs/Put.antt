@@ -145,6 +145,20 @@ bits-ext s t bs bt e h =
     ext-getD 0 s t e λ i l.
     sym (field-byte s i (bs i)) ∙ field-ext s t (8 * i) (8 * i) 8 (λ j k. h (8 * i + j) (omega arith)) ∙ field-byte t i (bt i)
 
+-- a whole byte
+pub put-byte-whole : (s : List ℕ) (k v : ℕ) → Bytes s → k < length s → v < 256 → putField s (8 * k) 8 v ≡ set s k v
+put-byte-whole s k v b h hv =
+    ext-getD 0 (putField s (8 * k) 8 v) (set s k v) (length-put s (8 * k) 8 v ∙ sym (length-set s k v)) λ i l.
+    sym (field-byte (putField s (8 * k) 8 v) i (bytes-put s (8 * k) 8 v b (omega arith) i)) ∙ ⊎-elim (here i) (there i) (same? i k)
+  where
+    here : (i : ℕ) → i ≡ k → field (putField s (8 * k) 8 v) (8 * i) 8 ≡ getD (set s k v) i 0
+    here i e = rw e (field-put-same s (8 * k) 8 v (omega arith) hv ∙ sym (getD-set-same s k v 0 h))
+
+    there : (i : ℕ) → i ≢ k → field (putField s (8 * k) 8 v) (8 * i) 8 ≡ getD (set s k v) i 0
+    there i n =
+        field-put-other s (8 * k) 8 v (8 * i) 8 (omega arith) (⊎-elim (λ l. inl (omega arith)) (λ l. inr (omega (arith, n))) (less i k))
+        ∙ field-byte s i (b i) ∙ sym (getD-set-other s k i v 0 n)
+
 -- ---- a field that is written bit by bit, from its first bit on
 
 pub put-more : (s : List ℕ) (at i w v : ℕ) → i < w

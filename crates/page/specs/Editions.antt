@@ -1,7 +1,7 @@
 -- Laws of the limits: what a struct of limits holds, and how wide its counts are. Assumes nothing.
 use Prim.Native.Nat.{ℕ, _+_, _*_, _^_, _≤_, _<_}
 use mathlib.Core.Bool.{Bool, true, false}
-use mathlib.Core.Path.{_≡_, refl, ap}
+use mathlib.Core.Path.{_≡_, refl, ap, sym, _∙_}
 use native.Mathlib.Omega.{arith}
 use lib.Dec.{leb}
 use borrow.Author.Tests.{leb-true}
@@ -66,3 +66,9 @@ module _ {l : Limits} (d : Edition l) where
 
   pub rooter-roots : Rooted (l .least) (l .rooter)
   rooter-roots = rw rooter-is (root-bits (l .least) (d .eight))
+
+-- the limits of a number
+pub edition-of : {l : Limits} (least : ℕ) → l ≡ limits least → 4 ≤ least → least ≤ 8 → Edition l
+edition-of least e h k =
+    let q = ap (λ (x : Limits). x .least) e in
+    record { all = e ∙ ap limits (sym q); four = rw q h; eight = rw q k }

@@ -19,8 +19,11 @@ use Rattle.page.specs.Editions.{Rooted, root-bits}
 use Rattle.store.specs.Read.{pages-lt, current-lt, roots-lt}
 
 -- "the four bytes 52 43 53 54; edition 8 bits (1)"
+abbrev pub namedBy : ℕ → List Part
+namedBy edition = 8 bits 0x52 ∷ 8 bits 0x43 ∷ 8 bits 0x53 ∷ 8 bits 0x54 ∷ 8 bits edition ∷ []
+
 abbrev pub nameParts : ℕ → List Part
-nameParts least = 8 bits 0x52 ∷ 8 bits 0x43 ∷ 8 bits 0x53 ∷ 8 bits 0x54 ∷ 8 bits (editionOf least) ∷ []
+nameParts least = namedBy (editionOf least)
 
 -- "page count 13; current version 20; open flag 1; number of roots 9"
 abbrev pub valueParts : ℕ → Header → List Part
@@ -39,7 +42,7 @@ pub record HeaderFits (least : ℕ) (h : Header) : Type 0 where
 pub header-fits : (least : ℕ) (s : List ℕ) → HeaderFits least (readHeader least s)
 header-fits least s = record { pages = pages-lt least s; current = current-lt least s; roots = roots-lt least s }
 
-bit-small : (b : Bool) → bit b < 2 ^ 1
+pub bit-small : (b : Bool) → bit b < 2 ^ 1
 bit-small true = omega arith
 bit-small false = omega arith
 

@@ -8,3 +8,5 @@ pub mod Holds
 pub mod Set
 pub mod Tested
 pub mod Sure
+pub mod Fresh
+pub mod Answers

@@ -11,11 +11,11 @@ use Rattle.model.specs.declared.Header.{Header}
 use Rattle.model.specs.Field.{lay}
 use Rattle.model.specs.Page.{Page, free}
 use Rattle.model.specs.Store.{Store}
-use Rattle.model.specs.Layout.{withPage, encodePage, slotsBytes, pagesBytes, headerBytes, headerOf, noSlot, encode}
+use Rattle.model.specs.Layout.{pageOf, withPage, encodePage, slotsBytes, pagesBytes, headerBytes, headerOf, noSlot, encode}
 use Rattle.page.specs.Editions.{root-bits}
 use Rattle.store.specs.Slots.{SlotFits, none-fits, slotParts, slot-put, directory, directory-length, slots-length}
 use Rattle.store.specs.Header.{HeaderFits, putHeader, header-length, header-put}
-use Rattle.store.specs.Pages.{AllValid, with-page}
+use Rattle.store.specs.Pages.{AllValid, page-of, with-page}
 use Rattle.store.specs.Holds.{Holds, header-holds, behind-valid}
 
 -- ---- in the bytes of a header, a directory and pages
@@ -35,6 +35,15 @@ module _ (least : ℕ) (four : 4 ≤ least) (eight : least ≤ 8) (h : Header) (
   slot-in i x lt f =
       let o : 512 * least + 32 * i ≡ 8 * length (headerBytes least h) + 32 * i = omega (arith, header-length least h) in
       rw o (slot-put (headerBytes least h) (pagesBytes least ps) xs i lt x f)
+
+  pub page-out : length xs ≡ 64 * least → AllValid least ps → (n : ℕ) → 5 ≤ n → n < 5 + length ps → pageOf least (bytesOf least h xs ps) n ≡ encodePage least (getD ps (n - 5) free)
+  page-out full v n le lt =
+      let a : List ℕ = headerBytes least h in
+      let b : List ℕ = slotsBytes xs in
+      let whole : length (a ++ b) ≡ 5 * (64 * least) = length-append a b ∙ omega (arith, header-length least h, slots-length xs) in
+      let e : n ≡ 5 + (n - 5) = omega arith in
+      ap (λ (k : ℕ). pageOf least (a ++ (b ++ pagesBytes least ps)) k) e ∙ ap (λ (s : List ℕ). pageOf least s (5 + (n - 5))) (sym (append-assoc a b (pagesBytes least ps)))
+      ∙ page-of least four ps v (a ++ b) 5 whole (n - 5) (omega arith)
 
   pub page-in : length xs ≡ 64 * least → AllValid least ps → (n : ℕ) (q : Page) → 5 ≤ n → n < 5 + length ps
       → withPage least (bytesOf least h xs ps) n (encodePage least q) ≡ bytesOf least h xs (set ps (n - 5) q)
@@ -84,7 +93,7 @@ withSlots s xs = record { current = s .current; opened = s .opened; slots = xs; 
 abbrev pub withState : Store → ℕ → Bool → Store
 withState s v b = record { current = v; opened = b; slots = s .slots; pages = s .pages }
 
-drop-set : (ps : List Page) (m n : ℕ) (q : Page) → m ≤ n → drop m (set ps n q) ≡ set (drop m ps) (n - m) q
+pub drop-set : (ps : List Page) (m n : ℕ) (q : Page) → m ≤ n → drop m (set ps n q) ≡ set (drop m ps) (n - m) q
 drop-set ps zero n q h = let e : n - 0 ≡ n = omega arith in rw e
 drop-set [] (suc m) n q h = refl
 drop-set (p ∷ ps) (suc m) zero q h = absurd (omega arith)

@@ -5,7 +5,7 @@ use mathlib.Core.Path.{_≡_, refl, ap, sym, _∙_}
 use mathlib.Core.List.{List, [], _∷_, _++_}
 use mathlib.Core.Logic.{⊎-elim}
 use native.Mathlib.Omega.{arith}
-use native.Mathlib.Nat.{div-add-mod'}
+use native.Mathlib.Nat.{div-add-mod', mul-le-mul-right}
 use borrow.Author.Tests.{leb-true, eqb-true}
 use lib.Dec.{leb, eqb}
 use lib.ListN.{length, getD, take, drop, replicate, List·getD-eq-default}
@@ -48,9 +48,15 @@ whole-length least s e =
     let z : length s % b ≡ 0 = eqb-true _ _ (y .0) in
     record { whole = omega (arith, div-add-mod' (length s) b); six = leb-true _ _ (y .1); most = leb-true _ _ (x .1) }
 
+pub whole-least : (least : ℕ) (s : List ℕ) → Whole least s → 6 * (64 * least) ≤ length s
+whole-least least s w = rw (w .whole) (mul-le-mul-right (64 * least) (w .six))
+
+pub whole-most : (least : ℕ) (s : List ℕ) → Whole least s → length s ≤ 4096 * (64 * least)
+whole-most least s w = rw (w .whole) (mul-le-mul-right (64 * least) (w .most))
+
 -- ---- name
 
-list-true : (xs ys : List ℕ) → eqList xs ys ≡ true → xs ≡ ys
+pub list-true : (xs ys : List ℕ) → eqList xs ys ≡ true → xs ≡ ys
 list-true [] [] e = refl
 list-true [] (y ∷ ys) e = cc
 list-true (x ∷ xs) [] e = cc

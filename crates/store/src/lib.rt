@@ -1,12 +1,65 @@
-// A store in its bytes: the header, the root directory, and each page's part.
+// A store in its bytes: the header, the root directory, each page's part, and making a fresh one.
 use model::Header;
 use model::Limits;
 use model::Slot;
+use page::Head;
 ghost use mathlib.Core.Path.{_≡_};
 ghost use Prim.Native.Nat.{ℕ, _+_, _*_, _^_, _≤_, _<_};
 ghost use lib.ListN.{length};
-ghost use Rattle.model.specs.Limits.{Edition};
-ghost use Rattle.model.specs.Layout.{readHeader, readSlot, pageOf};
+ghost use mathlib.Core.List.{[], _∷_};
+ghost use Rattle.model.specs.Limits.{Edition, editionOf};
+ghost use Rattle.model.specs.Field.{lay, Bytes};
+ghost use Rattle.model.specs.Store.{fresh};
+ghost use Rattle.model.specs.Layout.{readHeader, readSlot, pageOf, withPage, sizeOf, bit, encode};
+ghost use Rattle.page.specs.Head.{putHead};
+ghost use Rattle.store.specs.Fresh.{rootHead};
+ghost use Rattle.model.specs.Judged.{lengthOk, magicOk};
+ghost use Rattle.model.specs.Lent.{freshLent};
+ghost use Rattle.store.specs.Slots.{SlotFits, slotParts};
+ghost use Rattle.store.specs.Header.{HeaderFits, putHeader, namedBy};
+ghost use Rattle.store.specs.Tested.{Whole};
+
+// "End 1,048,575 means alive."
+const ALIVE: u32 = 1048575;
+
+// The number of pages that the length makes.
+pub fn size(s: &[u8], l: Limits) -> usize
+    requires { ⌜ Edition l ⌝ }
+    ensures { λ r. ⌜ r ≡ sizeOf (l .least) (now (s .entry)) ⌝ }
+{
+    s.len() / l.bytes
+}
+
+// Whether the length is 6 to 4,096 whole pages.
+pub fn whole(s: &[u8], l: Limits) -> bool
+    requires { ⌜ Edition l ⌝ }
+    ensures { λ r. ⌜ r ≡ lengthOk (l .least) (now (s .entry)) ⌝ }
+{
+    if s.len() % l.bytes != 0 {
+        return false;
+    }
+    let n = size(s, l);
+    if n < 6 {
+        return false;
+    }
+    n <= 4096
+}
+
+// Whether the first four bytes are those of a store.
+pub fn named(s: &[u8]) -> bool
+    requires { ⌜ 4 ≤ length (now s) ⌝ }
+    ensures { λ r. ⌜ r ≡ magicOk (now (s .entry)) ⌝ }
+{
+    let name = b"RCST";
+    let mut i = 0;
+    while i < 4 {
+        if s[i] != name[i] {
+            return false;
+        }
+        i += 1;
+    }
+    true
+}
 
 // The header.
 pub fn header(s: &[u8], l: Limits) -> Header
@@ -50,4 +103,104 @@ pub fn part(s: &[u8], l: Limits, n: usize) -> &[u8]
 {
     let a = offset(l, n);
     &s[a..a + l.bytes]
+}
+
+// Writes the four bytes of a store, and its edition.
+fn put_name(s: &mut [u8], edition: u8)
+    requires { ⌜ (5 ≤ length (now s)) × Bytes (now s) ⌝ }
+    ensures { λ _. ⌜ now (s .exit) ≡ lay (now (s .entry)) 0 (namedBy edition) ⌝ }
+{
+    let name = b"RCST";
+    s[0] = name[0];
+    s[1] = name[1];
+    s[2] = name[2];
+    s[3] = name[3];
+    s[4] = edition;
+}
+
+fn flag(b: bool) -> u64
+    ensures { λ r. ⌜ r ≡ bit b ⌝ }
+{
+    if b { 1 } else { 0 }
+}
+
+// Writes the header, all but the name and the edition.
+pub fn put_header(s: &mut [u8], l: Limits, h: Header)
+    requires { ⌜ Edition l × HeaderFits (l .least) h × (64 * l .least ≤ length (now s)) × (length (now s) ≤ 2 ^ 40) ⌝ }
+    ensures { λ _. ⌜ now (s .exit) ≡ putHeader (l .least) (now (s .entry)) h ⌝ }
+{
+    bits::put_field(s, 40, 13, h.pages as u64);
+    bits::put_field(s, 53, 20, h.current as u64);
+    bits::put_field(s, 73, 1, flag(h.opened));
+    bits::put_field(s, 74, l.rooter, h.roots as u64);
+}
+
+// Writes slot i of the root directory.
+pub fn put_slot(s: &mut [u8], l: Limits, i: usize, x: Slot)
+    requires { ⌜ Edition l × SlotFits x × (5 * (64 * l .least) ≤ length (now s)) × (i < 64 * l .least) × (length (now s) ≤ 2 ^ 40) ⌝ }
+    ensures { λ _. ⌜ now (s .exit) ≡ lay (now (s .entry)) (512 * l .least + 32 * i) (slotParts x) ⌝ }
+{
+    let o = 8 * l.bytes + 32 * i;
+    bits::put_field(s, o, 20, x.version as u64);
+    bits::put_field(s, o + 20, 12, x.root as u64);
+}
+
+// Page 5 of a fresh store: a leaf of version 0 with no entry.
+fn put_root(s: &mut [u8], l: Limits)
+    requires { ⌜ Edition l × (6 * (64 * l .least) ≤ length (now s)) × (length (now s) ≤ 2 ^ 40) ⌝ }
+    ensures { λ _. ⌜ now (s .exit) ≡ withPage (l .least) (now (s .entry)) 5 (putHead (l .least) (pageOf (l .least) (now (s .entry)) 5) rootHead) ⌝ }
+{
+    let a = offset(l, 5);
+    page::put_head(
+        &mut s[a..a + l.bytes],
+        l,
+        Head {
+            level: 1,
+            count: 0,
+            start: 0,
+            end: ALIVE,
+        },
+    );
+}
+
+// Makes the fresh store of an edition, from any bytes.
+fn make(s: &mut [u8], l: Limits, edition: u8)
+    requires { ⌜ Edition l × (edition ≡ editionOf (l .least)) × Whole (l .least) (now s) ⌝ }
+    ensures { λ _. ⌜ now (s .exit) ≡ encode (l .least) (fresh (sizeOf (l .least) (now (s .entry)))) ⌝ }
+{
+    let n = size(s, l);
+    page::clear(s);
+    put_name(s, edition);
+    put_header(
+        s,
+        l,
+        Header {
+            pages: n as u32,
+            current: 0,
+            opened: false,
+            roots: 1,
+        },
+    );
+    put_slot(
+        s,
+        l,
+        0,
+        Slot {
+            version: 0,
+            root: 5,
+        },
+    );
+    put_root(s, l);
+}
+
+// Making fresh: 1 for a length that is not 6 to 4,096 whole pages, and then not a byte changes.
+pub fn fresh(s: &mut [u8]) -> u32
+    ensures { λ r. ⌜ (r ≡ freshLent 4 (now (s .entry)) .number) × (now (s .exit) ≡ freshLent 4 (now (s .entry)) .store) ⌝ }
+{
+    let l = model::edition_one();
+    if !whole(s, l) {
+        return 1;
+    }
+    make(s, l, 1);
+    0
 }

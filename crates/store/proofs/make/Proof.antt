@@ -1,0 +1,102 @@
+use Rattle.store.specs.Fresh.{rootHead, rootSlot, freshHeader, made}
+use Rattle.store.specs.Tested.{whole-least, whole-most}
+use Rattle.store.specs.Header.{namedBy, nameParts, putHeader}
+use Rattle.store.specs.Slots.{slotParts}
+use Rattle.page.specs.Editions.{root-bits}
+use Rattle.page.specs.Head.{putHead}
+use Rattle.model.specs.Layout.{pageOf, withPage, sizeOf}
+use Rattle.model.specs.Field.{lay, zeros, Bytes}
+use Rattle.bits.specs.Lay.{bytes-zeros, length-zeros}
+use lib.ListN.{length}
+use Prim.Native.Nat.{ℕ, _+_, _*_, _^_, _<_, _≤_}
+use mathlib.Core.List.{List}
+use mathlib.Core.Path.{_≡_, refl, ap, sym, _∙_}
+use native.Mathlib.Omega.{arith}
+use borrow.Author.Needs.{needs}
+use Rattle.store.proofs.make.Statement.{statement}
+use Rattle.store.proofs.make.Tie as tie
+use Rattle.store.proofs.make.Reads as reads
+use Rattle.store.proofs.make.Lts as lts
+use Rattle.page.proofs.clear.Reads as clear-reads
+use Rattle.store.proofs.put_header.Reads as put-header-reads
+use Rattle.store.proofs.put_name.Reads as put-name-reads
+use Rattle.store.proofs.put_root.Reads as put-root-reads
+use Rattle.store.proofs.put_slot.Reads as put-slot-reads
+use Rattle.store.proofs.size.Reads as size-reads
+
+-- src/lib.rt:171:9
+size-requires : tie.Need-size-requires
+size-requires c κs = c .before .before .pre .0
+
+-- src/lib.rt:172:5
+clear-requires : tie.Need-clear-requires
+clear-requires c κs = search needs
+
+-- src/lib.rt:173:5
+put-name-requires : tie.Need-put-name-requires
+put-name-requires c κs =
+    let a = c .before .before .before .before .before .before .before .before .args in
+    (omega (arith, c .before .before .before .clear .kept .0, whole-least (a .l .least) (a .s .now) (c .before .before .before .before .before .before .before .before .pre .2), c .before .before .before .before .before .before .before .before .pre .0 .four), rw (c .before .before .before .clear .ensures) (bytes-zeros (length (a .s .now))))
+
+-- src/lib.rt:178:20
+cast-t14 : tie.Need-cast-t14
+cast-t14 c = omega (arith, c .before .before .before .before .before .before .before .before .before .size .ensures, c .before .before .before .before .before .before .before .before .before .before .before .before .pre .2 .most)
+
+-- src/lib.rt:174:5
+put-header-requires : tie.Need-put-header-requires
+put-header-requires c κs =
+    let a = c .before .before .before .before .before .before .before .before .before .before .before .before .args in let d = c .before .before .before .before .before .before .before .before .before .before .before .before .pre .0 in (
+      d,
+      record { pages = omega (arith, c .before .before .before .before .before .before .before .before .before .size .ensures, c .before .before .before .before .before .before .before .before .before .before .before .before .pre .2 .most); current = omega arith; roots = omega (arith, root-bits (a .l .least) (d .eight), d .four) },
+      omega (arith, c .before .before .before .put-name .kept .0, c .before .before .before .before .before .before .before .clear .kept .0, whole-least (a .l .least) (a .s .now) (c .before .before .before .before .before .before .before .before .before .before .before .before .pre .2)),
+      omega (arith, c .before .before .before .put-name .kept .0, c .before .before .before .before .before .before .before .clear .kept .0, whole-most (a .l .least) (a .s .now) (c .before .before .before .before .before .before .before .before .before .before .before .before .pre .2), d .eight),
+    )
+
+-- src/lib.rt:184:5
+put-slot-requires : tie.Need-put-slot-requires
+put-slot-requires c κs =
+    let a = c .before .before .before .before .before .before .before .before .before .before .before .before .before .before .before .before .args in let d = c .before .before .before .before .before .before .before .before .before .before .before .before .before .before .before .before .pre .0 in (
+      d,
+      record { version = omega arith; root = omega arith },
+      omega (arith, c .before .before .before .put-header .kept .0, c .before .before .before .before .before .before .before .put-name .kept .0, c .before .before .before .before .before .before .before .before .before .before .before .clear .kept .0, whole-least (a .l .least) (a .s .now) (c .before .before .before .before .before .before .before .before .before .before .before .before .before .before .before .before .pre .2)),
+      omega (arith, d .four),
+      omega (arith, c .before .before .before .put-header .kept .0, c .before .before .before .before .before .before .before .put-name .kept .0, c .before .before .before .before .before .before .before .before .before .before .before .clear .kept .0, whole-most (a .l .least) (a .s .now) (c .before .before .before .before .before .before .before .before .before .before .before .before .before .before .before .before .pre .2), d .eight),
+    )
+
+-- src/lib.rt:185:5
+put-root-requires : tie.Need-put-root-requires
+put-root-requires c κs =
+    let a = c .before .before .before .before .before .before .before .before .before .before .before .before .before .before .before .before .before .before .before .before .args in let d = c .before .before .before .before .before .before .before .before .before .before .before .before .before .before .before .before .before .before .before .before .pre .0 in (
+      d,
+      omega (arith, c .before .before .before .put-slot .kept .0, c .before .before .before .before .before .before .before .put-header .kept .0, c .before .before .before .before .before .before .before .before .before .before .before .put-name .kept .0, c .before .before .before .before .before .before .before .before .before .before .before .before .before .before .before .clear .kept .0, whole-least (a .l .least) (a .s .now) (c .before .before .before .before .before .before .before .before .before .before .before .before .before .before .before .before .before .before .before .before .pre .2)),
+      omega (arith, c .before .before .before .put-slot .kept .0, c .before .before .before .before .before .before .before .put-header .kept .0, c .before .before .before .before .before .before .before .before .before .before .before .put-name .kept .0, c .before .before .before .before .before .before .before .before .before .before .before .before .before .before .before .clear .kept .0, whole-most (a .l .least) (a .s .now) (c .before .before .before .before .before .before .before .before .before .before .before .before .before .before .before .before .before .before .before .before .pre .2), d .eight),
+    )
+
+-- src/lib.rt:167:1
+same-length : tie.Need-same-length
+same-length c = omega (arith, c .before .before .put-root .kept .0, c .before .before .before .before .before .before .put-slot .kept .0, c .before .before .before .before .before .before .before .before .before .before .put-header .kept .0, c .before .before .before .before .before .before .before .before .before .before .before .before .before .before .put-name .kept .0, c .before .before .before .before .before .before .before .before .before .before .before .before .before .before .before .before .before .before .clear .kept .0)
+
+-- src/lib.rt:167:1
+returns : tie.Need-returns
+returns c =
+    let a = c .before .before .before .before .before .before .before .before .before .before .before .before .before .before .before .before .before .before .before .before .before .before .before .args in let d = c .before .before .before .before .before .before .before .before .before .before .before .before .before .before .before .before .before .before .before .before .before .before .before .pre .0 in let least = a .l .least in
+    let n : ℕ = sizeOf least (a .s .now) in
+    let z : List ℕ = zeros (n * (64 * least)) in
+    let e1 = c .before .before .before .before .before .before .before .before .before .before .before .before .before .before .put-name .ensures ∙ ap (λ (b : List ℕ). lay b 0 (namedBy (a .edition))) (c .before .before .before .before .before .before .before .before .before .before .before .before .before .before .before .before .before .before .clear .ensures ∙ ap zeros (c .before .before .before .before .before .before .before .before .before .before .before .before .before .before .before .before .before .before .before .before .before .before .before .pre .2 .whole)) ∙ ap (λ (e : ℕ). lay z 0 (namedBy e)) (c .before .before .before .before .before .before .before .before .before .before .before .before .before .before .before .before .before .before .before .before .before .before .before .pre .1) in
+    let e2 = c .before .before .before .before .before .before .before .before .before .before .put-header .ensures ∙ ap (λ (b : List ℕ). putHeader least b (freshHeader (c .before .before .before .before .before .before .before .before .before .before .before .before .before .before .before .before .before .before .before .before .size .result))) e1 ∙ ap (λ (k : ℕ). putHeader least (lay z 0 (nameParts least)) (freshHeader k)) (c .before .before .before .before .before .before .before .before .before .before .before .before .before .before .before .before .before .before .before .before .size .ensures) in
+    let e3 = c .before .before .before .before .before .before .put-slot .ensures ∙ ap (λ (b : List ℕ). lay b (512 * least + 32 * 0) (slotParts rootSlot)) e2 in
+    c .before .before .put-root .ensures ∙ ap (λ (b : List ℕ). withPage least b 5 (putHead least (pageOf least b 5) rootHead)) e3 ∙ made least (d .four) (d .eight) n (c .before .before .before .before .before .before .before .before .before .before .before .before .before .before .before .before .before .before .before .before .before .before .before .pre .2 .six) (c .before .before .before .before .before .before .before .before .before .before .before .before .before .before .before .before .before .before .before .before .before .before .before .pre .2 .most)
+
+pub make-spec : {M : Type 1} → statement M
+make-spec =
+    tie.close
+    (tie.spec
+    size-requires
+    clear-requires
+    put-name-requires
+    cast-t14
+    put-header-requires
+    put-slot-requires
+    put-root-requires
+    same-length
+    returns)
