@@ -1,12 +1,19 @@
--- Lines and what they are: one table, one claim.
+-- Lines and their commands, inputs and their records, answers and their lines: three tables, a claim for each.
 -- Assumes nothing.
+use Prim.Native.Nat.{ℕ}
 use Prim.Native.String.{String}
 use mathlib.Core.Path.{_≡_, refl}
 use mathlib.Core.List.{List, [], _∷_, map}
 use Rattle.lines.specs.declared.Command.{Command}
 use Rattle.lines.specs.declared.Command.the-variants.{Store, Open, Insert, Delete, Commit, Abandon, Get, Range, Bad}
+use Rattle.lines.specs.declared.Line.{Line}
+use Rattle.lines.specs.declared.Answer.{Answer}
+use Rattle.lines.specs.declared.Answer.the-variants.{Done, Refused, Value, Absent, Count, Setting, BadLine}
 use Rattle.lines.specs.Console as Console
-use Rattle.lines.specs.Console.{ascii, commandOf}
+use Rattle.lines.specs.Console.{ascii, commandOf, recordsOf}
+use Rattle.lines.specs.Answers.{decimalWithin, textOf}
+
+-- ---- lines
 
 pub record Example : Type 0 where
   pub line : String
@@ -47,8 +54,65 @@ examples =
     ∷ is "range 0 20 1 1" Bad
     ∷ is "opens" Bad
     ∷ is "7" Bad
+    -- 80 and 81 bytes
+    ∷ is "insert 5 00000000000000000000000000000000000000000000000000000000000000000000000" Bad
+    ∷ is "insert 5 000000000000000000000000000000000000000000000000000000000000000000000000" Bad
     ∷ []
 
 pub examples-hold : map (λ (e : Example). commandOf (ascii (e .line))) examples ≡ map (λ (e : Example). e .gives) examples
 unfolding Console.cut Console.valueFrom Console.numberOf Console.spoken Console.commandOf
 examples-hold = refl
+
+-- ---- inputs
+
+pub record Input : Type 0 where
+  pub text : String
+  pub gives : List Line
+
+abbrev line : ℕ → Command → Line
+line n c = record { number = n; command = c }
+
+abbrev input : String → List Line → Input
+input t ls = record { text = t; gives = ls }
+
+abbrev pub inputs : List Input
+inputs =
+    input "" []
+    ∷ input "\n" (line 1 Bad ∷ [])
+    ∷ input "open" (line 1 Open ∷ [])
+    ∷ input "open\n" (line 1 Open ∷ [])
+    ∷ input "open\n\ncommit" (line 1 Open ∷ line 2 Bad ∷ line 3 Commit ∷ [])
+    ∷ input "store 16\nopen\ninsert 5 50\nget 5 1\n" (line 1 (Store 16) ∷ line 2 Open ∷ line 3 (Insert 5 50) ∷ line 4 (Get 5 1) ∷ [])
+    ∷ []
+
+pub inputs-hold : map (λ (i : Input). recordsOf (ascii (i .text))) inputs ≡ map (λ (i : Input). i .gives) inputs
+unfolding Console.cut Console.valueFrom Console.numberOf Console.spoken Console.commandOf
+inputs-hold = refl
+
+-- ---- answers
+
+pub record Written : Type 0 where
+  pub answer : Answer
+  pub text : String
+
+abbrev writes : Answer → String → Written
+writes a t = record { answer = a; text = t }
+
+abbrev pub answers : List Written
+answers =
+    writes Done "ok\n"
+    ∷ writes (Refused 6) "refused 6\n"
+    ∷ writes (Refused 14) "refused 14\n"
+    ∷ writes (Value 50) "value 50\n"
+    ∷ writes (Value 0) "value 0\n"
+    ∷ writes (Value 4294967295) "value 4294967295\n"
+    ∷ writes Absent "absent\n"
+    ∷ writes (Count 2) "count 2\n"
+    ∷ writes (Setting 5 50) "5 50\n"
+    ∷ writes (Setting 16777215 1000000009) "16777215 1000000009\n"
+    ∷ writes BadLine "bad line\n"
+    ∷ []
+
+pub answers-hold : map (λ (w : Written). textOf (w .answer)) answers ≡ map (λ (w : Written). ascii (w .text)) answers
+unfolding decimalWithin
+answers-hold = refl

@@ -1,4 +1,4 @@
-// A line to its command, word by word.
+// A line to its command, word by word: `after_` so many words there is more text, `with_` so many numbers the line is whole.
 ghost use mathlib.Core.Path.{_≡_};
 ghost use mathlib.Core.List.{_∷_};
 ghost use Rattle.lines.specs.Console.{words, spoken, commandOf, withNone, withOne, withTwo, withThree};

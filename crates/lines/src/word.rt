@@ -19,6 +19,7 @@ pub(crate) fn find(s: &[u8], mark: u8) -> usize
     i
 }
 
+// Whether two words are alike.
 pub(crate) fn same(a: &[u8], b: &[u8]) -> bool
     ensures { λ r. ⌜ r ≡ eqList (now (a .entry)) (now (b .entry)) ⌝ }
 {
@@ -41,7 +42,7 @@ fn wide(x: u8) -> u64
     x as u64
 }
 
-// "a number has 1 to 10 decimal digits and is at most 4,294,967,295"
+// "a number has 1 to 10 decimal digits and is at most 4,294,967,295". The digits are the bytes 48 to 57; ten of them want 34 bits.
 pub(crate) fn number(word: &[u8]) -> Number
     ensures { λ r. ⌜ r ≡ numberOf (now (word .entry)) ⌝ }
 {

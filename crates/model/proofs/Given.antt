@@ -41,6 +41,22 @@ livesAt v p = not (isFree p) && within (p .start) (p .end) v
 abbrev pub enough : ℕ → Seen → Bool
 enough least x = leb (fewest least (x .isRoot) (x .up)) (length (x .pairs))
 
+-- rules 1 to 3
+pub record Front (least : ℕ) (s : Store) : Type 0 where
+  pub long : 6 ≤ length (s .pages)
+  pub short : length (s .pages) ≤ 4096
+  pub slots-few : length (s .slots) ≤ 64 * least
+  pub last-low : last s ≤ 1048574
+  pub roots : all (λ (x : Slot). isPage (length (s .pages)) (x .root)) (s .slots) ≡ true
+  pub front : (n : ℕ) → n < 5 → isFree (page (s .pages) n) ≡ true
+  pub zeros : (n : ℕ) → isFree (page (s .pages) n) ≡ true → page (s .pages) n ≡ free
+  pub pages : (n : ℕ) → isFree (page (s .pages) n) ≡ false → GoodPage least s (page (s .pages) n)
+  pub begins : firstVersion (s .slots) ≡ 0
+  pub rises : inOrder (λ (x y : Slot). ltb (x .version) (y .version)) (s .slots) ≡ true
+  pub upto : all (λ (x : Slot). leb (x .version) (last s)) (s .slots) ≡ true
+  pub spans : (n : ℕ) → isFree (page (s .pages) n) ≡ false → spansWell s (page (s .pages) n) ≡ true
+  pub root-used : all (λ (x : Slot). not (isFree (page (s .pages) (x .root)))) (s .slots) ≡ true
+
 -- rules 1 to 6; rule 7 follows
 pub record Sound (least : ℕ) (s : Store) : Type 0 where
   pub long : 6 ≤ length (s .pages)
@@ -176,77 +192,98 @@ to-fine least l size p h g = at (bool-cases (isFree p))
 pub version-in : (s : Store) (v : ℕ) → v ≤ last s → In v (versions s)
 version-in s v h = in-count v 0 (suc (last s)) (omega arith) (omega arith)
 
--- From the tests to the record.
-pub from-tests : (least : ℕ) (s : Store) → sound least s ≡ true → Sound least s
-unfolding sound rule1 rule2 rule3 rule4 rule5 rule6
-from-tests least s h =
-    let (h6, r7) = both-true (rule1 least s && rule2 s && rule3 s && rule4 s && rule5 least s && rule6 s) (rule7 s) h in
-    let (h5, r6) = both-true (rule1 least s && rule2 s && rule3 s && rule4 s && rule5 least s) (rule6 s) h6 in
-    let (h4, r5) = both-true (rule1 least s && rule2 s && rule3 s && rule4 s) (rule5 least s) h5 in
-    let (h3, r4) = both-true (rule1 least s && rule2 s && rule3 s) (rule4 s) h4 in
-    let (h2, r3) = both-true (rule1 least s && rule2 s) (rule3 s) h3 in
-    let (r1, r2) = both-true (rule1 least s) (rule2 s) h2 in
-    let long : Bool = leb 6 (length (s .pages)) in
-    let short : Bool = leb (length (s .pages)) 4096 in
-    let few : Bool = leb (length (s .slots)) (64 * least) in
-    let low : Bool = leb (last s) 1048574 in
-    let roots : Bool = all (λ (x : Slot). isPage (length (s .pages)) (x .root)) (s .slots) in
-    let front : Bool = all (λ (p : Page). isFree p && zeroed p) (take 5 (s .pages)) in
-    let (a5, pass) = both-true (long && short && few && low && roots && front) (all (pageFine least (last s) (length (s .pages))) (drop 5 (s .pages))) r1 in
-    let (a4, fr) = both-true (long && short && few && low && roots) front a5 in
-    let (a3, ro) = both-true (long && short && few && low) roots a4 in
-    let (a2, lo) = both-true (long && short && few) low a3 in
-    let (a1, fe) = both-true (long && short) few a2 in
-    let (lg, sh) = both-true long short a1 in
-    let first : Bool = eqb (firstVersion (s .slots)) 0 in
-    let rising : Bool = inOrder (λ (x y : Slot). ltb (x .version) (y .version)) (s .slots) in
-    let (b1, up) = both-true (first && rising) (all (λ (x : Slot). leb (x .version) (last s)) (s .slots)) r2 in
-    let (fi, ri) = both-true first rising b1 in
-    let (sp, us) = both-true (pagesPass (spansWell s) s) (all (λ (x : Slot). not (isFree (page (s .pages) (x .root)))) (s .slots)) r3 in
-    let long-enough : 6 ≤ length (s .pages) = leb-true 6 (length (s .pages)) lg in
-    let fronts : (n : ℕ) → n < 5 → isFree (page (s .pages) n) ≡ true
-    = (λ n q. both-true (isFree (page (s .pages) n)) (zeroed (page (s .pages) n)) (front-at (s .pages) fr long-enough n q) .0) in
-    record {
-      long = long-enough;
-      short = leb-true (length (s .pages)) 4096 sh;
-      slots-few = leb-true (length (s .slots)) (64 * least) fe;
-      last-low = leb-true (last s) 1048574 lo;
-      roots = ro;
-      front = fronts;
-      zeros = λ n e. at-zero n e (bool-cases (ltb n 5)) (bool-cases (ltb n (length (s .pages)))) (front-at (s .pages) fr long-enough) pass;
-      pages = λ n u. good-page least s (page (s .pages) n)
-          (fine-used least (last s) (length (s .pages)) (page (s .pages) n) (fine-at n (high-used s n fronts u) (used-in (s .pages) n u) pass) u);
-      begins = eqb-true (firstVersion (s .slots)) 0 fi;
-      rises = ri;
-      upto = up;
-      spans = λ n u. passes-at (spansWell s) s sp fronts n u;
-      root-used = us;
-      keys = λ v l. all-in (λ (u : ℕ). all keysOk (seen s u)) v (versions s) r4 (version-in s v l);
-      counts = λ v l. all-in (λ (u : ℕ). all (enough least) (seen s u)) v (versions s) r5 (version-in s v l);
-      reached = λ v l n five inn.
-          let q = all-in (λ (u : ℕ). reachedWell u (numbers s u) 5 (drop 5 (s .pages))) v (versions s) r6 (version-in s v l) in
-          ap (livesAt v) (ap (page (s .pages)) (back n five) ∙ sym (getD-drop 5 (s .pages) (n - 5) free))
-          ∙ reached-at v (numbers s v) 5 (drop 5 (s .pages)) q (n - 5) (omega (arith, length-drop 5 (s .pages)))
-          ∙ ap (λ (k : ℕ). has k (numbers s v)) (sym (back n five));
-    }
-  where
-    back : (n : ℕ) → 5 ≤ n → n ≡ 5 + (n - 5)
-    back n h = omega arith
+-- From the tests to the records.
+module _ (least : ℕ) (s : Store) where
+  abbrev fine : Page → Bool
+  fine = pageFine least (last s) (length (s .pages))
 
-    fine : Page → Bool
-    fine = pageFine least (last s) (length (s .pages))
+  back : (n : ℕ) → 5 ≤ n → n ≡ 5 + (n - 5)
+  back n h = omega arith
 
-    fine-at : (n : ℕ) → 5 ≤ n → n < length (s .pages) → all fine (drop 5 (s .pages)) ≡ true → fine (page (s .pages) n) ≡ true
-    fine-at n five l h =
-        ap fine (ap (page (s .pages)) (back n five) ∙ sym (getD-drop 5 (s .pages) (n - 5) free))
-        ∙ all-at fine free (drop 5 (s .pages)) h (n - 5) (omega (arith, length-drop 5 (s .pages)))
+  fine-at : (n : ℕ) → 5 ≤ n → n < length (s .pages) → all fine (drop 5 (s .pages)) ≡ true → fine (page (s .pages) n) ≡ true
+  fine-at n five l h =
+      ap fine (ap (page (s .pages)) (back n five) ∙ sym (getD-drop 5 (s .pages) (n - 5) free))
+      ∙ all-at fine free (drop 5 (s .pages)) h (n - 5) (omega (arith, length-drop 5 (s .pages)))
 
-    at-zero : (n : ℕ) → isFree (page (s .pages) n) ≡ true → (ltb n 5 ≡ true) ⊎ (ltb n 5 ≡ false) → (ltb n (length (s .pages)) ≡ true) ⊎ (ltb n (length (s .pages)) ≡ false)
-        → ((m : ℕ) → m < 5 → (isFree (page (s .pages) m) && zeroed (page (s .pages) m)) ≡ true) → all fine (drop 5 (s .pages)) ≡ true → page (s .pages) n ≡ free
-    at-zero n e (inl f) l fr h = zeroed-free (page (s .pages) n) (both-true (isFree (page (s .pages) n)) (zeroed (page (s .pages) n)) (fr n (ltb-true n 5 f)) .1) e
-    at-zero n e (inr f) (inl l) fr h =
-        fine-free least (last s) (length (s .pages)) (page (s .pages) n) (fine-at n (ltb-false n 5 f) (ltb-true n (length (s .pages)) l) h) e
-    at-zero n e (inr f) (inr l) fr h = page-out (s .pages) n (ltb-false n (length (s .pages)) l)
+  at-zero : (n : ℕ) → isFree (page (s .pages) n) ≡ true → (ltb n 5 ≡ true) ⊎ (ltb n 5 ≡ false) → (ltb n (length (s .pages)) ≡ true) ⊎ (ltb n (length (s .pages)) ≡ false)
+      → ((m : ℕ) → m < 5 → (isFree (page (s .pages) m) && zeroed (page (s .pages) m)) ≡ true) → all fine (drop 5 (s .pages)) ≡ true → page (s .pages) n ≡ free
+  at-zero n e (inl f) l fr h = zeroed-free (page (s .pages) n) (both-true (isFree (page (s .pages) n)) (zeroed (page (s .pages) n)) (fr n (ltb-true n 5 f)) .1) e
+  at-zero n e (inr f) (inl l) fr h =
+      fine-free least (last s) (length (s .pages)) (page (s .pages) n) (fine-at n (ltb-false n 5 f) (ltb-true n (length (s .pages)) l) h) e
+  at-zero n e (inr f) (inr l) fr h = page-out (s .pages) n (ltb-false n (length (s .pages)) l)
+
+  pub front-of : rule1 least s ≡ true → rule2 s ≡ true → rule3 s ≡ true → Front least s
+  unfolding rule1 rule2 rule3
+  front-of r1 r2 r3 =
+      let long : Bool = leb 6 (length (s .pages)) in
+      let short : Bool = leb (length (s .pages)) 4096 in
+      let few : Bool = leb (length (s .slots)) (64 * least) in
+      let low : Bool = leb (last s) 1048574 in
+      let roots : Bool = all (λ (x : Slot). isPage (length (s .pages)) (x .root)) (s .slots) in
+      let front : Bool = all (λ (p : Page). isFree p && zeroed p) (take 5 (s .pages)) in
+      let (a5, pass) = both-true (long && short && few && low && roots && front) (all (pageFine least (last s) (length (s .pages))) (drop 5 (s .pages))) r1 in
+      let (a4, fr) = both-true (long && short && few && low && roots) front a5 in
+      let (a3, ro) = both-true (long && short && few && low) roots a4 in
+      let (a2, lo) = both-true (long && short && few) low a3 in
+      let (a1, fe) = both-true (long && short) few a2 in
+      let (lg, sh) = both-true long short a1 in
+      let first : Bool = eqb (firstVersion (s .slots)) 0 in
+      let rising : Bool = inOrder (λ (x y : Slot). ltb (x .version) (y .version)) (s .slots) in
+      let (b1, up) = both-true (first && rising) (all (λ (x : Slot). leb (x .version) (last s)) (s .slots)) r2 in
+      let (fi, ri) = both-true first rising b1 in
+      let (sp, us) = both-true (pagesPass (spansWell s) s) (all (λ (x : Slot). not (isFree (page (s .pages) (x .root)))) (s .slots)) r3 in
+      let long-enough : 6 ≤ length (s .pages) = leb-true 6 (length (s .pages)) lg in
+      let fronts : (n : ℕ) → n < 5 → isFree (page (s .pages) n) ≡ true
+      = (λ n q. both-true (isFree (page (s .pages) n)) (zeroed (page (s .pages) n)) (front-at (s .pages) fr long-enough n q) .0) in
+      record {
+        long = long-enough;
+        short = leb-true (length (s .pages)) 4096 sh;
+        slots-few = leb-true (length (s .slots)) (64 * least) fe;
+        last-low = leb-true (last s) 1048574 lo;
+        roots = ro;
+        front = fronts;
+        zeros = λ n e. at-zero n e (bool-cases (ltb n 5)) (bool-cases (ltb n (length (s .pages)))) (front-at (s .pages) fr long-enough) pass;
+        pages = λ n u. good-page least s (page (s .pages) n)
+            (fine-used least (last s) (length (s .pages)) (page (s .pages) n) (fine-at n (high-used s n fronts u) (used-in (s .pages) n u) pass) u);
+        begins = eqb-true (firstVersion (s .slots)) 0 fi;
+        rises = ri;
+        upto = up;
+        spans = λ n u. passes-at (spansWell s) s sp fronts n u;
+        root-used = us;
+      }
+
+  pub from-tests : sound least s ≡ true → Sound least s
+  unfolding sound rule4 rule5 rule6
+  from-tests h =
+      let (h6, r7) = both-true (rule1 least s && rule2 s && rule3 s && rule4 s && rule5 least s && rule6 s) (rule7 s) h in
+      let (h5, r6) = both-true (rule1 least s && rule2 s && rule3 s && rule4 s && rule5 least s) (rule6 s) h6 in
+      let (h4, r5) = both-true (rule1 least s && rule2 s && rule3 s && rule4 s) (rule5 least s) h5 in
+      let (h3, r4) = both-true (rule1 least s && rule2 s && rule3 s) (rule4 s) h4 in
+      let (h2, r3) = both-true (rule1 least s && rule2 s) (rule3 s) h3 in
+      let (r1, r2) = both-true (rule1 least s) (rule2 s) h2 in
+      let f = front-of r1 r2 r3 in
+      record {
+        long = f .long;
+        short = f .short;
+        slots-few = f .slots-few;
+        last-low = f .last-low;
+        roots = f .roots;
+        front = f .front;
+        zeros = f .zeros;
+        pages = f .pages;
+        begins = f .begins;
+        rises = f .rises;
+        upto = f .upto;
+        spans = f .spans;
+        root-used = f .root-used;
+        keys = λ v l. all-in (λ (u : ℕ). all keysOk (seen s u)) v (versions s) r4 (version-in s v l);
+        counts = λ v l. all-in (λ (u : ℕ). all (enough least) (seen s u)) v (versions s) r5 (version-in s v l);
+        reached = λ v l n five inn.
+            let q = all-in (λ (u : ℕ). reachedWell u (numbers s u) 5 (drop 5 (s .pages))) v (versions s) r6 (version-in s v l) in
+            ap (livesAt v) (ap (page (s .pages)) (back n five) ∙ sym (getD-drop 5 (s .pages) (n - 5) free))
+            ∙ reached-at v (numbers s v) 5 (drop 5 (s .pages)) q (n - 5) (omega (arith, length-drop 5 (s .pages)))
+            ∙ ap (λ (k : ℕ). has k (numbers s v)) (sym (back n five));
+      }
 
 -- a span as rule 1 has it
 pub record Span (l a b : ℕ) : Type 0 where

@@ -80,7 +80,7 @@ seventh-by least s one three = at (s .opened) refl
 -- ---- the lowest broken rule
 
 module _ (least : ℕ) (b : List ℕ) where
-  clean-first : clean least b ≡ true → rule1 least (decode least b) ≡ true
+  pub clean-first : clean least b ≡ true → rule1 least (decode least b) ≡ true
   unfolding clean
   clean-first h =
       both-true (cleanPages least b 5 (sizeOf least b - 5)) (rule1 least (decode least b))

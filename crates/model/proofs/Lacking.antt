@@ -284,7 +284,7 @@ lacking least s sure =
 -- ---- on lent bytes
 
 module _ (least : ℕ) (b : List ℕ) where
-  judged-low : judged least b .number ≤ 4
+  pub judged-low : judged least b .number ≤ 4
   unfolding Judged.judged
   judged-low = at (lengthOk least b) (magicOk b) (editionOk least b)
     where

@@ -64,3 +64,5 @@ pub mod QuickOnce
 pub mod QuickReach
 pub mod QuickBack
 pub mod Quick
+pub mod QuickLent
+pub mod QuickLaws

@@ -138,7 +138,7 @@ module _ (least : ℕ) (four : 4 ≤ least) (b : Both) (a : Agrees least b) (t :
           let lu : last u ≡ suc (s .current) = ap₂ lastOf (n .opened ∙ sym (a .opened) ∙ o) (n .current ∙ sym (a .current)) in
           omega (arith, count-away (suc (m .current)) (suc (t .removed (suc (m .current)))) v (t .removed) ne, past o (deletes j) u n (λ i q. ap (λ (b′ : Bool). pick b′ (those (λ (y : Pair). not (eqb (y .key) j)) (m .shows (suc (m .current)))) (m .shows i)) (ne-eqb i (suc (m .current)) q)) refl refl v h ne, k .is v (omega (arith, last-open o, lu)))
 
-  one-count : (c : Call) → Next c (callBy least s c)
+  pub one-count : (c : Call) → Next c (callBy least s c)
   one-count begins = begins-next
   one-count commits = commits-next
   one-count abandons = abandons-next

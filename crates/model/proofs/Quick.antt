@@ -1,32 +1,31 @@
 -- Where rules 1 to 3 hold, `quick` is rules 4 to 6; so `quickSound` is `sound`.
 -- Assumes nothing.
-use Prim.Native.Nat.{ℕ, zero, suc, _+_, _-_, _≤_, _<_}
+use Prim.Native.Nat.{ℕ, suc, _+_, _-_, _≤_, _<_}
 use native.Mathlib.Omega.{arith}
-use mathlib.Core.Bool.{Bool, true, false, _&&_, _||_, not}
+use mathlib.Core.Bool.{Bool, true, false, _&&_, not}
 use mathlib.Core.Path.{_≡_, refl, ap, sym, _∙_, subst}
 use mathlib.Core.Logic.{_⊎_, inl, inr}
-use mathlib.Core.List.{List, [], _∷_, _++_, map}
-use lib.Dec.{leb, ltb, eqb}
-use lib.ListN.{length, drop, length-drop}
+use mathlib.Core.List.{List}
+use lib.Dec.{leb}
+use lib.ListN.{drop, length-drop}
 use lib.Seq.{getD-drop}
 use borrow.Author.Tests.{leb-true, leb-false, not-true}
 use Rattle.model.specs.Basic.{all, has, inOrder}
-use Rattle.model.specs.declared.Entry.{Entry}
 use Rattle.model.specs.declared.Slot.{Slot}
 use Rattle.model.specs.Entry.{alive, within}
 use Rattle.model.specs.Page.{Page, free, isFree}
 use Rattle.model.specs.Store.{Store, page, last}
-use Rattle.model.specs.Walk.{Seen, seen, keyLimit}
+use Rattle.model.specs.Walk.{Seen, seen}
 use Rattle.model.specs.Sound.{pagesPass, versions, keysOk, reachedWell, sound, rule1, rule2, rule3, rule4, rule5, rule6, rule7}
 use Rattle.model.specs.Quick.{apart, childrenFine, slotsFine, ledTo, spansMet, quick, quickSound}
 use Rattle.model.proofs.Lists.{both-true, both-intro}
-use Rattle.model.proofs.Members.{not-both, bool-cases, In, all-in, all-by, all-implies, count-in}
-use Rattle.model.proofs.Given.{Sound, GoodPage, Span, span-of, entry-of, numbers, livesAt, enough, from-tests, used-in, high-used, passes-at, at-passes, reached-at, at-reached, version-in}
+use Rattle.model.proofs.Members.{bool-cases, In, all-in, all-by, all-implies, count-in}
+use Rattle.model.proofs.Given.{Front, front-of, span-of, numbers, livesAt, enough, used-in, high-used, passes-at, at-passes, reached-at, at-reached, version-in}
 use Rattle.model.proofs.Quiet.{Out, QuietPage, Quiet, seen-still, reached-still}
 use Rattle.model.proofs.Judging.{seventh-by}
 use Rattle.model.proofs.Bridge.{passesAt}
 use Rattle.model.proofs.Walks.{reach-self}
-use Rattle.model.proofs.QuickFront.{Front, front-of, root, height, root-used}
+use Rattle.model.proofs.QuickFront.{entry-at, root, height, root-used}
 use Rattle.model.proofs.QuickOnce.{Reached}
 use Rattle.model.proofs.QuickReach.{reached-number, number-reached, reached-as, met-at, at-met}
 use Rattle.model.proofs.QuickWalk
@@ -95,22 +94,17 @@ module _ (least : ℕ) (two : 2 ≤ least) (s : Store) (r1 : rule1 least s ≡ t
   -- ---- from the rules to the quick tests
 
   module _ (r4 : rule4 s ≡ true) (r5 : rule5 least s ≡ true) (r6 : rule6 s ≡ true) where
-    is-sound : Sound least s
-    unfolding sound
-    is-sound =
-        from-tests least s (both-intro _ _ (both-intro _ _ (both-intro _ _ (both-intro _ _ (both-intro _ _ (both-intro (rule1 least s) (rule2 s) r1 r2) r3) r4) r5) r6) (seventh-by least s r1 r3))
-
     -- from last on nothing starts or ends
     quiet-page : (n : ℕ) → (isFree (page ps n) ≡ true) ⊎ (isFree (page ps n) ≡ false) → QuietPage (last s) alive (page ps n)
     quiet-page n (inl e) =
-        rw (is-sound .zeros n e) (record { start = inl (omega arith); end = inl (omega arith); starts = λ x i. absurd i; ends = λ x i. absurd i })
+        rw (d .zeros n e) (record { start = inl (omega arith); end = inl (omega arith); starts = λ x i. absurd i; ends = λ x i. absurd i })
     quiet-page n (inr e) =
-        let span = span-of (last s) (page ps n .start) (page ps n .end) (is-sound .pages n e .span) in
+        let span = span-of (last s) (page ps n .start) (page ps n .end) (d .pages n e .span) in
         record {
           start = inl (span .starts);
           end = out (page ps n .end) (span .ends);
-          starts = λ x i. inl (entry-of least s is-sound n e x i .span .starts);
-          ends = λ x i. out (x .end) (entry-of least s is-sound n e x i .span .ends);
+          starts = λ x i. inl (entry-at least two s d n e x i .span .starts);
+          ends = λ x i. out (x .end) (entry-at least two s d n e x i .span .ends);
         }
       where
         out : (b : ℕ) → (b ≤ last s) ⊎ (b ≡ alive) → Out (last s) alive b
@@ -119,12 +113,16 @@ module _ (least : ℕ) (two : 2 ≤ least) (s : Store) (r1 : rule1 least s ≡ t
 
     quiet : Quiet (last s) alive s
     quiet = record {
-      slots = λ x i. inl (leb-true (x .version) (last s) (all-in (λ (y : Slot). leb (y .version) (last s)) x (s .slots) (is-sound .upto) i));
+      slots = λ x i. inl (leb-true (x .version) (last s) (all-in (λ (y : Slot). leb (y .version) (last s)) x (s .slots) (d .upto) i));
       pages = λ n l. quiet-page n (bool-cases (isFree (page ps n)));
     }
 
     walks-at : (v : ℕ) → v ≤ last s → all (passesAt least) (seen s v) ≡ true
-    walks-at v h = all-by (passesAt least) (seen s v) (λ x i. both-intro _ _ (all-in keysOk x (seen s v) (is-sound .keys v h) i) (all-in (enough least) x (seen s v) (is-sound .counts v h) i))
+    unfolding rule4 rule5
+    walks-at v h =
+        let i = version-in s v h in
+        all-by (passesAt least) (seen s v) (λ x k.
+        both-intro _ _ (all-in keysOk x (seen s v) (all-in (λ (u : ℕ). all keysOk (seen s u)) v (versions s) r4 i) k) (all-in (enough least) x (seen s v) (all-in (λ (u : ℕ). all (enough least) (seen s u)) v (versions s) r5 i) k))
 
     all-walks : (v : ℕ) → v < alive → all (passesAt least) (seen s v) ≡ true
     all-walks v low = at (bool-cases (leb v (last s)))

@@ -1,13 +1,13 @@
 -- From the walks of all versions back to the tests of pages, slots and spans.
 -- Assumes nothing.
-use Prim.Native.Nat.{ℕ, zero, suc, _+_, _-_, _≤_, _<_, pred}
+use Prim.Native.Nat.{ℕ, zero, suc, _-_, _≤_, _<_, pred}
 use native.Mathlib.Omega.{arith}
-use mathlib.Core.Bool.{Bool, true, false, _&&_, _||_, not}
+use mathlib.Core.Bool.{Bool, true, false, _||_, not}
 use mathlib.Core.Path.{_≡_, refl, ap, sym, _∙_, subst}
-use mathlib.Core.Logic.{_⊎_, inl, inr}
-use mathlib.Core.List.{List, [], _∷_, _++_, map}
-use lib.Dec.{leb, ltb, eqb}
-use lib.ListN.{length, drop}
+use mathlib.Core.Logic.{inl, inr}
+use mathlib.Core.List.{List, [], _∷_}
+use lib.Dec.{leb, eqb}
+use lib.ListN.{length}
 use borrow.Author.Tests.{leb-true, ltb-true, le-leb, lt-ltb, eq-eqb}
 use Rattle.model.specs.Basic.{all, pick, inOrder}
 use Rattle.model.specs.declared.Pair.{Pair}
@@ -18,20 +18,21 @@ use Rattle.model.specs.Page.{Page, isFree, pairsAt}
 use Rattle.model.specs.Store.{Store, page, last}
 use Rattle.model.specs.Walk.{Seen, seen, seenAs, seenUnder, rootAt, rootFrom, keyLimit, settings}
 use Rattle.model.specs.Sound.{keysOk, fewest, firstVersion}
-use Rattle.model.specs.Quick.{apart, lowOver, keyOver, manyOver, fineOver, under, nexts, routersFine, childrenFine, upto, slotFine, slotsFine, ledTo}
+use Rattle.model.specs.Quick.{apart, keyOver, fineOver, under, routersFine, childrenFine, upto, slotFine, slotsFine, ledTo}
 use Rattle.model.proofs.Lists.{both-true, both-intro, all-cons}
-use Rattle.model.proofs.Members.{not-both, either-left, either-right, bool-cases, In, all-in}
-use Rattle.model.proofs.Given.{GoodPage, livesAt, used-in, high-used}
-use Rattle.model.proofs.Tree.{Row, Link, Holds, Tree, OfPage, Fair, row-keys, row-le}
+use Rattle.model.proofs.Members.{either-left, either-right, In, all-in}
+use Rattle.model.proofs.Given.{Front, livesAt, used-in, high-used}
+use Rattle.model.proofs.Tree.{Row, Holds, Tree, row-keys, row-le}
 use Rattle.model.proofs.Local.{inRange, holds-keys}
 use Rattle.model.proofs.Nodes.{Node, reach-node}
 use Rattle.model.proofs.Keeps.{holds-order}
+use Rattle.model.proofs.Rising.{sooner}
 use Rattle.model.proofs.Bridge.{passesAt}
 use Rattle.model.proofs.Fits.{used-level, level-used, within-of}
-use Rattle.model.proofs.QuickSpans.{livePairs, rising, Alive, of-shows, apart-less, rises-apart, at-low, at-key, at-many}
-use Rattle.model.proofs.QuickHigh.{AllUnder, Bounded, bounded-under, to-nexts}
-use Rattle.model.proofs.QuickFront.{Front, entry-at, entry-some, entry-ends, page-ends, page-some, Leads, leads-of, lives-with, root, height, root-used, root-level, holds-at}
-use Rattle.model.proofs.QuickWalk.{sooner, root-late, late-all}
+use Rattle.model.proofs.QuickSpans.{Alive, of-shows, apart-less, rises-apart, at-low, at-key, at-many}
+use Rattle.model.proofs.QuickHigh.{Bounded, bounded-under, to-nexts}
+use Rattle.model.proofs.QuickFront.{entry-some, entry-ends, page-ends, page-some, leads-of, lives-with, root, height, root-used, root-level, holds-at}
+use Rattle.model.proofs.QuickWalk.{root-late, late-all}
 use Rattle.model.proofs.QuickSums.{full-sum}
 use Rattle.model.proofs.QuickOnce.{ways, Reached, ways-one, reached-ways}
 use Rattle.model.proofs.QuickReach.{led-sum}

@@ -1,78 +1,29 @@
--- What rules 1 to 3 say, by name, and what follows from them alone.
+-- What follows from rules 1 to 3 alone.
 -- Assumes nothing.
-use Prim.Native.Nat.{ℕ, zero, suc, _+_, _*_, _-_, _≤_, _<_, pred}
+use Prim.Native.Nat.{ℕ, zero, suc, _≤_, _<_}
 use native.Mathlib.Omega.{arith}
-use mathlib.Core.Bool.{Bool, true, false, _&&_, _||_, not}
-use mathlib.Core.Path.{_≡_, refl, ap, sym, _∙_, subst}
+use mathlib.Core.Bool.{true, false, _&&_, not}
+use mathlib.Core.Path.{_≡_, ap, sym, _∙_, subst}
 use mathlib.Core.Logic.{_⊎_, inl, inr}
-use mathlib.Core.List.{List, [], _∷_, _++_, map}
-use lib.Dec.{leb, ltb, eqb}
-use lib.ListN.{length, getD, take, drop, length-drop}
-use lib.Seq.{getD-drop}
-use borrow.Author.Tests.{leb-true, ltb-true, eqb-true, le-leb, eq-eqb, not-true}
-use Rattle.model.specs.Basic.{all, pick, inOrder}
+use mathlib.Core.List.{List}
+use lib.Dec.{leb, eqb}
+use borrow.Author.Tests.{leb-true, eqb-true, eq-eqb, not-true}
+use Rattle.model.specs.Basic.{all}
 use Rattle.model.specs.declared.Pair.{Pair}
 use Rattle.model.specs.declared.Entry.{Entry}
-use Rattle.model.specs.declared.Slot.{Slot}
-use Rattle.model.specs.Entry.{alive, within, pairOf}
-use Rattle.model.specs.Page.{Page, free, isFree, pairsAt}
+use Rattle.model.specs.Entry.{alive, within}
+use Rattle.model.specs.Page.{Page, isFree, pairsAt}
 use Rattle.model.specs.Store.{Store, page, last}
-use Rattle.model.specs.Walk.{Seen, seen, rootAt, rootFrom, heightOf, keyLimit, settings}
-use Rattle.model.specs.Sound.{pagesPass, isPage, pageFine, zeroed, firstVersion, inside, leadsWell, rule1, rule2, rule3}
+use Rattle.model.specs.Walk.{seen, rootAt, heightOf, keyLimit, settings}
+use Rattle.model.specs.Sound.{inside, leadsWell}
 use Rattle.model.proofs.Lists.{both-true, both-intro}
-use Rattle.model.proofs.Members.{not-both, either-true, In, all-in, all-by, all-at}
-use Rattle.model.proofs.Given.{GoodPage, GoodEntry, Span, span-of, spansWell, livesAt, used-in, high-used, front-at, fine-used, good-page, passes-at, entry-ok}
+use Rattle.model.proofs.Members.{either-true, In, all-in, all-by}
+use Rattle.model.proofs.Given.{Front, GoodEntry, span-of, livesAt, entry-ok}
 use Rattle.model.proofs.Tree.{Holds}
-use Rattle.model.proofs.Walks.{Reach, Self}
+use Rattle.model.proofs.Walks.{Reach}
 use Rattle.model.proofs.Fits.{root-is, used-level, level-used, of-within}
 use Rattle.model.proofs.Bridge.{passesAt, root-passes}
-use Rattle.model.proofs.QuickSpans.{livePairs, Alive, Shows, shows-of}
-
-pub record Front (least : ℕ) (s : Store) : Type 0 where
-  pub last-low : last s < alive
-  pub front : (n : ℕ) → n < 5 → isFree (page (s .pages) n) ≡ true
-  pub pages : (n : ℕ) → isFree (page (s .pages) n) ≡ false → GoodPage least s (page (s .pages) n)
-  pub begins : firstVersion (s .slots) ≡ 0
-  pub rises : inOrder (λ (x y : Slot). ltb (x .version) (y .version)) (s .slots) ≡ true
-  pub upto : all (λ (x : Slot). leb (x .version) (last s)) (s .slots) ≡ true
-  pub spans : (n : ℕ) → isFree (page (s .pages) n) ≡ false → spansWell s (page (s .pages) n) ≡ true
-  pub root-used : all (λ (x : Slot). not (isFree (page (s .pages) (x .root)))) (s .slots) ≡ true
-
-pub front-of : (least : ℕ) (s : Store) → rule1 least s ≡ true → rule2 s ≡ true → rule3 s ≡ true → Front least s
-unfolding rule1 rule2 rule3
-front-of least s r1 r2 r3 =
-    let long : Bool = leb 6 (length (s .pages)) in
-    let short : Bool = leb (length (s .pages)) 4096 in
-    let few : Bool = leb (length (s .slots)) (64 * least) in
-    let low : Bool = leb (last s) 1048574 in
-    let roots : Bool = all (λ (x : Slot). isPage (length (s .pages)) (x .root)) (s .slots) in
-    let fronts : Bool = all (λ (p : Page). isFree p && zeroed p) (take 5 (s .pages)) in
-    let (a5, fine) = both-true (long && short && few && low && roots && fronts) (all (pageFine least (last s) (length (s .pages))) (drop 5 (s .pages))) r1 in
-    let (a4, fr) = both-true (long && short && few && low && roots) fronts a5 in
-    let (a2, lo) = both-true (long && short && few) low (both-true (long && short && few && low) roots a4 .0) in
-    let lg : 6 ≤ length (s .pages) = leb-true 6 (length (s .pages)) (both-true long short (both-true (long && short) few a2 .0) .0) in
-    let first : Bool = eqb (firstVersion (s .slots)) 0 in
-    let rising : Bool = inOrder (λ (x y : Slot). ltb (x .version) (y .version)) (s .slots) in
-    let (b1, up) = both-true (first && rising) (all (λ (x : Slot). leb (x .version) (last s)) (s .slots)) r2 in
-    let (fi, ri) = both-true first rising b1 in
-    let (sp, us) = both-true (pagesPass (spansWell s) s) (all (λ (x : Slot). not (isFree (page (s .pages) (x .root)))) (s .slots)) r3 in
-    let is-front : (n : ℕ) → n < 5 → isFree (page (s .pages) n) ≡ true
-    = (λ n q. both-true (isFree (page (s .pages) n)) (zeroed (page (s .pages) n)) (front-at (s .pages) fr lg n q) .0) in
-    record {
-      last-low = omega (arith, leb-true (last s) 1048574 lo);
-      front = is-front;
-      pages = λ n u. good-page least s (page (s .pages) n) (fine-used least (last s) (length (s .pages)) (page (s .pages) n) (fine-at n (high-used s n is-front u) (used-in (s .pages) n u) fine) u);
-      begins = eqb-true (firstVersion (s .slots)) 0 fi;
-      rises = ri;
-      upto = up;
-      spans = λ n u. passes-at (spansWell s) s sp is-front n u;
-      root-used = us;
-    }
-  where
-    fine-at : (n : ℕ) → 5 ≤ n → n < length (s .pages) → all (pageFine least (last s) (length (s .pages))) (drop 5 (s .pages)) ≡ true → pageFine least (last s) (length (s .pages)) (page (s .pages) n) ≡ true
-    fine-at n five l h =
-        let e : page (drop 5 (s .pages)) (n - 5) ≡ page (s .pages) n = getD-drop 5 (s .pages) (n - 5) free ∙ ap (page (s .pages)) (omega arith) in
-        subst (λ (p : Page). pageFine least (last s) (length (s .pages)) p ≡ true) e (all-at (pageFine least (last s) (length (s .pages))) free (drop 5 (s .pages)) h (n - 5) (omega (arith, length-drop 5 (s .pages))))
+use Rattle.model.proofs.QuickSpans.{Alive, shows-of}
 
 module _ (least : ℕ) (two : 2 ≤ least) (s : Store) (d : Front least s) where
   abbrev ps : List Page

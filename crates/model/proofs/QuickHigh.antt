@@ -1,12 +1,12 @@
 -- High keys: the tests `lasts`, `under` and `nexts` over a stretch, and what they say of each version of it.
 -- Assumes nothing.
-use Prim.Native.Nat.{ℕ, zero, suc, _+_, _≤_, _<_, min, max}
+use Prim.Native.Nat.{ℕ, zero, suc, _≤_, _<_, min, max}
 use native.Mathlib.Omega.{arith}
-use mathlib.Core.Bool.{Bool, true, false, _&&_, _||_, not}
-use mathlib.Core.Path.{_≡_, refl, ap, sym, _∙_, subst}
+use mathlib.Core.Bool.{Bool, true, false, _&&_, _||_}
+use mathlib.Core.Path.{_≡_, refl, ap, subst}
 use mathlib.Core.Logic.{_⊎_, inl, inr}
-use mathlib.Core.List.{List, [], _∷_, _++_, map}
-use lib.Dec.{leb, ltb, eqb}
+use mathlib.Core.List.{List, [], _∷_, map}
+use lib.Dec.{leb, ltb}
 use borrow.Author.Tests.{leb-true, ltb-true, lt-ltb, ltb-false}
 use Rattle.model.specs.Basic.{those, keep}
 use Rattle.model.specs.declared.Pair.{Pair}
@@ -14,10 +14,10 @@ use Rattle.model.specs.declared.Entry.{Entry}
 use Rattle.model.specs.Entry.{pairOf, liveAt}
 use Rattle.model.specs.Page.{Page, pairsAt}
 use Rattle.model.specs.Store.{page}
-use Rattle.model.specs.Quick.{meets, past, pastAll, lastFine, lasts, under, nextFine, nexts}
+use Rattle.model.specs.Quick.{past, pastAll, lastFine, lasts, under, nextFine, nexts}
 use Rattle.model.proofs.Lists.{both-true, both-intro}
-use Rattle.model.proofs.Members.{not-both, either-true, either-left, either-right, bool-cases, In}
-use Rattle.model.proofs.QuickSpans.{livePairs, Alive, alive-of, of-alive, Shows, shows-of, of-shows, given-meets, Met, to-meets, past-more, past-all-more, past-not, past-all-live}
+use Rattle.model.proofs.Members.{either-true, either-right, bool-cases, In}
+use Rattle.model.proofs.QuickSpans.{livePairs, Alive, alive-of, shows-of, of-shows, given-meets, to-meets, past-more, past-all-more, past-not, past-all-live}
 
 abbrev pub AllUnder : ℕ → List Pair → Type 0
 AllUnder h us = (x : Pair) → In x us → x .key < h

@@ -1,37 +1,37 @@
 -- How many ways lead to a page at a version: at most one, where the walk passes and reaches all that lives above the page.
 -- Assumes nothing.
-use Prim.Native.Nat.{ℕ, zero, suc, _+_, _-_, _≤_, _<_}
+use Prim.Native.Nat.{ℕ, suc, _+_, _-_, _≤_, _<_}
 use native.Mathlib.Omega.{arith}
-use mathlib.Core.Bool.{Bool, true, false, _&&_, _||_, not}
+use mathlib.Core.Bool.{Bool, true, false, _&&_}
 use mathlib.Core.Path.{_≡_, refl, ap, ap₂, sym, _∙_, subst}
 use mathlib.Core.Logic.{_⊎_, inl, inr}
-use mathlib.Core.List.{List, [], _∷_, _++_, map}
+use mathlib.Core.List.{List, [], _∷_}
 use lib.Dec.{leb, ltb, eqb}
-use lib.ListN.{length, getD, drop, length-drop}
+use lib.ListN.{length, drop, length-drop}
 use lib.Seq.{getD-drop}
-use borrow.Author.Tests.{leb-true, leb-false, ltb-true, eqb-true, eq-eqb, le-leb, lt-leb, lt-ltb, le-ltb}
+use borrow.Author.Tests.{leb-true, leb-false, eqb-true, eq-eqb, le-leb, lt-leb, le-ltb}
 use Rattle.model.specs.Basic.{all, pick, inOrder}
 use Rattle.model.specs.declared.Pair.{Pair}
-use Rattle.model.specs.declared.Entry.{Entry}
 use Rattle.model.specs.declared.Slot.{Slot}
 use Rattle.model.specs.Entry.{alive, within}
 use Rattle.model.specs.Page.{Page, free, isFree, pairsAt}
 use Rattle.model.specs.Store.{Store, page}
 use Rattle.model.specs.Walk.{seen, rootAt, rootFrom, keyLimit, settings}
 use Rattle.model.specs.Sound.{firstVersion}
-use Rattle.model.specs.Quick.{upto, ledTo}
-use Rattle.model.proofs.Lists.{both-true, both-intro}
-use Rattle.model.proofs.Members.{not-both, bool-cases, In, in-getD}
-use Rattle.model.proofs.Given.{livesAt}
+use Rattle.model.specs.Quick.{upto}
+use Rattle.model.proofs.Lists.{both-true}
+use Rattle.model.proofs.Members.{bool-cases, In}
+use Rattle.model.proofs.Given.{Front, livesAt}
 use Rattle.model.proofs.Walks.{Reach, Self, Above, reach-on, last-step}
-use Rattle.model.proofs.Nodes.{Node, reach-node}
+use Rattle.model.proofs.Nodes.{reach-node}
 use Rattle.model.proofs.Keeps.{holds-order}
 use Rattle.model.proofs.Parents.{above-one, reach-height}
+use Rattle.model.proofs.Rising.{sooner}
 use Rattle.model.proofs.Bridge.{passesAt}
-use Rattle.model.proofs.Fits.{level-used}
-use Rattle.model.proofs.QuickSpans.{rising, Alive, shows-of}
-use Rattle.model.proofs.QuickFront.{Front, child-at, lives-with, reach-level, root, height, root-level, holds-at}
-use Rattle.model.proofs.QuickWalk.{sooner, root-late, late-all}
+use Rattle.model.proofs.Fits.{level-used, of-within}
+use Rattle.model.proofs.QuickSpans.{rising, shows-of}
+use Rattle.model.proofs.QuickFront.{child-at, lives-with, reach-level, root, height, root-level, holds-at}
+use Rattle.model.proofs.QuickWalk.{root-late, late-all}
 use Rattle.model.proofs.QuickSums.{one, named, namedBy, namedAll, rootsAt, named-in, in-named, named-one, all-some, some-all, all-one}
 
 -- ---- the slot of a version
@@ -48,9 +48,6 @@ roots-late n v (x ∷ xs) h = ap₂ (λ (b : Bool) (k : ℕ). pick (eqb (x .root
     at false = refl
 
 module _ (n v : ℕ) (low : v < alive) where
-  within-in : (a b : ℕ) → a ≤ v → v < b → within a b v ≡ true
-  within-in a b p q = both-intro _ _ (le-leb a v p) (lt-ltb v b q)
-
   within-over : (a b : ℕ) → b ≤ v → within a b v ≡ false
   within-over a b p = at (leb a v) (le-ltb v b p)
     where
@@ -67,7 +64,7 @@ module _ (n v : ℕ) (low : v < alive) where
   if-one false = refl
 
   roots-from : (xs : List Slot) (x : Slot) → x .version ≤ v → inOrder sooner (x ∷ xs) ≡ true → rootsAt n v (x ∷ xs) ≡ one (eqb (rootFrom (x .root) xs v) n)
-  roots-from [] x p o = rw (within-in (x .version) alive p low) (if-one (eqb (x .root) n))
+  roots-from [] x p o = rw (of-within (x .version) alive v p low) (if-one (eqb (x .root) n))
   roots-from (y ∷ ys) x p o =
       let order = both-true (all (sooner x) (y ∷ ys)) (inOrder sooner (y ∷ ys)) o .1 in
       at (leb (y .version) v) refl order (λ q. roots-from ys y q order)
@@ -79,7 +76,7 @@ module _ (n v : ℕ) (low : v < alive) where
           ap (λ (b : Bool). pick (eqb (x .root) n) (one b) 0 + rootsAt n v (y ∷ ys)) (within-over (x .version) (y .version) q) ∙ if-zero (eqb (x .root) n) (rootsAt n v (y ∷ ys)) ∙ ih q
       at false z order ih =
           let l : v < y .version = leb-false (y .version) v z in
-          ap₂ (λ (b : Bool) (k : ℕ). pick (eqb (x .root) n) (one b) 0 + k) (within-in (x .version) (y .version) p l) (roots-late n v (y ∷ ys) (late-all v y ys l order)) ∙ if-one (eqb (x .root) n)
+          ap₂ (λ (b : Bool) (k : ℕ). pick (eqb (x .root) n) (one b) 0 + k) (of-within (x .version) (y .version) v p l) (roots-late n v (y ∷ ys) (late-all v y ys l order)) ∙ if-one (eqb (x .root) n)
           ∙ ap (λ (r : ℕ). one (eqb r n)) (sym (root-late v (x .root) ys (λ w i. late-all v y ys l order w (inr i))))
 
   -- "The root of v is the last slot at or below v": the one slot in whose stretch v lies

@@ -2,31 +2,29 @@
 -- Assumes nothing.
 use Prim.Native.Nat.{ℕ, zero, suc, _+_, _-_, _≤_, _<_}
 use native.Mathlib.Omega.{arith}
-use mathlib.Core.Bool.{Bool, true, false, _&&_, _||_, not}
+use mathlib.Core.Bool.{true, false, _&&_, _||_, not}
 use mathlib.Core.Path.{_≡_, refl, ap, ap₂, sym, _∙_, subst}
 use mathlib.Core.Logic.{_⊎_, inl, inr}
-use mathlib.Core.List.{List, [], _∷_, _++_, map}
-use lib.Dec.{leb, ltb, eqb}
-use lib.ListN.{length, getD, drop, length-drop}
+use mathlib.Core.List.{List, [], _∷_, map}
+use lib.Dec.{leb, eqb}
+use lib.ListN.{length, getD, drop}
 use lib.Seq.{getD-drop}
 use borrow.Author.Tests.{leb-true, leb-false, eqb-true, eq-eqb, not-true}
-use Rattle.model.specs.Basic.{all, has, pick}
-use Rattle.model.specs.declared.Pair.{Pair}
+use Rattle.model.specs.Basic.{all, has}
 use Rattle.model.specs.declared.Entry.{Entry}
 use Rattle.model.specs.declared.Slot.{Slot}
 use Rattle.model.specs.Entry.{alive, within}
-use Rattle.model.specs.Page.{Page, free, isFree, pairsAt}
-use Rattle.model.specs.Store.{Store, page, last}
+use Rattle.model.specs.Page.{Page, free, isFree}
+use Rattle.model.specs.Store.{Store, page}
 use Rattle.model.specs.Walk.{Seen, seen, seenUnder, keyLimit}
-use Rattle.model.specs.Sound.{fewest}
-use Rattle.model.specs.Quick.{upto, slotFine, slotsFine, fineOver, routedAll, rooted, ledTo, spansMet}
+use Rattle.model.specs.Quick.{upto, slotFine, slotsFine, ledTo, spansMet}
 use Rattle.model.proofs.Lists.{both-true, both-intro}
 use Rattle.model.proofs.Members.{not-both, either-true, either-left, either-right, bool-cases, In, in-map, map-in, has-in, in-has}
-use Rattle.model.proofs.Given.{GoodPage, livesAt, numbers, used-in, high-used}
-use Rattle.model.proofs.Walks.{Reach, Self, Above, reach-self, last-step, SeenOk, seen-reached, IsSeen, reached-under}
+use Rattle.model.proofs.Given.{Front, livesAt, numbers}
+use Rattle.model.proofs.Walks.{Reach, Self, Above, reach-self, last-step, seen-reached, IsSeen, reached-under}
 use Rattle.model.proofs.Bridge.{passesAt}
-use Rattle.model.proofs.Fits.{level-used, within-of, of-within}
-use Rattle.model.proofs.QuickFront.{Front, Leads, leads-of, Child, child-at, page-ends, page-some, reach-level, root, height, root-used, root-level}
+use Rattle.model.proofs.Fits.{level-used, within-of}
+use Rattle.model.proofs.QuickFront.{leads-of, child-at, page-ends, page-some, reach-level, root, height, root-level}
 use Rattle.model.proofs.QuickSums.{sumOver, sum-add, sum-full, namedAll, routed-all, rootsAt, Slots, rooted-sum}
 use Rattle.model.proofs.QuickOnce.{ways, Reached, Parent, parent-lives, parent-higher, parent-step, ways-some, ways-one}
 

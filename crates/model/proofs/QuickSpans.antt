@@ -5,16 +5,17 @@ use native.Mathlib.Omega.{arith}
 use mathlib.Core.Bool.{Bool, true, false, _&&_, _||_, not}
 use mathlib.Core.Path.{_≡_, refl, ap, sym, _∙_, subst}
 use mathlib.Core.Logic.{_⊎_, inl, inr}
-use mathlib.Core.List.{List, [], _∷_, _++_, map}
+use mathlib.Core.List.{List, [], _∷_, map}
 use lib.Dec.{leb, ltb, eqb}
-use lib.ListN.{length}
-use borrow.Author.Tests.{leb-true, ltb-true, eqb-true, eqb-false, le-leb, lt-ltb, lt-leb, le-ltb, eq-eqb, ne-eqb, not-true, leb-false, ltb-false}
-use Rattle.model.specs.Basic.{all, any, those, keep, pick, inOrder}
+use lib.ListN.{length, length-map}
+use borrow.Author.Tests.{leb-true, ltb-true, eqb-true, eqb-false, le-leb, lt-ltb, eq-eqb, ne-eqb, not-true, leb-false, ltb-false}
+use Rattle.model.specs.Basic.{all, those, keep, pick, inOrder}
 use Rattle.model.specs.declared.Pair.{Pair}
 use Rattle.model.specs.declared.Entry.{Entry}
-use Rattle.model.specs.Entry.{pairOf, within, liveAt, before}
-use Rattle.model.specs.Quick.{meets, past, pastAll, apart, lowOver, keyOver, liveCount, manyOver, lasts, nexts}
-use Rattle.model.proofs.Lists.{both-true, both-intro, all-cons}
+use Rattle.model.specs.Entry.{pairOf, liveAt, before}
+use Rattle.model.specs.Quick.{meets, past, pastAll, apart, lowOver, keyOver, liveCount, manyOver}
+use Rattle.model.proofs.Lists.{both-true, both-intro}
+use Rattle.model.proofs.Rising.{lower}
 use Rattle.model.proofs.Members.{not-both, either-true, either-left, either-right, bool-cases, In, all-in, all-by, in-those, those-in, in-map, map-in}
 
 -- the pairs alive at v
@@ -22,7 +23,7 @@ abbrev pub livePairs : ℕ → List Entry → List Pair
 livePairs v es = map pairOf (those (liveAt v) es)
 
 abbrev pub rising : List Pair → Bool
-rising = inOrder (λ (x y : Pair). ltb (x .key) (y .key))
+rising = inOrder lower
 
 pub record Alive (v : ℕ) (e : Entry) : Type 0 where
   pub from : e .start ≤ v
@@ -282,11 +283,7 @@ at-key k a b es o some h =
 -- ---- how many are alive
 
 pub count-pairs : (v : ℕ) (es : List Entry) → liveCount v es ≡ length (livePairs v es)
-count-pairs v es = go (those (liveAt v) es)
-  where
-    go : (fs : List Entry) → length fs ≡ length (map pairOf fs)
-    go [] = refl
-    go (f ∷ fs) = ap suc (go fs)
+count-pairs v es = sym (length-map (those (liveAt v) es) pairOf)
 
 count-more : (u v : ℕ) (es : List Entry) → ((e : Entry) → In e es → liveAt u e ≡ true → liveAt v e ≡ true) → liveCount u es ≤ liveCount v es
 count-more u v [] h = omega arith

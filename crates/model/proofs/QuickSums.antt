@@ -2,22 +2,22 @@
 -- Assumes nothing.
 use Prim.Native.Nat.{ℕ, zero, suc, _+_, _-_, _≤_, _<_, min, max}
 use native.Mathlib.Omega.{arith}
-use mathlib.Core.Bool.{Bool, true, false, _&&_, _||_, not}
-use mathlib.Core.Path.{_≡_, refl, ap, ap₂, sym, _∙_, subst}
+use mathlib.Core.Bool.{Bool, true, false, _&&_}
+use mathlib.Core.Path.{_≡_, refl, ap, ap₂, sym, _∙_}
 use mathlib.Core.Logic.{_⊎_, inl, inr}
-use mathlib.Core.List.{List, [], _∷_, _++_, map}
+use mathlib.Core.List.{List, [], _∷_, map}
 use lib.Dec.{leb, ltb, eqb}
 use lib.ListN.{length, getD}
 use borrow.Author.Tests.{leb-true, leb-false, ltb-true, ltb-false, eqb-true, eqb-false, eq-eqb}
-use Rattle.model.specs.Basic.{all, those, keep, pick, inOrder}
+use Rattle.model.specs.Basic.{all, those, keep, pick}
 use Rattle.model.specs.declared.Pair.{Pair}
 use Rattle.model.specs.declared.Entry.{Entry}
 use Rattle.model.specs.declared.Slot.{Slot}
 use Rattle.model.specs.Entry.{within, liveAt, pairOf}
 use Rattle.model.specs.Page.{Page, pairsAt}
 use Rattle.model.specs.Quick.{upto, routed, routedAll, rooted}
-use Rattle.model.proofs.Lists.{both-true, both-intro}
-use Rattle.model.proofs.Members.{not-both, bool-cases, In, all-in}
+use Rattle.model.proofs.Lists.{both-true}
+use Rattle.model.proofs.Members.{bool-cases, In, all-in}
 use Rattle.model.proofs.QuickSpans.{livePairs, rising}
 
 -- f added up over k versions from a on

@@ -1,11 +1,11 @@
 -- From the tests of pages and slots to rules 4 and 5: at each version the walk passes.
 -- Assumes nothing.
-use Prim.Native.Nat.{ℕ, zero, suc, _+_, _≤_, _<_, pred}
+use Prim.Native.Nat.{ℕ, zero, suc, _≤_, _<_, pred}
 use native.Mathlib.Omega.{arith}
-use mathlib.Core.Bool.{Bool, true, false, _&&_, _||_, not}
+use mathlib.Core.Bool.{Bool, true, false, _&&_, _||_}
 use mathlib.Core.Path.{_≡_, refl, ap, sym, _∙_, subst}
 use mathlib.Core.Logic.{_⊎_, inl, inr}
-use mathlib.Core.List.{List, [], _∷_, _++_, map}
+use mathlib.Core.List.{List, [], _∷_, map}
 use lib.Dec.{leb, ltb, eqb}
 use lib.ListN.{length}
 use borrow.Author.Tests.{leb-true, leb-false, eqb-true, ltb-true, le-leb, lt-leb, lt-ltb, eq-eqb}
@@ -13,20 +13,22 @@ use Rattle.model.specs.Basic.{all, those, keep, pick, inOrder}
 use Rattle.model.specs.declared.Pair.{Pair}
 use Rattle.model.specs.declared.Entry.{Entry}
 use Rattle.model.specs.declared.Slot.{Slot}
-use Rattle.model.specs.Entry.{alive, within, liveAt, pairOf, before}
+use Rattle.model.specs.Entry.{alive, within, liveAt, pairOf}
 use Rattle.model.specs.Page.{Page, isFree, pairsAt}
-use Rattle.model.specs.Store.{Store, page, last}
-use Rattle.model.specs.Walk.{Seen, seen, seenAs, seenUnder, seenBelow, spread, rootAt, rootFrom, heightOf, keyLimit}
-use Rattle.model.specs.Sound.{startsAt, keysOk, fewest, firstVersion}
+use Rattle.model.specs.Store.{Store, page}
+use Rattle.model.specs.Walk.{Seen, seen, seenAs, seenUnder, seenBelow, spread, rootAt, rootFrom, keyLimit}
+use Rattle.model.specs.Sound.{startsAt, fewest, firstVersion}
 use Rattle.model.specs.Quick.{lowOver, keyOver, manyOver, fineOver, under, nexts, routersFine, childrenFine, upto, slotFine, slotsFine, apart}
-use Rattle.model.proofs.Lists.{both-true, both-intro, all-cons}
-use Rattle.model.proofs.Members.{not-both, either-true, either-left, either-right, bool-cases, In, all-in, all-by}
+use Rattle.model.proofs.Lists.{both-true, both-intro}
+use Rattle.model.proofs.Members.{either-true, either-left, either-right, In, all-in, all-by}
+use Rattle.model.proofs.Given.{Front}
 use Rattle.model.proofs.Local.{all-append}
+use Rattle.model.proofs.Rising.{sooner}
 use Rattle.model.proofs.Bridge.{passesAt}
 use Rattle.model.proofs.Fits.{level-used, of-within}
 use Rattle.model.proofs.QuickSpans.{livePairs, rising, Alive, alive-of, shows-of, apart-rises, low-at, key-at, many-at}
 use Rattle.model.proofs.QuickHigh.{AllUnder, LastOne, Below, under-below, nexts-at}
-use Rattle.model.proofs.QuickFront.{Front, entry-at, leads-of, child-at, root, height, root-used, root-level}
+use Rattle.model.proofs.QuickFront.{entry-at, leads-of, child-at, root, height, root-level}
 
 module _ (least : ℕ) (ps : List Page) (v : ℕ) where
   -- a page at v, as its low key and the fewest entries it may have ask
@@ -126,9 +128,6 @@ module _ (least : ℕ) (ps : List Page) (v : ℕ) where
 pub root-late : (v r : ℕ) (xs : List Slot) → ((x : Slot) → In x xs → v < x .version) → rootFrom r xs v ≡ r
 root-late v r [] h = refl
 root-late v r (x ∷ xs) h = rw (lt-leb (x .version) v (h x (inl refl))) (root-late v r xs (λ y i. h y (inr i)))
-
-abbrev pub sooner : Slot → Slot → Bool
-sooner x y = ltb (x .version) (y .version)
 
 pub late-all : (v : ℕ) (y : Slot) (ys : List Slot) → v < y .version → inOrder sooner (y ∷ ys) ≡ true → (x : Slot) → In x (y ∷ ys) → v < x .version
 late-all v y ys l o x (inl e) = omega (arith, ap (λ (z : Slot). z .version) e)

@@ -6,7 +6,6 @@ pub mod Store
 pub mod Header
 pub mod Walk
 pub mod Sound
-pub mod Quick
 pub mod Rules
 pub mod Climb
 pub mod Calls
@@ -15,6 +14,7 @@ pub mod Histories
 pub mod Field
 pub mod Layout
 pub mod Clean
+pub mod Quick
 pub mod Judged
 pub mod Lent
 pub mod Ended

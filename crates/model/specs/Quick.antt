@@ -3,7 +3,7 @@
 -- number of versions is no matter; a page that is led to is looked at once for each router or slot that leads to it.
 -- Assumes nothing.
 use Prim.Native.Nat.{ℕ, zero, suc, _+_, _-_, pred, min, max}
-use mathlib.Core.Bool.{Bool, true, false, _&&_, _||_, not}
+use mathlib.Core.Bool.{Bool, true, _&&_, _||_, not}
 use mathlib.Core.List.{List, [], _∷_}
 use lib.Dec.{leb, ltb, eqb}
 use lib.ListN.{length, drop}
@@ -14,6 +14,8 @@ use Rattle.model.specs.Entry.{alive, liveAt}
 use Rattle.model.specs.Page.{Page, isFree}
 use Rattle.model.specs.Store.{Store, page}
 use Rattle.model.specs.Sound.{pagesPass, fewest, rule1, rule2, rule3}
+use Rattle.model.specs.Layout.{decode}
+use Rattle.model.specs.Clean.{clean}
 
 -- the entry is alive at a version of the stretch
 abbrev pub meets : ℕ → ℕ → Entry → Bool
@@ -108,6 +110,8 @@ slotsFine least ps [] = true
 slotsFine least ps (x ∷ xs) = slotFine least (x .version) (upto xs) (page ps (x .root)) && slotsFine least ps xs
 
 -- ---- "A used page is reached at every version of its span": the spans of what leads to it add up to its own
+-- They lie in it (rule 3, `slotFine`), and at no version do two ways lead to one page, since its keys stand in one range only: so
+-- the sum is right exactly if no version is left out.
 
 abbrev pub routed : ℕ → List Entry → ℕ
 routed n [] = 0
@@ -139,3 +143,7 @@ quick least s =
 -- `sound`, found quickly
 unfoldable pub quickSound : ℕ → Store → Bool
 quickSound least s = rule1 least s && rule2 s && rule3 s && quick least s
+
+-- and of lent bytes
+unfoldable pub quickIn : ℕ → List ℕ → Bool
+quickIn least b = clean least b && rule2 (decode least b) && rule3 (decode least b) && quick least (decode least b)

@@ -2,7 +2,7 @@
 // records, so that code and definitions speak of the same things.
 ghost use mathlib.Core.Path.{_≡_};
 ghost use Prim.Native.Nat.{_^_, _<_, _≤_};
-ghost use Rattle.model.specs.Limits.{limits};
+ghost use Rattle.model.specs.Limits.{editionOf, limits};
 ghost use Rattle.model.specs.Store.{lastOf};
 ghost use Rattle.model.specs.Header.{withFlag, withVersion, withRoots};
 
@@ -81,6 +81,16 @@ pub fn edition_one() -> Limits
         counter: 5,
         rooter: 9,
     }
+}
+
+// The edition whose limits these are.
+pub fn edition_of(l: Limits) -> u32
+    ensures { λ r. ⌜ r ≡ editionOf (l .least) ⌝ }
+{
+    if l.least <= 4 {
+        return 1;
+    }
+    2
 }
 
 impl Header {

@@ -1,6 +1,6 @@
 -- The words behind are the text's first and those behind it. Assumes nothing.
 use Prim.Native.Nat.{ℕ, _≤_}
-use mathlib.Core.Path.{_≡_, sym}
+use mathlib.Core.Path.{sym}
 use mathlib.Core.List.{List}
 use native.Mathlib.Omega.{arith}
 use lib.ListN.{length}
@@ -11,57 +11,40 @@ use Rattle.lines.specs.Words.{until}
 use Rattle.lines.proofs.Cutting.{cut-found, one-word}
 use Rattle.lines.proofs.parsing.after_one.Statement.{statement}
 use Rattle.lines.proofs.parsing.after_one.Tie as tie
-use Rattle.lines.proofs.parsing.after_one.Reads as reads
-use Rattle.lines.proofs.parsing.after_one.Lts as lts
-use Rattle.lines.proofs.parsing.after_two.Reads as after-two-reads
-use Rattle.lines.proofs.parsing.with_one.Reads as with-one-reads
-use Rattle.lines.proofs.word.find.Reads as find-reads
-use Rattle.lines.proofs.word.number.Reads as number-reads
 
--- src/parsing.rt:26:9
 find-requires : tie.Need-find-requires
 find-requires c κs = search needs
 
--- src/parsing.rt:28:29
 slice-aggregate-after-two : tie.Need-slice-aggregate-after-two
 slice-aggregate-after-two c =
     sym (length-take-le (c .before .before .find .result) (c .before .before .before .before .before .args .rest .now) (omega arith))
 
--- src/parsing.rt:28:47
 add-after-two : tie.Need-add-after-two
 add-after-two c = search needs
 
--- src/parsing.rt:28:41
 sub-after-two : tie.Need-sub-after-two
 sub-after-two c = search needs
 
--- src/parsing.rt:28:41
 part-after-two-start : tie.Need-part-after-two-start
 part-after-two-start c = search needs
 
--- src/parsing.rt:28:41
 part-after-two-end : tie.Need-part-after-two-end
 part-after-two-end c = search needs
 
--- src/parsing.rt:28:9
 after-two-requires : tie.Need-after-two-requires
 after-two-requires c κs = search needs
 
--- src/parsing.rt:28:9
 returns : tie.Need-returns
 returns c =
     let rest : List ℕ = c .before .before .before .before .before .before .before .args .rest .now in
     rw (cut-found 32 _ rest (c .before .before .before .before .find .result) (c .before .before .before .before .find .ensures) (omega arith)) (c .after-two .ensures)
 
--- src/parsing.rt:30:17
 number-requires : tie.Need-number-requires
 number-requires c κs = search needs
 
--- src/parsing.rt:30:5
 with-one-requires : tie.Need-with-one-requires
 with-one-requires c κs = search needs
 
--- src/parsing.rt:23:1
 returns-2 : tie.Need-returns-2
 unfolding spoken
 returns-2 c =

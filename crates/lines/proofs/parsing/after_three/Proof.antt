@@ -1,26 +1,19 @@
 -- The words behind are the text's first and those behind it. Assumes nothing.
-use Prim.Native.Nat.{ℕ, _+_, _-_, _<_, _≤_}
-use mathlib.Core.Path.{_≡_, sym, _∙_}
-use mathlib.Core.List.{List, _∷_}
+use Prim.Native.Nat.{ℕ, _+_, _<_, _≤_}
+use mathlib.Core.Path.{sym}
+use mathlib.Core.List.{List}
 use native.Mathlib.Omega.{arith}
 use lib.ListN.{length, take, drop}
 use borrow.Author.Needs.{needs}
-use Rattle.lines.specs.Console.{spoken, words}
+use Rattle.lines.specs.Console.{spoken}
 use Rattle.lines.specs.Words.{until}
 use Rattle.lines.proofs.Cutting.{cut-at, one-word, too-many}
 use Rattle.lines.proofs.parsing.after_three.Statement.{statement}
 use Rattle.lines.proofs.parsing.after_three.Tie as tie
-use Rattle.lines.proofs.parsing.after_three.Reads as reads
-use Rattle.lines.proofs.parsing.after_three.Lts as lts
-use Rattle.lines.proofs.parsing.with_three.Reads as with-three-reads
-use Rattle.lines.proofs.word.find.Reads as find-reads
-use Rattle.lines.proofs.word.number.Reads as number-reads
 
--- src/parsing.rt:46:9
 find-requires : tie.Need-find-requires
 find-requires c κs = search needs
 
--- src/parsing.rt:48:9
 returns : tie.Need-returns
 returns c =
     let a = c .before .before .before .before .before .before .args in
@@ -28,23 +21,18 @@ returns c =
     let short : until 32 rest < length rest = omega (arith, c .before .find .ensures) in
     rw (cut-at 32 _ rest short) (sym (too-many (a .w .now) (a .a .now) (a .b .now) (take (until 32 rest) rest) (drop (until 32 rest + 1) rest)))
 
--- src/parsing.rt:50:19
 number-requires : tie.Need-number-requires
 number-requires c κs = search needs
 
--- src/parsing.rt:50:30
 number-requires-2 : tie.Need-number-requires-2
 number-requires-2 c κs = search needs
 
--- src/parsing.rt:50:41
 number-requires-3 : tie.Need-number-requires-3
 number-requires-3 c κs = search needs
 
--- src/parsing.rt:50:5
 with-three-requires : tie.Need-with-three-requires
 with-three-requires c κs = search needs
 
--- src/parsing.rt:43:1
 returns-2 : tie.Need-returns-2
 unfolding spoken
 returns-2 c =

@@ -1,6 +1,6 @@
 -- The words behind are the text's first and those behind it. Assumes nothing.
 use Prim.Native.Nat.{ℕ, _≤_}
-use mathlib.Core.Path.{_≡_, sym}
+use mathlib.Core.Path.{sym}
 use mathlib.Core.List.{List}
 use native.Mathlib.Omega.{arith}
 use lib.ListN.{length}
@@ -11,61 +11,43 @@ use Rattle.lines.specs.Words.{until}
 use Rattle.lines.proofs.Cutting.{cut-found, one-word}
 use Rattle.lines.proofs.parsing.after_two.Statement.{statement}
 use Rattle.lines.proofs.parsing.after_two.Tie as tie
-use Rattle.lines.proofs.parsing.after_two.Reads as reads
-use Rattle.lines.proofs.parsing.after_two.Lts as lts
-use Rattle.lines.proofs.parsing.after_three.Reads as after-three-reads
-use Rattle.lines.proofs.parsing.with_two.Reads as with-two-reads
-use Rattle.lines.proofs.word.find.Reads as find-reads
-use Rattle.lines.proofs.word.number.Reads as number-reads
 
--- src/parsing.rt:36:9
 find-requires : tie.Need-find-requires
 find-requires c κs = search needs
 
--- src/parsing.rt:38:34
 slice-aggregate-after-three : tie.Need-slice-aggregate-after-three
 slice-aggregate-after-three c =
     sym (length-take-le (c .before .before .find .result) (c .before .before .before .before .before .before .args .rest .now) (omega arith))
 
--- src/parsing.rt:38:52
 add-after-three : tie.Need-add-after-three
 add-after-three c = search needs
 
--- src/parsing.rt:38:46
 sub-after-three : tie.Need-sub-after-three
 sub-after-three c = search needs
 
--- src/parsing.rt:38:46
 part-after-three-start : tie.Need-part-after-three-start
 part-after-three-start c = search needs
 
--- src/parsing.rt:38:46
 part-after-three-end : tie.Need-part-after-three-end
 part-after-three-end c = search needs
 
--- src/parsing.rt:38:9
 after-three-requires : tie.Need-after-three-requires
 after-three-requires c κs = search needs
 
--- src/parsing.rt:38:9
 returns : tie.Need-returns
 returns c =
     let rest : List ℕ = c .before .before .before .before .before .before .before .before .args .rest .now in
     rw (cut-found 32 _ rest (c .before .before .before .before .find .result) (c .before .before .before .before .find .ensures) (omega arith)) (c .after-three .ensures)
 
--- src/parsing.rt:40:17
 number-requires : tie.Need-number-requires
 number-requires c κs = search needs
 
--- src/parsing.rt:40:28
 number-requires-2 : tie.Need-number-requires-2
 number-requires-2 c κs = search needs
 
--- src/parsing.rt:40:5
 with-two-requires : tie.Need-with-two-requires
 with-two-requires c κs = search needs
 
--- src/parsing.rt:33:1
 returns-2 : tie.Need-returns-2
 unfolding spoken
 returns-2 c =

@@ -1,6 +1,6 @@
 -- A line of at most 80 bytes is its words. Assumes nothing.
 use Prim.Native.Nat.{ℕ, _≤_}
-use mathlib.Core.Path.{_≡_, sym}
+use mathlib.Core.Path.{sym}
 use mathlib.Core.List.{List}
 use native.Mathlib.Omega.{arith}
 use lib.ListN.{length}
@@ -12,47 +12,33 @@ use Rattle.lines.specs.Words.{until}
 use Rattle.lines.proofs.Cutting.{cut-found, one-word}
 use Rattle.lines.proofs.parsing.parse.Statement.{statement}
 use Rattle.lines.proofs.parsing.parse.Tie as tie
-use Rattle.lines.proofs.parsing.parse.Reads as reads
-use Rattle.lines.proofs.parsing.parse.Lts as lts
-use Rattle.lines.proofs.parsing.after_one.Reads as after-one-reads
-use Rattle.lines.proofs.parsing.with_none.Reads as with-none-reads
-use Rattle.lines.proofs.word.find.Reads as find-reads
 
--- src/parsing.rt:14:9
 returns : tie.Need-returns
 unfolding commandOf
 returns c = rw (lt-leb (length (c .before .before .args .line .now)) 80 (c .if1 .taken))
 
--- src/parsing.rt:16:9
 find-requires : tie.Need-find-requires
 find-requires c κs = search needs
 
--- src/parsing.rt:18:26
 slice-aggregate-after-one : tie.Need-slice-aggregate-after-one
 slice-aggregate-after-one c =
     sym (length-take-le (c .before .before .find .result) (c .before .before .before .before .before .args .line .now) (omega arith))
 
--- src/parsing.rt:18:44
 add-after-one : tie.Need-add-after-one
 add-after-one c = search needs
 
--- src/parsing.rt:18:38
 sub-after-one : tie.Need-sub-after-one
 sub-after-one c = search needs
 
--- src/parsing.rt:18:38
 part-after-one-start : tie.Need-part-after-one-start
 part-after-one-start c = search needs
 
--- src/parsing.rt:18:38
 part-after-one-end : tie.Need-part-after-one-end
 part-after-one-end c = search needs
 
--- src/parsing.rt:18:9
 after-one-requires : tie.Need-after-one-requires
 after-one-requires c κs = search needs
 
--- src/parsing.rt:18:9
 returns-2 : tie.Need-returns-2
 unfolding commandOf
 returns-2 c =
@@ -60,11 +46,9 @@ returns-2 c =
     rw (le-leb (length line) 80 (c .before .before .before .before .before .if1 .left), cut-found 32 _ line (c .before .before .before .before .find .result) (c .before .before .before .before .find .ensures) (omega arith))
     (c .after-one .ensures)
 
--- src/parsing.rt:20:5
 with-none-requires : tie.Need-with-none-requires
 with-none-requires c κs = search needs
 
--- src/parsing.rt:10:1
 returns-3 : tie.Need-returns-3
 unfolding commandOf spoken
 returns-3 c =

@@ -1,6 +1,6 @@
 -- The bytes before `i` are no marks, so what is left of the text has its first mark that much sooner. Assumes nothing.
 use Prim.Native.Nat.{_+_, _-_, _≤_}
-use mathlib.Core.Path.{_≡_, refl}
+use mathlib.Core.Path.{_≡_}
 use native.Mathlib.Omega.{arith}
 use lib.ListN.{length, drop}
 use borrow.Author.Needs.{needs}
@@ -8,8 +8,6 @@ use Rattle.lines.specs.Words.{until}
 use Rattle.lines.proofs.Cutting.{until-hit, until-miss, until-end}
 use Rattle.lines.proofs.word.find.Statement.{statement}
 use Rattle.lines.proofs.word.find.Tie as tie
-use Rattle.lines.proofs.word.find.Reads as reads
-use Rattle.lines.proofs.word.find.Lts as lts
 
 abbrev Inv-loop : tie.InvT-loop
 Inv-loop s mark i₀ i = (i ≤ length s) × (i + until mark (drop i s) ≡ until mark s)
@@ -17,35 +15,28 @@ Inv-loop s mark i₀ i = (i ≤ length s) × (i + until mark (drop i s) ≡ unti
 abbrev μ-loop : tie.MeasureT-loop
 μ-loop s mark i₀ i = length s - i
 
--- src/word.rt:13:5
 loop-holds : tie.Need-loop-holds Inv-loop μ-loop
 loop-holds c = omega arith
 
--- src/word.rt:14:12
 shared-slice-read-if1 : tie.Need-shared-slice-read-if1 Inv-loop μ-loop
 shared-slice-read-if1 c = search needs
 
--- src/word.rt:15:13
 returns : tie.Need-returns Inv-loop μ-loop
 returns c =
     let l = c .before .before .before .loop in
     omega (arith, until-hit (c .before .before .before .before .args .mark) (c .before .before .before .before .args .s .now) (l .i) (omega arith) (c .if1 .taken))
 
--- src/word.rt:17:9
 add-i : tie.Need-add-i Inv-loop μ-loop
 add-i c = search needs
 
--- src/word.rt:13:5
 loop-less : tie.Need-loop-less Inv-loop μ-loop
 loop-less c = search needs
 
--- src/word.rt:13:5
 loop-again : tie.Need-loop-again Inv-loop μ-loop
 loop-again c =
     let l = c .before .before .before .loop in
     omega (arith, until-miss (c .before .before .before .before .args .mark) (c .before .before .before .before .args .s .now) (l .i) (omega arith) (c .if1 .left))
 
--- src/word.rt:9:1
 returns-2 : tie.Need-returns-2 Inv-loop μ-loop
 returns-2 c =
     let l = c .before .loop in

@@ -11,9 +11,6 @@ use Rattle.lines.specs.declared.Number.the-variants.{Is}
 use Rattle.lines.proofs.Numbers.{grows, ten-digits, value-step, value-end, digits-on, digits-below, digits-above, digits-end, too-short, too-long, no-digits, too-large, is-number}
 use Rattle.lines.proofs.word.number.Statement.{statement}
 use Rattle.lines.proofs.word.number.Tie as tie
-use Rattle.lines.proofs.word.number.Reads as reads
-use Rattle.lines.proofs.word.number.Lts as lts
-use Rattle.lines.proofs.word.wide.Reads as wide-reads
 
 abbrev Inv-loop : tie.InvT-loop
 Inv-loop word n₀ i₀ n i =
@@ -22,27 +19,21 @@ Inv-loop word n₀ i₀ n i =
 abbrev μ-loop : tie.MeasureT-loop
 μ-loop word n₀ i₀ n i = length word - i
 
--- src/word.rt:49:9
 returns : tie.Need-returns Inv-loop μ-loop
 returns c = sym (too-short (c .before .before .args .word .now) (c .if1 .taken))
 
--- src/word.rt:52:9
 returns-2 : tie.Need-returns-2 Inv-loop μ-loop
 returns-2 c = sym (too-long (c .before .before .before .args .word .now) (c .if2 .taken))
 
--- src/word.rt:56:5
 loop-holds : tie.Need-loop-holds Inv-loop μ-loop
 loop-holds c = (omega arith, omega arith, refl, refl)
 
--- src/word.rt:57:22
 shared-slice-read-wide : tie.Need-shared-slice-read-wide Inv-loop μ-loop
 shared-slice-read-wide c = search needs
 
--- src/word.rt:57:13
 wide-requires : tie.Need-wide-requires Inv-loop μ-loop
 wide-requires c κs = search needs
 
--- src/word.rt:59:13
 returns-3 : tie.Need-returns-3 Inv-loop μ-loop
 returns-3 c =
     let w : List ℕ = c .before .before .before .before .before .before .before .before .args .word .now in
@@ -50,7 +41,6 @@ returns-3 c =
     let low : getD w (l .i) 0 < 48 = omega (arith, c .before .wide .ensures) in
     sym (no-digits w (omega arith) (omega arith) (sym (l .inv .2) ∙ digits-below w (l .i) (omega arith) low))
 
--- src/word.rt:62:13
 returns-4 : tie.Need-returns-4 Inv-loop μ-loop
 returns-4 c =
     let w : List ℕ = c .before .before .before .before .before .before .before .before .before .args .word .now in
@@ -58,23 +48,18 @@ returns-4 c =
     let high : 57 < getD w (l .i) 0 = omega (arith, c .before .before .wide .ensures) in
     sym (no-digits w (omega arith) (omega arith) (sym (l .inv .2) ∙ digits-above w (l .i) (omega arith) high))
 
--- src/word.rt:64:13
 mul-n : tie.Need-mul-n Inv-loop μ-loop
 mul-n c = omega (arith, ten-digits (c .before .before .before .before .before .loop .n) (c .before .before .before .before .before .loop .i) (omega arith) (c .before .before .before .before .before .loop .inv .1))
 
--- src/word.rt:64:13
 add-n : tie.Need-add-n Inv-loop μ-loop
 add-n c = omega (arith, ten-digits (c .before .before .before .before .before .loop .n) (c .before .before .before .before .before .loop .i) (omega arith) (c .before .before .before .before .before .loop .inv .1))
 
--- src/word.rt:65:9
 add-i : tie.Need-add-i Inv-loop μ-loop
 add-i c = search needs
 
--- src/word.rt:56:5
 loop-less : tie.Need-loop-less Inv-loop μ-loop
 loop-less c = search needs
 
--- src/word.rt:56:5
 loop-again : tie.Need-loop-again Inv-loop μ-loop
 loop-again c =
     let w : List ℕ = c .before .before .before .before .before .before .before .before .before .args .word .now in
@@ -86,11 +71,9 @@ loop-again c =
       rw e (sym (value-step (l .n) w (l .i) (omega arith)) ∙ l .inv .3),
     )
 
--- src/word.rt:68:27
 cast-t13 : tie.Need-cast-t13 Inv-loop μ-loop
 cast-t13 c = search needs
 
--- src/word.rt:68:9
 returns-5 : tie.Need-returns-5 Inv-loop μ-loop
 returns-5 c =
     let w : List ℕ = c .before .before .before .before .before .before .args .word .now in
@@ -98,7 +81,6 @@ returns-5 c =
     let v : valueFrom 0 w ≡ l .n = sym (l .inv .3) ∙ value-end (l .n) w (l .i) (omega arith) in
     sym (is-number w (omega arith) (omega arith) (sym (l .inv .2) ∙ digits-end w (l .i) (omega arith)) (omega arith) ∙ ap Is v)
 
--- src/word.rt:45:1
 returns-6 : tie.Need-returns-6 Inv-loop μ-loop
 returns-6 c =
     let w : List ℕ = c .before .before .before .before .before .before .args .word .now in

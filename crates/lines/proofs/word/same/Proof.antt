@@ -8,8 +8,6 @@ use Rattle.model.specs.Basic.{eqList}
 use Rattle.lines.proofs.Numbers.{eqList-lengths, eqList-same, eqList-other, eqList-end}
 use Rattle.lines.proofs.word.same.Statement.{statement}
 use Rattle.lines.proofs.word.same.Tie as tie
-use Rattle.lines.proofs.word.same.Reads as reads
-use Rattle.lines.proofs.word.same.Lts as lts
 
 abbrev Inv-loop : tie.InvT-loop
 Inv-loop a b i₀ i = (i ≤ length a) × (eqList (drop i a) (drop i b) ≡ eqList a b)
@@ -17,44 +15,35 @@ Inv-loop a b i₀ i = (i ≤ length a) × (eqList (drop i a) (drop i b) ≡ eqLi
 abbrev μ-loop : tie.MeasureT-loop
 μ-loop a b i₀ i = length a - i
 
--- src/word.rt:26:9
 returns : tie.Need-returns Inv-loop μ-loop
 returns c = sym (eqList-lengths (c .before .args .a .now) (c .before .args .b .now) (c .if1 .taken))
 
--- src/word.rt:29:5
 loop-holds : tie.Need-loop-holds Inv-loop μ-loop
 loop-holds c = (omega arith, refl)
 
--- src/word.rt:30:12
 shared-slice-read-if2 : tie.Need-shared-slice-read-if2 Inv-loop μ-loop
 shared-slice-read-if2 c = search needs
 
--- src/word.rt:30:20
 shared-slice-read-if2-2 : tie.Need-shared-slice-read-if2-2 Inv-loop μ-loop
 shared-slice-read-if2-2 c = search needs
 
--- src/word.rt:31:13
 returns-2 : tie.Need-returns-2 Inv-loop μ-loop
 returns-2 c =
     sym (eqList-other (c .before .before .before .before .before .before .args .a .now) (c .before .before .before .before .before .before .args .b .now) (c .before .before .before .before .loop .i) (omega arith) (omega arith) (c .if2 .taken))
     ∙ c .before .before .before .before .loop .inv .1
 
--- src/word.rt:33:9
 add-i : tie.Need-add-i Inv-loop μ-loop
 add-i c = search needs
 
--- src/word.rt:29:5
 loop-less : tie.Need-loop-less Inv-loop μ-loop
 loop-less c = search needs
 
--- src/word.rt:29:5
 loop-again : tie.Need-loop-again Inv-loop μ-loop
 loop-again c = (
   omega arith,
   eqList-same (c .before .before .before .before .before .before .args .a .now) (c .before .before .before .before .before .before .args .b .now) (c .before .before .before .before .loop .i) (omega arith) (omega arith) (c .if2 .left) ∙ c .before .before .before .before .loop .inv .1,
 )
 
--- src/word.rt:22:1
 returns-3 : tie.Need-returns-3 Inv-loop μ-loop
 returns-3 c =
     sym (eqList-end (c .before .before .before .args .a .now) (c .before .before .before .args .b .now) (c .before .loop .i) (omega arith) (omega arith))

@@ -1,0 +1,10 @@
+pub mod Pending
+pub mod Tests
+pub mod Live
+pub mod Walking
+pub mod Steps
+pub mod Versions
+pub mod Quiet
+pub mod Runs
+pub mod Rules
+pub mod Judge

@@ -1,0 +1,111 @@
+-- The walk at one version with a list of pages that wait: what it tests, what it has seen, and what it tells. Assumes nothing.
+use Prim.Native.Nat.{ℕ, zero, suc, _+_, _*_, _-_, _^_, _<_, _≤_}
+use mathlib.Core.Bool.{Bool, true, false, _&&_, _||_, not}
+use mathlib.Core.Path.{_≡_}
+use mathlib.Core.List.{List, [], _∷_, _++_, map}
+use lib.Dec.{leb, ltb, eqb}
+use lib.ListN.{length, getD}
+use Rattle.model.specs.declared.Pair.{Pair}
+use Rattle.model.specs.Basic.{those, pick, all, any}
+use Rattle.model.specs.Entry.{pairOf, liveAt, within}
+use Rattle.model.specs.Page.{Page, pairsAt}
+use Rattle.model.specs.Store.{page}
+use Rattle.model.specs.Walk.{Seen, spread, seenAs, seenBelow, keyLimit}
+use Rattle.model.specs.Sound.{startsAt, fewest}
+use Rattle.model.specs.Layout.{readEntry, readEntries, decode, sizeOf}
+use Rattle.local.specs.Local.{IsPage, countAt, levelAt, entryAt}
+use Rattle.judge.specs.declared.walk.Item.{Item}
+use Rattle.judge.specs.declared.walk.Walked.{Walked}
+
+-- ---- what rule 4 or 5 asks of a page that is reached, in the order of the walk: once, then of each live entry
+
+-- the first key of a list of pairs, or d
+abbrev pub firstKey : List Pair → ℕ → ℕ
+firstKey [] d = d
+firstKey (x ∷ xs) d = x .key
+
+unfoldable pub openOk : ℕ → ℕ → Bool → ℕ → ℕ → List Pair → Bool
+openOk least rule root up low xs = pick (eqb rule 4) (eqb up 0 || startsAt low xs) (not (eqb rule 5) || leb (fewest least root up) (length xs))
+
+unfoldable pub stepOk : ℕ → ℕ → ℕ → ℕ → ℕ → Bool
+stepOk rule low high next key = not (eqb rule 4) || (within low high key && ltb key next)
+
+unfoldable pub chainOk : ℕ → ℕ → ℕ → List Pair → Bool
+chainOk rule low high [] = true
+chainOk rule low high (x ∷ xs) = stepOk rule low high (firstKey xs high) (x .key) && chainOk rule low high xs
+
+unfoldable pub passes : ℕ → ℕ → Seen → Bool
+passes least rule x = openOk least rule (x .isRoot) (x .up) (x .low) (x .pairs) && chainOk rule (x .low) (x .high) (x .pairs)
+
+-- ---- what is seen of a page that waits, and below it
+
+unfoldable pub here : List Page → ℕ → Item → Seen
+here ps v it = seenAs (it .up) ps v (it .root) (it .low) (it .high) (it .page)
+
+unfoldable pub seenOf : List Page → ℕ → Item → List Seen
+seenOf ps v it = seenBelow (it .up) ps v (it .root) (it .low) (it .high) (it .page)
+
+unfoldable pub kids : ℕ → List Page → ℕ → List Pair → ℕ → List Seen
+kids zero ps v xs high = []
+kids (suc u) ps v xs high = spread (seenBelow u ps v false) xs high
+
+abbrev pub none : Item
+none = record { page = 0; up = 0; root = false; low = 0; high = 0 }
+
+-- of the first k items
+unfoldable pub pend : List Page → ℕ → List Item → ℕ → List Seen
+pend ps v items zero = []
+pend ps v items (suc k) = seenOf ps v (getD items k none) ++ pend ps v items k
+
+-- the same elements: each test finds one in both or in none
+abbrev pub Same : List Seen → List Seen → Type 0
+Same a b = (g : Seen → Bool) → any g a ≡ any g b
+
+-- ---- a bound for the steps that are left: a page has at most 40 entries
+
+unfoldable pub weight : ℕ → ℕ
+weight zero = 1
+weight (suc u) = 1 + 40 * weight u
+
+unfoldable pub weigh : List Item → ℕ → ℕ
+weigh items zero = 0
+weigh items (suc k) = weight (getD items k none .up) + weigh items k
+
+-- ---- what holds of the bytes, once rules 1 and 3 hold
+
+pub record Linked (least : ℕ) (s : List ℕ) : Type 0 where
+  pub long : length s ≤ 2 ^ 21
+  pub most : sizeOf least s ≤ 4096
+  pub room : (n : ℕ) → IsPage least s n → countAt least s n ≤ 5 * least
+  pub child : (n i : ℕ) → IsPage least s n → 2 ≤ levelAt least s n → i < countAt least s n → IsPage least s (entryAt least s n i .value)
+  pub lower : (n i : ℕ) → IsPage least s n → 2 ≤ levelAt least s n → i < countAt least s n → levelAt least s (entryAt least s n i .value) + 1 ≡ levelAt least s n
+
+-- an item in its place k of the list, for a root U levels above the leaves
+pub record Fine (least : ℕ) (s : List ℕ) (U k : ℕ) (it : Item) : Type 0 where
+  pub isPage : IsPage least s (it .page)
+  pub level : levelAt least s (it .page) ≡ it .up + 1
+  pub place : k + 40 * it .up ≤ 40 * U
+
+-- ---- the live pairs of a page from place i on
+
+unfoldable pub pairsFrom : List ℕ → ℕ → ℕ → ℕ → List Pair
+pairsFrom p v i n = map pairOf (those (liveAt v) (readEntries p (128 + 96 * i) (n - i)))
+
+-- r is the place of the first live entry from i on, or n
+pub record Next (p : List ℕ) (v i n r : ℕ) : Type 0 where
+  pub low : i ≤ r
+  pub high : r ≤ n
+  pub same : pairsFrom p v i n ≡ pairsFrom p v r n
+  pub live : r < n → pairsFrom p v r n ≡ pairOf (readEntry p (128 + 96 * r)) ∷ pairsFrom p v (r + 1) n
+
+-- ---- what a walk from page r, up levels above the leaves, tells
+
+unfoldable pub whole : ℕ → List ℕ → ℕ → ℕ → ℕ → List Seen
+whole least s up v r = seenBelow up (decode least s .pages) v true 0 keyLimit r
+
+abbrev pub isNumber : ℕ → Seen → Bool
+isNumber n x = eqb n (x .number)
+
+pub record Tells (least : ℕ) (s : List ℕ) (r up v rule : ℕ) (w : Walked) : Type 0 where
+  pub verdict : w .broken ≡ pick (all (passes least rule) (whole least s up v r)) 0 rule
+  pub marked : all (passes least rule) (whole least s up v r) ≡ true → (m : ℕ) → getD (w .marks) m false ≡ any (isNumber m) (whole least s up v r)

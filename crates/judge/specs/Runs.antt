@@ -1,0 +1,125 @@
+-- A run over the versions, and the verdict at one: what the code's loops make of the rules. Assumes nothing.
+use Prim.Native.Nat.{ℕ, suc, _+_, _*_, _-_, _<_, _≤_}
+use mathlib.Core.Bool.{Bool, true, false, _&&_, _||_, not}
+use mathlib.Core.Path.{_≡_, refl, ap, sym, _∙_}
+use mathlib.Core.List.{List, [], _∷_, map}
+use native.Mathlib.Omega.{arith}
+use native.Mathlib.Numerals.{add-one, sub-one}
+use lib.Dec.{leb, eqb, leb·zero}
+use lib.ListN.{getD, drop}
+use borrow.Author.Tests.{eq-eqb, ne-eqb}
+use Rattle.model.specs.declared.Slot.{Slot}
+use Rattle.model.specs.declared.Header.{Header}
+use Rattle.model.specs.Basic.{pick, all, any, has, count}
+use Rattle.model.specs.Entry.{within}
+use Rattle.model.specs.Page.{Page}
+use Rattle.model.specs.Walk.{Seen, seen, rootAt, rootFrom, heightOf}
+use Rattle.model.specs.Sound.{same, reachedWell}
+use Rattle.model.specs.Layout.{pageOf, readHeader, readSlots, readPages, decode, sizeOf}
+use Rattle.model.proofs.Given.{numbers}
+use Rattle.model.proofs.Quiet.{count-run}
+use Rattle.page.specs.Read.{level-of, start-of, end-of}
+use Rattle.store.specs.Read.{slots-step, slots-end, slots-of, pages-step, pages-end, behind, page-at}
+use Rattle.local.specs.Local.{headAt, levelAt, slotAt}
+use Rattle.judge.specs.declared.walk.Walked.{Walked}
+use Rattle.judge.specs.Pending.{passes, whole, isNumber, Tells}
+use Rattle.judge.specs.Versions.{QuietBytes, RootFine, Ready, markedWell, versionOk}
+use Rattle.judge.specs.Quiet.{version-still}
+
+-- ---- all versions from v on
+
+pub run-step : (least : ℕ) (s : List ℕ) (rule v q end : ℕ) → 5 ≤ sizeOf least s → v < q → q ≤ end → QuietBytes least s v q → versionOk least rule s v ≡ true
+    → all (versionOk least rule s) (count v (end - v)) ≡ all (versionOk least rule s) (count q (end - q))
+run-step least s rule v q end five lt le quiet ok =
+    let a : end - v ≡ (q - v) + (end - q) = omega arith in
+    let b : v + (q - v) ≡ q = omega arith in
+    rw a (rw b at (count-run (versionOk least rule s) v (q - v) (end - q) (λ i l g. sym (version-still least s v i q five l (omega arith) quiet rule) ∙ ok)))
+
+pub run-fails : (f : ℕ → Bool) (v end : ℕ) → v < end → f v ≡ false → all f (count v (end - v)) ≡ false
+run-fails f v end lt e = let a : end - v ≡ suc (end - v - 1) = omega arith in rw (a, e)
+
+pub run-ends : (f : ℕ → Bool) (v end : ℕ) → end ≤ v → all f (count v (end - v)) ≡ true
+run-ends f v end le = let a : end - v ≡ 0 = omega arith in rw a
+
+-- ---- the root of a version
+
+module _ (least : ℕ) (s : List ℕ) (v : ℕ) where
+  pub root-start : (h : Header) → Ready least s h → rootAt (decode least s .slots) v ≡ rootFrom (slotAt least s 0 .root) (readSlots s (512 * least + 32 * 1) (h .roots - 1)) v
+  root-start h y =
+      let n : ℕ = h .roots in
+      let o : ℕ = 512 * least in
+      let a : o + 32 * 0 ≡ o = omega arith in
+      let b : n - 0 ≡ n = omega arith in
+      let c : readSlots s (o + 32 * 0) n ≡ slotAt least s 0 ∷ readSlots s (o + 32 * (0 + 1)) (n - (0 + 1)) = rw b at (slots-step s o 0 n (y .some)) in
+      let d : readSlots s o n ≡ slotAt least s 0 ∷ readSlots s (o + 32 * 1) (n - 1) = ap (λ (k : ℕ). readSlots s k n) (sym a) ∙ c in
+      ap (λ (xs : List Slot). rootAt xs v) (slots-of least s ∙ ap (λ (x : Header). readSlots s o (x .roots)) (sym (y .header)) ∙ d)
+      ∙ ap (λ (x : ℕ). rootFrom (pick (leb x v) (slotAt least s 0 .root) 0) (readSlots s (o + 32 * 1) (n - 1)) v) (y .first)
+      ∙ ap (λ (t : Bool). rootFrom (pick t (slotAt least s 0 .root) 0) (readSlots s (o + 32 * 1) (n - 1)) v) (leb·zero v)
+
+  pub root-step : (r i n : ℕ) → i < n
+      → rootFrom r (readSlots s (512 * least + 32 * i) (n - i)) v ≡ rootFrom (pick (leb (slotAt least s i .version) v) (slotAt least s i .root) r) (readSlots s (512 * least + 32 * (i + 1)) (n - (i + 1))) v
+  root-step r i n h = rw (slots-step s (512 * least) i n h)
+
+  pub root-end : (r i n : ℕ) → n ≤ i → rootFrom r (readSlots s (512 * least + 32 * i) (n - i)) v ≡ r
+  root-end r i n h = rw (slots-end s (512 * least + 32 * i) i n h)
+
+-- ---- marks
+
+module _ (least : ℕ) (s : List ℕ) (v : ℕ) (marks : List Bool) (n m : ℕ) where
+  pub marked-step : n < m
+      → markedWell v marks n (readPages least s n (m - n))
+      ≡ (same (not (eqb (levelAt least s n) 0) && within (headAt least s n .start) (headAt least s n .end) v) (getD marks n false) && markedWell v marks (n + 1) (readPages least s (n + 1) (m - (n + 1))))
+  unfolding markedWell
+  marked-step h = rw (pages-step least s n m h, ← level-of least (pageOf least s n), ← start-of least (pageOf least s n), ← end-of least (pageOf least s n))
+
+  pub marked-end : m ≤ n → markedWell v marks n (readPages least s n (m - n)) ≡ true
+  unfolding markedWell
+  marked-end h = rw (pages-end least s n m h)
+
+marked-reached : (v : ℕ) (marks : List Bool) (ns : List ℕ) → ((m : ℕ) → getD marks m false ≡ has m ns) → (n : ℕ) (ps : List Page) → markedWell v marks n ps ≡ reachedWell v ns n ps
+unfolding markedWell
+marked-reached v marks ns h n [] = refl
+marked-reached v marks ns h n (p ∷ ps) = rw (h n, add-one, marked-reached v marks ns h (suc n) ps)
+
+any-map : (m : ℕ) (xs : List Seen) → any (isNumber m) xs ≡ has m (map (λ (x : Seen). x .number) xs)
+any-map m [] = refl
+any-map m (x ∷ xs) = rw (any-map m xs)
+
+-- ---- the verdict at a version
+
+module _ (least : ℕ) (s : List ℕ) (v r up rule : ℕ) (e : r ≡ rootAt (decode least s .slots) v) (f : RootFine least s r) (u : up ≡ levelAt least s r - 1) (w : Walked) (t : Tells least s r up v rule w) where
+  seen-whole : seen (decode least s) v ≡ whole least s up v r
+  unfolding whole
+  seen-whole =
+      let h : heightOf (decode least s .pages) r ≡ up = rw (page-at least s r (f .isPage .0) (f .isPage .1), level-of least (pageOf least s r)) (sym (u ∙ sub-one (levelAt least s r))) in
+      rw (← e, h)
+
+  abbrev reach : Bool
+  reach = reachedWell v (map (λ (x : Seen). x .number) (whole least s up v r)) 5 (drop 5 (decode least s .pages))
+
+  version-is : versionOk least rule s v ≡ (all (passes least rule) (whole least s up v r) && (not (eqb rule 6) || reach))
+  unfolding versionOk
+  version-is = ap (λ (xs : List Seen). all (passes least rule) xs && (not (eqb rule 6) || reachedWell v (map (λ (x : Seen). x .number) xs) 5 (drop 5 (decode least s .pages)))) seen-whole
+
+  pub fails : (w .broken ≡ 0 → ⊥) → versionOk least rule s v ≡ false
+  fails n = version-is ∙ at (all (passes least rule) (whole least s up v r)) refl
+    where
+      at : (b : Bool) → all (passes least rule) (whole least s up v r) ≡ b → (b && (not (eqb rule 6) || reach)) ≡ false
+      at true a = absurd (n (t .verdict ∙ ap (λ (b : Bool). pick b 0 rule) a))
+      at false a = refl
+
+  module _ (pos : 0 < rule) (z : w .broken ≡ 0) where
+    holds : all (passes least rule) (whole least s up v r) ≡ true
+    holds = at (all (passes least rule) (whole least s up v r)) refl
+      where
+        at : (b : Bool) → all (passes least rule) (whole least s up v r) ≡ b → b ≡ true
+        at true a = refl
+        at false a = absurd (let g : rule ≡ 0 = sym (ap (λ (b : Bool). pick b 0 rule) a) ∙ sym (t .verdict) ∙ z in omega arith)
+
+    pub passes-one : (rule ≡ 6 → ⊥) → versionOk least rule s v ≡ true
+    passes-one n = version-is ∙ rw (holds, ne-eqb rule 6 n)
+
+    pub passes-six : rule ≡ 6 → versionOk least rule s v ≡ markedWell v (w .marks) 5 (readPages least s 5 (sizeOf least s - 5))
+    passes-six n =
+        version-is ∙ rw (holds, eq-eqb rule 6 n, behind least s)
+        (sym (marked-reached v (w .marks) (map (λ (x : Seen). x .number) (whole least s up v r)) (λ m. t .marked holds m ∙ any-map m (whole least s up v r)) 5 (readPages least s 5 (sizeOf least s - 5))))

@@ -1,0 +1,311 @@
+-- What each step of the walk makes of what is known. Assumes nothing.
+use Prim.Native.Nat.{ℕ, zero, suc, _+_, _*_, _-_, _<_, _≤_}
+use mathlib.Core.Path.{_≡_, refl, ap, sym, _∙_}
+use mathlib.Core.Bool.{Bool, true, false, _&&_, _||_}
+use mathlib.Core.List.{List, [], _∷_, _++_, append-nil}
+use mathlib.Core.Logic.{⊎-elim}
+use lib.Dec.{ltb}
+use lib.ListN.{length, getD, set, replicate, length-set, length-replicate}
+use lib.Seq.{getD-set-same, getD-set-other}
+use borrow.Author.Tests.{eq-eqb, ne-eqb}
+use native.Mathlib.Omega.{arith}
+use native.Mathlib.Nat.{mul-le-mul-right, add-mul, one-mul}
+use Rattle.bits.specs.Put.{less, same?}
+use Rattle.model.specs.declared.Pair.{Pair}
+use Rattle.model.specs.Basic.{all, any, pick}
+use Rattle.model.specs.Entry.{pairOf}
+use Rattle.model.specs.Page.{Page, pairsAt}
+use Rattle.model.specs.Store.{page}
+use Rattle.model.specs.Walk.{Seen}
+use Rattle.model.specs.Layout.{readEntry, pageOf, decode}
+use Rattle.model.proofs.Members.{not-both}
+use Rattle.local.specs.Local.{IsPage, countAt, levelAt}
+use Rattle.judge.specs.declared.walk.Item.{Item}
+use Rattle.judge.specs.Pending.{firstKey, openOk, stepOk, chainOk, passes, here, seenOf, kids, none, pend, Same, weight, weigh, Linked, Fine, pairsFrom, Next, whole, isNumber, Tells}
+use Rattle.judge.specs.Live.{pairs-end, upper-first}
+use Rattle.judge.specs.Tests.{any-append, same-all}
+use Rattle.judge.specs.Walking.{Walking, Entering, kidWeight, pend-push, weigh-push, weigh-top, pend-top, seen-item, kids-none, kids-leaf, kids-cons, pairs-here}
+
+all-same : {A : Type 0} (n i : ℕ) (a : A) → getD (replicate n a) i a ≡ a
+all-same zero i a = refl
+all-same (suc n) zero a = refl
+all-same (suc n) (suc i) a = all-same n i a
+
+shuffle : (d h k p : Bool) → (d || ((h || k) || p)) ≡ ((h || d) || (p || k))
+shuffle true true k p = refl
+shuffle true false k p = refl
+shuffle false true k p = refl
+shuffle false false true true = refl
+shuffle false false true false = refl
+shuffle false false false true = refl
+shuffle false false false false = refl
+
+rotate : (a p c k : Bool) → (a || (p || (c || k))) ≡ (a || ((c || p) || k))
+rotate true p c k = refl
+rotate false true true k = refl
+rotate false true false k = refl
+rotate false false true k = refl
+rotate false false false k = refl
+
+weight-kids : (u : ℕ) → weight u ≡ 1 + 40 * kidWeight u
+unfolding weight
+weight-kids zero = refl
+weight-kids (suc u) = refl
+
+kid-weight : (u : ℕ) → 0 < u → kidWeight u ≡ weight (u - 1)
+kid-weight zero h = absurd (omega arith)
+kid-weight (suc u) h = let e : suc u - 1 ≡ u = omega arith in rw e
+
+module _ (least : ℕ) (four : 4 ≤ least) (eight : least ≤ 8) (s : List ℕ) (root up v rule : ℕ) where
+  abbrev ps : List Page
+  ps = decode least s .pages
+
+  -- ---- the first item
+
+  abbrev first : Item
+  first = record { page = root; up = up; root = true; low = 0; high = 16777216 }
+
+  pub start : IsPage least s root → levelAt least s root ≡ up + 1 → Walking least s root up v rule (replicate 4096 false) (replicate 281 first) 1
+  unfolding pend seenOf whole
+  start h l =
+      record {
+        slots = refl;
+        size = length-replicate {A = Bool} 4096 false;
+        fine = λ k lt. let e : k ≡ 0 = omega arith in rw e (record { isPage = h; level = l; place = omega arith });
+        done = [];
+        same = λ g. ap (any g) (sym (append-nil (seenOf ps v first)));
+        good = refl;
+        mark = λ m. all-same 4096 m false;
+      }
+
+  -- ---- a page is taken
+
+  module _ (linked : Linked least s) (marks : List Bool) (items : List Item) (top : ℕ) (w : Walking least s root up v rule marks items top) (pos : 0 < top)
+      (it : Item) (is : it ≡ getD items (top - 1) none) (n : ℕ) (number : n ≡ it .page) (p : List ℕ) (bytes : p ≡ pageOf least s n) (count : ℕ) (counted : count ≡ countAt least s n) where
+    pub own : Fine least s up (top - 1) it
+    own = rw is (w .fine (top - 1) (omega arith))
+
+    pub is-page : IsPage least s n
+    is-page = rw number (own .isPage)
+
+    pub room : count ≤ 5 * least
+    room = rw counted (linked .room n is-page)
+
+    pairs : pairsAt v (page ps (it .page)) ≡ pairsFrom p v 0 count
+    pairs = rw (bytes, counted, ← number) (pairs-here least s v n is-page)
+
+    taken : pend ps v items top ≡ (here ps v it ∷ kids (it .up) ps v (pairsFrom p v 0 count) (it .high)) ++ pend ps v items (top - 1)
+    taken = pend-top ps v items top pos ∙ rw (← is, seen-item ps v it, pairs)
+
+    same0 : Same (whole least s up v root) ((here ps v it ∷ w .done) ++ (pend ps v items (top - 1) ++ kids (it .up) ps v (pairsFrom p v 0 count) (it .high)))
+    same0 g =
+        let h : Seen = here ps v it in
+        let k : List Seen = kids (it .up) ps v (pairsFrom p v 0 count) (it .high) in
+        let q : List Seen = pend ps v items (top - 1) in
+        w .same g ∙ rw (taken, any-append g (w .done) ((h ∷ k) ++ q), any-append g (h ∷ k) q, any-append g (h ∷ w .done) (q ++ k), any-append g q k)
+        (shuffle (any g (w .done)) (g h) (any g k) (any g q))
+
+    pub enter : (j : ℕ) → length p ≡ 64 * least → openOk least rule (it .root) (it .up) (it .low) (pairsFrom p v 0 count) ≡ true → Next p v 0 count j
+        → Entering least s root up v rule (set marks n true) items (top - 1) it n p count items (top - 1) j
+    unfolding here
+    enter j sized o x =
+        record {
+          number = number;
+          bytes = bytes;
+          sized = sized;
+          counted = counted;
+          room = room;
+          slots = w .slots;
+          size = length-set marks n true ∙ w .size;
+          own = own;
+          fine = λ k lt. w .fine k (omega arith);
+          above = omega arith;
+          weighs = omega arith;
+          place = x .high;
+          live = x .live;
+          done = w .done;
+          same = rw (x .same) at same0;
+          good = w .good;
+          opened = o;
+          chain = ap (chainOk rule (it .low) (it .high)) (x .same);
+          mark = λ m. ⊎-elim
+              (λ e. rw (e, getD-set-same marks n true false (omega (arith, w .size, is-page .1, linked .most)), eq-eqb n (it .page) number))
+              (λ e. rw (getD-set-other marks n m true false e, w .mark m, ne-eqb m (it .page) (λ f. e (f ∙ sym number))))
+              (same? m n);
+        }
+
+    -- a page that does not open breaks the rule
+    pub shut : openOk least rule (it .root) (it .up) (it .low) (pairsFrom p v 0 count) ≡ false → all (passes least rule) (whole least s up v root) ≡ false
+    unfolding passes here
+    shut o =
+        let h : Seen = here ps v it in
+        let k : List Seen = kids (it .up) ps v (pairsFrom p v 0 count) (it .high) in
+        let q : List Seen = pend ps v items (top - 1) in
+        same-all (passes least rule) (whole least s up v root) ((h ∷ w .done) ++ (q ++ k)) same0 ∙ rw (pairs, o)
+
+  -- ---- an entry is taken
+
+  module _ (linked : Linked least s) (marks : List Bool) (items₀ : List Item) (top₀ : ℕ) (it : Item) (n : ℕ) (p : List ℕ) (count : ℕ) (items : List Item) (top j : ℕ)
+      (w : Entering least s root up v rule marks items₀ top₀ it n p count items top j) (lt : j < count) where
+    abbrev e : ℕ
+    e = 128 + 96 * j
+
+    chain-next : chainOk rule (it .low) (it .high) (pairsFrom p v 0 count)
+        ≡ (stepOk rule (it .low) (it .high) (firstKey (pairsFrom p v (j + 1) count) (it .high)) (readEntry p (128 + 96 * j) .key) && chainOk rule (it .low) (it .high) (pairsFrom p v (j + 1) count))
+    unfolding chainOk
+    chain-next = w .chain ∙ ap (chainOk rule (it .low) (it .high)) (w .live lt)
+
+    on-page : IsPage least s n
+    on-page = rw (w .number) (w .own .isPage)
+
+    pairs-now : pairsAt v (page ps (it .page)) ≡ pairsFrom p v 0 count
+    pairs-now = rw (w .bytes, w .counted, ← w .number) (pairs-here least s v n on-page)
+
+    -- an entry that breaks the rule
+    pub stops : (k next : ℕ) → Next p v (j + 1) count k → next ≡ pick (ltb k count) (readEntry p (128 + 96 * k) .key) (it .high)
+        → stepOk rule (it .low) (it .high) next (readEntry p (128 + 96 * j) .key) ≡ false → all (passes least rule) (whole least s up v root) ≡ false
+    unfolding passes here
+    stops k next y nx o =
+        let h : Seen = here ps v it in
+        let r : List Seen = pend ps v items top ++ kids (it .up) ps v (pairsFrom p v j count) (it .high) in
+        let f : next ≡ firstKey (pairsFrom p v (j + 1) count) (it .high) = nx ∙ upper-first p v (j + 1) count k (it .high) y in
+        same-all (passes least rule) (whole least s up v root) ((h ∷ w .done) ++ r) (w .same) ∙ rw (pairs-now, w .opened, chain-next, ← f, o)
+
+    -- one that keeps it
+    module _ (k next : ℕ) (y : Next p v (j + 1) count k) (nx : next ≡ pick (ltb k count) (readEntry p (128 + 96 * k) .key) (it .high))
+        (o : stepOk rule (it .low) (it .high) next (readEntry p (128 + 96 * j) .key) ≡ true) where
+      is-next : next ≡ firstKey (pairsFrom p v (j + 1) count) (it .high)
+      is-next = nx ∙ upper-first p v (j + 1) count k (it .high) y
+
+      chain-k : chainOk rule (it .low) (it .high) (pairsFrom p v 0 count) ≡ chainOk rule (it .low) (it .high) (pairsFrom p v k count)
+      chain-k = chain-next ∙ rw (← is-next, o, y .same)
+
+      heavier : j * kidWeight (it .up) + kidWeight (it .up) ≤ k * kidWeight (it .up)
+      heavier =
+          let a : (j + 1) * kidWeight (it .up) ≤ k * kidWeight (it .up) = mul-le-mul-right (kidWeight (it .up)) (y .low) in
+          omega (arith, rw (one-mul (kidWeight (it .up))) at (add-mul j 1 (kidWeight (it .up))))
+
+      -- in a leaf
+      pub passed : it .up ≡ 0 → Entering least s root up v rule marks items₀ top₀ it n p count items top k
+      passed z =
+          record {
+            number = w .number;
+            bytes = w .bytes;
+            sized = w .sized;
+            counted = w .counted;
+            room = w .room;
+            slots = w .slots;
+            size = w .size;
+            own = w .own;
+            fine = w .fine;
+            above = omega (arith, w .above, y .low);
+            weighs = omega (arith, w .weighs, heavier);
+            place = y .high;
+            live = y .live;
+            done = w .done;
+            same = rw (kids-leaf (it .up) ps v (pairsFrom p v k count) (it .high) z) (rw (kids-leaf (it .up) ps v (pairsFrom p v j count) (it .high) z) at (w .same));
+            good = w .good;
+            opened = w .opened;
+            chain = chain-k;
+            mark = w .mark;
+          }
+
+      -- in an index page, with the page below put on the list
+      module _ (six : up ≤ 6) (pos : 0 < it .up) (z : Item) (zp : z .page ≡ readEntry p (128 + 96 * j) .value) (zu : z .up ≡ it .up - 1) (zr : z .root ≡ false)
+          (zl : z .low ≡ readEntry p (128 + 96 * j) .key) (zh : z .high ≡ next) where
+        pub fits : top < 281
+        fits = omega (arith, w .above, w .own .place, w .room)
+
+        deep : 2 ≤ levelAt least s n
+        deep = omega (arith, rw (← w .number) at (w .own .level))
+
+        cnt : j < countAt least s n
+        cnt = rw (w .counted) at lt
+
+        new : Fine least s up top z
+        new =
+            record {
+              isPage = rw (zp, w .bytes) (linked .child n j on-page deep cnt);
+              level = rw (zp, w .bytes) (omega (arith, linked .lower n j on-page deep cnt, rw (← w .number) at (w .own .level)));
+              place = omega (arith, w .above, w .own .place, w .room);
+            }
+
+        long : top < length items
+        long = rw (w .slots) fits
+
+        below : kids (it .up) ps v (pairsFrom p v j count) (it .high) ≡ seenOf ps v z ++ kids (it .up) ps v (pairsFrom p v k count) (it .high)
+        below =
+            ap (λ (l : List Pair). kids (it .up) ps v l (it .high)) (w .live lt)
+            ∙ kids-cons (it .up) ps v (pairOf (readEntry p (128 + 96 * j))) (pairsFrom p v (j + 1) count) (it .high) z pos zu zr zl (zh ∙ is-next) zp
+            ∙ ap (λ (l : List Pair). seenOf ps v z ++ kids (it .up) ps v l (it .high)) (y .same)
+
+        pub pushed : Entering least s root up v rule marks items₀ top₀ it n p count (set items top z) (top + 1) k
+        pushed =
+            record {
+              number = w .number;
+              bytes = w .bytes;
+              sized = w .sized;
+              counted = w .counted;
+              room = w .room;
+              slots = length-set items top z ∙ w .slots;
+              size = w .size;
+              own = w .own;
+              fine = λ i l. ⊎-elim (λ a. rw (getD-set-other items top i z none (omega arith)) (w .fine i a))
+                  (λ a. let q : i ≡ top = omega arith in rw (q, getD-set-same items top z none long) new) (less i top);
+              above = omega (arith, w .above, y .low);
+              weighs = omega (arith, w .weighs, heavier, weigh-push items top z long, kid-weight (it .up) pos, ap weight zu);
+              place = y .high;
+              live = y .live;
+              done = w .done;
+              same = λ g.
+                  let h : List Seen = here ps v it ∷ w .done in
+                  let q : List Seen = pend ps v items top in
+                  let c : List Seen = seenOf ps v z in
+                  let r : List Seen = kids (it .up) ps v (pairsFrom p v k count) (it .high) in
+                  w .same g ∙ rw (below, pend-push ps v items top z long, any-append g h (q ++ (c ++ r)), any-append g q (c ++ r), any-append g c r, any-append g h ((c ++ q) ++ r), any-append g (c ++ q) r, any-append g c q)
+                  (rotate (any g h) (any g q) (any g c) (any g r));
+              good = w .good;
+              opened = w .opened;
+              chain = chain-k;
+              mark = w .mark;
+            }
+
+  -- ---- a page is left
+
+  module _ (marks : List Bool) (items₀ : List Item) (top₀ : ℕ) (it : Item) (n : ℕ) (p : List ℕ) (count : ℕ) (items : List Item) (top j : ℕ)
+      (w : Entering least s root up v rule marks items₀ top₀ it n p count items top j) (ge : count ≤ j) where
+    pairs-all : pairsAt v (page ps (it .page)) ≡ pairsFrom p v 0 count
+    pairs-all = rw (w .bytes, w .counted, ← w .number) (pairs-here least s v n (rw (w .number) (w .own .isPage)))
+
+    passes-here : passes least rule (here ps v it) ≡ true
+    unfolding passes here chainOk
+    passes-here = rw (pairs-all, w .opened, w .chain, pairs-end p v j count ge)
+
+    pub left : Walking least s root up v rule marks items top
+    left =
+        record {
+          slots = w .slots;
+          size = w .size;
+          fine = w .fine;
+          done = here ps v it ∷ w .done;
+          same = rw (pairs-end p v j count ge, kids-none (it .up) ps v (it .high), append-nil (pend ps v items top)) at (w .same);
+          good = rw (passes-here, w .good);
+          mark = w .mark;
+        }
+
+    pub lighter : weigh items top < weight (it .up) + weigh items₀ top₀
+    lighter =
+        omega (arith, w .weighs, weight-kids (it .up), mul-le-mul-right {m = j} {n = 40} (kidWeight (it .up)) (omega (arith, w .place, w .room)))
+
+  -- ---- the end
+
+  pub finish : (marks : List Bool) (items : List Item) (top : ℕ) → Walking least s root up v rule marks items top → top ≡ 0 → Tells least s root up v rule (record { broken = 0; marks = marks })
+  unfolding pend
+  finish marks items top w z =
+      let q : Same (whole least s up v root) (w .done) = rw (z, append-nil (w .done)) at (w .same) in
+      let a : all (passes least rule) (whole least s up v root) ≡ true = same-all (passes least rule) (whole least s up v root) (w .done) q ∙ w .good in
+      record { verdict = rw a; marked = λ _ m. w .mark m ∙ sym (q (isNumber m)) }
+
+  pub stopped : (marks : List Bool) → all (passes least rule) (whole least s up v root) ≡ false → Tells least s root up v rule (record { broken = rule; marks = marks })
+  stopped marks a =
+      record { verdict = rw a; marked = λ b. absurd (let f : _≡_ {A = Bool} true false = sym b ∙ a in let z : _≡_ {A = ℕ} 0 1 = cc in omega arith) }

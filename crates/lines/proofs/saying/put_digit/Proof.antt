@@ -1,0 +1,29 @@
+-- One byte is laid over the buffer. Assumes nothing.
+use Prim.Native.Nat.{_+_}
+use mathlib.Core.Path.{refl}
+use borrow.Author.Needs.{needs}
+use Rattle.lines.proofs.Laying.{laid-one}
+use Rattle.lines.proofs.saying.put_digit.Statement.{statement}
+use Rattle.lines.proofs.saying.put_digit.Tie as tie
+
+cast-out : tie.Need-cast-out
+cast-out c = search needs
+
+add-out : tie.Need-add-out
+add-out c = search needs
+
+slice-write-out : tie.Need-slice-write-out
+slice-write-out c = search needs
+
+add-result : tie.Need-add-result
+add-result c = search needs
+
+same-length : tie.Need-same-length
+same-length c = search needs
+
+returns : tie.Need-returns
+returns c = record { out = laid-one (c .args .out .now) (c .args .at) (48 + c .args .d) (search needs); behind = refl }
+
+pub put-digit-spec : {M : Type 1} → statement M
+put-digit-spec =
+    tie.close (tie.spec cast-out add-out slice-write-out add-result same-length returns)

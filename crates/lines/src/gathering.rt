@@ -1,0 +1,111 @@
+// The line that is being read, gathered from pieces of the input in constant memory.
+// That `before + 1` fits is a caller's to see: it has read no more lines than bytes.
+ghost use mathlib.Core.Path.{_≡_};
+ghost use Prim.Native.Nat.{_+_, _^_, _<_, _≤_, min};
+ghost use Rattle.lines.specs.Reading.{reading, start as Reading·start, kept, lineOf, next as Reading·next, lastOf, Hears};
+use crate::Heard;
+use crate::Held;
+use crate::Line;
+use crate::Taken;
+use crate::parsing::parse;
+use crate::word::find;
+
+// Nothing read yet.
+pub fn start() -> Held
+    ensures { λ r. ⌜ reading r ≡ Reading·start ⌝ }
+    ensures { λ r. ⌜ r .len ≤ 81 ⌝ }
+{
+    let bytes = [0u8; 81];
+    Held {
+        bytes,
+        len: 0,
+        before: 0,
+    }
+}
+
+fn least(a: usize, b: usize) -> usize
+    ensures { λ r. ⌜ r ≡ min a b ⌝ }
+{
+    if a < b { a } else { b }
+}
+
+// More of the line, as far as 81 bytes go.
+fn keep(held: Held, text: &[u8]) -> Held
+    requires { ⌜ held .len ≤ 81 ⌝ }
+    ensures { λ r. ⌜ reading r ≡ kept (reading held) (now (text .entry)) ⌝ }
+    ensures { λ r. ⌜ r .len ≤ 81 ⌝ }
+{
+    let mut bytes = held.bytes;
+    let len = held.len;
+    let n = least(text.len(), 81 - len);
+    let mut i = 0;
+    while i < n {
+        bytes[len + i] = text[i];
+        i += 1;
+    }
+    Held {
+        bytes,
+        len: len + n,
+        before: held.before,
+    }
+}
+
+// The line that ends here.
+fn line(held: Held) -> Line
+    requires { ⌜ held .len ≤ 81 ⌝ }
+    requires { ⌜ held .before + 1 < 2 ^ 64 ⌝ }
+    ensures { λ r. ⌜ r ≡ lineOf (reading held) ⌝ }
+{
+    let bytes = held.bytes;
+    let len = held.len;
+    let command = parse(&bytes[..len]);
+    let number = held.before + 1;
+    Line { number, command }
+}
+
+// The line behind it.
+fn next(mut held: Held) -> Held
+    requires { ⌜ held .before + 1 < 2 ^ 64 ⌝ }
+    ensures { λ r. ⌜ reading r ≡ Reading·next (reading held) ⌝ }
+    ensures { λ r. ⌜ r .len ≤ 81 ⌝ }
+{
+    held.len = 0;
+    held.before = held.before + 1;
+    held
+}
+
+// Up to the first newline of a piece of the input, or to its end. A caller goes on behind the bytes used, until the piece is used up.
+pub fn hear(held: Held, piece: &[u8]) -> Taken
+    requires { ⌜ held .len ≤ 81 ⌝ }
+    requires { ⌜ held .before + 1 < 2 ^ 64 ⌝ }
+    ensures { λ r. ⌜ Hears held (now (piece .entry)) r ⌝ }
+{
+    let e = find(piece, b'\n');
+    let more = keep(held, &piece[..e]);
+    if e < piece.len() {
+        let heard = Heard::Whole(line(more));
+        let behind = next(more);
+        return Taken {
+            held: behind,
+            used: e + 1,
+            heard,
+        };
+    }
+    Taken {
+        held: more,
+        used: e,
+        heard: Heard::Nothing,
+    }
+}
+
+// The end of the input: "its newline (which the last may lack)".
+pub fn last(held: Held) -> Heard
+    requires { ⌜ held .len ≤ 81 ⌝ }
+    requires { ⌜ held .before + 1 < 2 ^ 64 ⌝ }
+    ensures { λ r. ⌜ r ≡ lastOf (reading held) ⌝ }
+{
+    if held.len == 0 {
+        return Heard::Nothing;
+    }
+    Heard::Whole(line(held))
+}

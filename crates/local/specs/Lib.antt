@@ -1,0 +1,7 @@
+pub mod Local
+pub mod Sizes
+pub mod Loops
+pub mod First
+pub mod Ruled
+pub mod Second
+pub mod Third

@@ -1,0 +1,18 @@
+// Rules 1 to 3: what can be told of a store page by page, one header, one slot, one entry and the page below it at a time.
+// Rules 4 to 6, which want a walk at each version, are in `judge`.
+mod entry;
+mod first;
+mod pages;
+mod second;
+mod third;
+
+pub use first::first_rule;
+pub use second::second_rule;
+pub use third::third_rule;
+ghost use mathlib.Core.Path.{_≡_};
+
+pub(crate) fn wide(x: u32) -> usize
+    ensures { λ r. ⌜ r ≡ x ⌝ }
+{
+    x as usize
+}

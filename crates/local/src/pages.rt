@@ -1,0 +1,118 @@
+// Rule 1 of one page and of all pages: the bits that are not defined, the page's front, its entries.
+use model::Limits;
+ghost use mathlib.Core.Path.{_≡_};
+ghost use Prim.Native.Nat.{ℕ, _+_, _*_, _-_, _^_, _≤_, _<_};
+ghost use lib.ListN.{length};
+ghost use Rattle.model.specs.Entry.{before};
+ghost use Rattle.model.specs.Limits.{Edition};
+ghost use Rattle.model.specs.Sound.{pageFine};
+ghost use Rattle.model.specs.Layout.{readEntry, readEntries, decodePage};
+ghost use Rattle.model.specs.Clean.{zeroFrom, cleanPage};
+ghost use Rattle.model.proofs.Rising.{firstOk};
+ghost use Rattle.page.specs.Head.{readHead};
+ghost use Rattle.local.specs.Local.{Sized, entriesOk, pagesFine};
+
+// Whether the bits from bit a up to, not including, bit b are zero.
+pub(crate) fn zero_from(s: &[u8], a: usize, b: usize) -> bool
+    requires { ⌜ (a ≤ b) × (b ≤ 8 * length (now s)) × (length (now s) ≤ 2 ^ 40) ⌝ }
+    ensures { λ r. ⌜ r ≡ zeroFrom (now (s .entry)) a b ⌝ }
+{
+    let mut k = a;
+    while k + 32 <= b {
+        if bits::field(s, k, 32) != 0 {
+            return false;
+        }
+        k += 32;
+    }
+    bits::field(s, k, b - k) == 0
+}
+
+// "79 zero bits"; "unused [entries] are all zero"
+fn clean_page(page: &[u8], l: Limits) -> bool
+    requires { ⌜ Edition l × (length (now page) ≡ 64 * l .least) ⌝ }
+    ensures { λ r. ⌜ r ≡ cleanPage (l .least) (now (page .entry)) ⌝ }
+{
+    let h = page::head_of(page, l);
+    let n = h.count;
+    if l.room < n {
+        return false;
+    }
+    if !zero_from(page, 44 + l.counter, 128) {
+        return false;
+    }
+    zero_from(page, 128 + 96 * n, 8 * l.bytes)
+}
+
+// The entry behind place i, if there is one, stands behind entry i.
+fn in_order(page: &[u8], i: usize, n: usize) -> bool
+    requires { ⌜ (16 + 12 * n ≤ length (now page)) × (i < n) × (length (now page) ≤ 2 ^ 40) ⌝ }
+    ensures { λ r. ⌜ r ≡ firstOk before (readEntry (now (page .entry)) (128 + 96 * i)) (readEntries (now (page .entry)) (128 + 96 * (i + 1)) (n - (i + 1))) ⌝ }
+{
+    if n <= i + 1 {
+        return true;
+    }
+    let d = page::entry_at(page, i);
+    let e = page::entry_at(page, i + 1);
+    crate::entry::stands_before(d, e)
+}
+
+fn entries_ok(page: &[u8], n: usize, level: u32, last: u32, size: usize) -> bool
+    requires { ⌜ (16 + 12 * n ≤ length (now page)) × (length (now page) ≤ 2 ^ 40) ⌝ }
+    ensures { λ r. ⌜ r ≡ entriesOk last size level (readEntries (now (page .entry)) 128 n) ⌝ }
+{
+    let mut i = 0;
+    while i < n {
+        let e = page::entry_at(page, i);
+        if !crate::entry::entry_ok(last, size, level, e) {
+            return false;
+        }
+        if !in_order(page, i, n) {
+            return false;
+        }
+        i += 1;
+    }
+    true
+}
+
+// A free page is all zero: what stands behind its front is for `clean_page`.
+fn page_fine(page: &[u8], l: Limits, last: u32, size: usize) -> bool
+    requires { ⌜ Edition l × (length (now page) ≡ 64 * l .least) × (readHead (l .least) (now page) .count ≤ 5 * l .least) ⌝ }
+    ensures { λ r. ⌜ r ≡ pageFine (l .least) last size (decodePage (l .least) (now (page .entry))) ⌝ }
+{
+    let h = page::head_of(page, l);
+    if h.level == 0 {
+        if h.start != 0 {
+            return false;
+        }
+        if h.end != 0 {
+            return false;
+        }
+        return h.count == 0;
+    }
+    if 7 < h.level {
+        return false;
+    }
+    if !crate::entry::span_ok(last, h.start, h.end) {
+        return false;
+    }
+    entries_ok(page, h.count, h.level, last, size)
+}
+
+// Every page from 5 on.
+pub(crate) fn pages_ok(s: &[u8], l: Limits, size: usize, last: u32) -> bool
+    requires { ⌜ Edition l × Sized (l .least) (now s) size ⌝ }
+    ensures { λ r. ⌜ r ≡ pagesFine (l .least) last size (now (s .entry)) 5 (size - 5) ⌝ }
+{
+    let mut n = 5;
+    while n < size {
+        let p = store::part(s, l, n);
+        if !clean_page(p, l) {
+            return false;
+        }
+        if !page_fine(p, l, last, size) {
+            return false;
+        }
+        n += 1;
+    }
+    true
+}

@@ -1,0 +1,141 @@
+-- Where bytes and the machine agree, every call answers from the machine's settings.
+-- Assumes nothing.
+use Prim.Native.Nat.{ℕ, zero, suc, _+_, _≤_, _<_}
+use native.Mathlib.Omega.{arith}
+use mathlib.Core.Bool.{Bool, true, false, _||_, not}
+use mathlib.Core.Path.{_≡_, refl, ap, ap₂, sym, _∙_, subst}
+use mathlib.Core.Option.{Option}
+use mathlib.Core.List.{List, [], _∷_}
+use lib.Dec.{leb, ltb}
+use lib.ListN.{length}
+use borrow.Author.Tests.{leb-false, ltb-false}
+use Rattle.model.specs.Basic.{inOrder}
+use Rattle.model.specs.declared.Pair.{Pair}
+use Rattle.model.specs.declared.Looked.{Looked}
+use Rattle.model.specs.declared.Looked.the-variants.{Refused}
+use Rattle.model.specs.Store.{Store, next, last, lastOf}
+use Rattle.model.specs.Walk.{keyLimit, settings, find, lookup, between, rangeOf}
+use Rattle.model.specs.Layout.{decode}
+use Rattle.model.specs.Climb.{Result, done, refused}
+use Rattle.model.specs.Calls
+use Rattle.model.specs.Calls.{isSome, rule, firstOf, lookedBy, Ranged, rangedBy, get, range}
+use Rattle.model.specs.Histories.{Call, begins, commits, abandons, inserts, deletes, callBy}
+use Rattle.model.specs.Settings.{Machine}
+use Rattle.model.specs.Lent
+use Rattle.model.specs.Lent.{left, judgedFirst, listed}
+use Rattle.model.specs.Ended.{toOpen, toCommit, toAbandon, toInsert, toDelete, toLookup, toRange, Ended, ofOutcome, ofLooked, ofListed, ended}
+use Rattle.model.proofs.Lookups.{lookup-is, settings-rise}
+use Rattle.model.proofs.Ranges.{range-is}
+use Rattle.promises.specs.Accepts.{Accepts}
+use Rattle.promises.specs.Runs.{asks}
+use Rattle.promises.specs.Beside.{Beside}
+use Rattle.promises.specs.Answers.{lastIn, lookupTests, rangeTests, openTests, endTests, insertTests, deleteTests, lookedIn, rangedFrom, aliveIn, Gives, Answers}
+use Rattle.promises.proofs.High.{begin-number, commit-number, abandon-number, insert-number, delete-number}
+use Rattle.promises.proofs.Lending.{change-number}
+use Rattle.promises.proofs.Agreed.{Agreed, bothOf}
+
+module _ (least : ℕ) (four : 4 ≤ least) (eight : least ≤ 8) (x : Beside) (a : Agreed least x) where
+  abbrev b : List ℕ
+  b = x .bytes
+
+  abbrev s : Store
+  s = decode least (x .bytes)
+
+  abbrev m : Machine
+  m = x .machine
+
+  last-is : last s ≡ lastIn m
+  last-is = ap₂ lastOf (a .agrees .opened) (a .agrees .current)
+
+  -- ---- a lookup
+
+  lookup-here : (k v : ℕ) → k < keyLimit → v ≤ last s → lookup s k v ≡ find k (m .shows v)
+  lookup-here k v low h = lookup-is least (omega arith) s (a .agrees .is-sound) k v low h ∙ ap (find k) (a .agrees .shows v h)
+
+  get-is : (k v : ℕ) → get s k v ≡ lookedIn m k v
+  unfolding Calls.get
+  get-is k v = at (leb keyLimit k) refl (ltb (last s) v) refl ∙ ap (λ (l : ℕ). lookedBy (firstOf (lookupTests l k v)) (find k (m .shows v))) last-is
+    where
+      at : (p : Bool) → leb keyLimit k ≡ p → (q : Bool) → ltb (last s) v ≡ q → lookedBy (firstOf (rule 5 p ∷ rule 6 q ∷ [])) (lookup s k v) ≡ lookedBy (firstOf (rule 5 p ∷ rule 6 q ∷ [])) (find k (m .shows v))
+      at true e q f = refl
+      at false e true f = refl
+      at false e false f = ap (λ (o : Option ℕ). lookedBy 0 o) (lookup-here k v (leb-false keyLimit k e) (ltb-false (last s) v f))
+
+  lookup-answers : (k v : ℕ) (ns : List ℕ) → ended least (toLookup k v) (x .bytes) ns ≡ ofLooked (x .bytes) ns (lookedIn m k v)
+  unfolding Lent.lookupLent
+  lookup-answers k v ns =
+      ap (λ (n : ℕ). ofLooked (x .bytes) ns (judgedFirst n (λ j. Refused j) (get s k v))) (a .accepted) ∙ ap (ofLooked (x .bytes) ns) (get-is k v)
+
+  -- ---- a range
+
+  low-is : (lo hi : ℕ) → (leb keyLimit lo || leb keyLimit hi || ltb hi lo) ≡ false → lo < keyLimit
+  low-is lo hi h = leb-false keyLimit lo (at (leb keyLimit lo) (leb keyLimit hi) (ltb hi lo) h)
+    where
+      at : (p q r : Bool) → (p || q || r) ≡ false → p ≡ false
+      at true q r e = e
+      at false q r e = refl
+
+  range-here : (lo hi v room : ℕ) → range s lo hi v room ≡ rangedFrom m lo hi v room
+  unfolding Calls.range Calls.rangedBy
+  range-here lo hi v room =
+      at (leb keyLimit lo || leb keyLimit hi || ltb hi lo) refl (ltb (last s) v) refl ∙ ap (λ (l : ℕ). rangedBy (firstOf (rangeTests l lo hi v)) room (between lo hi (m .shows v))) last-is
+    where
+      at : (p : Bool) → (leb keyLimit lo || leb keyLimit hi || ltb hi lo) ≡ p → (q : Bool) → ltb (last s) v ≡ q
+          → rangedBy (firstOf (rule 5 p ∷ rule 6 q ∷ [])) room (rangeOf s lo hi v) ≡ rangedBy (firstOf (rule 5 p ∷ rule 6 q ∷ [])) room (between lo hi (m .shows v))
+      at true e q f = refl
+      at false e true f = refl
+      at false e false f =
+          let h : v ≤ last s = ltb-false (last s) v f in
+          ap (rangedBy 0 room) (range-is least (omega arith) s (a .agrees .is-sound) lo hi v (low-is lo hi e) h ∙ ap (between lo hi) (a .agrees .shows v h))
+
+  range-answers : (lo hi v : ℕ) (ns : List ℕ) → ended least (toRange lo hi v) (x .bytes) ns ≡ ofListed (x .bytes) (listed ns (rangedFrom m lo hi v (length ns)))
+  unfolding Lent.rangeLent
+  range-answers lo hi v ns =
+      ap (λ (n : ℕ). ofListed (x .bytes) (judgedFirst n (λ j. record { number = j; count = 0; list = ns }) (listed ns (range s lo hi v (length ns))))) (a .accepted)
+      ∙ ap (λ (r : Ranged). ofListed (x .bytes) (listed ns r)) (range-here lo hi v (length ns))
+
+  -- ---- numbers
+
+  alive-here : s .opened ≡ true → (k : ℕ) → k < keyLimit → isSome (lookup s k (next s)) ≡ aliveIn m k
+  alive-here o k low =
+      ap isSome (lookup-here k (next s) low (omega (arith, ap (λ (q : Bool). lastOf q (s .current)) o))) ∙ ap (λ (n : ℕ). isSome (find k (m .shows (suc n)))) (a .agrees .current)
+
+  -- where 5 and 7 are not due, the last test may be made on the machine
+  tests-same : (n k : ℕ) (f : Bool → Bool) → firstOf (rule 5 (leb keyLimit k) ∷ rule 7 (not (s .opened)) ∷ rule n (f (isSome (lookup s k (next s)))) ∷ [])
+      ≡ firstOf (rule 5 (leb keyLimit k) ∷ rule 7 (not (m .opened)) ∷ rule n (f (aliveIn m k)) ∷ [])
+  tests-same n k f =
+      at (leb keyLimit k) refl (s .opened) refl
+      ∙ ap (λ (o : Bool). firstOf (rule 5 (leb keyLimit k) ∷ rule 7 (not o) ∷ rule n (f (aliveIn m k)) ∷ [])) (a .agrees .opened)
+    where
+      at : (p : Bool) → leb keyLimit k ≡ p → (o : Bool) → s .opened ≡ o → firstOf (rule 5 p ∷ rule 7 (not o) ∷ rule n (f (isSome (lookup s k (next s)))) ∷ [])
+          ≡ firstOf (rule 5 p ∷ rule 7 (not o) ∷ rule n (f (aliveIn m k)) ∷ [])
+      at true e o g = refl
+      at false e false g = refl
+      at false e true g = ap (λ (t : Bool). firstOf (rule n (f t) ∷ [])) (alive-here g k (leb-false keyLimit k e))
+
+  insert-gives : (k v : ℕ) (ns : List ℕ) → Gives (firstOf (insertTests k (m .opened) (aliveIn m k))) (ended least (toInsert k v) (x .bytes) ns .number)
+  insert-gives k v ns = subst (λ (n : ℕ). Gives n (ended least (toInsert k v) (x .bytes) ns .number)) (tests-same 10 k (λ (t : Bool). t))
+      (subst (Gives (firstOf (insertTests k (s .opened) (isSome (lookup s k (next s)))))) (sym (change-number least (x .bytes) (a .accepted) (inserts k v) ns)) (insert-number least s k v))
+
+  delete-gives : (k : ℕ) (ns : List ℕ) → Gives (firstOf (deleteTests k (m .opened) (aliveIn m k))) (ended least (toDelete k) (x .bytes) ns .number)
+  delete-gives k ns = subst (λ (n : ℕ). Gives n (ended least (toDelete k) (x .bytes) ns .number)) (tests-same 11 k not)
+      (subst (Gives (firstOf (deleteTests k (s .opened) (isSome (lookup s k (next s)))))) (sym (change-number least (x .bytes) (a .accepted) (deletes k) ns)) (delete-number least s k))
+
+  ends : firstOf (endTests (s .opened)) ≡ firstOf (endTests (m .opened))
+  ends = ap (λ (o : Bool). firstOf (endTests o)) (a .agrees .opened)
+
+  -- ---- all of it
+
+  pub answers : Answers least x
+  answers = record {
+    accepted = a .accepted;
+    lookup = lookup-answers;
+    range = range-answers;
+    order = λ v h. ap (inOrder (λ (p q : Pair). ltb (p .key) (q .key))) (sym (a .agrees .shows v (omega (arith, last-is)))) ∙ settings-rise least (omega arith) s (a .agrees .is-sound) v (omega (arith, last-is));
+    count = λ v h. ap (λ (us : List Pair). length us + x .tally .removed v) (sym (a .agrees .shows v (omega (arith, last-is)))) ∙ a .counts .is v (omega (arith, last-is));
+    opens = λ ns. change-number least (x .bytes) (a .accepted) begins ns ∙ begin-number least s ∙ ap₂ (λ (o : Bool) (n : ℕ). firstOf (openTests o n)) (a .agrees .opened) (a .agrees .current);
+    commits = λ ns. change-number least (x .bytes) (a .accepted) commits ns ∙ commit-number least s ∙ ends;
+    abandons = λ ns. change-number least (x .bytes) (a .accepted) abandons ns ∙ abandon-number least s ∙ ends;
+    inserts = insert-gives;
+    deletes = delete-gives;
+  }

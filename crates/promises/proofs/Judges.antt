@@ -1,0 +1,223 @@
+-- Demand 1: the numbers 1 to 4 on any bytes, and what they leave.
+-- Assumes nothing.
+use Prim.Native.Nat.{ℕ, zero, suc, _*_, _≤_}
+use native.Mathlib.Omega.{arith}
+use mathlib.Core.Bool.{Bool, true, false, _&&_, _||_}
+use mathlib.Core.Path.{_≡_, refl, ap, sym, _∙_, subst}
+use mathlib.Core.Logic.{_≢_, _↔_, _⊎_, inl, inr}
+use mathlib.Core.Option.{Option, none, some}
+use mathlib.Core.List.{List, [], _∷_}
+use lib.Dec.{leb, ltb}
+use lib.ListN.{length}
+use Rattle.model.specs.Basic.{pick}
+use Rattle.model.specs.declared.Pair.{Pair}
+use Rattle.model.specs.declared.Looked.{Looked}
+use Rattle.model.specs.declared.Looked.the-variants.{Value, Absent, Refused as Stopped}
+use Rattle.model.specs.Field.{Bytes}
+use Rattle.model.specs.Store.{Store, fresh, last}
+use Rattle.model.specs.Walk.{keyLimit, lookup, rangeOf}
+use Rattle.model.specs.Sound.{sound}
+use Rattle.model.specs.Layout.{sizeOf, encode, decode}
+use Rattle.model.specs.Clean.{clean}
+use Rattle.model.specs.Judged
+use Rattle.model.specs.Judged.{lengthOk, magicOk, editionOk, brokenIn, judged, verdict, ruled}
+use Rattle.model.specs.Climb.{Result, done, refused}
+use Rattle.model.specs.Calls
+use Rattle.model.specs.Calls.{Rule, rule, firstOf, lookedBy, lookedAt, lookedNumber, Ranged, get, range}
+use Rattle.model.specs.Histories.{Call, begins, commits, abandons, inserts, deletes, callBy}
+use Rattle.model.specs.Lent
+use Rattle.model.specs.Lent.{left, judgedFirst, listed, lookupLent, rangeLent}
+use Rattle.model.specs.Ended.{Asked, toFresh, toCheck, toOpen, toCommit, toAbandon, toInsert, toDelete, toLookup, toRange, Ended, ofOutcome, ended}
+use Rattle.model.proofs.Lists.{both-true, both-intro}
+use Rattle.model.proofs.Members.{bool-cases, not-both}
+use Rattle.model.proofs.Judging.{unbroken, whole}
+use Rattle.model.proofs.Lacking.{judged-low}
+use Rattle.model.proofs.Unique.{refused as leaves}
+use Rattle.promises.specs.Accepts.{Accepts}
+use Rattle.promises.specs.Runs.{notMaking, kindOf}
+use Rattle.promises.specs.First.{FirstNumbers, Judges, TurnedAway, Untrusted, OneForm, Made, FreshMade}
+use Rattle.promises.proofs.High.{High, call-high}
+use Rattle.promises.proofs.Encoded.{accepted}
+use Rattle.promises.proofs.Lending.{fresh-is}
+
+-- ---- a call's number by check's: that number, or where it is 0, 0 or one from 5 on
+
+abbrev pub Past : ℕ → ℕ → Type 0
+Past zero n = (n ≡ 0) ⊎ (5 ≤ n)
+Past (suc j) n = n ≡ suc j
+
+past-is : (j n : ℕ) → Past j n → (i : ℕ) → 1 ≤ i → i ≤ 4 → n ≡ i ↔ j ≡ i
+past-is zero n (inl e) i l h = (λ q. absurd (omega arith), λ q. absurd (omega arith))
+past-is zero n (inr e) i l h = (λ q. absurd (omega arith), λ q. absurd (omega arith))
+past-is (suc j) n e i l h = (λ q. omega arith, λ q. omega arith)
+
+high-past : (least : ℕ) (b : List ℕ) (r : Result) → High r → Past 0 (left least b r .number)
+high-past least b (done t) h = inl refl
+high-past least b (refused n) h = inr h
+
+change-past : (least : ℕ) (b : List ℕ) (f : Store → Result) → ((s : Store) → High (f s)) → Past (judged least b .number) (Lent.lent least f b .number)
+unfolding Lent.lent
+change-past least b f h = at (judged least b .number)
+  where
+    at : (j : ℕ) → Past j (judgedFirst j (λ m. record { number = m; store = b }) (left least b (f (decode least b))) .number)
+    at zero = high-past least b (f (decode least b)) (h (decode least b))
+    at (suc j) = refl
+
+looked-past : (k v : ℕ) (s : Store) → Past 0 (lookedNumber (get s k v))
+unfolding Calls.get
+looked-past k v s = at (leb keyLimit k) (ltb (last s) v)
+  where
+    found : (o : Option ℕ) → Past 0 (lookedNumber (lookedAt o))
+    found none = inl refl
+    found (some x) = inl refl
+
+    at : (p q : Bool) → Past 0 (lookedNumber (lookedBy (firstOf (rule 5 p ∷ rule 6 q ∷ [])) (lookup s k v)))
+    at true q = inr (omega arith)
+    at false true = inr (omega arith)
+    at false false = found (lookup s k v)
+
+lookup-past : (least : ℕ) (b : List ℕ) (k v : ℕ) → Past (judged least b .number) (lookedNumber (lookupLent least b k v))
+unfolding Lent.lookupLent
+lookup-past least b k v = at (judged least b .number)
+  where
+    at : (j : ℕ) → Past j (lookedNumber (judgedFirst j (λ n. Stopped n) (get (decode least b) k v)))
+    at zero = looked-past k v (decode least b)
+    at (suc j) = refl
+
+ranged-past : (s : Store) (lo hi v room : ℕ) → Past 0 (range s lo hi v room .number)
+unfolding Calls.range Calls.rangedBy Calls.rangedIn
+ranged-past s lo hi v room = at (leb keyLimit lo || leb keyLimit hi || ltb hi lo) (ltb (last s) v)
+  where
+    xs : List Pair
+    xs = rangeOf s lo hi v
+
+    list : (t : Bool) → Past 0 (Calls.rangedIn (firstOf (rule 14 t ∷ [])) (rangeOf s lo hi v) .number)
+    list true = inr (omega arith)
+    list false = inl refl
+
+    at : (p q : Bool) → Past 0 (Calls.rangedBy (firstOf (rule 5 p ∷ rule 6 q ∷ [])) room (rangeOf s lo hi v) .number)
+    at true q = inr (omega arith)
+    at false true = inr (omega arith)
+    at false false = list (ltb room (2 * length (rangeOf s lo hi v)))
+
+range-past : (least : ℕ) (b : List ℕ) (lo hi v : ℕ) (ns : List ℕ) → Past (judged least b .number) (rangeLent least b lo hi v ns .number)
+unfolding Lent.rangeLent
+range-past least b lo hi v ns = at (judged least b .number)
+  where
+    at : (j : ℕ) → Past j (judgedFirst j (λ n. record { number = n; count = 0; list = ns }) (listed ns (range (decode least b) lo hi v (length ns))) .number)
+    at zero = ranged-past (decode least b) lo hi v (length ns)
+    at (suc j) = refl
+
+past-same : (j : ℕ) → Past j j
+past-same zero = inl refl
+past-same (suc j) = refl
+
+pub call-past : (least : ℕ) (c : Asked) (b ns : List ℕ) → notMaking (kindOf c) ≡ true → Past (judged least b .number) (ended least c b ns .number)
+unfolding Lent.openLent Lent.commitLent Lent.abandonLent Lent.insertLent Lent.deleteLent
+call-past least toFresh b ns h = absurd (not-both false h refl)
+call-past least toCheck b ns h = past-same (judged least b .number)
+call-past least toOpen b ns h = change-past least b _ (λ s. call-high least s begins)
+call-past least toCommit b ns h = change-past least b _ (λ s. call-high least s commits)
+call-past least toAbandon b ns h = change-past least b _ (λ s. call-high least s abandons)
+call-past least (toInsert k x) b ns h = change-past least b _ (λ s. call-high least s (inserts k x))
+call-past least (toDelete k) b ns h = change-past least b _ (λ s. call-high least s (deletes k))
+call-past least (toLookup k v) b ns h = lookup-past least b k v
+call-past least (toRange lo hi v) b ns h = range-past least b lo hi v ns
+
+-- ---- check's own number
+
+module _ (least : ℕ) (b : List ℕ) where
+  abbrev good : Bool
+  good = clean least b && sound least (decode least b)
+
+  clash : {A : Type 0} → true ≡ false → A
+  clash e = absurd (not-both true refl e)
+
+  ruled-first : (r : ℕ) → (r ≡ 0 → good ≡ true) → (good ≡ true → r ≡ 0) → FirstNumbers true true true good (ruled r .number)
+  ruled-first zero f g = record {
+    one = (λ e. absurd (omega arith), λ e. clash e);
+    two = (λ e. absurd (omega arith), λ e. clash (e .1));
+    three = (λ e. absurd (omega arith), λ e. clash (e .1 .1));
+    four = (λ e. absurd (omega arith), λ e. absurd (not-both good (f refl) (e .1 .1 .1)));
+  }
+  ruled-first (suc r) f g = record {
+    one = (λ e. absurd (omega arith), λ e. clash e);
+    two = (λ e. absurd (omega arith), λ e. clash (e .1));
+    three = (λ e. absurd (omega arith), λ e. clash (e .1 .1));
+    four = (λ e. (refl, (refl, (refl, bad (bool-cases good)))), λ e. refl);
+  }
+    where
+      bad : (good ≡ true) ⊎ (good ≡ false) → good ≡ false
+      bad (inl e) = absurd (omega (arith, g e))
+      bad (inr e) = e
+
+  check-first : FirstNumbers (lengthOk least b) (magicOk b) (editionOk least b) good (judged least b .number)
+  unfolding Judged.judged
+  check-first = at (lengthOk least b) (magicOk b) (editionOk least b)
+    where
+      up : (r : ℕ) → brokenIn least b ≡ r → r ≡ 0 → good ≡ true
+      up r e z = let u = unbroken least b (e ∙ z) in both-intro _ _ (u .0) (u .1)
+
+      down : good ≡ true → brokenIn least b ≡ 0
+      down e = let u = both-true (clean least b) (sound least (decode least b)) e in whole least b (u .0) (u .1)
+
+      at : (x y z : Bool) → FirstNumbers x y z good (pick x (pick y (pick z (ruled (brokenIn least b)) (verdict 3 0)) (verdict 2 0)) (verdict 1 0) .number)
+      at true true true = ruled-first (brokenIn least b) (up (brokenIn least b) refl) down
+      at true true false = record {
+        one = (λ e. absurd (omega arith), λ e. clash e);
+        two = (λ e. absurd (omega arith), λ e. clash (e .1));
+        three = (λ e. (refl, (refl, refl)), λ e. refl);
+        four = (λ e. absurd (omega arith), λ e. clash (sym (e .1 .1 .0)));
+      }
+      at true false z = record {
+        one = (λ e. absurd (omega arith), λ e. clash e);
+        two = (λ e. (refl, refl), λ e. refl);
+        three = (λ e. absurd (omega arith), λ e. clash (sym (e .1 .0)));
+        four = (λ e. absurd (omega arith), λ e. clash (sym (e .1 .0)));
+      }
+      at false y z = record {
+        one = (λ e. refl, λ e. refl);
+        two = (λ e. absurd (omega arith), λ e. clash (sym (e .0)));
+        three = (λ e. absurd (omega arith), λ e. clash (sym (e .0)));
+        four = (λ e. absurd (omega arith), λ e. clash (sym (e .0)));
+      }
+
+  -- a number that is past another says the same of 1 to 4
+  first-past : (x y z g : Bool) (j n : ℕ) → Past j n → FirstNumbers x y z g j → FirstNumbers x y z g n
+  first-past x y z g j n p f =
+      let same = past-is j n p in
+      record {
+        one = joined (same 1 (omega arith) (omega arith)) (f .one);
+        two = joined (same 2 (omega arith) (omega arith)) (f .two);
+        three = joined (same 3 (omega arith) (omega arith)) (f .three);
+        four = joined (same 4 (omega arith) (omega arith)) (f .four);
+      }
+    where
+      joined : {A B C : Type 0} → A ↔ B → B ↔ C → A ↔ C
+      joined u v = (λ a. v .0 (u .0 a), λ c. u .1 (v .1 c))
+
+pub judges : Judges
+judges least c b ns h = first-past least b (lengthOk least b) (magicOk b) (editionOk least b) _ (judged least b .number) (ended least c b ns .number) (call-past least c b ns h) (check-first least b)
+
+-- ---- bytes that are not accepted
+
+pub untrusted : Untrusted
+untrusted least c b ns h bad = at (judged least b .number) refl (call-past least c b ns h)
+  where
+    at : (j : ℕ) → judged least b .number ≡ j → Past j (ended least c b ns .number) → TurnedAway b ns (ended least c b ns)
+    at zero e p = absurd (bad e)
+    at (suc j) e p = record {
+      low = omega arith;
+      high = omega (arith, judged-low least b);
+      untouched = leaves least c b ns (ended least c b ns) refl (λ (z : ended least c b ns .number ≡ 0). omega arith);
+    }
+
+pub one-form : OneForm
+one-form least four eight a b p q x y same = sym (accepted least four eight a p x .same) ∙ ap (encode least) same ∙ accepted least four eight b q y .same
+
+pub fresh-made : FreshMade
+unfolding Lent.freshLent
+fresh-made least b ns = record {
+  right = λ h. fresh-is least b ns h;
+  wrong = λ h. ap (λ (t : Bool). ofOutcome ns (pick t (record { number = 0; store = encode least (fresh (sizeOf least b)) }) (record { number = 1; store = b }))) h;
+}

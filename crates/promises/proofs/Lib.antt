@@ -1,0 +1,11 @@
+pub mod Holding
+pub mod Spare
+pub mod Encoded
+pub mod High
+pub mod Lending
+pub mod Judges
+pub mod Agreed
+pub mod Answering
+pub mod Projected
+pub mod Stays
+pub mod Restored

@@ -1,0 +1,114 @@
+-- Calls on accepted bytes, making fresh aside, are those calls on the store that they hold.
+-- Assumes nothing.
+use Prim.Native.Nat.{ℕ, _≤_}
+use mathlib.Core.Bool.{Bool, true, false}
+use mathlib.Core.Path.{_≡_, refl, ap, sym, _∙_, subst}
+use mathlib.Core.List.{List, [], _∷_, _++_, map}
+use Rattle.model.specs.Basic.{all}
+use Rattle.model.specs.Field.{Bytes}
+use Rattle.model.specs.Store.{Store}
+use Rattle.model.specs.Layout.{decode}
+use Rattle.model.specs.Climb.{Result, done, refused}
+use Rattle.model.specs.Histories.{Call, callBy, after}
+use Rattle.model.specs.Settings
+use Rattle.model.specs.Settings.{Both, together}
+use Rattle.model.specs.Ended.{Asked, ended}
+use Rattle.model.proofs.Lists.{all-cons, both-intro}
+use Rattle.model.proofs.Members.{not-both}
+use Rattle.promises.specs.Accepts.{Accepts}
+use Rattle.promises.specs.Runs.{Turn, turned, runBytes, Kind, making, changing, reading, kindOf, asks, notMaking, fitting, staying, each}
+use Rattle.promises.proofs.Lending.{kind-asks, by-kind, Leaves, change-leaves}
+
+-- ---- the calls that may change the store
+
+abbrev pub withCall : Kind → List Call → List Call
+withCall making cs = cs
+withCall (changing c) cs = c ∷ cs
+withCall reading cs = cs
+
+abbrev pub callsOf : List Turn → List Call
+callsOf [] = []
+callsOf (t ∷ ts) = withCall (kindOf (t .call)) (callsOf ts)
+
+with-fits : (k : Kind) (cs : List Call) → fitting k ≡ true → all Settings.fits cs ≡ true → all Settings.fits (withCall k cs) ≡ true
+with-fits making cs h g = g
+with-fits (changing c) cs h g = both-intro _ _ h g
+with-fits reading cs h g = g
+
+pub calls-fit : (ts : List Turn) → each fitting ts ≡ true → all Settings.fits (callsOf ts) ≡ true
+calls-fit [] h = refl
+calls-fit (t ∷ ts) h = let (x, y) = all-cons (λ (u : Turn). fitting (kindOf (u .call))) t ts h in with-fits (kindOf (t .call)) (callsOf ts) x (calls-fit ts y)
+
+with-inside : (k : Kind) (cs : List Call) → staying k ≡ true → all Settings.isInside cs ≡ true → all Settings.isInside (withCall k cs) ≡ true
+with-inside making cs h g = g
+with-inside (changing c) cs h g = both-intro _ _ h g
+with-inside reading cs h g = g
+
+pub calls-inside : (ts : List Turn) → each staying ts ≡ true → all Settings.isInside (callsOf ts) ≡ true
+calls-inside [] h = refl
+calls-inside (t ∷ ts) h = let (x, y) = all-cons (λ (u : Turn). staying (kindOf (u .call))) t ts h in with-inside (kindOf (t .call)) (callsOf ts) x (calls-inside ts y)
+
+with-append : (k : Kind) (cs ds : List Call) → withCall k (cs ++ ds) ≡ withCall k cs ++ ds
+with-append making cs ds = refl
+with-append (changing c) cs ds = refl
+with-append reading cs ds = refl
+
+pub calls-append : (ts us : List Turn) → callsOf (ts ++ us) ≡ callsOf ts ++ callsOf us
+calls-append [] us = refl
+calls-append (t ∷ ts) us = ap (withCall (kindOf (t .call))) (calls-append ts us) ∙ with-append (kindOf (t .call)) (callsOf ts) (callsOf us)
+
+-- ---- one call
+
+abbrev stored : ℕ → Kind → Store → Store
+stored least making s = s
+stored least (changing c) s = after s (callBy least s c) .store
+stored least reading s = s
+
+abbrev bothBy : ℕ → Kind → Both → Both
+bothBy least making y = y
+bothBy least (changing c) y = Settings.onward y c (callBy least (y .store) c)
+bothBy least reading y = y
+
+onward-store : (y : Both) (c : Call) (r : Result) → Settings.onward y c r .store ≡ after (y .store) r .store
+onward-store y c (done t) = refl
+onward-store y c (refused n) = refl
+
+by-store : (least : ℕ) (k : Kind) (y : Both) → bothBy least k y .store ≡ stored least k (y .store)
+by-store least making y = refl
+by-store least (changing c) y = onward-store y c (callBy least (y .store) c)
+by-store least reading y = refl
+
+together-with : (least : ℕ) (k : Kind) (y : Both) (cs : List Call) → together least y (withCall k cs) ≡ together least (bothBy least k y) cs
+together-with least making y cs = refl
+together-with least (changing c) y cs = refl
+together-with least reading y cs = refl
+
+module _ (least : ℕ) (four : 4 ≤ least) (eight : least ≤ 8) where
+  one : (b : List ℕ) → Accepts least b → (a : Asked) → notMaking (kindOf a) ≡ true → fitting (kindOf a) ≡ true → (ns : List ℕ)
+      → Leaves least b (stored least (kindOf a) (decode least b)) (ended least a b ns .store)
+  one b ok a =
+      by-kind least
+      (λ (c : Asked). notMaking (kindOf c) ≡ true → fitting (kindOf c) ≡ true → (ns : List ℕ) → Leaves least b (stored least (kindOf c) (decode least b)) (ended least c b ns .store))
+      (λ m h ns. absurd (not-both false m refl))
+      (λ c m h ns. subst (λ (k : Kind). Leaves least b (stored least k (decode least b)) (ended least (asks c) b ns .store)) (sym (kind-asks c))
+      (change-leaves least four eight b ok c (ap fitting (sym (kind-asks c)) ∙ h) ns))
+      (λ c k same m h ns. subst (λ (q : Kind). Leaves least b (stored least q (decode least b)) (ended least c b ns .store)) (sym k)
+      (subst (Leaves least b (decode least b)) (sym (same b ns)) (record { accepts = ok; holds = refl; bytes = λ z. z }))) a
+
+  -- ---- one after another
+
+  pub ran : (ts : List Turn) → each notMaking ts ≡ true → each fitting ts ≡ true → (b : List ℕ) → Accepts least b → (y : Both) → y .store ≡ decode least b
+      → Leaves least b (together least y (callsOf ts) .store) (runBytes least b ts)
+  ran [] m h b ok y e = record { accepts = ok; holds = sym e; bytes = λ z. z }
+  ran (t ∷ ts) m h b ok y e =
+      let (m₁, m₂) = all-cons (λ (u : Turn). notMaking (kindOf (u .call))) t ts m in
+      let (h₁, h₂) = all-cons (λ (u : Turn). fitting (kindOf (u .call))) t ts h in
+      let k : Kind = kindOf (t .call) in
+      let l = one b ok (t .call) m₁ h₁ (t .list) in
+      let same : bothBy least (kindOf (t .call)) y .store ≡ decode least (turned least b t .store) = by-store least (kindOf (t .call)) y ∙ ap (stored least (kindOf (t .call))) e ∙ sym (l .holds) in
+      let rest = ran ts m₂ h₂ (turned least b t .store) (l .accepts) (bothBy least (kindOf (t .call)) y) same in
+      record {
+        accepts = rest .accepts;
+        holds = rest .holds ∙ ap (λ (z : Both). z .store) (sym (together-with least (kindOf (t .call)) y (callsOf ts)));
+        bytes = λ z. rest .bytes (l .bytes z);
+      }

@@ -1,0 +1,179 @@
+-- The bytes of a store have no stray bit: they pass rule 1's tests of zero bits, and each of them is a byte.
+-- Assumes nothing.
+use Prim.Native.Nat.{ℕ, zero, suc, _+_, _*_, _-_, _^_, _≤_, _<_}
+use native.Mathlib.Omega.{arith}
+use mathlib.Core.Bool.{Bool, true, false, _&&_}
+use mathlib.Core.Path.{_≡_, refl, ap, sym, _∙_, subst}
+use mathlib.Core.List.{List, [], _∷_, _++_, append-assoc}
+use lib.Dec.{leb, eqb}
+use lib.ListN.{length, getD, take, drop, length-append}
+use borrow.Author.Tests.{le-leb, eq-eqb}
+use Rattle.bits.specs.Append.{field-left, field-right}
+use Rattle.bits.specs.Lay.{total, zero-field, zeros-bit, length-zeros, bytes-zeros, bytes-append, length-packed, bytes-packed, packed-rest, packed-shows, Shows}
+use Rattle.bits.specs.Over.{zeros-append}
+use Rattle.model.specs.declared.Entry.{Entry}
+use Rattle.model.specs.declared.Slot.{Slot}
+use Rattle.model.specs.declared.Header.{Header}
+use Rattle.model.specs.Limits.{countBits, rootBits}
+use Rattle.model.specs.Field.{field, Bytes, zeros, packed}
+use Rattle.model.specs.Page.{Page, free}
+use Rattle.model.specs.Store.{Store, page}
+use Rattle.model.specs.Layout.{countOf, pageOf, encodePage, entryBytes, entriesBytes, padded, headBytes, slotBytes, slotsBytes, headerBytes, headerParts, headerOf, pagesBytes, readHeader, sizeOf, encode, magic}
+use Rattle.model.specs.Clean.{cleanPage, cleanPages, cleanFront}
+use Rattle.model.specs.Basic.{eqList}
+use Rattle.model.specs.Judged.{lengthOk, magicOk, editionOk}
+use Rattle.page.specs.Editions.{count-bits, root-bits}
+use Rattle.page.specs.Head.{headOf, partsOf, frontBytes}
+use Rattle.page.specs.Front.{head-length, head-bytes}
+use Rattle.page.specs.Entries.{entry-bytes, entries-length, padded-bytes}
+use Rattle.page.specs.Exact.{Valid, bodyBytes, encode-is, encode-count}
+use Rattle.store.specs.Read.{size-is}
+use Rattle.store.specs.Slots.{slotParts, slots-length, directory, directory-bytes}
+use Rattle.store.specs.Header.{header-length, HeaderFits}
+use Rattle.store.specs.Pages.{AllValid}
+use Rattle.store.specs.Exactly.{frontOf, encode-is as store-is}
+use Rattle.store.specs.Holds.{Holds, header-holds, header-encoded, page-encoded, encoded-length, behind-valid}
+use Rattle.model.proofs.Lists.{both-intro}
+
+field-zeros : (m at n : ℕ) → field (zeros m) at n ≡ 0
+field-zeros m at n = zero-field (zeros m) at n (λ i l h. zeros-bit m i)
+
+-- ---- a page
+
+entries-bytes : (es : List Entry) → Bytes (entriesBytes es)
+unfolding entriesBytes
+entries-bytes [] = λ i. omega arith
+entries-bytes (e ∷ es) = bytes-append (entryBytes e) (entriesBytes es) (entry-bytes e) (entries-bytes es)
+
+module _ (least : ℕ) (four : 4 ≤ least) (eight : least ≤ 8) (p : Page) (v : Valid least p) where
+  abbrev front : List ℕ
+  front = frontBytes least (headOf p)
+
+  abbrev used : ℕ
+  used = length (p .entries)
+
+  -- "79 zero bits"
+  page-spare : field (encodePage least p) (44 + countBits least) (128 - (44 + countBits least)) ≡ 0
+  unfolding headBytes
+  page-spare =
+      let w = count-bits least eight in
+      let t : total (partsOf least (headOf p)) ≡ 44 + countBits least = omega arith in
+      ap (λ (b : List ℕ). field b (44 + countBits least) (128 - (44 + countBits least))) (encode-is least p)
+      ∙ field-left front (bodyBytes least (padded least (p .entries))) (44 + countBits least) (128 - (44 + countBits least)) (omega (arith, head-length least (headOf p)))
+      ∙ zero-field front (44 + countBits least) (128 - (44 + countBits least)) (λ i l h. packed-rest 16 (partsOf least (headOf p)) i (omega arith) (omega arith))
+
+  -- what stands behind the entries in use
+  page-is : encodePage least p ≡ (front ++ entriesBytes (p .entries)) ++ zeros (12 * (5 * least - used) + (4 * least - 16))
+  page-is =
+      let es : List ℕ = entriesBytes (p .entries) in
+      let a : ℕ = 12 * (5 * least - used) in
+      let b : ℕ = 4 * least - 16 in
+      encode-is least p ∙ ap (λ (x : List ℕ). front ++ (x ++ zeros b)) (padded-bytes least (p .entries))
+      ∙ ap (λ (x : List ℕ). front ++ x) (append-assoc es (zeros a) (zeros b) ∙ ap (λ (x : List ℕ). es ++ x) (zeros-append a b))
+      ∙ sym (append-assoc front es (zeros (a + b)))
+
+  -- "unused ones are all zero"
+  page-rest : field (encodePage least p) (128 + 96 * used) (512 * least - (128 + 96 * used)) ≡ 0
+  page-rest =
+      let a : List ℕ = front ++ entriesBytes (p .entries) in
+      let n : length a ≡ 16 + 12 * used = length-append front (entriesBytes (p .entries)) ∙ omega (arith, head-length least (headOf p), entries-length (p .entries)) in
+      let o : 128 + 96 * used ≡ 8 * length a + 0 = omega arith in
+      rw (page-is, o) (field-right a (zeros (12 * (5 * least - used) + (4 * least - 16))) 0 _ ∙ field-zeros _ 0 _)
+
+  pub page-clean : cleanPage least (encodePage least p) ≡ true
+  unfolding cleanPage
+  page-clean =
+      rw (encode-count least four eight p v)
+      (both-intro _ _ (le-leb used (5 * least) (v .room)) (both-intro _ _ (eq-eqb _ 0 page-spare) (eq-eqb _ 0 page-rest)))
+
+  pub page-bytes : Bytes (encodePage least p)
+  page-bytes =
+      subst Bytes (sym page-is)
+      (bytes-append (front ++ entriesBytes (p .entries)) (zeros (12 * (5 * least - used) + (4 * least - 16)))
+      (bytes-append front (entriesBytes (p .entries)) (head-bytes least eight (headOf p)) (entries-bytes (p .entries))) (bytes-zeros _))
+
+-- ---- the front
+
+slots-bytes : (xs : List Slot) → Bytes (slotsBytes xs)
+unfolding slotsBytes slotBytes
+slots-bytes [] = λ i. omega arith
+slots-bytes (x ∷ xs) = bytes-append (slotBytes x) (slotsBytes xs) (bytes-packed 4 (slotParts x) (omega arith)) (slots-bytes xs)
+
+pages-clean : (least : ℕ) (b : List ℕ) (n k : ℕ) → ((m : ℕ) → n ≤ m → m < n + k → cleanPage least (pageOf least b m) ≡ true) → cleanPages least b n k ≡ true
+unfolding cleanPages
+pages-clean least b n zero h = refl
+pages-clean least b n (suc k) h = both-intro _ _ (h n (omega arith) (omega arith)) (pages-clean least b (n + 1) k (λ m l z. h m (omega arith) (omega arith)))
+
+module _ (least : ℕ) (four : 4 ≤ least) (eight : least ≤ 8) (s : Store) (v : Holds least s) where
+  abbrev header : List ℕ
+  header = headerBytes least (headerOf s)
+
+  abbrev ps : List Page
+  ps = drop 5 (s .pages)
+
+  abbrev r : ℕ
+  r = length (s .slots)
+
+  pub total-is : total (headerParts least (headerOf s)) ≡ 74 + rootBits least
+  total-is = omega arith
+
+  -- the directory's unused slots as zeros
+  store-parts : encode least s ≡ (header ++ slotsBytes (s .slots)) ++ (zeros (4 * (64 * least - r)) ++ pagesBytes least ps)
+  store-parts =
+      let x : List ℕ = slotsBytes (s .slots) in
+      let z : List ℕ = zeros (4 * (64 * least - r)) in
+      store-is least s ∙ ap (λ (y : List ℕ). (header ++ y) ++ pagesBytes least ps) (directory-bytes least (s .slots))
+      ∙ ap (λ (y : List ℕ). y ++ pagesBytes least ps) (sym (append-assoc header x z)) ∙ append-assoc (header ++ x) z (pagesBytes least ps)
+
+  header-spare : field (encode least s) (74 + rootBits least) (512 * least - (74 + rootBits least)) ≡ 0
+  unfolding headerBytes
+  header-spare =
+      let w = root-bits least eight in
+      let n : length header ≡ 64 * least = header-length least (headerOf s) in
+      let t : total (headerParts least (headerOf s)) ≡ 74 + rootBits least = total-is in
+      ap (λ (b : List ℕ). field b (74 + rootBits least) (512 * least - (74 + rootBits least))) (store-parts ∙ append-assoc header (slotsBytes (s .slots)) (zeros (4 * (64 * least - r)) ++ pagesBytes least ps))
+      ∙ field-left header (slotsBytes (s .slots) ++ (zeros (4 * (64 * least - r)) ++ pagesBytes least ps)) (74 + rootBits least) (512 * least - (74 + rootBits least)) (omega arith)
+      ∙ zero-field header (74 + rootBits least) (512 * least - (74 + rootBits least)) (λ i l h. packed-rest (64 * least) (headerParts least (headerOf s)) i (omega arith) (omega arith))
+
+  -- "Unused slots are zero."
+  slots-rest : field (encode least s) (512 * least + 32 * r) (2560 * least - (512 * least + 32 * r)) ≡ 0
+  slots-rest =
+      let a : List ℕ = header ++ slotsBytes (s .slots) in
+      let n : length a ≡ 64 * least + 4 * r = length-append header (slotsBytes (s .slots)) ∙ omega (arith, header-length least (headerOf s), slots-length (s .slots)) in
+      let o : 512 * least + 32 * r ≡ 8 * length a + 0 = omega arith in
+      let m : ℕ = 4 * (64 * least - r) in
+      rw (store-parts, o)
+      (field-right a (zeros m ++ pagesBytes least ps) 0 (2560 * least - (8 * length a + 0))
+      ∙ field-left (zeros m) (pagesBytes least ps) 0 (2560 * least - (8 * length a + 0)) (omega (arith, length-zeros m, v .few)) ∙ field-zeros m 0 _)
+
+  pub encoded-size : sizeOf least (encode least s) ≡ length (s .pages)
+  encoded-size = size-is least (length (s .pages)) (encode least s) (omega arith) (encoded-length least four eight s v)
+
+  pub front-clean : cleanFront least (encode least s) ≡ true
+  unfolding cleanFront
+  front-clean =
+      rw (header-encoded least four eight s v, encoded-size)
+      (both-intro _ _ (eq-eqb (length (s .pages)) (length (s .pages)) refl)
+      (both-intro _ _ (eq-eqb _ 0 header-spare) (both-intro _ _ (le-leb r (64 * least) (v .few)) (eq-eqb _ 0 slots-rest))))
+
+  pub all-clean : cleanPages least (encode least s) 5 (sizeOf least (encode least s) - 5) ≡ true
+  all-clean =
+      pages-clean least (encode least s) 5 (sizeOf least (encode least s) - 5)
+      (λ m l h. ap (cleanPage least) (page-encoded least four eight s v m l (omega (arith, encoded-size, v .five))) ∙ page-clean least four eight (page (s .pages) m) (v .pages m))
+
+  pages-bytes : (qs : List Page) → AllValid least qs → Bytes (pagesBytes least qs)
+  unfolding pagesBytes
+  pages-bytes [] h = λ i. omega arith
+  pages-bytes (q ∷ qs) h = bytes-append (encodePage least q) (pagesBytes least qs) (page-bytes least four eight q (h 0)) (pages-bytes qs (λ k. h (suc k)))
+
+  header-bytes : Bytes header
+  unfolding headerBytes
+  header-bytes = bytes-packed (64 * least) (headerParts least (headerOf s)) (omega (arith, total-is, root-bits least eight))
+
+  -- each is a byte
+  pub encoded-bytes : Bytes (encode least s)
+  encoded-bytes =
+      subst Bytes (sym store-parts)
+      (bytes-append (header ++ slotsBytes (s .slots)) (zeros (4 * (64 * least - r)) ++ pagesBytes least ps)
+      (bytes-append header (slotsBytes (s .slots)) header-bytes (slots-bytes (s .slots)))
+      (bytes-append (zeros (4 * (64 * least - r))) (pagesBytes least ps) (bytes-zeros _) (pages-bytes ps (behind-valid least four eight s v))))

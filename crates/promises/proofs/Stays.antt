@@ -1,0 +1,125 @@
+-- A committed version's pages and answers stay, whatever is called later, making fresh aside.
+-- Assumes nothing.
+use Prim.Native.Nat.{ℕ, _≤_}
+use native.Mathlib.Omega.{arith}
+use mathlib.Core.Bool.{Bool, true, false, _||_}
+use mathlib.Core.Path.{_≡_, refl, ap, ap₂, sym, _∙_, subst}
+use mathlib.Core.Option.{Option}
+use mathlib.Core.List.{List, [], _∷_}
+use lib.Dec.{T, leb, ltb}
+use lib.ListN.{length}
+use borrow.Author.Tests.{le-ltb}
+use Rattle.model.specs.declared.Pair.{Pair}
+use Rattle.model.specs.declared.Looked.{Looked}
+use Rattle.model.specs.declared.Looked.the-variants.{Refused}
+use Rattle.model.specs.Basic.{all}
+use Rattle.model.specs.Store.{Store, last, lastOf}
+use Rattle.model.specs.Walk.{keyLimit, lookup, rangeOf, lookupVisits, rangeVisits}
+use Rattle.model.specs.Layout.{decode}
+use Rattle.model.specs.Calls
+use Rattle.model.specs.Calls.{rule, firstOf, lookedBy, Ranged, rangedBy, get, range}
+use Rattle.model.specs.Histories.{Call}
+use Rattle.model.specs.Settings.{fits, lent, together}
+use Rattle.model.specs.Lent
+use Rattle.model.specs.Lent.{judgedFirst, Listed, listed, lookupLent, rangeLent}
+use Rattle.model.specs.Ended.{toLookup, toRange, Ended, ofLooked, ofListed, ended}
+use Rattle.model.proofs.Alike.{Alike, alike-lookup, alike-visits, alike-range, alike-range-visits}
+use Rattle.model.proofs.Undone.{lent-agrees}
+use Rattle.model.proofs.Steady.{Onward, goes-on}
+use Rattle.promises.specs.Accepts.{Accepts}
+use Rattle.promises.specs.Runs.{Turn, runBytes, notMaking, fitting, each}
+use Rattle.promises.specs.Views.{SameView, SaysSame, SameAnswers}
+use Rattle.promises.specs.Second.{ViewsStay, AnswersStay}
+use Rattle.promises.proofs.Lending.{Leaves, held-sound}
+use Rattle.promises.proofs.Projected.{callsOf, calls-fit, ran}
+
+-- ---- readings of accepted bytes
+
+lookup-lent : (least : ℕ) (b : List ℕ) → Accepts least b → (k v : ℕ) → lookupLent least b k v ≡ get (decode least b) k v
+unfolding Lent.lookupLent
+lookup-lent least b ok k v = ap (λ (n : ℕ). judgedFirst n (λ j. Refused j) (get (decode least b) k v)) ok
+
+range-lent : (least : ℕ) (b : List ℕ) → Accepts least b → (lo hi v : ℕ) (ns : List ℕ) → rangeLent least b lo hi v ns ≡ listed ns (range (decode least b) lo hi v (length ns))
+unfolding Lent.rangeLent
+range-lent least b ok lo hi v ns = ap (λ (n : ℕ). judgedFirst n (λ j. record { number = j; count = 0; list = ns }) (listed ns (range (decode least b) lo hi v (length ns)))) ok
+
+-- ---- a version that is readable in both
+
+module _ (s t : Store) (v : ℕ) (old : v ≤ last s) (new : v ≤ last t) (a : Alike s v t v) where
+  still : ltb (last t) v ≡ ltb (last s) v
+  still = le-ltb (last t) v new ∙ sym (le-ltb (last s) v old)
+
+  get-same : (k : ℕ) → get t k v ≡ get s k v
+  unfolding Calls.get
+  get-same k = ap₂ (λ (q : Bool) (o : Option ℕ). lookedBy (firstOf (rule 5 (leb keyLimit k) ∷ rule 6 q ∷ [])) o) still (alike-lookup s v t v a k)
+
+  range-same : (lo hi room : ℕ) → range t lo hi v room ≡ range s lo hi v room
+  unfolding Calls.range
+  range-same lo hi room =
+      ap₂ (λ (q : Bool) (xs : List Pair). rangedBy (firstOf (rule 5 (leb keyLimit lo || leb keyLimit hi || ltb hi lo) ∷ rule 6 q ∷ [])) room xs) still (alike-range s v t v a lo hi)
+
+-- ---- the calls
+
+module _ (least : ℕ) (four : 4 ≤ least) (eight : least ≤ 8) (b : List ℕ) (ok : Accepts least b) (ts : List Turn) (f : each fitting ts ≡ true) (m : each notMaking ts ≡ true) where
+  abbrev s : Store
+  s = decode least b
+
+  abbrev b′ : List ℕ
+  b′ = runBytes least b ts
+
+  later : Leaves least b (together least (lent (decode least b)) (callsOf ts) .store) (runBytes least b ts)
+  later = ran least four eight ts m f b ok (lent (decode least b)) refl
+
+  goes : Onward (decode least b) (decode least (runBytes least b ts))
+  goes =
+      subst (Onward (decode least b)) (sym (later .holds))
+      (goes-on least four (callsOf ts) (calls-fit ts f) (lent (decode least b)) (lent-agrees least (decode least b) (held-sound least four eight b ok)))
+
+  low : (q : Bool) (n : ℕ) → n ≤ lastOf q n
+  low true n = omega arith
+  low false n = omega arith
+
+  module _ (v : ℕ) (h : v ≤ decode least b .current) where
+    view : Alike (decode least b) v (decode least (runBytes least b ts)) v
+    view = goes .steady v h
+
+    old : v ≤ last (decode least b)
+    old = omega (arith, low (decode least b .opened) (decode least b .current))
+
+    new : v ≤ last (decode least (runBytes least b ts))
+    new = omega (arith, goes .current, low (decode least (runBytes least b ts) .opened) (decode least (runBytes least b ts) .current))
+
+    same-view : SameView (decode least b) (decode least (runBytes least b ts)) v
+    same-view = record {
+      root = view .root;
+      pages = view .shows;
+      lookup-visits = alike-visits (decode least b) v (decode least (runBytes least b ts)) v view;
+      range-visits = alike-range-visits (decode least b) v (decode least (runBytes least b ts)) v view;
+    }
+
+    looks-same : (k : ℕ) → lookupLent least (runBytes least b ts) k v ≡ lookupLent least b k v
+    looks-same k = lookup-lent least b′ (later .accepts) k v ∙ get-same s (decode least b′) v old new view k ∙ sym (lookup-lent least b ok k v)
+
+    ranges-same : (lo hi : ℕ) (ns : List ℕ) → rangeLent least (runBytes least b ts) lo hi v ns ≡ rangeLent least b lo hi v ns
+    ranges-same lo hi ns =
+        range-lent least b′ (later .accepts) lo hi v ns ∙ ap (listed ns) (range-same s (decode least b′) v old new view lo hi (length ns)) ∙ sym (range-lent least b ok lo hi v ns)
+
+    same-answers : SameAnswers least b (runBytes least b ts) v
+    same-answers = record {
+      lookup = λ k ns. record {
+        number = ap (λ (r : Looked). ofLooked b ns r .number) (looks-same k);
+        results = ap (λ (r : Looked). ofLooked b ns r .results) (looks-same k);
+        list = refl;
+      };
+      range = λ lo hi ns. record {
+        number = ap (λ (r : Listed). r .number) (ranges-same lo hi ns);
+        results = ap (λ (r : Listed). ofListed b r .results) (ranges-same lo hi ns);
+        list = ap (λ (r : Listed). r .list) (ranges-same lo hi ns);
+      };
+    }
+
+pub views-stay : ViewsStay
+views-stay = same-view
+
+pub answers-stay : AnswersStay
+answers-stay = same-answers

@@ -1,0 +1,86 @@
+-- What calls on bytes answer, said of the machine of plain settings beside them alone.
+-- Assumes nothing.
+use Prim.Native.Nat.{ℕ, zero, suc, _+_, _≤_}
+use mathlib.Core.Bool.{Bool, true, _||_, not}
+use mathlib.Core.Path.{_≡_}
+use mathlib.Core.Logic.{_⊎_}
+use mathlib.Core.List.{List, [], _∷_}
+use lib.Dec.{leb, ltb}
+use lib.ListN.{length}
+use Rattle.model.specs.Basic.{inOrder}
+use Rattle.model.specs.declared.Pair.{Pair}
+use Rattle.model.specs.declared.Looked.{Looked}
+use Rattle.model.specs.Store.{lastOf}
+use Rattle.model.specs.Walk.{keyLimit, find, between}
+use Rattle.model.specs.Calls.{isSome, Rule, rule, firstOf, lookedBy, Ranged, rangedBy}
+use Rattle.model.specs.Settings.{Machine, Tally}
+use Rattle.model.specs.Lent.{listed}
+use Rattle.model.specs.Ended.{toOpen, toCommit, toAbandon, toInsert, toDelete, toLookup, toRange, ended, ofLooked, ofListed}
+use Rattle.promises.specs.Accepts.{Accepts}
+use Rattle.promises.specs.Beside.{Beside}
+
+-- the last readable version
+abbrev pub lastIn : Machine → ℕ
+lastIn m = lastOf (m .opened) (m .current)
+
+-- ---- the tests of each call's refusals, smallest number first
+
+-- 5 "key too large", 6 "version above last"
+abbrev pub lookupTests : ℕ → ℕ → ℕ → List Rule
+lookupTests last k v = rule 5 (leb keyLimit k) ∷ rule 6 (ltb last v) ∷ []
+
+-- 5 "key too large, or range low above high"
+abbrev pub rangeTests : ℕ → ℕ → ℕ → ℕ → List Rule
+rangeTests last lo hi v = rule 5 (leb keyLimit lo || leb keyLimit hi || ltb hi lo) ∷ rule 6 (ltb last v) ∷ []
+
+-- 8 "update already open", 9 "current is 1,048,574"
+abbrev pub openTests : Bool → ℕ → List Rule
+openTests opened current = rule 8 opened ∷ rule 9 (leb 1048574 current) ∷ []
+
+-- commit and abandon: 7 "no update open"
+abbrev pub endTests : Bool → List Rule
+endTests opened = rule 7 (not opened) ∷ []
+
+-- 10 "key alive"
+abbrev pub insertTests : ℕ → Bool → Bool → List Rule
+insertTests k opened alive = rule 5 (leb keyLimit k) ∷ rule 7 (not opened) ∷ rule 10 alive ∷ []
+
+-- 11 "key not alive"
+abbrev pub deleteTests : ℕ → Bool → Bool → List Rule
+deleteTests k opened alive = rule 5 (leb keyLimit k) ∷ rule 7 (not opened) ∷ rule 11 (not alive) ∷ []
+
+-- ---- what the machine's settings answer
+
+-- the value of a key at a version, or that it is absent
+abbrev pub lookedIn : Machine → ℕ → ℕ → Looked
+lookedIn m k v = lookedBy (firstOf (lookupTests (lastIn m) k v)) (find k (m .shows v))
+
+-- all the settings from lo to hi at a version, with 14 if the list has not the room
+abbrev pub rangedFrom : Machine → ℕ → ℕ → ℕ → ℕ → Ranged
+rangedFrom m lo hi v room = rangedBy (firstOf (rangeTests (lastIn m) lo hi v)) room (between lo hi (m .shows v))
+
+-- whether a key is alive at the open version
+abbrev pub aliveIn : Machine → ℕ → Bool
+aliveIn m k = isSome (find k (m .shows (suc (m .current))))
+
+-- The number of an insert or a delete: that of the first test that holds; if none does, 0, or 12 or 13 (which are given exactly when the
+-- rules lack a page or a slot: `Lacking`).
+abbrev pub Gives : ℕ → ℕ → Type 0
+Gives zero n = (n ≡ 0) ⊎ ((n ≡ 12) ⊎ (n ≡ 13))
+Gives (suc m) n = n ≡ suc m
+
+pub record Answers (least : ℕ) (x : Beside) : Type 0 where
+  pub accepted : Accepts least (x .bytes)
+  -- readings
+  pub lookup : (k v : ℕ) (ns : List ℕ) → ended least (toLookup k v) (x .bytes) ns ≡ ofLooked (x .bytes) ns (lookedIn (x .machine) k v)
+  pub range : (lo hi v : ℕ) (ns : List ℕ) → ended least (toRange lo hi v) (x .bytes) ns ≡ ofListed (x .bytes) (listed ns (rangedFrom (x .machine) lo hi v (length ns)))
+  -- "in key order", no key twice
+  pub order : (v : ℕ) → v ≤ lastIn (x .machine) → inOrder (λ (p q : Pair). ltb (p .key) (q .key)) (x .machine .shows v) ≡ true
+  -- "their number is those inserts less those deletes"
+  pub count : (v : ℕ) → v ≤ lastIn (x .machine) → length (x .machine .shows v) + x .tally .removed v ≡ x .tally .added v
+  -- which calls are accepted
+  pub opens : (ns : List ℕ) → ended least toOpen (x .bytes) ns .number ≡ firstOf (openTests (x .machine .opened) (x .machine .current))
+  pub commits : (ns : List ℕ) → ended least toCommit (x .bytes) ns .number ≡ firstOf (endTests (x .machine .opened))
+  pub abandons : (ns : List ℕ) → ended least toAbandon (x .bytes) ns .number ≡ firstOf (endTests (x .machine .opened))
+  pub inserts : (k v : ℕ) (ns : List ℕ) → Gives (firstOf (insertTests k (x .machine .opened) (aliveIn (x .machine) k))) (ended least (toInsert k v) (x .bytes) ns .number)
+  pub deletes : (k : ℕ) (ns : List ℕ) → Gives (firstOf (deleteTests k (x .machine .opened) (aliveIn (x .machine) k))) (ended least (toDelete k) (x .bytes) ns .number)

@@ -1,0 +1,9 @@
+pub mod Accepts
+pub mod Runs
+pub mod Beside
+pub mod Answers
+pub mod Views
+pub mod First
+pub mod Second
+pub mod Third
+pub mod Replayed

@@ -1,0 +1,77 @@
+-- Calls one after another on lent bytes.
+-- Assumes nothing.
+use Prim.Native.Nat.{ℕ}
+use mathlib.Core.Bool.{Bool, true, false}
+use mathlib.Core.List.{List, [], _∷_}
+use Rattle.model.specs.Basic.{all}
+use Rattle.model.specs.Histories.{Call, begins, commits, abandons, inserts, deletes}
+use Rattle.model.specs.Settings
+use Rattle.model.specs.Lent.{Outcome}
+use Rattle.model.specs.Ended.{Asked, toFresh, toCheck, toOpen, toCommit, toAbandon, toInsert, toDelete, toLookup, toRange, Ended, ended}
+
+-- a call, and the list lent with it; each may bring another list
+pub record Turn : Type 0 where
+  pub call : Asked
+  pub list : List ℕ
+
+-- what it gives and leaves
+abbrev pub turned : ℕ → List ℕ → Turn → Ended
+turned least b t = ended least (t .call) b (t .list)
+
+-- the store's bytes after all of them
+abbrev pub runBytes : ℕ → List ℕ → List Turn → List ℕ
+runBytes least b [] = b
+runBytes least b (t ∷ ts) = runBytes least (turned least b t .store) ts
+
+-- and with them the number that the last one gave
+abbrev pub run : ℕ → Outcome → List Turn → Outcome
+run least o [] = o
+run least o (t ∷ ts) = run least (record { number = turned least (o .store) t .number; store = turned least (o .store) t .store }) ts
+
+-- ---- what kind of call it is: it makes fresh, it may change the store, or it only reads
+
+pub data Kind : Type 0 where
+  making : Kind
+  changing : Call → Kind
+  reading : Kind
+
+abbrev pub kindOf : Asked → Kind
+kindOf toFresh = making
+kindOf toCheck = reading
+kindOf toOpen = changing begins
+kindOf toCommit = changing commits
+kindOf toAbandon = changing abandons
+kindOf (toInsert k x) = changing (inserts k x)
+kindOf (toDelete k) = changing (deletes k)
+kindOf (toLookup k v) = reading
+kindOf (toRange lo hi v) = reading
+
+-- the call that asks for a change
+abbrev pub asks : Call → Asked
+asks begins = toOpen
+asks commits = toCommit
+asks abandons = toAbandon
+asks (inserts k x) = toInsert k x
+asks (deletes k) = toDelete k
+
+-- any call but making fresh
+abbrev pub notMaking : Kind → Bool
+notMaking making = false
+notMaking (changing c) = true
+notMaking reading = true
+
+-- "a value is any 32 bits"
+abbrev pub fitting : Kind → Bool
+fitting making = true
+fitting (changing c) = Settings.fits c
+fitting reading = true
+
+-- all but making fresh, commit and abandon: what may stand inside an open update, where another open is refused
+abbrev pub staying : Kind → Bool
+staying making = false
+staying (changing c) = Settings.isInside c
+staying reading = true
+
+-- each call of a list so
+abbrev pub each : (Kind → Bool) → List Turn → Bool
+each f ts = all (λ (t : Turn). f (kindOf (t .call))) ts

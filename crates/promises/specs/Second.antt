@@ -1,0 +1,90 @@
+-- Demand 2: "From a fresh store on, a lookup or range at a version gives exactly the settings alive then, as the accepted calls that
+-- weren't abandoned say, in key order; whatever is done later, short of making the store fresh again, a committed version's answers stay.
+-- After every call the pages are byte for byte what the published page rules, as fixed in document 01, produce. Every page that a version
+-- reaches, its root aside, holds at least four entries alive at that version. An update is refused for lack of pages exactly when those
+-- rules need a page and none is free."
+-- `least` is 4 in edition 1; each of these holds for 4 to 8, and so for edition 2, where it is 8.
+-- Assumes nothing.
+use Prim.Native.Nat.{ℕ, _≤_}
+use mathlib.Core.Bool.{true, _||_}
+use mathlib.Core.Path.{_≡_}
+use mathlib.Core.List.{List}
+use lib.Dec.{T, leb, eqb}
+use lib.ListN.{length}
+use Rattle.model.specs.Basic.{all}
+use Rattle.model.specs.Field.{Bytes}
+use Rattle.model.specs.Page.{pairsAt}
+use Rattle.model.specs.Store.{Store, page, last}
+use Rattle.model.specs.Walk.{Seen, seen, rootAt}
+use Rattle.model.specs.Sound.{sound}
+use Rattle.model.specs.Layout.{encode, decode}
+use Rattle.model.specs.Histories.{Call, callBy, after}
+use Rattle.model.specs.Needs.{LacksLent}
+use Rattle.model.specs.Ended.{toFresh, ended}
+use Rattle.promises.specs.Accepts.{Accepts, Written, Exact}
+use Rattle.promises.specs.Runs.{Turn, turned, runBytes, kindOf, asks, notMaking, fitting, each}
+use Rattle.promises.specs.Beside.{along, fromFresh, fromLent}
+use Rattle.promises.specs.Answers.{Answers}
+use Rattle.promises.specs.Views.{SameView, SameAnswers}
+
+-- ---- accepted bytes and sound stores are the same thing
+
+abbrev pub EncodedSound : Type 0
+EncodedSound = (least : ℕ) → 4 ≤ least → least ≤ 8 → (s : Store) → T (sound least s) → Written least s
+
+abbrev pub AcceptedSound : Type 0
+AcceptedSound = (least : ℕ) → 4 ≤ least → least ≤ 8 → (b : List ℕ) → Bytes b → Accepts least b → Exact least b
+
+-- ---- a sound store stays sound: every call, from any accepted bytes
+
+abbrev pub SoundStays : Type 0
+SoundStays = (least : ℕ) → 4 ≤ least → least ≤ 8 → (b : List ℕ) → Accepts least b → (t : Turn) → fitting (kindOf (t .call)) ≡ true → Accepts least (turned least b t .store)
+
+-- making fresh, from any bytes
+abbrev pub FreshSound : Type 0
+FreshSound = (least : ℕ) → 4 ≤ least → least ≤ 8 → (b ns : List ℕ) → ended least toFresh b ns .number ≡ 0 → Accepts least (ended least toFresh b ns .store)
+
+-- ---- "From a fresh store on, a lookup or range at a version gives exactly the settings alive then": after any calls (`Answers`)
+
+abbrev pub History : Type 0
+History = (least : ℕ) → 4 ≤ least → least ≤ 8 → (n : ℕ) → 6 ≤ n → n ≤ 4096 → (ts : List Turn) → each fitting ts ≡ true → Answers least (along least (fromFresh least n) ts)
+
+-- "For a sound store lent from elsewhere, the settings its walks show stand for the history so far."
+abbrev pub HistoryLent : Type 0
+HistoryLent = (least : ℕ) → 4 ≤ least → least ≤ 8 → (b : List ℕ) → Accepts least b → (ts : List Turn) → each fitting ts ≡ true → Answers least (along least (fromLent least b) ts)
+
+-- ---- "whatever is done later, short of making the store fresh again, a committed version's answers stay"
+
+abbrev pub AnswersStay : Type 0
+AnswersStay = (least : ℕ) → 4 ≤ least → least ≤ 8 → (b : List ℕ) → Accepts least b → (ts : List Turn) → each fitting ts ≡ true → each notMaking ts ≡ true
+    → (v : ℕ) → v ≤ decode least b .current → SameAnswers least b (runBytes least b ts) v
+
+-- and so does what its pages show
+abbrev pub ViewsStay : Type 0
+ViewsStay = (least : ℕ) → 4 ≤ least → least ≤ 8 → (b : List ℕ) → Accepts least b → (ts : List Turn) → each fitting ts ≡ true → each notMaking ts ≡ true
+    → (v : ℕ) → v ≤ decode least b .current → SameView (decode least b) (decode least (runBytes least b ts)) v
+
+-- ---- "After every call the pages are byte for byte what the published page rules produce": model's Rules, Climb and Calls
+
+abbrev pub ByTheRules : Type 0
+ByTheRules = (least : ℕ) → 4 ≤ least → least ≤ 8 → (b : List ℕ) → Bytes b → Accepts least b → (c : Call) (ns : List ℕ)
+    → ended least (asks c) b ns .store ≡ encode least (after (decode least b) (callBy least (decode least b) c) .store)
+
+-- ---- "Every page that a version reaches, its root aside, holds at least four entries alive at that version."
+
+abbrev pub Balanced : Type 0
+Balanced = (least : ℕ) → 4 ≤ least → (b : List ℕ) → Accepts least b → (v : ℕ) → v ≤ last (decode least b)
+    → all (λ (x : Seen). eqb (x .number) (rootAt (decode least b .slots) v) || leb least (length (pairsAt v (page (decode least b .pages) (x .number))))) (seen (decode least b) v) ≡ true
+
+-- "With 4,096 pages rule 5 keeps every root at level 7 or lower", and in edition 2 at level 5 or lower.
+abbrev pub rootLevel : ℕ → List ℕ → ℕ → ℕ
+rootLevel least b v = page (decode least b .pages) (rootAt (decode least b .slots) v) .level
+
+pub record Levels : Type 0 where
+  pub one : (least : ℕ) → 4 ≤ least → (b : List ℕ) → Accepts least b → (v : ℕ) → v ≤ last (decode least b) → rootLevel least b v ≤ 7
+  pub two : (least : ℕ) → 8 ≤ least → (b : List ℕ) → Accepts least b → (v : ℕ) → v ≤ last (decode least b) → rootLevel least b v ≤ 5
+
+-- ---- "An update is refused for lack of pages exactly when those rules need a page and none is free": 12, and 13 so for a slot, on any bytes
+
+abbrev pub Lacking : Type 0
+Lacking = (least : ℕ) (b : List ℕ) → LacksLent least b

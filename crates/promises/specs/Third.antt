@@ -1,0 +1,32 @@
+-- Demand 3: "Take a sound store with no update open. Open one where that is accepted, make any sequence of inserts, deletes, reads and
+-- refused calls inside it, with any splits and merges these cause, and abandon it. Every byte of the store is then what it was before the
+-- opening, so each later call answers as if the update had never been."
+-- Assumes nothing.
+use Prim.Native.Nat.{ℕ, _≤_}
+use mathlib.Core.Bool.{true}
+use mathlib.Core.Path.{_≡_}
+use mathlib.Core.List.{List, [], _∷_, _++_}
+use Rattle.model.specs.Field.{Bytes}
+use Rattle.model.specs.Ended.{Asked, toOpen, toAbandon, ended}
+use Rattle.promises.specs.Runs.{Turn, turned, runBytes, fitting, staying, each}
+
+abbrev pub opening : Turn
+opening = record { call = toOpen; list = [] }
+
+abbrev pub abandoning : Turn
+abandoning = record { call = toAbandon; list = [] }
+
+-- after an update that held these calls and was abandoned
+pub record Restored (least : ℕ) (b : List ℕ) (ts : List Turn) : Type 0 where
+  -- the abandon is accepted
+  pub accepted : turned least (runBytes least b (opening ∷ ts)) abandoning .number ≡ 0
+  -- "Every byte of the store is then what it was before the opening"
+  pub bytes : runBytes least b (opening ∷ (ts ++ (abandoning ∷ []))) ≡ b
+  -- "each later call answers as if the update had never been"
+  pub later : (c : Asked) (ns : List ℕ) → ended least c (runBytes least b (opening ∷ (ts ++ (abandoning ∷ [])))) ns ≡ ended least c b ns
+
+-- An open is accepted on no other bytes than those of a sound store with no update open. The calls inside (`staying`) are all but commit and
+-- abandon, which end the update and are never refused inside it, and making fresh, which is never refused on a sound store.
+abbrev pub Abandoned : Type 0
+Abandoned = (least : ℕ) → 4 ≤ least → least ≤ 8 → (b : List ℕ) → Bytes b → turned least b opening .number ≡ 0
+    → (ts : List Turn) → each fitting ts ≡ true → each staying ts ≡ true → Restored least b ts

@@ -1,0 +1,66 @@
+//! The nine calls, on any bytes and any numbers.
+//!
+//! Every call but making fresh judges the whole store before it trusts it,
+//! also where an argument would be refused anyway: of several numbers the
+//! smallest is given, and those of judging are the smallest.
+
+use crate::{check as judging, number, store, unjudged};
+
+/// Makes a fresh store over any bytes of a fitting length.
+pub fn fresh(bytes: &mut [u8]) -> u32 {
+    if !store::length_fits(bytes.len()) {
+        return number::LENGTH;
+    }
+    store::write_fresh(bytes);
+    number::DONE
+}
+
+/// The number and, with 4, the lowest number of a broken rule.
+pub fn check(bytes: &[u8]) -> (u32, u32) {
+    judging::judge(bytes)
+}
+
+pub fn open(bytes: &mut [u8]) -> u32 {
+    judged(bytes).unwrap_or_else(|| unjudged::open(bytes))
+}
+
+pub fn insert(bytes: &mut [u8], key: u32, value: u32) -> u32 {
+    judged(bytes).unwrap_or_else(|| unjudged::insert(bytes, key, value))
+}
+
+pub fn delete(bytes: &mut [u8], key: u32) -> u32 {
+    judged(bytes).unwrap_or_else(|| unjudged::delete(bytes, key))
+}
+
+pub fn commit(bytes: &mut [u8]) -> u32 {
+    judged(bytes).unwrap_or_else(|| unjudged::commit(bytes))
+}
+
+pub fn abandon(bytes: &mut [u8]) -> u32 {
+    judged(bytes).unwrap_or_else(|| unjudged::abandon(bytes))
+}
+
+/// The number, whether the key was found, and its value.
+pub fn lookup(bytes: &[u8], key: u32, version: u32) -> (u32, bool, u32) {
+    match judged(bytes) {
+        Some(refusal) => (refusal, false, 0),
+        None => unjudged::lookup(bytes, key, version),
+    }
+}
+
+/// The number and the count of settings found; their keys and values are
+/// written to the front of `list`.
+pub fn range(bytes: &[u8], low: u32, high: u32, version: u32, list: &mut [u32]) -> (u32, u32) {
+    match judged(bytes) {
+        Some(refusal) => (refusal, 0),
+        None => unjudged::range(bytes, low, high, version, list),
+    }
+}
+
+/// The number by which judging refuses the store, if it does.
+fn judged(bytes: &[u8]) -> Option<u32> {
+    match judging::judge(bytes) {
+        (number::DONE, _) => None,
+        (refusal, _) => Some(refusal),
+    }
+}

@@ -1,0 +1,104 @@
+//! A call, its answer, and the shape of a program that answers calls.
+
+use crate::calls;
+
+/// A call with its arguments. The store, and for a range the list, are lent
+/// beside it.
+#[derive(Clone, Copy, Debug, PartialEq, Eq)]
+pub enum Call {
+    Fresh,
+    Check,
+    Open,
+    /// Key and value.
+    Insert(u32, u32),
+    /// Key.
+    Delete(u32),
+    Commit,
+    Abandon,
+    /// Key and version.
+    Lookup(u32, u32),
+    /// Low, high, version, and how many numbers the lent list holds.
+    Range(u32, u32, u32, usize),
+}
+
+impl Call {
+    /// How many numbers the list lent with this call holds.
+    pub fn list_length(self) -> usize {
+        match self {
+            Call::Range(_, _, _, length) => length,
+            _ => 0,
+        }
+    }
+}
+
+/// All that a call gives back besides the bytes of store and list. "Any result
+/// not named here is 0."
+#[derive(Clone, Copy, Debug, Default, PartialEq, Eq)]
+pub struct Answer {
+    pub number: u32,
+    /// Check: the lowest broken rule.
+    pub rule: u32,
+    /// Lookup: whether the key is alive, and its value.
+    pub found: bool,
+    pub value: u32,
+    /// Range: the count of settings found.
+    pub count: u32,
+}
+
+impl Answer {
+    pub fn of(number: u32) -> Answer {
+        Answer {
+            number,
+            ..Answer::default()
+        }
+    }
+}
+
+/// A program that answers calls: this one, or another to be run beside it.
+pub trait Engine {
+    /// Answers `call` on `store`. For a range, `list` holds as many numbers as
+    /// the call says.
+    fn apply(&mut self, call: Call, store: &mut [u8], list: &mut [u32]) -> Answer;
+}
+
+/// This program.
+pub struct Reference;
+
+impl Engine for Reference {
+    fn apply(&mut self, call: Call, store: &mut [u8], list: &mut [u32]) -> Answer {
+        apply(call, store, list)
+    }
+}
+
+pub fn apply(call: Call, store: &mut [u8], list: &mut [u32]) -> Answer {
+    match call {
+        Call::Fresh => Answer::of(calls::fresh(store)),
+        Call::Open => Answer::of(calls::open(store)),
+        Call::Insert(key, value) => Answer::of(calls::insert(store, key, value)),
+        Call::Delete(key) => Answer::of(calls::delete(store, key)),
+        Call::Commit => Answer::of(calls::commit(store)),
+        Call::Abandon => Answer::of(calls::abandon(store)),
+        Call::Check => {
+            let (number, rule) = calls::check(store);
+            Answer {
+                rule,
+                ..Answer::of(number)
+            }
+        }
+        Call::Lookup(key, version) => {
+            let (number, found, value) = calls::lookup(store, key, version);
+            Answer {
+                found,
+                value,
+                ..Answer::of(number)
+            }
+        }
+        Call::Range(low, high, version, _) => {
+            let (number, count) = calls::range(store, low, high, version, list);
+            Answer {
+                count,
+                ..Answer::of(number)
+            }
+        }
+    }
+}

@@ -1,0 +1,336 @@
+//! Histories from a seed: calls with arguments, good and bad.
+//!
+//! A history is told each answer, so that it knows which keys are alive and
+//! how long a list must be, and can be driven by any program that answers.
+
+use crate::engine::{Answer, Call, Engine, Reference};
+use crate::layout::{HIGHEST_KEY, PAGE_BYTES};
+use crate::model::Model;
+use crate::number;
+use crate::rng::Rng;
+
+/// What a history is made to provoke.
+#[derive(Clone, Copy, Debug, PartialEq, Eq)]
+pub enum Kind {
+    /// Inserts and deletes over all keys it has.
+    Mixed,
+    /// Many inserts, then many deletes, and again: splits up to new roots,
+    /// merges down to roots that go.
+    GrowThenShrink,
+    /// Few keys and many updates of each version, or many versions: pages
+    /// that overflow by their dead entries.
+    HotPage,
+    /// Each version has a new root, so that slots run out before pages do.
+    NewRoots,
+}
+
+pub const KINDS: [Kind; 4] = [
+    Kind::Mixed,
+    Kind::GrowThenShrink,
+    Kind::HotPage,
+    Kind::NewRoots,
+];
+
+/// In which order a history grows.
+#[derive(Clone, Copy, Debug)]
+enum Order {
+    Rising,
+    Falling,
+    Scattered,
+}
+
+pub struct History {
+    kind: Kind,
+    rng: Rng,
+    model: Model,
+    /// The keys it inserts, rising.
+    keys: Vec<u32>,
+    order: Order,
+    growing: bool,
+    /// Updates still to be made before the open update is closed.
+    left: u32,
+    /// One in this many closings is an abandon.
+    abandons: u32,
+    /// Refusals for lack of a page or slot since the last fresh store.
+    stuck: u32,
+    begun: bool,
+}
+
+impl History {
+    /// The history named by `seed` for a store of `pages` pages. It begins
+    /// with making the store fresh.
+    pub fn new(seed: u64, kind: Kind, pages: usize) -> History {
+        let history = History::on_store(seed, kind, pages, Model::fresh());
+        History {
+            begun: false,
+            ..history
+        }
+    }
+
+    /// A history that goes on from a store with these settings.
+    pub fn on_store(seed: u64, kind: Kind, pages: usize, model: Model) -> History {
+        let mut rng = Rng::new(seed);
+        let count = match kind {
+            Kind::NewRoots => 16,
+            Kind::HotPage => rng.between(6, 40),
+            _ => rng.between(20, 20 + 6 * pages as u32),
+        };
+        let order = *rng
+            .pick(&[Order::Rising, Order::Falling, Order::Scattered])
+            .unwrap_or(&Order::Scattered);
+        History {
+            kind,
+            keys: some_keys(&mut rng, count),
+            order,
+            growing: true,
+            left: 0,
+            abandons: rng.between(2, 12),
+            stuck: 0,
+            begun: true,
+            model,
+            rng,
+        }
+    }
+
+    /// What the settings are, as the answers so far say.
+    pub fn model(&self) -> &Model {
+        &self.model
+    }
+
+    pub fn next_call(&mut self) -> Call {
+        if !self.begun || self.stuck > 60 {
+            self.begun = true;
+            self.stuck = 0;
+            self.left = 0;
+            return Call::Fresh;
+        }
+        match self.rng.below(24) {
+            0 => self.bad_call(),
+            1 | 2 => self.read(),
+            3 => Call::Check,
+            _ => self.update(),
+        }
+    }
+
+    /// Tells the history the answer to the call it gave last.
+    pub fn observe(&mut self, call: Call, answer: &Answer) {
+        if answer.number == number::DONE {
+            self.model.record(call);
+        }
+        if [number::NO_FREE_PAGE, number::NO_FREE_SLOT].contains(&answer.number) {
+            self.stuck += 1;
+            // What cannot grow may still shrink, or start over by an abandon.
+            self.growing = self.rng.once_in(3);
+            self.left = self.left.min(self.rng.below(8));
+        }
+    }
+
+    fn update(&mut self) -> Call {
+        if !self.model.is_open() {
+            self.left = self.length_of_update();
+            return Call::Open;
+        }
+        if self.left == 0 {
+            let abandons = self.rng.once_in(self.abandons) && self.kind != Kind::NewRoots;
+            return if abandons {
+                Call::Abandon
+            } else {
+                Call::Commit
+            };
+        }
+        self.left -= 1;
+        match self.kind {
+            Kind::NewRoots => self.renew(),
+            _ => self.insert_or_delete(),
+        }
+    }
+
+    fn length_of_update(&mut self) -> u32 {
+        match (self.kind, self.rng.below(4)) {
+            (Kind::NewRoots, _) if self.alive().len() < 16 => 16 - self.alive().len() as u32,
+            (Kind::NewRoots, _) => 10,
+            (_, 0) => self.rng.below(3),
+            (Kind::HotPage, 1) => self.rng.between(20, 120),
+            (_, 1) => self.rng.between(10, 60),
+            _ => self.rng.between(1, 12),
+        }
+    }
+
+    fn insert_or_delete(&mut self) -> Call {
+        let alive = self.alive();
+        if alive.len() * 8 > self.keys.len() * 7 {
+            self.growing = false;
+        } else if alive.len() * 12 < self.keys.len() || alive.len() < 2 {
+            self.growing = true;
+        }
+        let chance = match self.kind {
+            Kind::GrowThenShrink => 10,
+            _ => 4,
+        };
+        if self.growing != self.rng.once_in(chance) {
+            self.insert(&alive)
+        } else {
+            self.delete(&alive)
+        }
+    }
+
+    /// Five of sixteen keys are deleted and inserted again: 21 entries of which
+    /// 16 live, so one new page, which is the new root.
+    fn renew(&mut self) -> Call {
+        let alive = self.alive();
+        if alive.len() <= 11 {
+            self.growing = true;
+        } else if alive.len() >= 16 {
+            self.growing = false;
+        }
+        if self.growing {
+            self.insert(&alive)
+        } else {
+            self.delete(&alive)
+        }
+    }
+
+    fn alive(&self) -> Vec<u32> {
+        self.model.at(self.model.last()).keys().copied().collect()
+    }
+
+    fn insert(&mut self, alive: &[u32]) -> Call {
+        let absent: Vec<u32> = self
+            .keys
+            .iter()
+            .filter(|key| alive.binary_search(key).is_err())
+            .copied()
+            .collect();
+        let key = match self.order {
+            _ if absent.is_empty() => self.rng.below(HIGHEST_KEY + 1),
+            Order::Rising => absent[0],
+            Order::Falling => absent[absent.len() - 1],
+            Order::Scattered => *self.rng.pick(&absent).unwrap_or(&0),
+        };
+        Call::Insert(key, self.rng.word())
+    }
+
+    fn delete(&mut self, alive: &[u32]) -> Call {
+        // Mostly near one place, so that a page runs low before the others do.
+        let near = match self.rng.below(3) {
+            0 => self.rng.below(alive.len().max(1) as u32) as usize,
+            1 => alive.len() / 2,
+            _ => 0,
+        };
+        Call::Delete(alive.get(near).copied().unwrap_or(0))
+    }
+
+    /// A key at or near one that it uses.
+    fn some_key(&mut self) -> u32 {
+        let key = *self.rng.pick(&self.keys).unwrap_or(&0);
+        match self.rng.below(8) {
+            0 => self.rng.below(HIGHEST_KEY + 1),
+            1 => key.saturating_sub(1),
+            2 => (key + 1).min(HIGHEST_KEY),
+            _ => key,
+        }
+    }
+
+    fn some_version(&mut self) -> u32 {
+        let last = self.model.last();
+        match self.rng.below(3) {
+            0 => last,
+            1 => last.saturating_sub(1),
+            _ => self.rng.between(0, last),
+        }
+    }
+
+    fn read(&mut self) -> Call {
+        let version = self.some_version();
+        if self.rng.once_in(2) {
+            return Call::Lookup(self.some_key(), version);
+        }
+        let (one, other) = match self.rng.below(3) {
+            0 => (0, HIGHEST_KEY),
+            _ => (self.some_key(), self.some_key()),
+        };
+        let (low, high) = (one.min(other), one.max(other));
+        let wanted = self.model.listed(low, high, version).len();
+        let length = match self.rng.below(4) {
+            0 => wanted.saturating_sub(1),
+            1 => wanted + self.rng.below(5) as usize,
+            _ => wanted,
+        };
+        Call::Range(low, high, version, length)
+    }
+
+    /// A call that is refused, for one reason or for several at once.
+    fn bad_call(&mut self) -> Call {
+        let too_large = match self.rng.below(3) {
+            0 => HIGHEST_KEY + 1,
+            1 => u32::MAX,
+            _ => self.rng.between(HIGHEST_KEY + 1, u32::MAX),
+        };
+        let late = match self.rng.below(2) {
+            0 => self.model.last() + 1,
+            _ => self.rng.between(self.model.last() + 1, u32::MAX),
+        };
+        let (key, version) = (self.some_key(), self.some_version());
+        let word = self.rng.word();
+        match self.rng.below(12) {
+            0 => Call::Insert(too_large, word),
+            1 => Call::Delete(too_large),
+            2 => Call::Lookup(too_large, version),
+            3 => Call::Lookup(key, late),
+            4 => Call::Lookup(too_large, late),
+            5 => Call::Range(key + 1, key, version, 4),
+            6 => Call::Range(key, too_large, late, 4),
+            7 => Call::Range(0, HIGHEST_KEY, late, 0),
+            8 if self.model.is_open() => Call::Open,
+            8 if self.rng.once_in(2) => Call::Commit,
+            8 => Call::Abandon,
+            9 | 10 => self.updates_turned_round(),
+            _ => Call::Range(too_large, too_large, version, 4),
+        }
+    }
+
+    /// An insert of a key that is alive, or a delete of one that is not, or
+    /// any update while none is open.
+    fn updates_turned_round(&mut self) -> Call {
+        let alive = self.alive();
+        match self.rng.pick(&alive) {
+            Some(key) if self.rng.once_in(2) => Call::Insert(*key, 1),
+            _ => match self.insert(&alive) {
+                Call::Insert(key, _) => Call::Delete(key),
+                call => call,
+            },
+        }
+    }
+}
+
+/// `count` keys, rising: close together or far apart, or at the very ends.
+fn some_keys(rng: &mut Rng, count: u32) -> Vec<u32> {
+    let step = match rng.below(3) {
+        0 => 1,
+        1 => rng.between(2, 100),
+        _ => HIGHEST_KEY / count,
+    };
+    let spread = step * (count - 1);
+    let first = match rng.below(3) {
+        0 => 0,
+        1 => HIGHEST_KEY - spread,
+        _ => rng.between(0, HIGHEST_KEY - spread),
+    };
+    (0..count).map(|index| first + index * step).collect()
+}
+
+/// The first `count` calls of the history named by `seed`, as this program's
+/// answers lead it, and the store they end with.
+pub fn calls(seed: u64, kind: Kind, pages: usize, count: usize) -> (Vec<Call>, Vec<u8>) {
+    let mut history = History::new(seed, kind, pages);
+    let mut store = vec![0; pages * PAGE_BYTES];
+    let mut calls = Vec::new();
+    for _ in 0..count {
+        let call = history.next_call();
+        let mut list = vec![0; call.list_length()];
+        let answer = Reference.apply(call, &mut store, &mut list);
+        history.observe(call, &answer);
+        calls.push(call);
+    }
+    (calls, store)
+}

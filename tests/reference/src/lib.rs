@@ -1,0 +1,49 @@
+//! The store of document 01, written a second time.
+//!
+//! This program and the proved one share nothing but the document. It may copy
+//! pages, allocate and sort; where a shorter way and a plainer way differ it
+//! takes the plainer. Read it in this order:
+//!
+//! - [`bits`], [`layout`], [`store`]: where each number stands in the bytes;
+//! - [`check`]: when a store is sound, a module for each rule;
+//! - [`walk`]: lookups and ranges; [`update`] over a [`draft`]: the page rules;
+//!   [`mod@abandon`];
+//! - [`unjudged`]: the calls on a store known to be sound, and [`calls`]: the
+//!   nine calls as the console has them, on any bytes;
+//! - [`console`]: the line language.
+//!
+//! The rest makes and judges work for two programs run side by side:
+//!
+//! - [`engine`]: a call, its answer, and the shape of a program that answers;
+//!   [`beside`]: two of them on the same history, compared byte for byte;
+//! - [`model`]: the settings of each version as a plain ordered map;
+//! - [`history`], [`lines`]: calls and console input from a seed;
+//! - [`foreign`], [`tall`]: sound stores that no history makes;
+//! - [`damage`]: unsound stores, with the rule that each one breaks;
+//! - [`samples`]: sound stores of all these shapes from a seed.
+
+#![forbid(unsafe_code)]
+
+pub mod abandon;
+pub mod beside;
+pub mod bits;
+pub mod calls;
+pub mod check;
+pub mod console;
+pub mod damage;
+pub mod draft;
+pub mod engine;
+pub mod foreign;
+pub mod history;
+pub mod image;
+pub mod layout;
+pub mod lines;
+pub mod model;
+pub mod number;
+pub mod rng;
+pub mod samples;
+pub mod store;
+pub mod tall;
+pub mod unjudged;
+pub mod update;
+pub mod walk;

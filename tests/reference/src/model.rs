@@ -1,0 +1,185 @@
+//! The settings of each version as plain ordered maps.
+//!
+//! "The settings alive at a committed version are what the accepted inserts
+//! and deletes of the updates committed up to it leave." The model knows
+//! nothing of pages: it answers every call as a store with endless pages and
+//! slots would, so it never gives 1 to 4, 12 or 13.
+
+use std::collections::BTreeMap;
+
+use crate::engine::{Answer, Call};
+use crate::image::Image;
+use crate::layout::{HIGHEST_KEY, HIGHEST_VERSION};
+use crate::{number, store, walk};
+
+pub type Settings = BTreeMap<u32, u32>;
+
+#[derive(Clone, Debug, PartialEq, Eq)]
+pub struct Model {
+    pub current: u32,
+    /// The settings from a version on, up to the next one that stands here.
+    committed: BTreeMap<u32, Settings>,
+    open: Option<Settings>,
+}
+
+impl Default for Model {
+    fn default() -> Model {
+        Model::fresh()
+    }
+}
+
+impl Model {
+    pub fn fresh() -> Model {
+        Model {
+            current: 0,
+            committed: BTreeMap::from([(0, Settings::new())]),
+            open: None,
+        }
+    }
+
+    /// "For a sound store lent from elsewhere, the settings its walks show
+    /// stand for the history so far."
+    pub fn of_store(bytes: &[u8]) -> Model {
+        let header = store::header(bytes);
+        let settings = |version| Settings::from_iter(walk::range(bytes, 0, HIGHEST_KEY, version));
+        let versions = Image::read(bytes).turning_points();
+        let committed = versions.into_iter().filter(|v| *v <= header.current);
+        Model {
+            current: header.current,
+            committed: committed.map(|v| (v, settings(v))).collect(),
+            open: header.open.then(|| settings(header.last())),
+        }
+    }
+
+    pub fn is_open(&self) -> bool {
+        self.open.is_some()
+    }
+
+    pub fn last(&self) -> u32 {
+        self.current + u32::from(self.is_open())
+    }
+
+    /// The settings alive at `version`, which is at most last.
+    pub fn at(&self, version: u32) -> &Settings {
+        match &self.open {
+            Some(open) if version > self.current => open,
+            _ => {
+                let mut upto = self.committed.range(..=version);
+                upto.next_back().expect("version 0 is always there").1
+            }
+        }
+    }
+
+    /// What a range is to write.
+    pub fn listed(&self, low: u32, high: u32, version: u32) -> Vec<u32> {
+        let found = self.at(version).range(low..=high);
+        found.flat_map(|(key, value)| [*key, *value]).collect()
+    }
+
+    /// The answer to `call` if pages and slots were endless.
+    pub fn answer(&self, call: Call) -> Answer {
+        match call {
+            Call::Fresh | Call::Check => Answer::default(),
+            Call::Open => Answer::of(self.number_of_open()),
+            Call::Commit | Call::Abandon => Answer::of(self.number_unless_open()),
+            Call::Insert(key, _) => Answer::of(self.number_of_update(key, number::KEY_ALIVE)),
+            Call::Delete(key) => Answer::of(self.number_of_update(key, number::KEY_NOT_ALIVE)),
+            Call::Lookup(key, version) => self.answer_to_lookup(key, version),
+            Call::Range(low, high, version, length) => {
+                self.answer_to_range(low, high, version, length)
+            }
+        }
+    }
+
+    fn number_of_open(&self) -> u32 {
+        if self.is_open() {
+            number::ALREADY_OPEN
+        } else if self.current == HIGHEST_VERSION {
+            number::VERSIONS_USED_UP
+        } else {
+            number::DONE
+        }
+    }
+
+    fn number_unless_open(&self) -> u32 {
+        if self.is_open() {
+            number::DONE
+        } else {
+            number::NONE_OPEN
+        }
+    }
+
+    /// `refusal` is the number for a key that is alive, or for one that is
+    /// not.
+    fn number_of_update(&self, key: u32, refusal: u32) -> u32 {
+        if key > HIGHEST_KEY {
+            return number::ARGUMENT;
+        }
+        let alive = match &self.open {
+            None => return number::NONE_OPEN,
+            Some(settings) => settings.contains_key(&key),
+        };
+        if alive == (refusal == number::KEY_ALIVE) {
+            refusal
+        } else {
+            number::DONE
+        }
+    }
+
+    fn answer_to_lookup(&self, key: u32, version: u32) -> Answer {
+        if key > HIGHEST_KEY {
+            return Answer::of(number::ARGUMENT);
+        }
+        if version > self.last() {
+            return Answer::of(number::VERSION);
+        }
+        let found = self.at(version).get(&key);
+        Answer {
+            found: found.is_some(),
+            value: found.copied().unwrap_or(0),
+            ..Answer::default()
+        }
+    }
+
+    fn answer_to_range(&self, low: u32, high: u32, version: u32, length: usize) -> Answer {
+        if low > high || high > HIGHEST_KEY {
+            return Answer::of(number::ARGUMENT);
+        }
+        if version > self.last() {
+            return Answer::of(number::VERSION);
+        }
+        let wanted = self.listed(low, high, version).len();
+        let short = length < wanted;
+        Answer {
+            count: wanted as u32 / 2,
+            ..Answer::of(if short { number::LIST_TOO_SHORT } else { 0 })
+        }
+    }
+
+    /// Makes the change of a call that was accepted.
+    pub fn record(&mut self, call: Call) {
+        match call {
+            Call::Fresh => *self = Model::fresh(),
+            Call::Open => self.open = Some(self.at(self.current).clone()),
+            Call::Insert(key, value) => {
+                self.opened().insert(key, value);
+            }
+            Call::Delete(key) => {
+                self.opened().remove(&key);
+            }
+            Call::Commit => {
+                let settings = std::mem::take(self.opened());
+                self.open = None;
+                self.current += 1;
+                self.committed.insert(self.current, settings);
+            }
+            Call::Abandon => self.open = None,
+            Call::Check | Call::Lookup(..) | Call::Range(..) => {}
+        }
+    }
+
+    fn opened(&mut self) -> &mut Settings {
+        let open = self.open.as_mut();
+        open.expect("an accepted update has an update open")
+    }
+}

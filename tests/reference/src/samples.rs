@@ -1,0 +1,47 @@
+//! Sound stores of many shapes, each named by a seed.
+
+use crate::foreign::{raise_current, unsettle};
+use crate::history::{calls, Kind};
+use crate::layout::HIGHEST_VERSION;
+use crate::rng::Rng;
+use crate::tall::{tall, Fill, Spine};
+
+/// A sound store: fresh or grown, closed or with an update open, made by a
+/// history or foreign, near the last version, or tall. It has at most 96
+/// pages.
+pub fn sound_store(seed: u64) -> Vec<u8> {
+    let mut rng = Rng::new(seed);
+    if seed.is_multiple_of(16) {
+        if let Some(store) = some_tall_store(&mut rng) {
+            return store;
+        }
+    }
+    let kind = match seed % 8 {
+        7 => Kind::NewRoots,
+        6 => Kind::HotPage,
+        5 => Kind::GrowThenShrink,
+        _ => Kind::Mixed,
+    };
+    let pages = rng.between(6, 65) as usize;
+    let count = rng.between(1, 400) as usize;
+    let (_, mut store) = calls(seed, kind, pages, count);
+    for _ in 0..rng.below(4) {
+        unsettle(&mut store, &mut rng);
+    }
+    if rng.once_in(24) {
+        raise_current(&mut store, HIGHEST_VERSION - 1);
+    }
+    store
+}
+
+fn some_tall_store(rng: &mut Rng) -> Option<Vec<u8>> {
+    let spines = [Spine::First, Spine::Middle, Spine::Last];
+    let spine = *rng.pick(&spines)?;
+    let mut fill = |fewest| {
+        let live = rng.between(fewest, 8);
+        Fill::new(live as usize, rng.between(0, 20 - live) as usize)
+    };
+    let fills = [fill(4), fill(4), Fill::new(2, 6)];
+    let free = rng.below(12) as usize;
+    tall(&fills, spine, free).map(|built| built.store)
+}

@@ -1,0 +1,123 @@
+//! The calls on a store known to be sound.
+//!
+//! These judge arguments but not the store: the console never sees them. They
+//! are here to be guarded by [`crate::calls`], and to be timed without the
+//! cost of judging. On a store that is not sound they may panic or answer
+//! anything.
+
+use crate::layout::{Header, HIGHEST_KEY, HIGHEST_VERSION};
+use crate::update::{self, Change};
+use crate::{abandon, number, store, walk};
+
+pub fn open(bytes: &mut [u8]) -> u32 {
+    let header = store::header(bytes);
+    if header.open {
+        return number::ALREADY_OPEN;
+    }
+    if header.current == HIGHEST_VERSION {
+        return number::VERSIONS_USED_UP;
+    }
+    store::write_header(
+        bytes,
+        Header {
+            open: true,
+            ..header
+        },
+    );
+    number::DONE
+}
+
+pub fn insert(bytes: &mut [u8], key: u32, value: u32) -> u32 {
+    let header = store::header(bytes);
+    if key > HIGHEST_KEY {
+        return number::ARGUMENT;
+    }
+    if !header.open {
+        return number::NONE_OPEN;
+    }
+    if walk::lookup(bytes, key, header.last()).is_some() {
+        return number::KEY_ALIVE;
+    }
+    update(bytes, key, Change::insert(key, value, header.last()))
+}
+
+pub fn delete(bytes: &mut [u8], key: u32) -> u32 {
+    let header = store::header(bytes);
+    if key > HIGHEST_KEY {
+        return number::ARGUMENT;
+    }
+    if !header.open {
+        return number::NONE_OPEN;
+    }
+    if walk::lookup(bytes, key, header.last()).is_none() {
+        return number::KEY_NOT_ALIVE;
+    }
+    update(bytes, key, Change::delete(key))
+}
+
+fn update(bytes: &mut [u8], key: u32, change: Change) -> u32 {
+    let changes = match update::plan(bytes, key, change) {
+        Ok(draft) => draft.finish(),
+        Err(refusal) => return refusal,
+    };
+    changes.write(bytes);
+    number::DONE
+}
+
+pub fn commit(bytes: &mut [u8]) -> u32 {
+    let header = store::header(bytes);
+    if !header.open {
+        return number::NONE_OPEN;
+    }
+    store::write_header(
+        bytes,
+        Header {
+            current: header.last(),
+            open: false,
+            ..header
+        },
+    );
+    number::DONE
+}
+
+pub fn abandon(bytes: &mut [u8]) -> u32 {
+    if !store::header(bytes).open {
+        return number::NONE_OPEN;
+    }
+    abandon::abandon(bytes);
+    number::DONE
+}
+
+/// The number, whether the key was found, and its value.
+pub fn lookup(bytes: &[u8], key: u32, version: u32) -> (u32, bool, u32) {
+    if key > HIGHEST_KEY {
+        return (number::ARGUMENT, false, 0);
+    }
+    if version > store::header(bytes).last() {
+        return (number::VERSION, false, 0);
+    }
+    match walk::lookup(bytes, key, version) {
+        Some(value) => (number::DONE, true, value),
+        None => (number::DONE, false, 0),
+    }
+}
+
+/// The number and the count of settings found; their keys and values are
+/// written to the front of `list` if it holds them all.
+pub fn range(bytes: &[u8], low: u32, high: u32, version: u32, list: &mut [u32]) -> (u32, u32) {
+    if low > HIGHEST_KEY || high > HIGHEST_KEY || low > high {
+        return (number::ARGUMENT, 0);
+    }
+    if version > store::header(bytes).last() {
+        return (number::VERSION, 0);
+    }
+    let settings = walk::range(bytes, low, high, version);
+    let count = settings.len() as u32;
+    if list.len() < 2 * settings.len() {
+        return (number::LIST_TOO_SHORT, count);
+    }
+    for (place, (key, value)) in list.chunks_exact_mut(2).zip(settings) {
+        place.copy_from_slice(&[key, value]);
+    }
+    (number::DONE, count)
+}

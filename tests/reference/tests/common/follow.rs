@@ -1,0 +1,192 @@
+//! A history on this program, beside one ordered map for each version.
+
+use super::roomier;
+use reference::beside::Tally;
+use reference::calls;
+use reference::engine::{apply, Answer, Call};
+use reference::history::History;
+use reference::layout::HIGHEST_KEY;
+use reference::model::Model;
+use reference::{number, store, unjudged, walk};
+
+/// What a followed history leaves: its store, and how often it met what it is
+/// meant to meet.
+#[derive(Default)]
+pub struct Followed {
+    pub store: Vec<u8>,
+    pub tally: Tally,
+    pub highest_level: u32,
+    pub abandons: u64,
+    pub roots_that_went: u64,
+}
+
+struct Follower {
+    followed: Followed,
+    /// The store before the update that is open, if it was opened here.
+    before_open: Option<Vec<u8>>,
+    /// Accepted inserts less deletes, at current and in the open update.
+    settings: (i64, i64),
+}
+
+/// Follows `count` calls of `history` from `store` on and panics where an
+/// answer or a byte is not as document 01 says.
+pub fn follow(history: &mut History, store: Vec<u8>, count: usize) -> Followed {
+    let mut follower = Follower {
+        followed: Followed {
+            store,
+            ..Followed::default()
+        },
+        before_open: None,
+        settings: (settings_of(history.model()), 0),
+    };
+    if history.model().is_open() {
+        let at_current = history.model().at(history.model().current).len() as i64;
+        follower.settings = (at_current, settings_of(history.model()) - at_current);
+    }
+    for _ in 0..count {
+        let call = history.next_call();
+        let answer = follower.one_call(call, history.model());
+        history.observe(call, &answer);
+        let (committed, open) = follower.settings;
+        assert_eq!(settings_of(history.model()), committed + open);
+    }
+    every_version_answers(&follower.followed.store, history.model());
+    follower.followed
+}
+
+fn settings_of(model: &Model) -> i64 {
+    model.at(model.last()).len() as i64
+}
+
+impl Follower {
+    fn one_call(&mut self, call: Call, model: &Model) -> Answer {
+        let before = self.followed.store.clone();
+        let mut list = vec![0xC0DE; call.list_length()];
+        let answer = apply(call, &mut self.followed.store, &mut list);
+        *self.followed.tally.entry(answer.number).or_default() += 1;
+        self.compare(call, answer, &before, model);
+        compare_list(call, answer, &list, model);
+        if answer.number == number::DONE {
+            self.accepted(call, before);
+        } else {
+            assert_eq!(before, self.followed.store, "{call:?} refused");
+        }
+        answer
+    }
+
+    fn compare(&self, call: Call, answer: Answer, before: &[u8], model: &Model) {
+        let expected = model.answer(call);
+        let lacking = [number::NO_FREE_PAGE, number::NO_FREE_SLOT].contains(&answer.number);
+        let update = matches!(call, Call::Insert(..) | Call::Delete(..));
+        if update && expected.number == number::DONE {
+            lacks_exactly_when_needed(call, answer.number, before, &self.followed.store);
+        }
+        if !(update && lacking) {
+            assert_eq!(answer, expected, "{call:?}");
+        } else {
+            assert_eq!(expected, Answer::default(), "{call:?} lacks nothing");
+            assert_eq!(answer, Answer::of(answer.number));
+        }
+    }
+
+    fn accepted(&mut self, call: Call, before: Vec<u8>) {
+        match call {
+            Call::Open => self.before_open = Some(before),
+            Call::Insert(..) => self.settings.1 += 1,
+            Call::Delete(_) => {
+                self.settings.1 -= 1;
+                self.followed.roots_that_went += u64::from(self.root_fell(&before));
+            }
+            Call::Commit => self.settings = (self.settings.0 + self.settings.1, 0),
+            Call::Abandon => {
+                self.settings.1 = 0;
+                self.followed.abandons += 1;
+                if let Some(opened) = self.before_open.take() {
+                    assert_eq!(opened, self.followed.store, "abandon");
+                }
+            }
+            Call::Fresh => self.settings = (0, 0),
+            Call::Check | Call::Lookup(..) | Call::Range(..) => return,
+        }
+        self.every_reached_page_is_filled();
+    }
+
+    fn root_level(&self, bytes: &[u8]) -> u32 {
+        let last = store::header(bytes).last();
+        store::level(bytes, walk::root(bytes, last))
+    }
+
+    fn root_fell(&self, before: &[u8]) -> bool {
+        self.root_level(&self.followed.store) < self.root_level(before)
+    }
+
+    /// "Every page that a version reaches, its root aside, holds at least four
+    /// entries alive at that version", at last.
+    fn every_reached_page_is_filled(&mut self) {
+        let bytes = &self.followed.store;
+        let last = store::header(bytes).last();
+        let root = walk::root(bytes, last);
+        let level = store::level(bytes, root);
+        self.followed.highest_level = self.followed.highest_level.max(level);
+        let mut met = vec![root];
+        while let Some(number) = met.pop() {
+            let page = store::page(bytes, number);
+            let live = page.live(last).count();
+            assert!(number == root || live >= 4, "page {number} has {live}");
+            if page.is_index() {
+                met.extend(page.live(last).map(|router| router.value));
+            }
+        }
+    }
+}
+
+/// A range that is done writes its settings and nothing behind them; any
+/// other call, and a refused range, writes nothing.
+fn compare_list(call: Call, answer: Answer, list: &[u32], model: &Model) {
+    let mut expected = vec![0xC0DE; list.len()];
+    if let (Call::Range(low, high, version, _), number::DONE) = (call, answer.number) {
+        let settings = model.listed(low, high, version);
+        expected[..settings.len()].copy_from_slice(&settings);
+    }
+    assert_eq!(list, expected, "{call:?}");
+}
+
+/// "An update is refused for lack of pages exactly when those rules need a
+/// page and none is free": with more room the same update uses a page that
+/// this store does not have, just if it is refused here.
+fn lacks_exactly_when_needed(call: Call, given: u32, before: &[u8], after: &[u8]) {
+    let own = (before.len() / 256) as u32;
+    let more = 16.min(4096 - own as usize);
+    if more < 16 || given == number::NO_FREE_SLOT {
+        return;
+    }
+    let mut roomy = roomier(before, more);
+    let number = match call {
+        Call::Insert(key, value) => unjudged::insert(&mut roomy, key, value),
+        Call::Delete(key) => unjudged::delete(&mut roomy, key),
+        _ => return,
+    };
+    let beyond = (own..own + more as u32).any(|n| store::level(&roomy, n) != 0);
+    if given == number::NO_FREE_PAGE {
+        // With 12 and 13 together 12 is given here, 13 there.
+        assert!(beyond || number == number::NO_FREE_SLOT, "{call:?}");
+    } else {
+        assert!(!beyond, "{call:?} found a page");
+        let own_bytes = after.len();
+        assert_eq!(roomy[256..own_bytes], after[256..], "{call:?}");
+    }
+}
+
+/// Every version answers as the model says, committed ones included: what was
+/// done later has changed nothing.
+pub fn every_version_answers(bytes: &[u8], model: &Model) {
+    assert_eq!(calls::check(bytes), (0, 0));
+    let last = model.last();
+    let step = (last / 400).max(1) as usize;
+    for version in (0..=last).step_by(step).chain([last]) {
+        let mut list = vec![0; 2 * model.at(version).len()];
+        let (number, count) = unjudged::range(bytes, 0, HIGHEST_KEY, version, &mut list);
+        assert_eq!((number, count as usize), (0, list.len() / 2));
+        assert_eq!(list, model.listed(0, HIGHEST_KEY, version));
+    }
+}

@@ -1,0 +1,264 @@
+//! Document 01's soundness read off word by word, over every single version.
+//!
+//! A second judge for small stores. It shares no code with the package: it
+//! reads bits one at a time, tests all versions rather than the turning
+//! points, and finds what is reached by going through all pages level by
+//! level.
+
+type Span = (u64, u64);
+
+#[derive(Clone)]
+struct Entry {
+    key: u64,
+    span: Span,
+    value: u64,
+}
+
+struct Page {
+    level: u64,
+    span: Span,
+    entries: Vec<Entry>,
+}
+
+struct Store {
+    last: u64,
+    slots: Vec<(u64, usize)>,
+    pages: Vec<Page>,
+}
+
+const ALIVE: u64 = 1_048_575;
+
+fn bits(bytes: &[u8], from: usize, width: usize) -> u64 {
+    let bit = |at: usize| u64::from(bytes[at / 8] >> (7 - at % 8) & 1);
+    (from..from + width).fold(0, |number, at| 2 * number + bit(at))
+}
+
+fn zero(bytes: &[u8], from: usize, to: usize) -> bool {
+    (from..to).all(|at| bits(bytes, at, 1) == 0)
+}
+
+/// The number and rule that check is to give.
+pub fn verdict(bytes: &[u8]) -> (u32, u32) {
+    if !bytes.len().is_multiple_of(256) || bytes.len() < 6 * 256 || bytes.len() > 4096 * 256 {
+        return (1, 0);
+    }
+    if bits(bytes, 0, 32) != 0x5243_5354 {
+        return (2, 0);
+    }
+    if bytes[4] != 1 {
+        return (3, 0);
+    }
+    let Some(store) = rule_1(bytes) else {
+        return (4, 1);
+    };
+    let rules: [fn(&Store) -> bool; 5] = [rule_2, rule_3, rule_4, rule_5, rule_6];
+    match rules.iter().position(|rule| !rule(&store)) {
+        Some(index) => (4, index as u32 + 2),
+        None => (0, 0),
+    }
+}
+
+/// The store, if rule 1 holds.
+fn rule_1(bytes: &[u8]) -> Option<Store> {
+    let count = bytes.len() / 256;
+    let (current, open, roots) = (bits(bytes, 53, 20), bits(bytes, 73, 1), bits(bytes, 74, 9));
+    let last = current + open;
+    let header = bits(bytes, 40, 13) == count as u64 && last < ALIVE && roots <= 256;
+    if !header || !zero(bytes, 83, 2048) {
+        return None;
+    }
+    let slot = |index: usize| &bytes[256 + 4 * index..260 + 4 * index];
+    let mut slots = Vec::new();
+    for index in 0..256 {
+        let (version, root) = (bits(slot(index), 0, 20), bits(slot(index), 20, 12) as usize);
+        if index as u64 >= roots {
+            if !zero(slot(index), 0, 32) {
+                return None;
+            }
+        } else if (5..count).contains(&root) {
+            slots.push((version, root));
+        } else {
+            return None;
+        }
+    }
+    let page = |number: usize| page(&bytes[256 * number..256 * number + 256], last, count);
+    // Pages 0 to 4 stand in as free ones, so that numbers are indices.
+    let front = (0..5).map(|_| Some(free()));
+    let pages: Option<Vec<Page>> = front.chain((5..count).map(page)).collect();
+    pages.map(|pages| Store { last, slots, pages })
+}
+
+fn free() -> Page {
+    Page {
+        level: 0,
+        span: (0, 0),
+        entries: Vec::new(),
+    }
+}
+
+fn span_fits(span: Span, last: u64) -> bool {
+    span.0 <= last && (span.1 <= last || span.1 == ALIVE) && span.0 < span.1
+}
+
+fn page(bytes: &[u8], last: u64, count: usize) -> Option<Page> {
+    let level = bits(bytes, 0, 4);
+    if level == 0 {
+        return zero(bytes, 0, 2048).then(free);
+    }
+    let entry_count = bits(bytes, 4, 5) as usize;
+    let span = (bits(bytes, 9, 20), bits(bytes, 29, 20));
+    if level > 7 || entry_count > 20 || !span_fits(span, last) || !zero(bytes, 49, 128) {
+        return None;
+    }
+    let mut entries: Vec<Entry> = Vec::new();
+    for index in 0..20 {
+        let place = &bytes[16 + 12 * index..28 + 12 * index];
+        if index < entry_count {
+            let entry = entry(place, &entries)?;
+            let own = if level == 1 {
+                entry.span.0 >= 1
+            } else {
+                entry.value >= 5 && entry.value < count as u64
+            };
+            if !own || !span_fits(entry.span, last) {
+                return None;
+            }
+            entries.push(entry);
+        } else if !zero(place, 0, 96) {
+            return None;
+        }
+    }
+    Some(Page {
+        level,
+        span,
+        entries,
+    })
+}
+
+/// The entry, if it stands behind all those before it.
+fn entry(bytes: &[u8], before: &[Entry]) -> Option<Entry> {
+    let entry = Entry {
+        key: bits(bytes, 0, 24),
+        span: (bits(bytes, 24, 20), bits(bytes, 44, 20)),
+        value: bits(bytes, 64, 32),
+    };
+    let ordered = before
+        .iter()
+        .all(|other| (other.key, other.span.0) < (entry.key, entry.span.0));
+    ordered.then_some(entry)
+}
+
+fn rule_2(store: &Store) -> bool {
+    let mut expected_above = None;
+    for (index, (version, _)) in store.slots.iter().enumerate() {
+        if (index == 0) != (*version == 0) || *version > store.last {
+            return false;
+        }
+        if expected_above.is_some_and(|before| *version <= before) {
+            return false;
+        }
+        expected_above = Some(*version);
+    }
+    !store.slots.is_empty()
+}
+
+fn within(inner: Span, outer: Span) -> bool {
+    outer.0 <= inner.0 && inner.1 <= outer.1
+}
+
+fn rule_3(store: &Store) -> bool {
+    for page in &store.pages {
+        for entry in &page.entries {
+            if !within(entry.span, page.span) {
+                return false;
+            }
+            if page.level > 1 {
+                let child = &store.pages[entry.value as usize];
+                if child.level != page.level - 1 || !within(entry.span, child.span) {
+                    return false;
+                }
+            }
+        }
+    }
+    store.slots.iter().all(|slot| store.pages[slot.1].level > 0)
+}
+
+fn root(store: &Store, version: u64) -> usize {
+    let mut upto = store.slots.iter().filter(|slot| slot.0 <= version);
+    upto.next_back().unwrap().1
+}
+
+fn alive(page: &Page, version: u64) -> Vec<&Entry> {
+    let entries = page.entries.iter();
+    entries
+        .filter(|entry| entry.span.0 <= version && version < entry.span.1)
+        .collect()
+}
+
+fn rule_4(store: &Store) -> bool {
+    (0..=store.last).all(|version| {
+        let mut waiting = vec![(root(store, version), 0, 1 << 24)];
+        while let Some((number, low, above)) = waiting.pop() {
+            let page = &store.pages[number];
+            let live = alive(page, version);
+            let mut keys: Vec<u64> = live.iter().map(|entry| entry.key).collect();
+            let outside = keys.iter().any(|key| *key < low || *key >= above);
+            let first_wrong = page.level > 1 && keys.first().is_some_and(|key| *key != low);
+            keys.dedup();
+            if outside || first_wrong || keys.len() != live.len() {
+                return false;
+            }
+            if page.level > 1 {
+                keys.push(above);
+                for (index, router) in live.iter().enumerate() {
+                    waiting.push((router.value as usize, router.key, keys[index + 1]));
+                }
+            }
+        }
+        true
+    })
+}
+
+/// The pages reached at a version, found level by level.
+fn reached(store: &Store, version: u64) -> Vec<bool> {
+    let mut reached = vec![false; store.pages.len()];
+    reached[root(store, version)] = true;
+    for level in (2..8).rev() {
+        for number in 5..store.pages.len() {
+            let page = &store.pages[number];
+            if reached[number] && page.level == level {
+                for router in alive(page, version) {
+                    reached[router.value as usize] = true;
+                }
+            }
+        }
+    }
+    reached
+}
+
+fn rule_5(store: &Store) -> bool {
+    (0..=store.last).all(|version| {
+        let reached = reached(store, version);
+        let root = root(store, version);
+        (5..store.pages.len()).all(|number| {
+            let page = &store.pages[number];
+            let fewest = match (number == root, page.level) {
+                (true, 1) => 0,
+                (true, _) => 2,
+                (false, _) => 4,
+            };
+            !reached[number] || alive(page, version).len() >= fewest
+        })
+    })
+}
+
+fn rule_6(store: &Store) -> bool {
+    (0..=store.last).all(|version| {
+        let reached = reached(store, version);
+        (5..store.pages.len()).all(|number| {
+            let page = &store.pages[number];
+            let in_span = page.span.0 <= version && version < page.span.1;
+            reached[number] == (page.level > 0 && in_span)
+        })
+    })
+}

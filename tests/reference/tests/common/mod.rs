@@ -1,0 +1,138 @@
+//! What several of the tests use.
+
+#![allow(dead_code)]
+
+pub mod build;
+pub mod follow;
+pub mod literal;
+
+use reference::calls;
+use reference::image::Image;
+use reference::layout::{Entry, Header, Page, Slot, Span};
+use reference::store;
+use reference::tall::{tall, Fill, Spine};
+
+/// A fresh store of `pages` pages, made over bytes that are not zero.
+pub fn fresh(pages: usize) -> Vec<u8> {
+    let mut bytes = vec![0xA5; pages * 256];
+    assert_eq!(calls::fresh(&mut bytes), 0);
+    bytes
+}
+
+pub fn open(bytes: &mut [u8]) {
+    assert_eq!(calls::open(bytes), 0, "open");
+}
+
+pub fn commit(bytes: &mut [u8]) {
+    assert_eq!(calls::commit(bytes), 0, "commit");
+}
+
+pub fn abandon(bytes: &mut [u8]) {
+    assert_eq!(calls::abandon(bytes), 0, "abandon");
+}
+
+/// Inserts each key with ten times its number as its value.
+pub fn insert_all(bytes: &mut [u8], keys: impl IntoIterator<Item = u32>) {
+    for key in keys {
+        assert_eq!(calls::insert(bytes, key, value_of(key)), 0, "insert {key}");
+    }
+    assert_sound(bytes);
+}
+
+pub fn delete_all(bytes: &mut [u8], keys: impl IntoIterator<Item = u32>) {
+    for key in keys {
+        assert_eq!(calls::delete(bytes, key), 0, "delete {key}");
+    }
+    assert_sound(bytes);
+}
+
+pub fn value_of(key: u32) -> u32 {
+    key.wrapping_mul(10)
+}
+
+pub fn assert_sound(bytes: &[u8]) {
+    assert_eq!(calls::check(bytes), (0, 0));
+}
+
+pub fn slots(bytes: &[u8]) -> Vec<(u32, u32)> {
+    let roots = store::header(bytes).roots;
+    let slots = (0..roots).map(|index| store::slot(bytes, index));
+    slots
+        .map(|Slot { version, root }| (version, root))
+        .collect()
+}
+
+pub fn span(page: &Page) -> (u32, u32) {
+    (page.span.start, page.span.end)
+}
+
+/// Keys of the entries alive at `version`.
+pub fn live_keys(page: &Page, version: u32) -> Vec<u32> {
+    page.live(version).map(|entry| entry.key).collect()
+}
+
+/// Key and value of the entries alive at `version`.
+pub fn live_pairs(page: &Page, version: u32) -> Vec<(u32, u32)> {
+    let live = page.live(version);
+    live.map(|entry| (entry.key, entry.value)).collect()
+}
+
+pub fn entry(key: u32, start: u32, end: u32, value: u32) -> Entry {
+    Entry {
+        key,
+        span: Span { start, end },
+        value,
+    }
+}
+
+/// Whether the long runs are asked for.
+pub fn long() -> bool {
+    std::env::var("RCST_LONG").is_ok_and(|value| value == "1")
+}
+
+/// `short` rounds, or twenty times as many in the long runs.
+pub fn rounds(short: u64) -> u64 {
+    if long() {
+        short * 20
+    } else {
+        short
+    }
+}
+
+/// The same store with `more` free pages behind its own. Page rules take the
+/// lowest free page, so an update here goes as it would there, only that it
+/// is not refused for lack of a page.
+pub fn roomier(bytes: &[u8], more: usize) -> Vec<u8> {
+    let mut bytes = bytes.to_vec();
+    bytes.resize(bytes.len() + more * 256, 0);
+    let header = Header {
+        page_count: (bytes.len() / 256) as u32,
+        ..store::header(&bytes)
+    };
+    store::write_header(&mut bytes, header);
+    bytes
+}
+
+/// A tall store in which each of more than a thousand leaves has an entry that
+/// lives again at a version of its own.
+pub fn many_versions() -> Vec<u8> {
+    let mut fills = [Fill::new(20, 0); 5];
+    fills[0] = Fill::new(4, 0);
+    let built = tall(&fills, Spine::First, 0).expect("fits");
+    let mut image = Image::read(&built.store);
+    let leaves: Vec<u32> = image
+        .used()
+        .filter(|(_, page)| page.level == 1 && page.span.start == 1)
+        .map(|(number, _)| number)
+        .collect();
+    assert!(leaves.len() > 1000);
+    for (version, number) in (2..).zip(leaves) {
+        image.header.current = version;
+        let entries = &mut image.page_mut(number).entries;
+        let mut again = entries[0];
+        entries[0].span.end = version;
+        again.span.start = version;
+        entries.insert(1, again);
+    }
+    image.write()
+}

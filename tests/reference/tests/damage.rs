@@ -1,0 +1,194 @@
+//! Unsound stores: each rule the lowest broken one, and random damage beside
+//! a literal second judge.
+
+mod common;
+
+use std::collections::BTreeMap;
+use std::sync::OnceLock;
+
+use common::literal::verdict;
+use common::*;
+use reference::calls;
+use reference::damage::tamper::{flip_bit, set_some_field};
+use reference::damage::{kinds, Damage};
+use reference::engine::{apply, Answer, Call};
+use reference::rng::Rng;
+use reference::samples::sound_store;
+use reference::store;
+
+fn sound_stores() -> &'static [Vec<u8>] {
+    static STORES: OnceLock<Vec<Vec<u8>>> = OnceLock::new();
+    STORES.get_or_init(|| (0..400).map(sound_store).collect())
+}
+
+/// The literal judge says the same. It goes through every single version, so
+/// it is not asked where there are very many.
+fn judges_agree(bytes: &[u8], judged: (u32, u32)) {
+    if store::header(bytes).last() < 5000 {
+        assert_eq!(verdict(bytes), judged);
+    }
+}
+
+/// Every call on an unsound store gives the number of judging and changes
+/// nothing, whatever the arguments.
+fn all_calls_refuse(bytes: &[u8], number: u32, rule: u32, rng: &mut Rng) {
+    let mut lent = bytes.to_vec();
+    let (one, two) = (rng.word(), rng.word() >> rng.below(32));
+    let calls = [
+        Call::Open,
+        Call::Insert(two, one),
+        Call::Delete(two),
+        Call::Commit,
+        Call::Abandon,
+        Call::Lookup(two, one),
+        Call::Range(one, two, 0, 8),
+        Call::Range(0, two, 0, 8),
+    ];
+    for call in calls {
+        let mut list = [3; 8];
+        assert_eq!(apply(call, &mut lent, &mut list), Answer::of(number));
+        assert_eq!(list, [3; 8]);
+    }
+    let check = apply(Call::Check, &mut lent, &mut []);
+    let expected = Answer {
+        rule,
+        ..Answer::of(number)
+    };
+    assert_eq!(check, expected);
+    assert_eq!(lent, bytes);
+}
+
+fn damage_once(damage: &Damage, seed: u64) -> bool {
+    let stores = sound_stores();
+    let mut bytes = stores[seed as usize % stores.len()].clone();
+    let mut rng = Rng::new(seed ^ 0xDA);
+    if !damage.make(&mut bytes, &mut rng) {
+        return false;
+    }
+    let (name, rule) = (damage.name, damage.rule);
+    assert_eq!(calls::check(&bytes), (4, rule), "{name}, seed {seed}");
+    if seed.is_multiple_of(8) {
+        judges_agree(&bytes, (4, rule));
+        all_calls_refuse(&bytes, 4, rule, &mut rng);
+    }
+    true
+}
+
+#[test]
+fn each_rule_is_the_lowest_broken_one_hundreds_of_times() {
+    let mut of_rule = BTreeMap::<u32, u64>::new();
+    for damage in kinds() {
+        let seeds = 0..rounds(800);
+        let times = seeds.filter(|seed| damage_once(&damage, *seed)).count() as u64;
+        println!("rule {} {:>5} times: {}", damage.rule, times, damage.name);
+        assert!(times >= 20, "{} found a place {times} times", damage.name);
+        *of_rule.entry(damage.rule).or_default() += times;
+    }
+    println!("{of_rule:?}");
+    for rule in 1..=6 {
+        assert!(of_rule[&rule] >= 500, "{of_rule:?}");
+    }
+}
+
+#[test]
+fn sound_stores_are_sound_to_both_judges() {
+    for bytes in sound_stores() {
+        assert_sound(bytes);
+        judges_agree(bytes, (0, 0));
+    }
+}
+
+#[test]
+fn flipped_bits() {
+    let mut met = BTreeMap::<(u32, u32), u64>::new();
+    for seed in 0..rounds(3000) {
+        let mut rng = Rng::new(seed);
+        let mut bytes = rng.pick(sound_stores()).unwrap().clone();
+        for _ in 0..rng.between(1, 2) {
+            flip_bit(&mut bytes, &mut rng);
+        }
+        let judged = calls::check(&bytes);
+        judges_agree(&bytes, judged);
+        *met.entry(judged).or_default() += 1;
+    }
+    println!("{met:?}");
+}
+
+#[test]
+fn fields_set_to_likely_numbers() {
+    let mut met = BTreeMap::<(u32, u32), u64>::new();
+    for seed in 0..rounds(20_000) {
+        let mut rng = Rng::new(seed);
+        let mut bytes = rng.pick(sound_stores()).unwrap().clone();
+        for _ in 0..rng.between(1, 3) {
+            set_some_field(&mut bytes, &mut rng);
+        }
+        let judged = calls::check(&bytes);
+        judges_agree(&bytes, judged);
+        *met.entry(judged).or_default() += 1;
+    }
+    println!("{met:?}");
+    for rule in 1..=6 {
+        assert!(met[&(4, rule)] > 50, "{met:?}");
+    }
+}
+
+#[test]
+fn lengths() {
+    for length in [
+        0,
+        1,
+        3,
+        4,
+        255,
+        256,
+        5 * 256,
+        6 * 256 - 1,
+        6 * 256 + 1,
+        4097 * 256,
+    ] {
+        let mut bytes = fresh(6);
+        bytes.resize(length, 0);
+        all_calls_refuse(&bytes, 1, 0, &mut Rng::new(length as u64));
+        assert_eq!(apply(Call::Fresh, &mut bytes.clone(), &mut []).number, 1);
+    }
+    for pages in [6, 7, 4095, 4096] {
+        assert_sound(&fresh(pages));
+    }
+}
+
+#[test]
+fn four_bytes_and_edition() {
+    let mut rng = Rng::new(1);
+    for bit in 0..32 {
+        let mut bytes = fresh(6);
+        bytes[bit / 8] ^= 1 << (bit % 8);
+        all_calls_refuse(&bytes, 2, 0, &mut rng);
+        bytes[4] = 2;
+        all_calls_refuse(&bytes, 2, 0, &mut rng);
+    }
+    for edition in (0..=255).filter(|edition| *edition != 1) {
+        let mut bytes = fresh(6);
+        bytes[4] = edition;
+        all_calls_refuse(&bytes, 3, 0, &mut rng);
+        // The edition is judged before anything else in the store.
+        bytes[100] = 1;
+        all_calls_refuse(&bytes, 3, 0, &mut rng);
+    }
+}
+
+#[test]
+fn any_bytes_at_all() {
+    let mut rng = Rng::new(9);
+    for round in 0..rounds(300) {
+        let pages = 6 + rng.below(20) as usize;
+        let mut bytes: Vec<u8> = (0..pages * 256).map(|_| rng.word() as u8).collect();
+        if round % 2 == 0 {
+            bytes[..5].copy_from_slice(&[0x52, 0x43, 0x53, 0x54, 1]);
+        }
+        let (number, rule) = verdict(&bytes);
+        all_calls_refuse(&bytes, number, rule, &mut rng);
+        assert_eq!(calls::fresh(&mut bytes), 0);
+        assert_eq!(bytes, fresh(pages));
+    }
+}
