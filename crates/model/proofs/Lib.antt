@@ -66,3 +66,4 @@ pub mod QuickBack
 pub mod Quick
 pub mod QuickLent
 pub mod QuickLaws
+pub mod Short
