@@ -7,5 +7,6 @@ pub mod Exactly
 pub mod Holds
 pub mod Set
 pub mod Tested
+pub mod Sure
 pub mod Fresh
 pub mod Answers

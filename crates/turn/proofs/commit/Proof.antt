@@ -1,0 +1,52 @@
+-- `commit` meets its contract. Assumes nothing.
+use native.Mathlib.Omega.{arith}
+use mathlib.Core.Path.{ap, _∙_}
+use borrow.Author.Needs.{needs}
+use Rattle.model.specs.declared.Header.{Header}
+use Rattle.store.specs.Sure.{few, front}
+use Rattle.store.specs.Header.{header-fits}
+use Rattle.turn.specs.Turned.{kept, committed-bytes, next-low}
+use Rattle.turn.proofs.commit.Statement.{statement}
+use Rattle.turn.proofs.commit.Tie as tie
+
+header-requires : tie.Need-header-requires
+header-requires c κs =
+    let a = c .before .before .args in
+    (c .before .before .pre .0, omega (arith, front (c .before .before .pre .0) (a .s .now) (c .before .before .pre .1)), few (c .before .before .pre .0) (a .s .now) (c .before .before .pre .1))
+
+add-with-version : tie.Need-add-with-version
+add-with-version c = omega (arith, ap (λ (h : Header). h .current) (c .before .before .header .ensures), next-low (c .before .before .before .before .before .pre .0) (c .before .before .before .before .before .args .s .now) (c .before .before .before .before .before .pre .1))
+
+with-version-requires : tie.Need-with-version-requires
+with-version-requires c κs = search needs
+
+with-flag-requires : tie.Need-with-flag-requires
+with-flag-requires c κs = search needs
+
+put-header-requires : tie.Need-put-header-requires
+put-header-requires c κs =
+    let a = c .before .before .before .before .before .before .before .args in
+    let f = header-fits (a .l .least) (a .s .now) in
+    (c .before .before .before .before .before .before .before .pre .0, rw (c .with-flag .ensures, c .before .with-version .ensures, c .before .before .before .before .header .ensures) (record { pages = f .pages; current = next-low (c .before .before .before .before .before .before .before .pre .0) (a .s .now) (c .before .before .before .before .before .before .before .pre .1); roots = f .roots }), omega (arith, front (c .before .before .before .before .before .before .before .pre .0) (a .s .now) (c .before .before .before .before .before .before .before .pre .1)), few (c .before .before .before .before .before .before .before .pre .0) (a .s .now) (c .before .before .before .before .before .before .before .pre .1))
+
+same-length : tie.Need-same-length
+same-length c = search needs
+
+returns : tie.Need-returns
+returns c =
+    let a = c .before .before .before .before .before .before .before .before .before .before .args in
+    let d = c .before .before .before .before .before .before .before .before .before .before .pre .0 in
+    rw (c .before .before .before .with-flag .ensures, c .before .before .before .before .with-version .ensures, c .before .before .before .before .before .before .before .header .ensures) at (c .before .before .put-header .ensures)
+    ∙ committed-bytes (a .l .least) (d .four) (d .eight) (a .s .now) (kept d (a .s .now) (c .before .before .before .before .before .before .before .before .before .before .pre .1) (λ i. c .before .before .before .before .before .before .before .before .before .slice-known .given i .fits)) (next-low d (a .s .now) (c .before .before .before .before .before .before .before .before .before .before .pre .1))
+
+pub commit-spec : {M : Type 1} → statement M
+commit-spec =
+    tie.close
+    (tie.spec
+    header-requires
+    add-with-version
+    with-version-requires
+    with-flag-requires
+    put-header-requires
+    same-length
+    returns)

@@ -1,0 +1,5 @@
+pub mod Partly
+pub mod Undone
+pub mod Turned
+pub mod Slotted
+pub mod Abandoned

@@ -1,0 +1,99 @@
+// Open, commit and abandon on a sound store: the header is changed as one value and written back. (Here open is called begin:
+// its own name is a word of the prover's.)
+use model::Limits;
+use model::Slot;
+ghost use mathlib.Core.Path.{_≡_};
+ghost use mathlib.Core.Bool.{true};
+ghost use mathlib.Core.List.{map};
+ghost use Prim.Native.Nat.{_+_, _*_, _-_, _^_, _≤_, _<_};
+ghost use lib.ListN.{length};
+ghost use lib.Dec.{eqb};
+ghost use Rattle.model.specs.Basic.{pick};
+ghost use Rattle.model.specs.Limits.{Edition};
+ghost use Rattle.model.specs.Layout.{pageOf, withPage, decodePage, encodePage, decode, encode};
+ghost use Rattle.model.specs.Judged.{isSound};
+ghost use Rattle.model.specs.Calls.{back, abandoned};
+ghost use Rattle.page.specs.Exact.{Exact};
+ghost use Rattle.store.specs.Set.{withPages};
+ghost use Rattle.turn.specs.Turned.{Kept, begun, committed};
+ghost use Rattle.turn.specs.Slotted.{Cleared};
+
+fn wide(x: u32) -> usize
+    ensures { λ r. ⌜ r ≡ x ⌝ }
+{
+    x as usize
+}
+
+// "The open version is current plus 1."
+pub fn begin(s: &mut [u8], l: Limits)
+    requires { ⌜ Edition l × (isSound (l .least) (now s) ≡ true) ⌝ }
+    ensures { λ _. ⌜ now (s .exit) ≡ encode (l .least) (begun (decode (l .least) (now (s .entry)))) ⌝ }
+{
+    let h = store::header(s, l);
+    store::put_header(s, l, h.with_flag(true));
+}
+
+// "Commit raises the current version and clears the flag, even if nothing changed."
+pub fn commit(s: &mut [u8], l: Limits)
+    requires { ⌜ Edition l × (isSound (l .least) (now s) ≡ true) ⌝ }
+    ensures { λ _. ⌜ now (s .exit) ≡ encode (l .least) (committed (decode (l .least) (now (s .entry)))) ⌝ }
+{
+    let h = store::header(s, l);
+    store::put_header(s, l, h.with_version(h.current + 1).with_flag(false));
+}
+
+// What an abandon of version w makes of page n.
+fn undo_page(s: &mut [u8], l: Limits, n: usize, w: u32)
+    requires { ⌜ Edition l × (w < 2 ^ 20) × (n * (64 * l .least) + 64 * l .least ≤ length (now s)) × (length (now s) ≤ 2 ^ 40) × Exact (l .least) (pageOf (l .least) (now s) n) ⌝ }
+    ensures { λ _. ⌜ now (s .exit) ≡ withPage (l .least) (now (s .entry)) n (encodePage (l .least) (back w (decodePage (l .least) (pageOf (l .least) (now (s .entry)) n)))) ⌝ }
+{
+    let a = store::offset(l, n);
+    edit::undo(&mut s[a..a + l.bytes], l, w);
+}
+
+// What it makes of every page.
+fn undo_pages(s: &mut [u8], l: Limits, size: usize, w: u32)
+    requires { ⌜ Edition l × (0 < w) × (w < 2 ^ 20) × Kept (l .least) (now s) × (size ≡ length (decode (l .least) (now s) .pages)) ⌝ }
+    ensures { λ _. ⌜ now (s .exit) ≡ encode (l .least) (withPages (decode (l .least) (now (s .entry))) (map (back w) (decode (l .least) (now (s .entry)) .pages))) ⌝ }
+{
+    let mut n = 5;
+    while n < size {
+        undo_page(s, l, n, w);
+        n += 1;
+    }
+}
+
+// The last slot goes if it is that of version w; gives the number of roots that are left. No other slot can be: versions rise.
+fn drop_slot(s: &mut [u8], l: Limits, roots: u32, w: u32) -> u32
+    requires { ⌜ Edition l × (0 < roots) × (roots ≤ 64 * l .least) × (5 * (64 * l .least) ≤ length (now s)) × (length (now s) ≤ 2 ^ 40) ⌝ }
+    ensures { λ r. ⌜ Cleared (l .least) (now (s .entry)) (now (s .exit)) roots w r ⌝ }
+{
+    let i = wide(roots - 1);
+    let x = store::slot(s, l, i);
+    if x.version != w {
+        return roots;
+    }
+    store::put_slot(
+        s,
+        l,
+        i,
+        Slot {
+            version: 0,
+            root: 0,
+        },
+    );
+    roots - 1
+}
+
+// "pages that start at the open version are freed; elsewhere entries starting there go, and ends equal to it become alive again,
+// pages' ends too; its slot and the flag are cleared."
+pub fn abandon(s: &mut [u8], l: Limits)
+    requires { ⌜ Edition l × (isSound (l .least) (now s) ≡ true) × (decode (l .least) (now s) .opened ≡ true) ⌝ }
+    ensures { λ _. ⌜ now (s .exit) ≡ encode (l .least) (abandoned (decode (l .least) (now (s .entry)))) ⌝ }
+{
+    let h = store::header(s, l);
+    let w = h.current + 1;
+    undo_pages(s, l, wide(h.pages), w);
+    let roots = drop_slot(s, l, h.roots, w);
+    store::put_header(s, l, h.with_roots(roots).with_flag(false));
+}

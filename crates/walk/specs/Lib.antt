@@ -1,0 +1,11 @@
+pub mod Written
+pub mod Counted
+pub mod Live
+pub mod Ends
+pub mod Scan
+pub mod Below
+pub mod Bound
+pub mod Covers
+pub mod Down
+pub mod Sure
+pub mod Here

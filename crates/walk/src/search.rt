@@ -1,0 +1,128 @@
+// What is found in one page. Its entries stand by key, so a search ends at the first key above.
+use model::Entry;
+use model::Looked;
+ghost use mathlib.Core.Path.{_≡_};
+ghost use mathlib.Core.Bool.{true, _&&_};
+ghost use Prim.Native.Nat.{_≤_};
+ghost use lib.Dec.{leb};
+ghost use mathlib.Core.List.{[], _∷_};
+ghost use Rattle.model.specs.Entry.{pairOf, liveAt};
+ghost use Rattle.model.specs.Walk.{find, between};
+ghost use Rattle.model.specs.Calls.{lookedAt};
+ghost use Rattle.walk.specs.Written.{written, Space, Gathers};
+ghost use Rattle.walk.specs.Live.{live};
+ghost use Rattle.walk.specs.Ends.{startsBy};
+ghost use Rattle.walk.specs.Scan.{Stands, from, Next, Owns};
+
+// The last router alive at or below a key: the page that it leads to, and the place at which the search for it ended.
+pub struct Own {
+    pub page: u32,
+    pub next: usize,
+}
+
+// What a range asks: its low and high keys, its version, and whether the settings found are to be written or only counted.
+pub struct Query {
+    pub low: u32,
+    pub high: u32,
+    pub version: u32,
+    pub write: bool,
+}
+
+// Whether an entry is alive at v.
+fn alive_at(e: Entry, v: u32) -> bool
+    ensures { λ r. ⌜ r ≡ liveAt v e ⌝ }
+{
+    if v < e.start {
+        return false;
+    }
+    v < e.end
+}
+
+// Whether it is, and has its key from `low` on.
+fn alive_from(e: Entry, v: u32, low: u32) -> bool
+    ensures { λ r. ⌜ r ≡ (leb low (e .key) && liveAt v e) ⌝ }
+{
+    if e.key < low {
+        return false;
+    }
+    alive_at(e, v)
+}
+
+// The place of the next entry, from i on, that is alive at v and has its key from low to high; n if there is none.
+pub fn next_place(page: &[u8], n: usize, v: u32, low: u32, high: u32, i: usize) -> usize
+    requires { ⌜ Stands (now page) n × (i ≤ n) ⌝ }
+    ensures { λ r. ⌜ Next (now (page .entry)) v low high i n r ⌝ }
+{
+    let mut k = i;
+    while k < n {
+        let e = page::entry_at(page, k);
+        if high < e.key {
+            return n;
+        }
+        if alive_from(e, v, low) {
+            return k;
+        }
+        k += 1;
+    }
+    n
+}
+
+// The value of a key at v.
+pub fn find(page: &[u8], n: usize, v: u32, key: u32) -> Looked
+    requires { ⌜ Stands (now page) n ⌝ }
+    ensures { λ r. ⌜ r ≡ lookedAt (find key (live v (from (now (page .entry)) 0 n))) ⌝ }
+{
+    let i = next_place(page, n, v, key, key, 0);
+    if i < n {
+        let e = page::entry_at(page, i);
+        return Looked::Value(e.value);
+    }
+    Looked::Absent
+}
+
+// The last router alive at v at or below a key. There is one: the first router of a page has its low key.
+pub fn own_router(page: &[u8], n: usize, v: u32, key: u32) -> Own
+    requires { ⌜ Stands (now page) n × (startsBy key (live v (from (now page) 0 n)) ≡ true) ⌝ }
+    ensures { λ r. ⌜ Owns (now (page .entry)) v key n r ⌝ }
+{
+    let mut c = 0;
+    let mut i = 0;
+    while i < n {
+        let e = page::entry_at(page, i);
+        if key < e.key {
+            return Own { page: c, next: i };
+        }
+        if alive_at(e, v) {
+            c = e.value;
+        }
+        i += 1;
+    }
+    Own { page: c, next: i }
+}
+
+// A setting behind the first k of a list.
+fn put(list: &mut [u32], k: usize, e: Entry, write: bool)
+    requires { ⌜ Space write (now list) k (pairOf e ∷ []) ⌝ }
+    ensures { λ _. ⌜ now (list .exit) ≡ written write (now (list .entry)) k (pairOf e ∷ []) ⌝ }
+{
+    if write {
+        list[2 * k] = e.key;
+        list[2 * k + 1] = e.value;
+    }
+}
+
+// The settings of a leaf that a range asks for, behind the first `found` of a list; gives how many there are then.
+pub fn settings(page: &[u8], n: usize, q: Query, list: &mut [u32], found: usize) -> usize
+    requires { ⌜ Stands (now page) n × Space (q .write) (now list) found (between (q .low) (q .high) (live (q .version) (from (now page) 0 n))) ⌝ }
+    ensures { λ r. ⌜ Gathers (q .write) (now (list .entry)) (now (list .exit)) found r (between (q .low) (q .high) (live (q .version) (from (now (page .entry)) 0 n))) ⌝ }
+{
+    let mut k = found;
+    let mut i = next_place(page, n, q.version, q.low, q.high, 0);
+    while i < n {
+        let e = page::entry_at(page, i);
+        put(list, k, e, q.write);
+        k += 1;
+        i = next_place(page, n, q.version, q.low, q.high, i + 1);
+    }
+    k
+}
