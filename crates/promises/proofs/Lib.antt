@@ -9,3 +9,5 @@ pub mod Answering
 pub mod Projected
 pub mod Stays
 pub mod Restored
+pub mod Replaying
+pub mod Promises
