@@ -1,11 +1,11 @@
--- The promises, each under its name: what it says stands in specs/First, Second, Third and Replayed.
+-- The promises, each under its name: what it says stands in specs/First, Second, Third, Replayed and Fakes.
 -- Assumes nothing.
 use Prim.Native.Nat.{ℕ, zero, suc, _≤_}
 use native.Mathlib.Omega.{arith}
 use mathlib.Core.Bool.{Bool, true, false, _||_}
 use mathlib.Core.Path.{_≡_, refl, ap, sym, _∙_}
 use mathlib.Core.Logic.{_⊎_, inl, inr}
-use mathlib.Core.List.{List}
+use mathlib.Core.List.{List, []}
 use lib.Dec.{T, leb, eqb}
 use lib.ListN.{length}
 use borrow.Author.Tests.{le-leb, eqb-false}
@@ -19,27 +19,30 @@ use Rattle.model.specs.Judged.{lengthOk}
 use Rattle.model.specs.Climb.{Result, done, refused as stopped}
 use Rattle.model.specs.Histories.{Call, callBy, after}
 use Rattle.model.specs.Lent.{left}
-use Rattle.model.specs.Ended.{toFresh, Ended, ended}
+use Rattle.model.specs.Ended.{Asked, toFresh, Ended, ended}
 use Rattle.model.proofs.Members.{true-holds, either-left, either-right, bool-cases, In, all-by}
 use Rattle.model.proofs.Judging.{accepted as judged-zero}
 use Rattle.model.proofs.Unique as one
 use Rattle.model.proofs.Lacking as lacks
 use Rattle.model.proofs.Theorems as stores
 use Rattle.promises.specs.Accepts.{Accepts}
-use Rattle.promises.specs.Runs.{asks}
+use Rattle.promises.specs.Runs.{Kind, changing, reading, kindOf, asks}
 use Rattle.promises.specs.Beside.{along, fromFresh, fromLent}
 use Rattle.promises.specs.First.{Unique, Refused, Blank, Judges, Untrusted, OneForm, FreshMade}
-use Rattle.promises.specs.Second.{EncodedSound, AcceptedSound, SoundStays, FreshSound, History, HistoryLent, AnswersStay, ViewsStay, ByTheRules, Balanced, Levels, Lacking}
+use Rattle.promises.specs.Second.{EncodedSound, AcceptedSound, SoundStays, FreshSound, History, HistoryLent, Found, SettingsChange, AnswersStay, ViewsStay, ByTheRules, ReadsOnly, Balanced, Levels, Lacking}
 use Rattle.promises.specs.Third.{Abandoned}
 use Rattle.promises.specs.Replayed.{TableLent}
+use Rattle.promises.specs.Fakes.{FakesStopped}
 use Rattle.promises.proofs.Encoded as encoded
 use Rattle.promises.proofs.Judges as judging
-use Rattle.promises.proofs.Lending.{change-is, call-accepts, fresh-leaves}
+use Rattle.promises.proofs.Lending.{kind-asks, by-kind, change-is, call-accepts, fresh-leaves}
 use Rattle.promises.proofs.Agreed.{many-turns, fresh-agreed, lent-agreed}
 use Rattle.promises.proofs.Answering.{answers}
+use Rattle.promises.proofs.Changed as changed
 use Rattle.promises.proofs.Stays as stays
 use Rattle.promises.proofs.Restored as restored
 use Rattle.promises.proofs.Replaying as replaying
+use Rattle.promises.proofs.Fakes as fakes
 
 -- ---- demand 1
 
@@ -89,6 +92,12 @@ history least four eight n six most ts f =
 pub history-lent : HistoryLent
 history-lent least four eight b ok ts f = answers least four eight (along least (fromLent least b) ts) (many-turns least four eight ts f (fromLent least b) (lent-agreed least four eight b ok))
 
+pub found : Found
+found least four eight b ok = history-lent least four eight b ok [] refl
+
+pub settings-change : SettingsChange
+settings-change = changed.settings-change
+
 pub answers-stay : AnswersStay
 answers-stay = stays.answers-stay
 
@@ -101,6 +110,11 @@ by-the-rules least four eight b bytes ok c ns = ap (λ (e : Ended). e .store) (c
     at : (r : Result) → left least b r .store ≡ encode least (after (decode least b) r .store)
     at (done t) = refl
     at (stopped n) = sym (encoded.accepted least four eight b bytes ok .same)
+
+pub reads-only : ReadsOnly
+reads-only least c b ns =
+    by-kind least (λ (a : Asked). kindOf a ≡ reading → ended least a b ns .store ≡ b) (λ e. let z : _≡_ {A = ℕ} 0 1 = cc in absurd (omega arith))
+    (λ d e. let f : changing d ≡ reading = sym (kind-asks d) ∙ e in let z : _≡_ {A = ℕ} 0 1 = cc in absurd (omega arith)) (λ a e same i. same b ns) c
 
 sound-in : (least : ℕ) (b : List ℕ) → Accepts least b → T (sound least (decode least b))
 sound-in least b ok = true-holds (sound least (decode least b)) (judged-zero least b ok .is-sound)
@@ -140,3 +154,8 @@ table = replaying.table-lent
 
 pub abandoned : Abandoned
 abandoned = restored.abandoned
+
+-- ---- fakes
+
+pub fakes-stopped : FakesStopped
+fakes-stopped = fakes.fakes-stopped

@@ -112,12 +112,12 @@ all-replay (h ∷ hs) a b c =
 table-fits : T (all (λ (h : History). all fits (h .calls)) table)
 table-fits = tt
 
-fact : (f : After → Bool) (fs : List (After → Bool)) (a : After) → In f fs → allOf fs a ≡ true → f a ≡ true
+pub fact : (f : After → Bool) (fs : List (After → Bool)) (a : After) → In f fs → allOf fs a ≡ true → f a ≡ true
 fact f [] a i h = absurd i
 fact f (g ∷ gs) a (inl e) h = ap (λ (k : After → Bool). k a) e ∙ both-true (g a) (allOf gs a) h .0
 fact f (g ∷ gs) a (inr i) h = fact f gs a i (both-true (g a) (allOf gs a) h .1)
 
-list-true : (xs ys : List ℕ) → eqList xs ys ≡ true → xs ≡ ys
+pub list-true : (xs ys : List ℕ) → eqList xs ys ≡ true → xs ≡ ys
 list-true [] [] e = refl
 list-true [] (y ∷ ys) e = cc
 list-true (x ∷ xs) [] e = cc
@@ -133,15 +133,19 @@ module _ (h : History) (i : In h table) where
   pub in-fits : all fits (h .calls) ≡ true
   in-fits = all-in (λ (x : History). all fits (x .calls)) h table (holds-true _ table-fits) i
 
+  -- a fact that the table has of the store after it, of the bytes
+  pub fact-in : (f : After → Bool) → In f (h .facts) → f (record { number = replayed h .number; store = decode 4 (replayed h .store) }) ≡ true
+  fact-in f j = fact f (h .facts) _ j (holds-true _ (replay h in-sound in-fits in-holds .facts))
+
   -- where the table says that the bytes are those of s, they are
   pub bytes-in : (s : Store) → In (bytesOf s) (h .facts) → replayed h .store ≡ encode 4 s
   bytes-in s j = end-bytes h in-sound in-fits ∙ list-true _ _ (fact (bytesOf s) (h .facts) (runOn 4 (h .store) (h .calls)) j in-holds)
 
-abbrev none : History
+abbrev pub none : History
 none = history 6 [] []
 
 -- the table's history at a place, from 0
-abbrev place : ℕ → History
+abbrev pub place : ℕ → History
 place n = getD table n none
 
 third : madeOn 8 twentyOne .store ≡ madeOn 8 twenty .store
