@@ -42,7 +42,7 @@ use Rattle.promises.proofs.Lending.{fresh-is}
 
 -- ---- a call's number by check's: that number, or where it is 0, 0 or one from 5 on
 
-abbrev pub Past : ℕ → ℕ → Type 0
+abbrev Past : ℕ → ℕ → Type 0
 Past zero n = (n ≡ 0) ⊎ (5 ≤ n)
 Past (suc j) n = n ≡ suc j
 
@@ -112,7 +112,7 @@ past-same : (j : ℕ) → Past j j
 past-same zero = inl refl
 past-same (suc j) = refl
 
-pub call-past : (least : ℕ) (c : Asked) (b ns : List ℕ) → notMaking (kindOf c) ≡ true → Past (judged least b .number) (ended least c b ns .number)
+call-past : (least : ℕ) (c : Asked) (b ns : List ℕ) → notMaking (kindOf c) ≡ true → Past (judged least b .number) (ended least c b ns .number)
 unfolding Lent.openLent Lent.commitLent Lent.abandonLent Lent.insertLent Lent.deleteLent
 call-past least toFresh b ns h = absurd (not-both false h refl)
 call-past least toCheck b ns h = past-same (judged least b .number)
@@ -123,6 +123,14 @@ call-past least (toInsert k x) b ns h = change-past least b _ (λ s. call-high l
 call-past least (toDelete k) b ns h = change-past least b _ (λ s. call-high least s (deletes k))
 call-past least (toLookup k v) b ns h = lookup-past least b k v
 call-past least (toRange lo hi v) b ns h = range-past least b lo hi v ns
+
+-- bytes on which it gives 0 are accepted
+pub zero-accepts : (least : ℕ) (c : Asked) (b ns : List ℕ) → notMaking (kindOf c) ≡ true → ended least c b ns .number ≡ 0 → Accepts least b
+zero-accepts least c b ns m e = at (judged least b .number) (ended least c b ns .number) (call-past least c b ns m) e
+  where
+    at : (j n : ℕ) → Past j n → n ≡ 0 → j ≡ 0
+    at zero n p e = refl
+    at (suc j) n p e = absurd (omega arith)
 
 -- ---- check's own number
 

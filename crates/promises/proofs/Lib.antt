@@ -6,6 +6,11 @@ pub mod Lending
 pub mod Judges
 pub mod Agreed
 pub mod Answering
+pub mod Changed
 pub mod Projected
 pub mod Stays
 pub mod Restored
+pub mod Replaying
+pub mod Fakes
+pub mod Promises
+pub mod Sampled

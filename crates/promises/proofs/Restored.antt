@@ -25,7 +25,7 @@ use Rattle.promises.specs.Third.{opening, abandoning, Restored, Abandone
 use Rattle.promises.specs.Beside.{Beside, whenDone, stepped, onward, along, fromLent}
 use Rattle.promises.specs.Answers.{openTests, endTests}
 use Rattle.promises.proofs.High.{begin-number}
-use Rattle.promises.proofs.Judges.{Past, call-past, one-form}
+use Rattle.promises.proofs.Judges.{zero-accepts, one-form}
 use Rattle.promises.proofs.Lending.{Leaves, held-sound, change-number}
 use Rattle.promises.proofs.Projected.{callsOf, calls-fit, calls-inside, calls-append, ran}
 use Rattle.promises.proofs.Agreed.{many-turns, lent-agreed}
@@ -79,11 +79,7 @@ along-bytes least (t ∷ ts) x = along-bytes least ts (onward least x t)
 
 module _ (least : ℕ) (four : 4 ≤ least) (eight : least ≤ 8) (b : List ℕ) (bytes : Bytes b) (done : turned least b opening .number ≡ 0) (ts : List Turn) (f : each fitting ts ≡ true) (i : each staying ts ≡ true) where
   ok : Accepts least b
-  ok = at (judged least b .number) (turned least b opening .number) (call-past least toOpen b [] refl) done
-    where
-      at : (j n : ℕ) → Past j n → n ≡ 0 → j ≡ 0
-      at zero n p e = refl
-      at (suc j) n p e = absurd (omega arith)
+  ok = zero-accepts least toOpen b [] refl done
 
   -- none of 8 and 9 is due
   free : (decode least b .opened ≡ false) × (decode least b .current < 1048574)

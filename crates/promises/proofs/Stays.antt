@@ -35,7 +35,7 @@ use Rattle.promises.proofs.Projected.{callsOf, calls-fit, ran}
 
 -- ---- readings of accepted bytes
 
-lookup-lent : (least : ℕ) (b : List ℕ) → Accepts least b → (k v : ℕ) → lookupLent least b k v ≡ get (decode least b) k v
+pub lookup-lent : (least : ℕ) (b : List ℕ) → Accepts least b → (k v : ℕ) → lookupLent least b k v ≡ get (decode least b) k v
 unfolding Lent.lookupLent
 lookup-lent least b ok k v = ap (λ (n : ℕ). judgedFirst n (λ j. Refused j) (get (decode least b) k v)) ok
 

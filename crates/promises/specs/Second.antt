@@ -5,24 +5,26 @@
 -- rules need a page and none is free."
 -- `least` is 4 in edition 1; each of these holds for 4 to 8, and so for edition 2, where it is 8.
 -- Assumes nothing.
-use Prim.Native.Nat.{ℕ, _≤_}
-use mathlib.Core.Bool.{true, _||_}
+use Prim.Native.Nat.{ℕ, _≤_, _<_}
+use mathlib.Core.Bool.{true, _||_, not}
 use mathlib.Core.Path.{_≡_}
 use mathlib.Core.List.{List}
 use lib.Dec.{T, leb, eqb}
 use lib.ListN.{length}
-use Rattle.model.specs.Basic.{all}
+use Rattle.model.specs.Basic.{all, those}
+use Rattle.model.specs.declared.Pair.{Pair}
+use Rattle.model.specs.Entry.{pair, enterPair}
 use Rattle.model.specs.Field.{Bytes}
 use Rattle.model.specs.Page.{pairsAt}
-use Rattle.model.specs.Store.{Store, page, last}
-use Rattle.model.specs.Walk.{Seen, seen, rootAt}
+use Rattle.model.specs.Store.{Store, page, next, last}
+use Rattle.model.specs.Walk.{Seen, seen, rootAt, settings}
 use Rattle.model.specs.Sound.{sound}
 use Rattle.model.specs.Layout.{encode, decode}
 use Rattle.model.specs.Histories.{Call, callBy, after}
 use Rattle.model.specs.Needs.{LacksLent}
-use Rattle.model.specs.Ended.{toFresh, ended}
+use Rattle.model.specs.Ended.{Asked, toFresh, toInsert, toDelete, ended}
 use Rattle.promises.specs.Accepts.{Accepts, Written, Exact}
-use Rattle.promises.specs.Runs.{Turn, turned, runBytes, kindOf, asks, notMaking, fitting, each}
+use Rattle.promises.specs.Runs.{Turn, turned, runBytes, reading, kindOf, asks, notMaking, fitting, each}
 use Rattle.promises.specs.Beside.{along, fromFresh, fromLent}
 use Rattle.promises.specs.Answers.{Answers}
 use Rattle.promises.specs.Views.{SameView, SameAnswers}
@@ -53,6 +55,21 @@ History = (least : ℕ) → 4 ≤ least → least ≤ 8 → (n : ℕ) → 6 ≤ 
 abbrev pub HistoryLent : Type 0
 HistoryLent = (least : ℕ) → 4 ≤ least → least ≤ 8 → (b : List ℕ) → Accepts least b → (ts : List Turn) → each fitting ts ≡ true → Answers least (along least (fromLent least b) ts)
 
+-- and at once: lookups and ranges find what the walks of the store that the bytes hold show
+abbrev pub Found : Type 0
+Found = (least : ℕ) → 4 ≤ least → least ≤ 8 → (b : List ℕ) → Accepts least b → Answers least (fromLent least b)
+
+-- an insert or a delete that is done changes the open version's settings by its key alone, and no older version's
+pub record Changes (s t : Store) (g : List Pair → List Pair) : Type 0 where
+  pub last-one : settings t (next s) ≡ g (settings s (next s))
+  pub older : (v : ℕ) → v ≤ s .current → settings t v ≡ settings s v
+
+pub record SettingsChange : Type 0 where
+  pub insert : (least : ℕ) → 4 ≤ least → least ≤ 8 → (b : List ℕ) (k x : ℕ) (ns : List ℕ) → x < 4294967296 → ended least (toInsert k x) b ns .number ≡ 0
+      → Changes (decode least b) (decode least (ended least (toInsert k x) b ns .store)) (enterPair (pair k x))
+  pub delete : (least : ℕ) → 4 ≤ least → least ≤ 8 → (b : List ℕ) (k : ℕ) (ns : List ℕ) → ended least (toDelete k) b ns .number ≡ 0
+      → Changes (decode least b) (decode least (ended least (toDelete k) b ns .store)) (those (λ (y : Pair). not (eqb (y .key) k)))
+
 -- ---- "whatever is done later, short of making the store fresh again, a committed version's answers stay"
 
 abbrev pub AnswersStay : Type 0
@@ -69,6 +86,10 @@ ViewsStay = (least : ℕ) → 4 ≤ least → least ≤ 8 → (b : List ℕ) →
 abbrev pub ByTheRules : Type 0
 ByTheRules = (least : ℕ) → 4 ≤ least → least ≤ 8 → (b : List ℕ) → Bytes b → Accepts least b → (c : Call) (ns : List ℕ)
     → ended least (asks c) b ns .store ≡ encode least (after (decode least b) (callBy least (decode least b) c) .store)
+
+-- check, lookup and range leave the store's bytes, whatever these are
+abbrev pub ReadsOnly : Type 0
+ReadsOnly = (least : ℕ) (c : Asked) (b ns : List ℕ) → kindOf c ≡ reading → ended least c b ns .store ≡ b
 
 -- ---- "Every page that a version reaches, its root aside, holds at least four entries alive at that version."
 

@@ -1,0 +1,79 @@
+-- The premises of the promises can be met: by the model's two samples, by fresh stores of both editions, and by bytes that are no store.
+-- Assumes nothing.
+use Prim.Native.Nat.{ℕ, _≤_}
+use native.Mathlib.Omega.{arith}
+use mathlib.Core.Bool.{true}
+use mathlib.Core.Path.{_≡_, refl, ap, sym, _∙_}
+use mathlib.Core.List.{List, [], _∷_}
+use lib.Dec.{T, lit≤}
+use Rattle.model.specs.Field.{Bytes}
+use Rattle.model.specs.Store.{Store, fresh}
+use Rattle.model.specs.Sound.{sound}
+use Rattle.model.specs.Layout.{encode, decode}
+use Rattle.model.specs.Judged
+use Rattle.model.specs.Ended.{toCheck, toOpen, toInsert, toDelete, toLookup, toRange, Asked, ended}
+use Rattle.model.specs.Samples.{twoLevels, fromElsewhere}
+use Rattle.model.specs.Proved.{two-levels-sound, from-elsewhere-sound}
+use Rattle.model.proofs.Members.{true-holds}
+use Rattle.model.proofs.Given.{to-tests}
+use Rattle.model.proofs.Turns.{fresh-sound}
+use Rattle.promises.specs.Accepts.{Accepts, Written}
+use Rattle.promises.specs.Runs.{Turn, turned, notMaking, fitting, staying, each}
+use Rattle.promises.specs.Beside.{fromFresh}
+use Rattle.promises.specs.Third.{opening}
+use Rattle.promises.specs.Fakes.{Honest}
+use Rattle.promises.proofs.Agreed.{fresh-agreed}
+use Rattle.promises.proofs.Answering.{answers}
+use Rattle.promises.proofs.Promises.{encoded-sound}
+
+abbrev turn : Asked → Turn
+turn c = record { call = c; list = [] }
+
+-- calls of every kind that may stand inside an update, another open among them, which is refused
+abbrev pub calls : List Turn
+calls =
+    turn toCheck ∷ turn (toInsert 5 50) ∷ turn (toInsert 5 51) ∷ turn (toDelete 2) ∷ turn toOpen ∷ turn (toLookup 5 2)
+    ∷ record { call = toRange 0 100 2; list = 0 ∷ 0 ∷ [] } ∷ []
+
+-- what the promises ask of bytes and of calls
+pub record Met : Type 0 where
+  -- bytes that are accepted, with an update open; lent from elsewhere; of edition 2
+  pub open-update : Written 4 twoLevels
+  pub from-elsewhere : Written 4 fromElsewhere
+  pub edition-two : Written 8 (fresh 6)
+  -- a version that they have committed
+  pub committed : 1 ≤ decode 4 (encode 4 twoLevels) .current
+  -- bytes that are not accepted
+  pub no-store : Accepts 4 [] → ⊥
+  -- calls
+  pub fit : each fitting calls ≡ true
+  pub stay : each staying calls ≡ true
+  pub not-fresh : each notMaking calls ≡ true
+  -- bytes on which an open is done
+  pub opens : Bytes (encode 4 (fresh 6)) × (turned 4 (encode 4 (fresh 6)) opening .number ≡ 0)
+  -- an implementation that meets every contract
+  pub honest : Honest (ended 4)
+
+fresh-written : (least : ℕ) → 4 ≤ least → least ≤ 8 → Written least (fresh 6)
+fresh-written least four eight =
+    encoded-sound least four eight (fresh 6) (true-holds (sound least (fresh 6)) (to-tests least (fresh 6) (fresh-sound least (omega arith) 6 (lit≤ tt) (lit≤ tt))))
+
+none : Accepts 4 [] → ⊥
+unfolding Judged.judged Judged.lengthOk
+none e = omega arith
+
+pub met : Met
+met =
+    let two : Written 4 twoLevels = encoded-sound 4 (lit≤ tt) (lit≤ tt) twoLevels two-levels-sound in
+    record {
+      open-update = two;
+      from-elsewhere = encoded-sound 4 (lit≤ tt) (lit≤ tt) fromElsewhere from-elsewhere-sound;
+      edition-two = fresh-written 8 (lit≤ tt) (lit≤ tt);
+      committed = omega (arith, ap (λ (s : Store). s .current) (two .held));
+      no-store = none;
+      fit = refl;
+      stay = refl;
+      not-fresh = refl;
+      opens = (fresh-written 4 (lit≤ tt) (lit≤ tt) .bytes, answers 4 (lit≤ tt) (lit≤ tt) (fromFresh 4 6) (fresh-agreed 4 (lit≤ tt) (lit≤ tt) 6 (lit≤ tt) (lit≤ tt)) .opens []);
+      honest = λ c b ns. refl;
+    }
