@@ -12,6 +12,12 @@ ghost use Rattle.gather.specs.Gather.{Lists};
 ghost use Rattle.gather.specs.Kept.{Fits};
 ghost use Rattle.parts.specs.Kept.{Kept, Inside, pagesOf};
 
+mod writers;
+
+pub use writers::change_in;
+pub use writers::fill_in;
+pub use writers::go_in;
+
 // Its level; 0 is a free page's.
 pub fn level_of(s: &[u8], l: Limits, n: usize) -> u32
     requires { ⌜ Kept l (now s) × Inside l (now s) n ⌝ }
