@@ -1,0 +1,22 @@
+use Rattle.gather.specs.Gather.{pairsIn, length-pairs}
+use lib.Seq.{take-all}
+use mathlib.Core.Path.{_≡_, _∙_}
+use native.Mathlib.Omega.{arith}
+use Prim.Native.Nat.{_-_}
+use borrow.Author.Needs.{needs}
+use Rattle.gather.proofs.joined.Statement.{statement}
+use Rattle.gather.proofs.joined.Tie as tie
+
+copied-requires : tie.Need-copied-requires
+copied-requires c κs = search needs
+
+returns : tie.Need-returns
+returns c =
+    let e : c .before .args .b .n - 0 ≡ c .before .args .b .n = omega arith in
+    record {
+      good = c .copied .ensures .good;
+      is = c .copied .ensures .is ∙ rw (e, take-all (c .before .args .b .n) (pairsIn (c .before .args .b)) (omega (arith, length-pairs (c .before .args .b) (c .before .pre .1))));
+    }
+
+pub joined-spec : {M : Type 1} → statement M
+joined-spec = tie.close (tie.spec copied-requires returns)

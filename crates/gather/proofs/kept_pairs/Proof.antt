@@ -1,0 +1,106 @@
+use Rattle.gather.specs.Kept.{keptPairs, kept-step, rest, rest-all, rest-step, rest-none}
+use Rattle.gather.specs.Gather.{Good, pairsIn, listed, one-more}
+use Rattle.edit.specs.Change.{changeOf}
+use Rattle.page.specs.Read.{read-sized, count-of}
+use Rattle.page.specs.Head.{readHead}
+use Rattle.model.specs.Layout.{countOf, readEntry}
+use Rattle.model.specs.Entry.{liveAt}
+use Rattle.model.specs.Basic.{has}
+use Rattle.model.specs.declared.Pair.{Pair}
+use Rattle.model.specs.declared.Entry.{Entry}
+use native.Mathlib.Omega.{arith}
+use mathlib.Core.List.{List, [], _∷_, _++_, append-nil}
+use mathlib.Core.Bool.{Bool, _&&_, not}
+use mathlib.Core.Path.{_≡_, ap, sym, _∙_}
+use Prim.Native.Nat.{ℕ, _≤_, _-_, _+_, _*_}
+use borrow.Author.Needs.{needs}
+use Rattle.gather.proofs.kept_pairs.Statement.{statement}
+use Rattle.gather.proofs.kept_pairs.Tie as tie
+
+abbrev Inv-loop : tie.InvT-loop
+Inv-loop page w c count g₀ i₀ g i = (i ≤ count) × Good g × (g .n ≤ i) × (keptPairs w (changeOf c) (rest page 0 count) ≡ pairsIn g ++ keptPairs w (changeOf c) (rest page i count))
+
+abbrev μ-loop : tie.MeasureT-loop
+μ-loop page w c count g₀ i₀ g i = count - i
+
+head-of-requires : tie.Need-head-of-requires Inv-loop μ-loop
+head-of-requires c κs = search needs
+
+none-requires : tie.Need-none-requires Inv-loop μ-loop
+none-requires c κs = search needs
+
+-- the entries that are read stand in the page
+count-is : (c : tie.After-head-of Inv-loop μ-loop) → c .head-of .result .count ≡ countOf (c .before .before .args .l .least) (c .before .before .args .page .now)
+count-is c = ap (λ h. h .count) (c .head-of .ensures) ∙ sym (count-of (c .before .before .args .l .least) (c .before .before .args .page .now))
+
+loop-holds : tie.Need-loop-holds Inv-loop μ-loop
+loop-holds c = (omega arith, c .none .ensures .good, omega (arith, listed (c .none .ensures)), rw (c .none .ensures .is))
+
+entry-at-requires : tie.Need-entry-at-requires Inv-loop μ-loop
+entry-at-requires c κs = omega (arith, count-is (c .before .before .before))
+
+live-requires : tie.Need-live-requires Inv-loop μ-loop
+live-requires c κs = search needs
+
+dropped-requires : tie.Need-dropped-requires Inv-loop μ-loop
+dropped-requires c κs = search needs
+
+both-requires : tie.Need-both-requires Inv-loop μ-loop
+both-requires c κs = search needs
+
+pushed-if-requires : tie.Need-pushed-if-requires Inv-loop μ-loop
+pushed-if-requires c κs =
+    let e = c .before .before .before .entry-at .ensures in
+    let z = read-sized (c .before .before .before .before .before .before .before .before .before .args .page .now) (128 + 96 * c .before .before .before .before .before .loop .i) in
+    (c .before .before .before .before .before .loop .inv .1, omega (arith, count-is (c .before .before .before .before .before .before .before)), record { key = rw e (z .key); value = rw e (z .value) })
+
+add-i : tie.Need-add-i Inv-loop μ-loop
+add-i c = search needs
+
+loop-less : tie.Need-loop-less Inv-loop μ-loop
+loop-less c = search needs
+
+loop-again : tie.Need-loop-again Inv-loop μ-loop
+loop-again c =
+    let b : List ℕ = c .before .before .before .before .before .before .before .before .before .before .args .page .now in
+    let n = c .before .before .before .before .before .before .before .before .head-of .result .count in
+    let i = c .before .before .before .before .before .before .loop .i in
+    let e : Entry = c .before .before .before .before .entry-at .result in
+    let s : rest b i n ≡ e ∷ rest b (i + 1) n = rest-step b i n (omega arith) ∙ rw (c .before .before .before .before .entry-at .ensures) in
+    let t : c .before .both .result ≡ (liveAt (c .before .before .before .before .before .before .before .before .before .before .args .w) e && not (has (e .key) (changeOf (c .before .before .before .before .before .before .before .before .before .before .args .c) .drop)))
+    = c .before .both .ensures ∙ rw (c .before .before .before .live .ensures, c .before .before .dropped .ensures) in (
+      omega arith,
+      c .pushed-if .ensures .good,
+      omega (arith, one-more (c .before .before .before .before .before .before .loop .g) _ (c .before .both .result) (record { key = c .before .before .before .before .entry-at .result .key; value = c .before .before .before .before .entry-at .result .value }) (c .before .before .before .before .before .before .loop .inv .1) (c .pushed-if .ensures)),
+      c .before .before .before .before .before .before .loop .inv .3 ∙ ap (λ (es : List Entry). pairsIn (c .before .before .before .before .before .before .loop .g) ++ keptPairs (c .before .before .before .before .before .before .before .before .before .before .args .w) (changeOf (c .before .before .before .before .before .before .before .before .before .before .args .c)) es) s ∙ kept-step (c .before .before .before .before .before .before .before .before .before .before .args .w) (changeOf (c .before .before .before .before .before .before .before .before .before .before .args .c)) e (rest b (i + 1) n) (pairsIn (c .before .before .before .before .before .before .loop .g)) (c .before .both .result) t
+          ∙ ap (λ (xs : List Pair). xs ++ keptPairs (c .before .before .before .before .before .before .before .before .before .before .args .w) (changeOf (c .before .before .before .before .before .before .before .before .before .before .args .c)) (rest b (i + 1) n)) (sym (c .pushed-if .ensures .is)),
+    )
+
+returns : tie.Need-returns Inv-loop μ-loop
+returns c =
+    let b : List ℕ = c .before .before .before .before .before .args .page .now in
+    let n = c .before .before .before .head-of .result .count in
+    let z : rest b (c .before .loop .i) n ≡ [] = rest-none b (c .before .loop .i) n (omega arith) in
+    record {
+      good = c .before .loop .inv .1;
+      is = sym (rw (rest-all b (c .before .before .before .before .before .args .l .least) n (ap (λ h. h .count) (c .before .before .before .head-of .ensures))) (c .before .loop .inv .3 ∙ rw z (append-nil (pairsIn (c .before .loop .g)))));
+    }
+
+pub kept-pairs-spec : {M : Type 1} → statement M
+kept-pairs-spec =
+    tie.close
+    (tie.spec
+    Inv-loop
+    μ-loop
+    head-of-requires
+    none-requires
+    loop-holds
+    entry-at-requires
+    live-requires
+    dropped-requires
+    both-requires
+    pushed-if-requires
+    add-i
+    loop-less
+    loop-again
+    returns)

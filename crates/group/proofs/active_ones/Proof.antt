@@ -1,0 +1,40 @@
+use Rattle.group.specs.Numbers.{actives-are}
+use Rattle.parts.specs.Kept.{pagesOf}
+use borrow.Author.Needs.{needs}
+use Rattle.group.proofs.active_ones.Statement.{statement}
+use Rattle.group.proofs.active_ones.Tie as tie
+
+wide-requires : tie.Need-wide-requires
+wide-requires c κs = search needs
+
+wide-requires-2 : tie.Need-wide-requires-2
+wide-requires-2 c κs = search needs
+
+is-active-requires : tie.Need-is-active-requires
+is-active-requires c κs = rw (c .before .wide .ensures) (c .before .before .before .pre .0, c .before .before .before .pre .1 .first .inside)
+
+is-active-requires-2 : tie.Need-is-active-requires-2
+is-active-requires-2 c κs = rw (c .before .wide2 .ensures) (c .before .before .before .before .pre .0, c .before .before .before .before .pre .1 .second .inside)
+
+both-requires : tie.Need-both-requires
+both-requires c κs = search needs
+
+chosen-requires : tie.Need-chosen-requires
+chosen-requires c κs = search needs
+
+returns : tie.Need-returns
+returns c =
+    rw (← actives-are (c .before .before .before .before .before .before .before .args .w) (pagesOf (c .before .before .before .before .before .before .before .args .l) (c .before .before .before .before .before .before .before .args .s .now)) (c .before .before .before .before .before .before .before .args .rs))
+    (rw (c .before .both .ensures, c .before .before .before .is-active .ensures, c .before .before .is-active2 .ensures, c .before .before .before .before .before .wide .ensures, c .before .before .before .before .wide2 .ensures) at (c .chosen .ensures))
+
+pub active-ones-spec : {M : Type 1} → statement M
+active-ones-spec =
+    tie.close
+    (tie.spec
+    wide-requires
+    wide-requires-2
+    is-active-requires
+    is-active-requires-2
+    both-requires
+    chosen-requires
+    returns)

@@ -1,0 +1,47 @@
+use Rattle.group.specs.Exchange.{to-one, to-two}
+use Rattle.group.specs.Group.{routersOf}
+use Rattle.page.specs.Editions.{full-is}
+use mathlib.Core.Path.{_≡_}
+use native.Mathlib.Omega.{arith}
+use Prim.Native.Nat.{ℕ, _+_, _*_, _/_, _≤_, _<_}
+use borrow.Author.Needs.{needs}
+use Rattle.group.proofs.routers_to.Statement.{statement}
+use Rattle.group.proofs.routers_to.Tie as tie
+
+cast-t13 : tie.Need-cast-t13
+cast-t13 c = search needs
+
+returns : tie.Need-returns
+unfolding routersOf
+returns c =
+    let h : c .before .before .before .args .g .all .n ≤ 4 * c .before .before .before .args .l .least = omega (arith, full-is (c .before .before .before .pre .0), c .if1 .taken) in (
+      to-one (c .before .before .before .args .l .least) (c .before .before .before .args .g .routers) (c .before .before .before .args .g .all) (c .before .before .before .pre .1) (c .before .before .before .args .first) (c .before .before .before .args .second) h,
+      record { key = c .before .before .before .pre .2 .key; value = c .before .before .before .pre .3 },
+      record { key = c .before .before .before .pre .2 .key; value = c .before .before .before .pre .3 },
+    )
+
+add-k : tie.Need-add-k
+add-k c = omega (arith, c .before .before .before .before .pre .1 .room)
+
+mul-x : tie.Need-mul-x
+mul-x c = search needs
+
+array-copy-out-x : tie.Need-array-copy-out-x
+array-copy-out-x c = omega (arith, c .before .before .before .before .pre .1 .room, c .before .before .before .before .pre .1 .size, full-is (c .before .before .before .before .pre .0), c .before .before .before .before .pre .0 .four)
+
+cast-t13-2 : tie.Need-cast-t13-2
+cast-t13-2 c = search needs
+
+returns-2 : tie.Need-returns-2
+unfolding routersOf
+returns-2 c =
+    let h : 4 * c .before .before .before .before .before .args .l .least < c .before .before .before .before .before .args .g .all .n = omega (arith, full-is (c .before .before .before .before .before .pre .0), c .before .before .if1 .left) in
+    let f = c .before .before .before .before .before .pre .1 .fits ((c .before .before .before .before .before .args .g .all .n + 1) / 2) in (
+      to-two (c .before .before .before .before .before .args .l .least) (c .before .before .before .before .before .args .g .routers) (c .before .before .before .before .before .args .g .all) (c .before .before .before .before .before .pre .1) (c .before .before .before .before .before .args .first) (c .before .before .before .before .before .args .second) (omega (arith, c .before .before .before .before .before .pre .0 .four)) h,
+      record { key = c .before .before .before .before .before .pre .2 .key; value = c .before .before .before .before .before .pre .3 },
+      record { key = f .key; value = c .before .before .before .before .before .pre .4 },
+    )
+
+pub routers-to-spec : {M : Type 1} → statement M
+routers-to-spec =
+    tie.close (tie.spec cast-t13 returns add-k mul-x array-copy-out-x cast-t13-2 returns-2)

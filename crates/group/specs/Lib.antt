@@ -1,0 +1,3 @@
+pub mod Group
+pub mod Numbers
+pub mod Exchange
