@@ -1,21 +1,19 @@
 -- Bytes and the machine of settings beside them agree, call by call.
 -- Assumes nothing.
-use Prim.Native.Nat.{ℕ, zero, suc, _+_, _≤_}
+use Prim.Native.Nat.{ℕ, zero, suc, _≤_}
 use native.Mathlib.Omega.{arith}
-use mathlib.Core.Bool.{Bool, true, false}
-use mathlib.Core.Path.{_≡_, refl, ap, sym, _∙_, subst}
+use mathlib.Core.Bool.{true}
+use mathlib.Core.Path.{_≡_, ap, sym, _∙_, subst}
 use mathlib.Core.List.{List, [], _∷_}
-use lib.Dec.{T}
 use lib.ListN.{length}
 use Rattle.model.specs.declared.Pair.{Pair}
-use Rattle.model.specs.Store.{Store, last, fresh}
-use Rattle.model.specs.Walk.{settings}
+use Rattle.model.specs.Store.{Store, fresh}
 use Rattle.model.specs.Sound.{sound}
 use Rattle.model.specs.Layout.{sizeOf, encode, decode}
 use Rattle.model.specs.Climb.{Result, done, refused}
 use Rattle.model.specs.Histories.{Call, callBy, after}
 use Rattle.model.specs.Settings
-use Rattle.model.specs.Settings.{Machine, Both, beginning, Tally, nothingYet, countedBy}
+use Rattle.model.specs.Settings.{Both, beginning, nothingYet, countedBy}
 use Rattle.model.specs.Lent.{left}
 use Rattle.model.specs.Ended.{Asked, toFresh, Ended, ofOutcome, ended}
 use Rattle.model.proofs.Lists.{all-cons}
@@ -28,7 +26,7 @@ use Rattle.model.proofs.Numbered.{Counts, one-count}
 use Rattle.model.proofs.Judging.{accepted as judged-zero}
 use Rattle.store.specs.Tested.{whole-length}
 use Rattle.promises.specs.Accepts.{Accepts, Written}
-use Rattle.promises.specs.Runs.{Turn, Kind, making, changing, reading, kindOf, asks, fitting, each}
+use Rattle.promises.specs.Runs.{Turn, Kind, making, changing, kindOf, asks, fitting, each}
 use Rattle.promises.specs.Beside.{Beside, whenDone, stepped, talliedBy, onward, along, fromFresh, fromLent}
 use Rattle.promises.proofs.Encoded.{encoded-sound}
 use Rattle.promises.proofs.High.{High, call-high}

@@ -1,6 +1,6 @@
 -- Where bytes and the machine agree, every call answers from the machine's settings.
 -- Assumes nothing.
-use Prim.Native.Nat.{ℕ, zero, suc, _+_, _≤_, _<_}
+use Prim.Native.Nat.{ℕ, suc, _+_, _≤_, _<_}
 use native.Mathlib.Omega.{arith}
 use mathlib.Core.Bool.{Bool, true, false, _||_, not}
 use mathlib.Core.Path.{_≡_, refl, ap, ap₂, sym, _∙_, subst}
@@ -11,33 +11,26 @@ use lib.ListN.{length}
 use borrow.Author.Tests.{leb-false, ltb-false}
 use Rattle.model.specs.Basic.{inOrder}
 use Rattle.model.specs.declared.Pair.{Pair}
-use Rattle.model.specs.declared.Looked.{Looked}
 use Rattle.model.specs.declared.Looked.the-variants.{Refused}
 use Rattle.model.specs.Store.{Store, next, last, lastOf}
-use Rattle.model.specs.Walk.{keyLimit, settings, find, lookup, between, rangeOf}
+use Rattle.model.specs.Walk.{keyLimit, find, lookup, between, rangeOf}
 use Rattle.model.specs.Layout.{decode}
-use Rattle.model.specs.Climb.{Result, done, refused}
 use Rattle.model.specs.Calls
 use Rattle.model.specs.Calls.{isSome, rule, firstOf, lookedBy, Ranged, rangedBy, get, range}
-use Rattle.model.specs.Histories.{Call, begins, commits, abandons, inserts, deletes, callBy}
+use Rattle.model.specs.Histories.{begins, commits, abandons, inserts, deletes}
 use Rattle.model.specs.Settings.{Machine}
 use Rattle.model.specs.Lent
-use Rattle.model.specs.Lent.{left, judgedFirst, listed}
-use Rattle.model.specs.Ended.{toOpen, toCommit, toAbandon, toInsert, toDelete, toLookup, toRange, Ended, ofOutcome, ofLooked, ofListed, ended}
+use Rattle.model.specs.Lent.{judgedFirst, listed}
+use Rattle.model.specs.Ended.{toInsert, toDelete, toLookup, toRange, ofLooked, ofListed, ended}
 use Rattle.model.proofs.Lookups.{lookup-is, settings-rise}
 use Rattle.model.proofs.Ranges.{range-is}
-use Rattle.promises.specs.Accepts.{Accepts}
-use Rattle.promises.specs.Runs.{asks}
 use Rattle.promises.specs.Beside.{Beside}
 use Rattle.promises.specs.Answers.{lastIn, lookupTests, rangeTests, openTests, endTests, insertTests, deleteTests, lookedIn, rangedFrom, aliveIn, Gives, Answers}
 use Rattle.promises.proofs.High.{begin-number, commit-number, abandon-number, insert-number, delete-number}
 use Rattle.promises.proofs.Lending.{change-number}
-use Rattle.promises.proofs.Agreed.{Agreed, bothOf}
+use Rattle.promises.proofs.Agreed.{Agreed}
 
 module _ (least : ℕ) (four : 4 ≤ least) (eight : least ≤ 8) (x : Beside) (a : Agreed least x) where
-  abbrev b : List ℕ
-  b = x .bytes
-
   abbrev s : Store
   s = decode least (x .bytes)
 

@@ -1,27 +1,26 @@
 -- An insert or a delete that is done changes the open version's settings by its key alone.
 -- Assumes nothing.
-use Prim.Native.Nat.{ℕ, zero, suc, _≤_, _<_}
+use Prim.Native.Nat.{ℕ, suc, _≤_}
 use native.Mathlib.Omega.{arith}
 use mathlib.Core.Bool.{Bool, true, false, not}
-use mathlib.Core.Path.{_≡_, refl, ap, ap₂, sym, _∙_, subst}
-use mathlib.Core.Logic.{_≢_}
+use mathlib.Core.Path.{_≡_, refl, ap, ap₂, _∙_}
 use mathlib.Core.List.{List, [], _∷_}
 use lib.Dec.{leb, eqb}
 use borrow.Author.Tests.{lt-ltb, eq-eqb, ne-eqb}
 use Rattle.model.specs.Basic.{pick, those}
 use Rattle.model.specs.declared.Pair.{Pair}
 use Rattle.model.specs.Entry.{pair, enterPair}
-use Rattle.model.specs.Store.{Store, next, last, lastOf}
+use Rattle.model.specs.Store.{last, lastOf}
 use Rattle.model.specs.Walk.{keyLimit, settings}
 use Rattle.model.specs.Layout.{decode}
 use Rattle.model.specs.Calls.{rule, firstOf}
 use Rattle.model.specs.Settings.{Machine, edited, put}
-use Rattle.model.specs.Ended.{Asked, toInsert, toDelete, ended}
+use Rattle.model.specs.Ended.{toInsert, toDelete, ended}
 use Rattle.promises.specs.Accepts.{Accepts}
-use Rattle.promises.specs.Runs.{Turn, kindOf, notMaking, fitting}
-use Rattle.promises.specs.Beside.{Beside, whenDone, stepped, onward, fromLent}
+use Rattle.promises.specs.Runs.{Turn, kindOf, fitting}
+use Rattle.promises.specs.Beside.{whenDone, stepped, onward, fromLent}
 use Rattle.promises.specs.Answers.{Gives, aliveIn}
-use Rattle.promises.specs.Second.{Changes, SettingsChange}
+use Rattle.promises.specs.Demand2.{Changes, SettingsChange}
 use Rattle.promises.proofs.Judges.{zero-accepts}
 use Rattle.promises.proofs.Agreed.{Agreed, one-turn, lent-agreed}
 use Rattle.promises.proofs.Answering.{answers}
@@ -34,12 +33,6 @@ opened-by false true q m n h g e = refl
 
 module _ (least : ℕ) (four : 4 ≤ least) (eight : least ≤ 8) (b : List ℕ) (t : Turn) (ok : Accepts least b) (fit : fitting (kindOf (t .call)) ≡ true) (done : ended least (t .call) b (t .list) .number ≡ 0)
     (o : decode least b .opened ≡ true) (g : List Pair → List Pair) (is : stepped (kindOf (t .call)) (fromLent least b .machine) ≡ edited g (fromLent least b .machine)) where
-  abbrev s : Store
-  s = decode least b
-
-  abbrev x : Beside
-  x = onward least (fromLent least b) t
-
   agreed : Agreed least (onward least (fromLent least b) t)
   agreed = one-turn least four eight (fromLent least b) (lent-agreed least four eight b ok) t fit
 

@@ -1,34 +1,34 @@
 -- `encoded-sound`: the bytes of a sound store are accepted, and hold it. `accepted`: accepted bytes are those of a sound store.
 -- Assumes nothing.
-use Prim.Native.Nat.{ℕ, zero, suc, _+_, _*_, _-_, _%_, _^_, _≤_, _<_}
+use Prim.Native.Nat.{ℕ, zero, suc, _*_, _-_, _%_, _^_, _≤_, _<_}
 use native.Mathlib.Omega.{arith}
 use native.Mathlib.Nat.{mul-mod-left, mul-le-mul-right}
 use mathlib.Core.Bool.{Bool, true, false, _&&_}
-use mathlib.Core.Path.{_≡_, refl, ap, sym, _∙_, subst}
-use mathlib.Core.List.{List, [], _∷_, _++_, append-assoc}
-use lib.Dec.{T, leb, eqb}
-use lib.ListN.{length, getD, take, length-append}
+use mathlib.Core.Path.{_≡_, refl, ap, sym, _∙_}
+use mathlib.Core.List.{List, append-assoc}
+use lib.Dec.{T, leb}
+use lib.ListN.{length, getD, take}
 use lib.Seq.{ext-getD, getD-take, length-take-le}
 use borrow.Author.Tests.{le-leb, eq-eqb}
 use Rattle.bits.specs.Laws.{field-byte}
 use Rattle.bits.specs.Append.{field-left}
-use Rattle.bits.specs.Lay.{Shows, Fit, packed-shows}
+use Rattle.bits.specs.Lay.{Shows, packed-shows}
 use Rattle.model.specs.Basic.{pick, eqList}
-use Rattle.model.specs.Limits.{editionOf, rootBits}
+use Rattle.model.specs.Limits.{editionOf}
 use Rattle.model.specs.Field.{field, Bytes}
 use Rattle.model.specs.Store.{Store}
 use Rattle.model.specs.Layout.{bit, magic, headerParts, headerBytes, headerOf, sizeOf, encode, decode}
 use Rattle.model.specs.Clean.{cleanFront, cleanPages, clean}
 use Rattle.model.specs.Sound.{sound, rule1, rule2, rule3, rule4, rule5, rule6, rule7}
 use Rattle.model.specs.declared.Verdict.{Verdict}
-use Rattle.model.specs.Judged.{lengthOk, magicOk, editionOk, verdict, judged}
+use Rattle.model.specs.Judged.{lengthOk, magicOk, editionOk}
 use Rattle.model.proofs.Lists.{both-true, both-intro}
 use Rattle.model.proofs.Members.{holds-true, true-holds}
 use Rattle.model.proofs.Given.{Sound, from-tests}
 use Rattle.model.proofs.Judging.{Accepted, accepted as judged-zero, judged-accepted}
 use Rattle.page.specs.Editions.{root-bits}
 use Rattle.store.specs.Header.{header-length}
-use Rattle.store.specs.Exactly.{frontOf, encode-is, encode-decode}
+use Rattle.store.specs.Exactly.{encode-is, encode-decode}
 use Rattle.store.specs.Holds.{Holds, header-holds, encoded-length, decode-encoded}
 use Rattle.store.specs.Tested.{whole-length, exactly}
 use Rattle.promises.specs.Accepts.{Accepts, Written, Exact}

@@ -1,44 +1,42 @@
 -- The fakes that document 01 names are stopped by the contracts.
 -- Assumes nothing.
-use Prim.Native.Nat.{ℕ, zero, suc, _*_, _≤_, _<_}
+use Prim.Native.Nat.{ℕ, zero, suc, _*_, _<_}
 use native.Mathlib.Omega.{arith}
 use mathlib.Core.Bool.{Bool, true, false, not}
-use mathlib.Core.Path.{_≡_, refl, ap, ap₂, sym, _∙_, subst}
-use mathlib.Core.Logic.{_≢_, inl, inr}
-use mathlib.Core.Option.{Option, none, some}
+use mathlib.Core.Path.{_≡_, refl, ap, ap₂, sym, _∙_}
+use mathlib.Core.Logic.{inl, inr}
+use mathlib.Core.Option.{none, some}
 use mathlib.Core.List.{List, [], _∷_, _++_, map}
-use lib.Dec.{T, leb, ltb, eqb, lit≤}
+use lib.Dec.{leb, ltb, eqb, lit≤}
 use lib.ListN.{length}
 use borrow.Author.Tests.{eqb-true, lt-ltb, le-ltb, eq-eqb}
 use Rattle.model.specs.Basic.{pick, count, eqList}
 use Rattle.model.specs.declared.Pair.{Pair}
 use Rattle.model.specs.declared.Entry.{Entry}
 use Rattle.model.specs.declared.Looked.{Looked}
-use Rattle.model.specs.declared.Looked.the-variants.{Value, Absent}
+use Rattle.model.specs.declared.Looked.the-variants.{Value}
 use Rattle.model.specs.Entry.{pair, placed, enterPair}
-use Rattle.model.specs.Page.{Page}
 use Rattle.model.specs.Store.{Store, page, lastOf}
 use Rattle.model.specs.Walk.{keyLimit, find, settings, between}
-use Rattle.model.specs.Layout.{encode, decode}
-use Rattle.model.specs.Judged.{judged}
-use Rattle.model.specs.Climb.{Result, done, refused}
+use Rattle.model.specs.Layout.{decode}
+use Rattle.model.specs.Climb.{Result, done}
 use Rattle.model.specs.Calls
 use Rattle.model.specs.Calls.{isSome, rule, firstOf, lookedBy, rangedBy, begin}
-use Rattle.model.specs.Histories.{Call, begins, inserts, callBy, after}
+use Rattle.model.specs.Histories.{begins, inserts, after}
 use Rattle.model.specs.Settings.{Machine, step, put}
 use Rattle.model.specs.Replay.{gives, keys, holding}
 use Rattle.model.specs.Table.{twenty, twentyOne, deleteFrom, reopened, table}
-use Rattle.model.specs.Ended.{Asked, toOpen, toInsert, toLookup, toRange, Ended, ofLooked, ended, Meets}
+use Rattle.model.specs.Ended.{Asked, toOpen, toInsert, toLookup, toRange, Ended, ofLooked, ended}
 use Rattle.model.proofs.Members.{not-both, in-getD}
 use Rattle.model.proofs.Fits.{numbered-by, is-none}
 use Rattle.promises.specs.Accepts.{Accepts}
-use Rattle.promises.specs.Runs.{Turn, run, turned, asks, notMaking, kindOf}
+use Rattle.promises.specs.Runs.{Turn}
 use Rattle.promises.specs.Beside.{Beside, whenDone, onward, fromLent}
 use Rattle.promises.specs.Answers.{lookedIn, aliveIn, Gives}
-use Rattle.promises.specs.Replayed.{turnOf, madeOn}
-use Rattle.promises.specs.Fakes.{Implementation, Honest, RefusesAll, OneAnswer, WritesNothing, SplitsAtOpen, Hides, Invents, Stopped, FakesStopped}
+use Rattle.promises.specs.Replayed.{madeOn}
+use Rattle.promises.specs.Fakes.{Implementation, Honest, RefusesAll, OneAnswer, WritesNothing, SplitsAtOpen, Hides, Invents, FakesStopped}
 use Rattle.promises.proofs.Judges.{zero-accepts}
-use Rattle.promises.proofs.Lending.{change-number, change-leaves}
+use Rattle.promises.proofs.Lending.{change-leaves}
 use Rattle.promises.proofs.Agreed.{Agreed, one-turn, lent-agreed}
 use Rattle.promises.proofs.Answering.{answers}
 use Rattle.promises.proofs.Replaying.{table-lent, fact-in, none as blank, place}

@@ -1,21 +1,19 @@
 -- A call on a store that is refused gives a number from 5 on; an update that comes to its end gives 0, 12 or 13.
 -- Assumes nothing.
-use Prim.Native.Nat.{ℕ, zero, suc, _*_, _≤_}
+use Prim.Native.Nat.{ℕ, zero, suc, _≤_}
 use native.Mathlib.Omega.{arith}
-use mathlib.Core.Bool.{Bool, true, false, not}
+use mathlib.Core.Bool.{Bool, true, false}
 use mathlib.Core.Path.{_≡_, refl}
 use mathlib.Core.Logic.{_⊎_, inl, inr}
 use mathlib.Core.List.{List, [], _∷_}
-use lib.Dec.{leb}
-use lib.ListN.{length}
 use Rattle.model.specs.Page.{Page, Change}
 use Rattle.model.specs.Store.{Store, next}
 use Rattle.model.specs.declared.Slot.{Slot}
-use Rattle.model.specs.Walk.{rootAt, way, keyLimit, lookup}
+use Rattle.model.specs.Walk.{lookup}
 use Rattle.model.specs.Climb
-use Rattle.model.specs.Climb.{Rooted, stays, moves, lacks, climb, Result, done, refused, update}
+use Rattle.model.specs.Climb.{Rooted, stays, moves, lacks, Result, done, refused, update}
 use Rattle.model.specs.Calls
-use Rattle.model.specs.Calls.{Rule, rule, numbered, firstOf, isSome, insert, delete, begin, commit, abandon, abandoned}
+use Rattle.model.specs.Calls.{Rule, numbered, firstOf, isSome, insert, delete, begin, commit, abandon, abandoned}
 use Rattle.model.specs.Needs.{inserting, deleting}
 use Rattle.model.specs.Histories.{Call, begins, commits, abandons, inserts, deletes, callBy}
 use Rattle.promises.specs.Answers.{openTests, endTests, insertTests, deleteTests, Gives}

@@ -1,13 +1,12 @@
 -- A sound store can be held by its bytes.
 -- Assumes nothing.
-use Prim.Native.Nat.{ℕ, suc, _*_, _^_, _≤_, _<_}
+use Prim.Native.Nat.{ℕ, _^_, _≤_, _<_}
 use native.Mathlib.Omega.{arith}
 use mathlib.Core.Bool.{Bool, true, false, _&&_}
-use mathlib.Core.Path.{_≡_, refl, ap, sym, _∙_, subst}
+use mathlib.Core.Path.{_≡_, sym, _∙_, subst}
 use mathlib.Core.Logic.{_⊎_, inl, inr, ⊎-elim}
-use mathlib.Core.List.{List}
 use lib.Dec.{leb, ltb, eqb}
-use lib.ListN.{length, getD, take, replicate, length-take, length-replicate, getD-replicate, List·getD-eq-default}
+use lib.ListN.{length, getD, take, replicate, getD-replicate, List·getD-eq-default}
 use lib.Seq.{ext-getD, getD-take, length-take-le}
 use borrow.Author.Tests.{leb-true, ltb-true}
 use Rattle.bits.specs.Put.{less}
@@ -57,9 +56,6 @@ module _ (least : ℕ) (s : Store) (d : Sound least s) where
   entry-sized : (n : ℕ) → isFree (page (s .pages) n) ≡ false → (k : ℕ) → Sized (getD (page (s .pages) n .entries) k unused)
   entry-sized n used k = ⊎-elim here (λ (l : length (page (s .pages) n .entries) ≤ k). rw (List·getD-eq-default (page (s .pages) n .entries) unused {n = k} l) sized-unused) (less k (length (page (s .pages) n .entries)))
     where
-      es : List Entry
-      es = page (s .pages) n .entries
-
       here : k < length (page (s .pages) n .entries) → Sized (getD (page (s .pages) n .entries) k unused)
       here l =
           let e : Entry = getD (page (s .pages) n .entries) k unused in

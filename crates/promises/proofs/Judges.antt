@@ -3,17 +3,14 @@
 use Prim.Native.Nat.{ℕ, zero, suc, _*_, _≤_}
 use native.Mathlib.Omega.{arith}
 use mathlib.Core.Bool.{Bool, true, false, _&&_, _||_}
-use mathlib.Core.Path.{_≡_, refl, ap, sym, _∙_, subst}
-use mathlib.Core.Logic.{_≢_, _↔_, _⊎_, inl, inr}
+use mathlib.Core.Path.{_≡_, refl, ap, sym, _∙_}
+use mathlib.Core.Logic.{_↔_, _⊎_, inl, inr}
 use mathlib.Core.Option.{Option, none, some}
 use mathlib.Core.List.{List, [], _∷_}
 use lib.Dec.{leb, ltb}
 use lib.ListN.{length}
 use Rattle.model.specs.Basic.{pick}
-use Rattle.model.specs.declared.Pair.{Pair}
-use Rattle.model.specs.declared.Looked.{Looked}
-use Rattle.model.specs.declared.Looked.the-variants.{Value, Absent, Refused as Stopped}
-use Rattle.model.specs.Field.{Bytes}
+use Rattle.model.specs.declared.Looked.the-variants.{Refused as Stopped}
 use Rattle.model.specs.Store.{Store, fresh, last}
 use Rattle.model.specs.Walk.{keyLimit, lookup, rangeOf}
 use Rattle.model.specs.Sound.{sound}
@@ -23,11 +20,11 @@ use Rattle.model.specs.Judged
 use Rattle.model.specs.Judged.{lengthOk, magicOk, editionOk, brokenIn, judged, verdict, ruled}
 use Rattle.model.specs.Climb.{Result, done, refused}
 use Rattle.model.specs.Calls
-use Rattle.model.specs.Calls.{Rule, rule, firstOf, lookedBy, lookedAt, lookedNumber, Ranged, get, range}
-use Rattle.model.specs.Histories.{Call, begins, commits, abandons, inserts, deletes, callBy}
+use Rattle.model.specs.Calls.{rule, firstOf, lookedBy, lookedAt, lookedNumber, get, range}
+use Rattle.model.specs.Histories.{begins, commits, abandons, inserts, deletes}
 use Rattle.model.specs.Lent
 use Rattle.model.specs.Lent.{left, judgedFirst, listed, lookupLent, rangeLent}
-use Rattle.model.specs.Ended.{Asked, toFresh, toCheck, toOpen, toCommit, toAbandon, toInsert, toDelete, toLookup, toRange, Ended, ofOutcome, ended}
+use Rattle.model.specs.Ended.{Asked, toFresh, toCheck, toOpen, toCommit, toAbandon, toInsert, toDelete, toLookup, toRange, ofOutcome, ended}
 use Rattle.model.proofs.Lists.{both-true, both-intro}
 use Rattle.model.proofs.Members.{bool-cases, not-both}
 use Rattle.model.proofs.Judging.{unbroken, whole}
@@ -35,7 +32,7 @@ use Rattle.model.proofs.Lacking.{judged-low}
 use Rattle.model.proofs.Unique.{refused as leaves}
 use Rattle.promises.specs.Accepts.{Accepts}
 use Rattle.promises.specs.Runs.{notMaking, kindOf}
-use Rattle.promises.specs.First.{FirstNumbers, Judges, TurnedAway, Untrusted, OneForm, Made, FreshMade}
+use Rattle.promises.specs.Demand1.{FirstNumbers, Judges, TurnedAway, Untrusted, OneForm, FreshMade}
 use Rattle.promises.proofs.High.{High, call-high}
 use Rattle.promises.proofs.Encoded.{accepted}
 use Rattle.promises.proofs.Lending.{fresh-is}
@@ -88,9 +85,6 @@ ranged-past : (s : Store) (lo hi v room : ℕ) → Past 0 (range s lo hi v room 
 unfolding Calls.range Calls.rangedBy Calls.rangedIn
 ranged-past s lo hi v room = at (leb keyLimit lo || leb keyLimit hi || ltb hi lo) (ltb (last s) v)
   where
-    xs : List Pair
-    xs = rangeOf s lo hi v
-
     list : (t : Bool) → Past 0 (Calls.rangedIn (firstOf (rule 14 t ∷ [])) (rangeOf s lo hi v) .number)
     list true = inr (omega arith)
     list false = inl refl

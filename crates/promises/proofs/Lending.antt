@@ -1,31 +1,31 @@
 -- A call on accepted bytes is the call on the store that they hold; it leaves accepted bytes.
 -- Assumes nothing.
-use Prim.Native.Nat.{ℕ, zero, suc, _≤_}
+use Prim.Native.Nat.{ℕ, _≤_}
 use native.Mathlib.Omega.{arith}
-use mathlib.Core.Bool.{Bool, true, false}
+use mathlib.Core.Bool.{Bool, true}
 use mathlib.Core.Path.{_≡_, refl, ap, sym, _∙_, subst}
-use mathlib.Core.List.{List, [], _∷_}
+use mathlib.Core.List.{List}
 use lib.Dec.{T}
 use Rattle.model.specs.Field.{Bytes}
 use Rattle.model.specs.Basic.{pick}
 use Rattle.model.specs.Store.{Store, fresh}
 use Rattle.model.specs.Sound.{sound}
 use Rattle.model.specs.Layout.{sizeOf, encode, decode}
-use Rattle.model.specs.Judged.{lengthOk, judged}
+use Rattle.model.specs.Judged.{lengthOk}
 use Rattle.model.specs.Climb.{Result, done, refused}
 use Rattle.model.specs.Histories.{Call, begins, commits, abandons, inserts, deletes, callBy, after}
 use Rattle.model.specs.Settings
 use Rattle.model.specs.Lent
-use Rattle.model.specs.Lent.{Outcome, left, judgedFirst}
+use Rattle.model.specs.Lent.{left, judgedFirst}
 use Rattle.model.specs.Ended.{Asked, toFresh, toCheck, toOpen, toCommit, toAbandon, toInsert, toDelete, toLookup, toRange, Ended, ofOutcome, ended}
-use Rattle.model.proofs.Members.{holds-true, true-holds}
+use Rattle.model.proofs.Members.{true-holds}
 use Rattle.model.proofs.Given.{to-tests}
 use Rattle.model.proofs.Turns.{fresh-sound}
 use Rattle.model.proofs.Theorems.{call-sound}
 use Rattle.model.proofs.Judging.{accepted as judged-zero}
 use Rattle.store.specs.Tested.{whole-length}
 use Rattle.promises.specs.Accepts.{Accepts, Written}
-use Rattle.promises.specs.Runs.{Kind, making, changing, reading, kindOf, asks, fitting}
+use Rattle.promises.specs.Runs.{changing, reading, kindOf, asks, fitting}
 use Rattle.promises.proofs.High.{numberOf}
 use Rattle.promises.proofs.Encoded.{encoded-sound}
 

@@ -1,11 +1,10 @@
 -- Calls on accepted bytes, making fresh aside, are those calls on the store that they hold.
 -- Assumes nothing.
 use Prim.Native.Nat.{ℕ, _≤_}
-use mathlib.Core.Bool.{Bool, true, false}
+use mathlib.Core.Bool.{true, false}
 use mathlib.Core.Path.{_≡_, refl, ap, sym, _∙_, subst}
-use mathlib.Core.List.{List, [], _∷_, _++_, map}
+use mathlib.Core.List.{List, [], _∷_, _++_}
 use Rattle.model.specs.Basic.{all}
-use Rattle.model.specs.Field.{Bytes}
 use Rattle.model.specs.Store.{Store}
 use Rattle.model.specs.Layout.{decode}
 use Rattle.model.specs.Climb.{Result, done, refused}
@@ -103,7 +102,6 @@ module _ (least : ℕ) (four : 4 ≤ least) (eight : least ≤ 8) where
   ran (t ∷ ts) m h b ok y e =
       let (m₁, m₂) = all-cons (λ (u : Turn). notMaking (kindOf (u .call))) t ts m in
       let (h₁, h₂) = all-cons (λ (u : Turn). fitting (kindOf (u .call))) t ts h in
-      let k : Kind = kindOf (t .call) in
       let l = one b ok (t .call) m₁ h₁ (t .list) in
       let same : bothBy least (kindOf (t .call)) y .store ≡ decode least (turned least b t .store) = by-store least (kindOf (t .call)) y ∙ ap (stored least (kindOf (t .call))) e ∙ sym (l .holds) in
       let rest = ran ts m₂ h₂ (turned least b t .store) (l .accepts) (bothBy least (kindOf (t .call)) y) same in

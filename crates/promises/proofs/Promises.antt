@@ -1,6 +1,6 @@
--- The promises, each under its name: what it says stands in specs/First, Second, Third, Replayed and Fakes.
+-- The promises, each under its name: what it says stands in specs/Demand1, Demand2, Demand3, Replayed and Fakes.
 -- Assumes nothing.
-use Prim.Native.Nat.{ℕ, zero, suc, _≤_}
+use Prim.Native.Nat.{ℕ}
 use native.Mathlib.Omega.{arith}
 use mathlib.Core.Bool.{Bool, true, false, _||_}
 use mathlib.Core.Path.{_≡_, refl, ap, sym, _∙_}
@@ -9,15 +9,14 @@ use mathlib.Core.List.{List, []}
 use lib.Dec.{T, leb, eqb}
 use lib.ListN.{length}
 use borrow.Author.Tests.{le-leb, eqb-false}
-use Rattle.model.specs.Field.{Bytes}
 use Rattle.model.specs.Page.{pairsAt}
-use Rattle.model.specs.Store.{Store, page, last}
+use Rattle.model.specs.Store.{page}
 use Rattle.model.specs.Walk.{Seen, seen, rootAt}
 use Rattle.model.specs.Sound.{sound}
 use Rattle.model.specs.Layout.{encode, decode}
 use Rattle.model.specs.Judged.{lengthOk}
 use Rattle.model.specs.Climb.{Result, done, refused as stopped}
-use Rattle.model.specs.Histories.{Call, callBy, after}
+use Rattle.model.specs.Histories.{callBy, after}
 use Rattle.model.specs.Lent.{left}
 use Rattle.model.specs.Ended.{Asked, toFresh, Ended, ended}
 use Rattle.model.proofs.Members.{true-holds, either-left, either-right, bool-cases, In, all-by}
@@ -26,11 +25,11 @@ use Rattle.model.proofs.Unique as one
 use Rattle.model.proofs.Lacking as lacks
 use Rattle.model.proofs.Theorems as stores
 use Rattle.promises.specs.Accepts.{Accepts}
-use Rattle.promises.specs.Runs.{Kind, changing, reading, kindOf, asks}
+use Rattle.promises.specs.Runs.{changing, reading, kindOf}
 use Rattle.promises.specs.Beside.{along, fromFresh, fromLent}
-use Rattle.promises.specs.First.{Unique, Refused, Blank, Judges, Untrusted, OneForm, FreshMade}
-use Rattle.promises.specs.Second.{EncodedSound, AcceptedSound, SoundStays, FreshSound, History, HistoryLent, Found, SettingsChange, AnswersStay, ViewsStay, ByTheRules, ReadsOnly, Balanced, Levels, Lacking}
-use Rattle.promises.specs.Third.{Abandoned}
+use Rattle.promises.specs.Demand1.{Unique, Refused, Blank, Judges, Untrusted, OneForm, FreshMade}
+use Rattle.promises.specs.Demand2.{EncodedSound, AcceptedSound, SoundStays, FreshSound, History, HistoryLent, Found, SettingsChange, AnswersStay, ViewsStay, ByTheRules, ReadsOnly, Balanced, Levels, Lacking}
+use Rattle.promises.specs.Demand3.{Abandoned}
 use Rattle.promises.specs.Replayed.{TableLent}
 use Rattle.promises.specs.Fakes.{FakesStopped}
 use Rattle.promises.proofs.Encoded as encoded

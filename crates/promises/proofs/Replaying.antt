@@ -1,7 +1,7 @@
 -- The table's histories on bytes: the calls on bytes leave the bytes of the table's stores.
 -- Assumes nothing.
 use Prim.Native.Nat.{ℕ, _≤_}
-use mathlib.Core.Bool.{Bool, true, false, _&&_}
+use mathlib.Core.Bool.{Bool, true}
 use mathlib.Core.Path.{_≡_, refl, ap, ap₂, sym, _∙_, subst}
 use mathlib.Core.Logic.{inl, inr}
 use mathlib.Core.List.{List, [], _∷_, _++_, map}
@@ -19,7 +19,7 @@ use Rattle.model.specs.Calls.{get, lookedNumber, lookedFound, lookedValue}
 use Rattle.model.specs.Histories
 use Rattle.model.specs.Histories.{Call, commits, abandons, deletes, callBy, After, after, runOn, from}
 use Rattle.model.specs.Settings.{fits}
-use Rattle.model.specs.Replay.{History, allOf, holds, soundFrom, soundWay, gives, slots, root, keys, leads, holding, span, freed, live, looks, lookedNumbers, bytesOf}
+use Rattle.model.specs.Replay.{History, allOf, holds, soundFrom, soundWay, looks, lookedNumbers, bytesOf}
 use Rattle.model.specs.Table.{history, insertKey, twenty, twentyOne, deleteFrom, reopened, table}
 use Rattle.model.specs.Proved.{P1-to-P12, table-sound}
 use Rattle.model.specs.Lent.{Outcome, left}
@@ -28,7 +28,7 @@ use Rattle.model.proofs.Lists.{both-true, all-cons}
 use Rattle.model.proofs.Members.{holds-true, true-holds, In, all-in, in-getD}
 use Rattle.model.proofs.Theorems.{call-sound}
 use Rattle.promises.specs.Accepts.{Accepts, Written}
-use Rattle.promises.specs.Runs.{Turn, run, asks}
+use Rattle.promises.specs.Runs.{run, asks}
 use Rattle.promises.specs.Replayed.{turnOf, madeOn, replayed, Replays, AllReplay, TableLent}
 use Rattle.promises.proofs.Encoded.{encoded-sound}
 use Rattle.promises.proofs.Lending.{change-is}
@@ -55,7 +55,6 @@ module _ (least : ℕ) (four : 4 ≤ least) (eight : least ≤ 8) where
   runs [] h n s sure = refl
   runs (c ∷ cs) h n s sure =
       let (f, g) = all-cons fits c cs h in
-      let t : Store = after s (callBy least s c) .store in
       ap (λ (e : Ended). run least (record { number = e .number; store = e .store }) (map turnOf cs)) (one s sure c)
       ∙ runs cs g (after s (callBy least s c) .number) (after s (callBy least s c) .store) (call-sound least four s sure c (true-holds (fits c) f))
 

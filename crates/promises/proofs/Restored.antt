@@ -2,28 +2,25 @@
 -- Assumes nothing.
 use Prim.Native.Nat.{ℕ, zero, suc, _≤_, _<_}
 use native.Mathlib.Omega.{arith}
-use mathlib.Core.Bool.{Bool, true, false, not}
-use mathlib.Core.Path.{_≡_, refl, ap, sym, _∙_, subst}
+use mathlib.Core.Bool.{Bool, true, false}
+use mathlib.Core.Path.{_≡_, refl, ap, sym, _∙_}
 use mathlib.Core.List.{List, [], _∷_, _++_}
-use lib.Dec.{T, leb}
+use lib.Dec.{leb}
 use borrow.Author.Tests.{leb-false}
-use Rattle.model.specs.Basic.{all}
 use Rattle.model.specs.Field.{Bytes}
-use Rattle.model.specs.Store.{Store}
-use Rattle.model.specs.Layout.{encode, decode}
-use Rattle.model.specs.Judged.{judged}
+use Rattle.model.specs.Layout.{decode}
 use Rattle.model.specs.Calls.{rule, firstOf}
 use Rattle.model.specs.Histories.{Call, begins, commits, abandons, inserts, deletes}
 use Rattle.model.specs.Settings.{Machine, step, isInside, lent, together}
-use Rattle.model.specs.Ended.{Asked, toOpen, toAbandon, ended}
+use Rattle.model.specs.Ended.{toOpen, toAbandon, ended}
 use Rattle.model.proofs.Lists.{both-intro, all-cons}
 use Rattle.model.proofs.Members.{true-holds, not-both}
 use Rattle.model.proofs.Undone.{abandoned-update}
 use Rattle.promises.specs.Accepts.{Accepts}
 use Rattle.promises.specs.Runs.{Turn, turned, runBytes, Kind, making, changing, reading, kindOf, notMaking, fitting, staying, each}
-use Rattle.promises.specs.Third.{opening, abandoning, Restored, Abandoned}
+use Rattle.promises.specs.Demand3.{opening, abandoning, Restored, Abandoned}
 use Rattle.promises.specs.Beside.{Beside, whenDone, stepped, onward, along, fromLent}
-use Rattle.promises.specs.Answers.{openTests, endTests}
+use Rattle.promises.specs.Answers.{endTests}
 use Rattle.promises.proofs.High.{begin-number}
 use Rattle.promises.proofs.Judges.{zero-accepts, one-form}
 use Rattle.promises.proofs.Lending.{Leaves, held-sound, change-number}
@@ -115,9 +112,6 @@ module _ (least : ℕ) (four : 4 ≤ least) (eight : least ≤ 8) (b : List ℕ)
   open-then : inside .machine .opened ≡ true
   open-then = still-open least ts i (onward least (fromLent least b) opening) (at (turned least b opening .number) done)
     where
-      m : Machine
-      m = fromLent least b .machine
-
       at : (n : ℕ) → n ≡ 0 → whenDone n (step (fromLent least b .machine) begins) (fromLent least b .machine) .opened ≡ true
       at zero e = refl
       at (suc n) e = absurd (omega arith)

@@ -3,9 +3,9 @@
 use Prim.Native.Nat.{ℕ, _≤_}
 use native.Mathlib.Omega.{arith}
 use mathlib.Core.Bool.{true}
-use mathlib.Core.Path.{_≡_, refl, ap, sym, _∙_}
+use mathlib.Core.Path.{_≡_, refl, ap}
 use mathlib.Core.List.{List, [], _∷_}
-use lib.Dec.{T, lit≤}
+use lib.Dec.{lit≤}
 use Rattle.model.specs.Field.{Bytes}
 use Rattle.model.specs.Store.{Store, fresh}
 use Rattle.model.specs.Sound.{sound}
@@ -20,7 +20,7 @@ use Rattle.model.proofs.Turns.{fresh-sound}
 use Rattle.promises.specs.Accepts.{Accepts, Written}
 use Rattle.promises.specs.Runs.{Turn, turned, notMaking, fitting, staying, each}
 use Rattle.promises.specs.Beside.{fromFresh}
-use Rattle.promises.specs.Third.{opening}
+use Rattle.promises.specs.Demand3.{opening}
 use Rattle.promises.specs.Fakes.{Honest}
 use Rattle.promises.proofs.Agreed.{fresh-agreed}
 use Rattle.promises.proofs.Answering.{answers}

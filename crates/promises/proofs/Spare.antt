@@ -1,38 +1,34 @@
 -- The bytes of a store have no stray bit: they pass rule 1's tests of zero bits, and each of them is a byte.
 -- Assumes nothing.
-use Prim.Native.Nat.{ℕ, zero, suc, _+_, _*_, _-_, _^_, _≤_, _<_}
+use Prim.Native.Nat.{ℕ, zero, suc, _+_, _*_, _-_, _≤_, _<_}
 use native.Mathlib.Omega.{arith}
-use mathlib.Core.Bool.{Bool, true, false, _&&_}
+use mathlib.Core.Bool.{true}
 use mathlib.Core.Path.{_≡_, refl, ap, sym, _∙_, subst}
 use mathlib.Core.List.{List, [], _∷_, _++_, append-assoc}
-use lib.Dec.{leb, eqb}
-use lib.ListN.{length, getD, take, drop, length-append}
+use lib.ListN.{length, drop, length-append}
 use borrow.Author.Tests.{le-leb, eq-eqb}
 use Rattle.bits.specs.Append.{field-left, field-right}
-use Rattle.bits.specs.Lay.{total, zero-field, zeros-bit, length-zeros, bytes-zeros, bytes-append, length-packed, bytes-packed, packed-rest, packed-shows, Shows}
+use Rattle.bits.specs.Lay.{total, zero-field, zeros-bit, length-zeros, bytes-zeros, bytes-append, bytes-packed, packed-rest}
 use Rattle.bits.specs.Over.{zeros-append}
 use Rattle.model.specs.declared.Entry.{Entry}
 use Rattle.model.specs.declared.Slot.{Slot}
-use Rattle.model.specs.declared.Header.{Header}
 use Rattle.model.specs.Limits.{countBits, rootBits}
-use Rattle.model.specs.Field.{field, Bytes, zeros, packed}
-use Rattle.model.specs.Page.{Page, free}
+use Rattle.model.specs.Field.{field, Bytes, zeros}
+use Rattle.model.specs.Page.{Page}
 use Rattle.model.specs.Store.{Store, page}
-use Rattle.model.specs.Layout.{countOf, pageOf, encodePage, entryBytes, entriesBytes, padded, headBytes, slotBytes, slotsBytes, headerBytes, headerParts, headerOf, pagesBytes, readHeader, sizeOf, encode, magic}
+use Rattle.model.specs.Layout.{pageOf, encodePage, entryBytes, entriesBytes, padded, headBytes, slotBytes, slotsBytes, headerBytes, headerParts, headerOf, pagesBytes, sizeOf, encode}
 use Rattle.model.specs.Clean.{cleanPage, cleanPages, cleanFront}
-use Rattle.model.specs.Basic.{eqList}
-use Rattle.model.specs.Judged.{lengthOk, magicOk, editionOk}
 use Rattle.page.specs.Editions.{count-bits, root-bits}
 use Rattle.page.specs.Head.{headOf, partsOf, frontBytes}
 use Rattle.page.specs.Front.{head-length, head-bytes}
 use Rattle.page.specs.Entries.{entry-bytes, entries-length, padded-bytes}
 use Rattle.page.specs.Exact.{Valid, bodyBytes, encode-is, encode-count}
 use Rattle.store.specs.Read.{size-is}
-use Rattle.store.specs.Slots.{slotParts, slots-length, directory, directory-bytes}
-use Rattle.store.specs.Header.{header-length, HeaderFits}
+use Rattle.store.specs.Slots.{slotParts, slots-length, directory-bytes}
+use Rattle.store.specs.Header.{header-length}
 use Rattle.store.specs.Pages.{AllValid}
-use Rattle.store.specs.Exactly.{frontOf, encode-is as store-is}
-use Rattle.store.specs.Holds.{Holds, header-holds, header-encoded, page-encoded, encoded-length, behind-valid}
+use Rattle.store.specs.Exactly.{encode-is as store-is}
+use Rattle.store.specs.Holds.{Holds, header-encoded, page-encoded, encoded-length, behind-valid}
 use Rattle.model.proofs.Lists.{both-intro}
 
 field-zeros : (m at n : ℕ) → field (zeros m) at n ≡ 0

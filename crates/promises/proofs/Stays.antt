@@ -6,30 +6,28 @@ use mathlib.Core.Bool.{Bool, true, false, _||_}
 use mathlib.Core.Path.{_≡_, refl, ap, ap₂, sym, _∙_, subst}
 use mathlib.Core.Option.{Option}
 use mathlib.Core.List.{List, [], _∷_}
-use lib.Dec.{T, leb, ltb}
+use lib.Dec.{leb, ltb}
 use lib.ListN.{length}
 use borrow.Author.Tests.{le-ltb}
 use Rattle.model.specs.declared.Pair.{Pair}
 use Rattle.model.specs.declared.Looked.{Looked}
 use Rattle.model.specs.declared.Looked.the-variants.{Refused}
-use Rattle.model.specs.Basic.{all}
 use Rattle.model.specs.Store.{Store, last, lastOf}
-use Rattle.model.specs.Walk.{keyLimit, lookup, rangeOf, lookupVisits, rangeVisits}
+use Rattle.model.specs.Walk.{keyLimit, lookup}
 use Rattle.model.specs.Layout.{decode}
 use Rattle.model.specs.Calls
-use Rattle.model.specs.Calls.{rule, firstOf, lookedBy, Ranged, rangedBy, get, range}
-use Rattle.model.specs.Histories.{Call}
-use Rattle.model.specs.Settings.{fits, lent, together}
+use Rattle.model.specs.Calls.{rule, firstOf, lookedBy, rangedBy, get, range}
+use Rattle.model.specs.Settings.{lent, together}
 use Rattle.model.specs.Lent
 use Rattle.model.specs.Lent.{judgedFirst, Listed, listed, lookupLent, rangeLent}
-use Rattle.model.specs.Ended.{toLookup, toRange, Ended, ofLooked, ofListed, ended}
+use Rattle.model.specs.Ended.{ofLooked, ofListed}
 use Rattle.model.proofs.Alike.{Alike, alike-lookup, alike-visits, alike-range, alike-range-visits}
 use Rattle.model.proofs.Undone.{lent-agrees}
 use Rattle.model.proofs.Steady.{Onward, goes-on}
 use Rattle.promises.specs.Accepts.{Accepts}
 use Rattle.promises.specs.Runs.{Turn, runBytes, notMaking, fitting, each}
-use Rattle.promises.specs.Views.{SameView, SaysSame, SameAnswers}
-use Rattle.promises.specs.Second.{ViewsStay, AnswersStay}
+use Rattle.promises.specs.Views.{SameView, SameAnswers}
+use Rattle.promises.specs.Demand2.{ViewsStay, AnswersStay}
 use Rattle.promises.proofs.Lending.{Leaves, held-sound}
 use Rattle.promises.proofs.Projected.{callsOf, calls-fit, ran}
 

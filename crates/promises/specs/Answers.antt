@@ -13,7 +13,7 @@ use Rattle.model.specs.declared.Looked.{Looked}
 use Rattle.model.specs.Store.{lastOf}
 use Rattle.model.specs.Walk.{keyLimit, find, between}
 use Rattle.model.specs.Calls.{isSome, Rule, rule, firstOf, lookedBy, Ranged, rangedBy}
-use Rattle.model.specs.Settings.{Machine, Tally}
+use Rattle.model.specs.Settings.{Machine}
 use Rattle.model.specs.Lent.{listed}
 use Rattle.model.specs.Ended.{toOpen, toCommit, toAbandon, toInsert, toDelete, toLookup, toRange, ended, ofLooked, ofListed}
 use Rattle.promises.specs.Accepts.{Accepts}

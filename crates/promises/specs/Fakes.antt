@@ -6,7 +6,6 @@ use mathlib.Core.Path.{_≡_}
 use mathlib.Core.Logic.{_≢_}
 use mathlib.Core.List.{List, [], _∷_}
 use lib.ListN.{length}
-use Rattle.model.specs.Page.{Page}
 use Rattle.model.specs.Walk.{settings, between}
 use Rattle.model.specs.Layout.{decode}
 use Rattle.model.specs.Ended.{Asked, toOpen, toInsert, toLookup, toRange, Ended, Meets}

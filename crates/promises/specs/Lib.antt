@@ -3,8 +3,8 @@ pub mod Runs
 pub mod Beside
 pub mod Answers
 pub mod Views
-pub mod First
-pub mod Second
-pub mod Third
+pub mod Demand1
+pub mod Demand2
+pub mod Demand3
 pub mod Replayed
 pub mod Fakes

@@ -6,9 +6,9 @@ use mathlib.Core.List.{List, [], _∷_, _++_, map}
 use lib.Dec.{T}
 use Rattle.model.specs.Store.{fresh}
 use Rattle.model.specs.Layout.{encode, decode}
-use Rattle.model.specs.Histories.{Call, commits, abandons, deletes, After, runOn}
+use Rattle.model.specs.Histories.{Call, commits, abandons, deletes, runOn}
 use Rattle.model.specs.Replay.{History, allOf}
-use Rattle.model.specs.Table.{history, insertKey, twenty, twentyOne, deleteFrom, reopened, table}
+use Rattle.model.specs.Table.{insertKey, twenty, twentyOne, deleteFrom, reopened, table}
 use Rattle.model.specs.Lent.{Outcome}
 use Rattle.model.specs.Ended.{toLookup, ended}
 use Rattle.promises.specs.Runs.{Turn, run, asks}

@@ -7,7 +7,6 @@ use mathlib.Core.Bool.{Bool, true, false, _&&_}
 use mathlib.Core.Path.{_≡_}
 use mathlib.Core.Logic.{_≢_, _↔_}
 use mathlib.Core.List.{List, []}
-use lib.Dec.{T}
 use Rattle.model.specs.Field.{Bytes}
 use Rattle.model.specs.Store.{fresh}
 use Rattle.model.specs.Sound.{sound}
