@@ -18,7 +18,7 @@ use Rattle.store.proofs.fresh.Tie as tie
 use Rattle.store.proofs.fresh.Reads as reads
 use Rattle.store.proofs.fresh.Lts as lts
 use Rattle.model.proofs.edition_one.Reads as edition-one-reads
-use Rattle.store.proofs.make.Reads as make-reads
+use Rattle.store.proofs.make.make.Reads as make-reads
 use Rattle.store.proofs.whole.Reads as whole-reads
 
 -- src/lib.rt:192:9

@@ -13,14 +13,14 @@ use mathlib.Core.List.{List}
 use mathlib.Core.Path.{_≡_, refl, ap, sym, _∙_}
 use native.Mathlib.Omega.{arith}
 use borrow.Author.Needs.{needs}
-use Rattle.store.proofs.make.Statement.{statement}
-use Rattle.store.proofs.make.Tie as tie
-use Rattle.store.proofs.make.Reads as reads
-use Rattle.store.proofs.make.Lts as lts
+use Rattle.store.proofs.make.make.Statement.{statement}
+use Rattle.store.proofs.make.make.Tie as tie
+use Rattle.store.proofs.make.make.Reads as reads
+use Rattle.store.proofs.make.make.Lts as lts
 use Rattle.page.proofs.clear.Reads as clear-reads
 use Rattle.store.proofs.put_header.Reads as put-header-reads
-use Rattle.store.proofs.put_name.Reads as put-name-reads
-use Rattle.store.proofs.put_root.Reads as put-root-reads
+use Rattle.store.proofs.make.put_name.Reads as put-name-reads
+use Rattle.store.proofs.make.put_root.Reads as put-root-reads
 use Rattle.store.proofs.put_slot.Reads as put-slot-reads
 use Rattle.store.proofs.size.Reads as size-reads
 

@@ -3,10 +3,10 @@ use lib.ListN.{length, length-set}
 use mathlib.Core.Path.{_≡_}
 use native.Mathlib.Omega.{arith}
 use borrow.Author.Needs.{needs}
-use Rattle.store.proofs.put_name.Statement.{statement}
-use Rattle.store.proofs.put_name.Tie as tie
-use Rattle.store.proofs.put_name.Reads as reads
-use Rattle.store.proofs.put_name.Lts as lts
+use Rattle.store.proofs.make.put_name.Statement.{statement}
+use Rattle.store.proofs.make.put_name.Tie as tie
+use Rattle.store.proofs.make.put_name.Reads as reads
+use Rattle.store.proofs.make.put_name.Lts as lts
 
 -- src/lib.rt:114:12
 element-copy-out-s : tie.Need-element-copy-out-s

@@ -6,10 +6,10 @@ use Prim.Native.Nat.{ℕ, _+_, _*_, _^_, _<_, _≤_}
 use mathlib.Core.Path.{_≡_, ap, sym, _∙_}
 use native.Mathlib.Omega.{arith}
 use borrow.Author.Needs.{needs}
-use Rattle.store.proofs.put_root.Statement.{statement}
-use Rattle.store.proofs.put_root.Tie as tie
-use Rattle.store.proofs.put_root.Reads as reads
-use Rattle.store.proofs.put_root.Lts as lts
+use Rattle.store.proofs.make.put_root.Statement.{statement}
+use Rattle.store.proofs.make.put_root.Tie as tie
+use Rattle.store.proofs.make.put_root.Reads as reads
+use Rattle.store.proofs.make.put_root.Lts as lts
 use Rattle.page.proofs.put_head.Reads as put-head-reads
 use Rattle.store.proofs.offset.Reads as offset-reads
 
