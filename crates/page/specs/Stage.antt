@@ -1,5 +1,5 @@
 -- A page whose entries are written over one after the other, from the front: the stages of every writer of a page. Assumes nothing.
-use Prim.Native.Nat.{ℕ, zero, suc, _+_, _*_, _-_, _^_, _<_, _≤_}
+use Prim.Native.Nat.{ℕ, zero, suc, _+_, _*_, _-_, _<_, _≤_}
 use mathlib.Core.Path.{_≡_, refl, ap, sym, _∙_}
 use mathlib.Core.List.{List, [], _∷_, _++_, append-assoc, append-nil}
 use native.Mathlib.Omega.{arith}
@@ -8,11 +8,11 @@ use lib.Seq.{drop-cons, set-at, getD-append-add, getD-drop, length-take-le, take
 use Rattle.model.specs.declared.Entry.{Entry}
 use Rattle.model.specs.Field.{lay, zeros}
 use Rattle.model.specs.Page.{Page}
-use Rattle.model.specs.Layout.{entryParts, entriesBytes, readEntry, readEntries, unused, padded, encodePage, decodePage, countOf}
+use Rattle.model.specs.Layout.{entryParts, readEntry, readEntries, unused, padded, encodePage, decodePage, countOf}
 use Rattle.page.specs.declared.Head.{Head}
-use Rattle.page.specs.Head.{readHead, headOf, frontBytes, putHead, HeadFits}
+use Rattle.page.specs.Head.{readHead, frontBytes, putHead, HeadFits}
 use Rattle.page.specs.Read.{Sized, sized-unused, sized-entries, length-entries, entries-of, count-of}
-use Rattle.page.specs.Entries.{entry-put, entry-get, length-padded, padded-get, padded-sized}
+use Rattle.page.specs.Entries.{entry-put, entry-get, length-padded, padded-get}
 use Rattle.page.specs.Front.{head-length, head-put}
 use Rattle.page.specs.Exact.{Exact, bodyBytes, body-length, encode-is, head-is}
 

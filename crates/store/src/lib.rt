@@ -6,20 +6,16 @@ use model::Slot;
 mod make;
 
 ghost use mathlib.Core.Path.{_≡_};
-ghost use Prim.Native.Nat.{ℕ, _+_, _*_, _^_, _≤_, _<_};
+ghost use Prim.Native.Nat.{_+_, _*_, _^_, _≤_, _<_};
 ghost use lib.ListN.{length};
-ghost use mathlib.Core.List.{[], _∷_};
-ghost use Rattle.model.specs.Limits.{Edition, editionOf};
-ghost use Rattle.model.specs.Field.{lay, Bytes};
+ghost use Rattle.model.specs.Limits.{Edition};
+ghost use Rattle.model.specs.Field.{lay};
 ghost use Rattle.model.specs.Store.{fresh};
-ghost use Rattle.model.specs.Layout.{readHeader, readSlot, pageOf, withPage, sizeOf, bit, encode};
-ghost use Rattle.page.specs.Head.{putHead};
-ghost use Rattle.store.specs.Fresh.{rootHead};
+ghost use Rattle.model.specs.Layout.{readHeader, readSlot, pageOf, sizeOf, bit};
 ghost use Rattle.model.specs.Judged.{lengthOk, magicOk};
 ghost use Rattle.model.specs.Lent.{freshLent};
 ghost use Rattle.store.specs.Slots.{SlotFits, slotParts};
-ghost use Rattle.store.specs.Header.{HeaderFits, putHeader, namedBy};
-ghost use Rattle.store.specs.Tested.{Whole};
+ghost use Rattle.store.specs.Header.{HeaderFits, putHeader};
 
 // The number of pages that the length makes.
 pub fn size(s: &[u8], l: Limits) -> usize
