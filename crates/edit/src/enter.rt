@@ -11,8 +11,6 @@ ghost use Rattle.page.specs.Exact.{Exact};
 ghost use Rattle.edit.specs.Place.{beforeOf, placeOf, entered};
 ghost use Rattle.edit.specs.Change.{one, enteredIf};
 
-const ALIVE: u32 = 1048575;
-
 // By key, then start.
 fn stands_before(key: u32, start: u32, x: Entry) -> bool
     ensures { λ r. ⌜ r ≡ beforeOf key start x ⌝ }
@@ -49,7 +47,7 @@ pub fn enter(page: &mut [u8], l: Limits, w: u32, x: Pair)
         Entry {
             key: x.key,
             start: w,
-            end: ALIVE,
+            end: page::ALIVE,
             value: x.value,
         },
     );

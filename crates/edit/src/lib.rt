@@ -20,9 +20,6 @@ ghost use Rattle.page.specs.Exact.{Exact};
 ghost use Rattle.edit.specs.Change.{changeOf};
 ghost use Rattle.edit.specs.Fill.{nil, Fitting};
 
-// "End 1,048,575 means alive."
-const ALIVE: u32 = 1048575;
-
 // A change to a page: the keys that end, the first `drops` of two, and the pairs that come in, the first `takes` of two.
 pub struct Change {
     pub drops: u32,
@@ -119,7 +116,7 @@ pub fn fill(page: &mut [u8], l: Limits, level: u32, w: u32, list: [Pair; 56], fr
             Entry {
                 key: x.key,
                 start: w,
-                end: ALIVE,
+                end: page::ALIVE,
                 value: x.value,
             },
         );
@@ -132,7 +129,7 @@ pub fn fill(page: &mut [u8], l: Limits, level: u32, w: u32, list: [Pair; 56], fr
             level: level,
             count: n,
             start: w,
-            end: ALIVE,
+            end: page::ALIVE,
         },
     );
 }

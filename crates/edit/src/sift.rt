@@ -12,8 +12,6 @@ ghost use Rattle.page.specs.Stage.{staged, entriesIn};
 ghost use Rattle.edit.specs.Fate.{fateOf, endIf, backIf, amongOf, endOf};
 ghost use Rattle.edit.specs.Sift.{sifted, siftedPage};
 
-const ALIVE: u32 = 1048575;
-
 // Which entries of a page end, or come back, at a version.
 pub enum Rule {
     // every live entry ends
@@ -65,7 +63,7 @@ fn back_if(yes: bool, e: Entry) -> Entry
         Entry {
             key: e.key,
             start: e.start,
-            end: ALIVE,
+            end: page::ALIVE,
             value: e.value,
         }
     } else {
@@ -98,7 +96,7 @@ fn end_of(rule: Rule, w: u32, end: u32) -> u32
     match rule {
         Rule::Kill => w,
         Rule::End { n: _, a: _, b: _ } => end,
-        Rule::Back => if end == w { ALIVE } else { end },
+        Rule::Back => if end == w { page::ALIVE } else { end },
     }
 }
 

@@ -13,6 +13,9 @@ ghost use Rattle.page.specs.Exact.{Exact};
 ghost use Rattle.page.specs.Stage.{blanked};
 ghost use Rattle.page.specs.Insert.{withEntry};
 
+// "End 1,048,575 means alive."
+pub const ALIVE: u32 = 1048575;
+
 // The front of a page: "level 4 bits, entry count 5, start 20, end 20".
 pub struct Head {
     pub level: u32,

@@ -15,9 +15,6 @@ ghost use Rattle.store.specs.Header.{namedBy};
 ghost use Rattle.store.specs.Tested.{Whole};
 ghost use Rattle.store.specs.Fresh.{rootHead};
 
-// "End 1,048,575 means alive."
-const ALIVE: u32 = 1048575;
-
 // Writes the four bytes of a store, and its edition.
 fn put_name(s: &mut [u8], edition: u8)
     requires { ⌜ (5 ≤ length (now s)) × Bytes (now s) ⌝ }
@@ -44,7 +41,7 @@ fn put_root(s: &mut [u8], l: Limits)
             level: 1,
             count: 0,
             start: 0,
-            end: ALIVE,
+            end: page::ALIVE,
         },
     );
 }

@@ -1,3 +1,4 @@
+-- `bits::field` meets its contract: after i turns r is the field of the first i bits. Assumes nothing.
 use Prim.Native.Nat.{_≤_, _-_, _+_, _*_}
 use mathlib.Core.Path.{_≡_, ap, _∙_}
 use native.Mathlib.Omega.{arith}

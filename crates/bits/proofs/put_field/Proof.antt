@@ -1,3 +1,4 @@
+-- `bits::put_field` meets its contract: after i turns the first i bits of the number stand there. Assumes nothing.
 use Prim.Native.Nat.{_≤_, _-_, _^_, _/_}
 use mathlib.Core.Path.{_≡_, refl, ap, _∙_}
 use native.Mathlib.Omega.{arith}

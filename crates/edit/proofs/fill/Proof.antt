@@ -1,3 +1,4 @@
+-- `edit::fill` meets its contract: after k turns the first k pairs stand in a page of zeros. Assumes nothing.
 use Prim.Native.Nat.{ℕ, _≤_, _-_, _+_, _*_}
 use mathlib.Core.Path.{_≡_, ap, _∙_}
 use mathlib.Core.List.{List}

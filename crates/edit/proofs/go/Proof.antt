@@ -1,3 +1,4 @@
+-- `edit::go` meets its contract: an active page is cleared, another sifted. Assumes nothing.
 use Rattle.edit.specs.Same.{gone-yes, gone-no}
 use Rattle.page.specs.Exact.{free-zeros}
 use Rattle.page.specs.Read.{start-of}

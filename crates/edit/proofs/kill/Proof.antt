@@ -1,3 +1,4 @@
+-- `edit::kill` meets its contract: a page sifted by the rule that ends all that lives. Assumes nothing.
 use Rattle.edit.specs.Same.{killed-is}
 use Rattle.model.specs.Layout.{encodePage}
 use mathlib.Core.Path.{ap, _∙_}

@@ -1,3 +1,4 @@
+-- `edit::take_change` meets its contract: the ends, then each pair that enters. Assumes nothing.
 use Rattle.edit.specs.Change.{first, second, third, third-is, first-valid, first-room, second-valid, second-room}
 use Rattle.page.specs.Exact.{Valid, valid-read, encode-exact, encode-count, decode-encode}
 use Rattle.model.specs.Layout.{encodePage, decodePage}

@@ -1,3 +1,4 @@
+-- `edit::undo` meets its contract: an active page is cleared, another sifted. Assumes nothing.
 use Rattle.edit.specs.Same.{back-yes, back-no}
 use Rattle.page.specs.Exact.{free-zeros}
 use Rattle.page.specs.Read.{start-of}

@@ -1,3 +1,4 @@
+-- `page::blank` meets its contract: after each turn one entry more is unused. Assumes nothing.
 use Rattle.page.specs.Stage.{blanked, blanked-more, blanked-none}
 use Rattle.page.specs.Read.{sized-unused}
 use lib.ListN.{length}

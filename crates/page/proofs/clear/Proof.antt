@@ -1,3 +1,4 @@
+-- `page::clear` meets its contract: after i turns the first i bytes are zero. Assumes nothing.
 use Rattle.model.specs.Field.{zeros}
 use lib.ListN.{length, drop, replicate, length-set, drop-of-length-le}
 use borrow.Author.Fill.{fill-more}

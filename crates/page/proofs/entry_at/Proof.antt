@@ -1,3 +1,4 @@
+-- `page::entry_at` meets its contract: the four fields of the entry are read. Assumes nothing.
 use Rattle.model.specs.Layout.{readEntry}
 use borrow.Author.Needs.{needs}
 use Rattle.page.proofs.entry_at.Statement.{statement}

@@ -1,3 +1,4 @@
+-- `page::head_of` meets its contract: the four fields are read at the widths of the limits. Assumes nothing.
 use Rattle.page.specs.Editions.{counter-is, counter-counts}
 use Rattle.page.specs.Head.{readHead}
 use Rattle.model.specs.Layout.{countOf}

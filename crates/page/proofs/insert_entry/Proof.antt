@@ -1,3 +1,4 @@
+-- `page::insert_entry` meets its contract: before turn k the first k entries are those wanted, and x is the next of them. Assumes nothing.
 use Rattle.page.specs.Insert.{insertAt, more, insert-here, insert-next, wanted-sized, wanted-length, insert-start, insert-step, insert-end}
 use Rattle.page.specs.Stage.{staged, entriesIn, staged-read, count}
 use Rattle.page.specs.Editions.{count-bits}

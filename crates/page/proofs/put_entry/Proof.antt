@@ -1,3 +1,4 @@
+-- `page::put_entry` meets its contract: the four fields are laid one after the other. Assumes nothing.
 use Rattle.model.specs.Field.{lay}
 use native.Mathlib.Omega.{arith}
 use mathlib.Core.Path.{_≡_}

@@ -1,3 +1,4 @@
+-- `page::put_head` meets its contract: the four fields are laid one after the other. Assumes nothing.
 use Rattle.page.specs.Editions.{counter-is, counter-counts}
 use Rattle.page.specs.Head.{putHead}
 use Rattle.model.specs.Field.{lay}

@@ -1,3 +1,4 @@
+-- `store::fresh` meets its contract: refused and untouched, or made. Assumes nothing.
 use Rattle.store.specs.Answers.{refused-number, refused-store, done-number, done-store}
 use Rattle.store.specs.Tested.{whole-length}
 use Rattle.page.specs.Editions.{edition-of}

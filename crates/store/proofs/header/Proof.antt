@@ -1,3 +1,4 @@
+-- `store::header` meets its contract: the fields are read one by one. Assumes nothing.
 use Rattle.page.specs.Editions.{rooter-is, rooter-roots}
 use Rattle.model.specs.Layout.{readHeader}
 use native.Mathlib.Omega.{arith}

@@ -1,3 +1,4 @@
+-- `store::named` meets its contract: before turn i the first i bytes are those of the name. Assumes nothing.
 use Rattle.store.specs.Answers.{name-same, name-other}
 use Rattle.model.specs.Layout.{magic}
 use borrow.Author.Count.{below-more}

@@ -1,3 +1,4 @@
+-- `store::part` meets its contract: what is lent is the page. Assumes nothing.
 use Rattle.store.specs.Parts.{part-page, length-page}
 use Rattle.page.specs.Editions.{bytes-is}
 use lib.ListN.{length}

@@ -1,3 +1,4 @@
+-- `store::put_header` meets its contract: the fields are laid one after the other. Assumes nothing.
 use Rattle.store.specs.Header.{putHeader, bit-small}
 use Rattle.page.specs.Editions.{rooter-is, rooter-roots}
 use Rattle.model.specs.Field.{lay}

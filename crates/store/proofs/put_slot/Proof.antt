@@ -1,3 +1,4 @@
+-- `store::put_slot` meets its contract: the fields are laid one after the other. Assumes nothing.
 use Rattle.page.specs.Editions.{bytes-is}
 use Rattle.model.specs.Field.{lay}
 use Prim.Native.Nat.{_*_}

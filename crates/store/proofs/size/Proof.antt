@@ -1,3 +1,4 @@
+-- `store::size` meets its contract: the page bytes are those of the limits. Assumes nothing.
 use Rattle.page.specs.Editions.{bytes-is}
 use lib.ListN.{length}
 use Prim.Native.Nat.{ℕ, _/_}

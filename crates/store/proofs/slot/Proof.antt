@@ -1,3 +1,4 @@
+-- `store::slot` meets its contract: the fields are read one by one. Assumes nothing.
 use Rattle.page.specs.Editions.{bytes-is}
 use Rattle.model.specs.Layout.{readSlot}
 use Prim.Native.Nat.{_*_}

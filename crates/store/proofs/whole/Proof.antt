@@ -1,3 +1,4 @@
+-- `store::whole` meets its contract: one answer for each way the length can be wrong, and one for the rest. Assumes nothing.
 use Rattle.store.specs.Answers.{length-odd, length-few, length-rest}
 use Rattle.page.specs.Editions.{bytes-is}
 use lib.Dec.{leb}

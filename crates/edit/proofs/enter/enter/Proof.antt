@@ -1,3 +1,4 @@
+-- `edit::enter::enter` meets its contract: the entry is inserted at its place. Assumes nothing.
 use Rattle.edit.specs.Place.{placeOf, place-low, entered-is}
 use Rattle.page.specs.Insert.{withEntry}
 use Rattle.page.specs.Read.{count-of, entries-of, length-entries}

@@ -1,3 +1,4 @@
+-- `edit::enter::enter_if` meets its contract: each case. Assumes nothing.
 use Rattle.edit.specs.Change.{one}
 use mathlib.Core.Path.{_≡_, ap, sym}
 use native.Mathlib.Omega.{arith}

@@ -1,3 +1,4 @@
+-- `edit::enter::place` meets its contract: the place in the whole is i and the place in what is left. Assumes nothing.
 use Prim.Native.Nat.{_≤_, _-_, _+_, _*_}
 use mathlib.Core.Path.{_≡_, ap, sym, _∙_}
 use native.Mathlib.Omega.{arith}

@@ -1,3 +1,4 @@
+-- `edit::enter::stands_before` meets its contract: its helpers one by one. Assumes nothing.
 use mathlib.Core.Path.{_∙_}
 use borrow.Author.Needs.{needs}
 use Rattle.edit.proofs.enter.stands_before.Statement.{statement}

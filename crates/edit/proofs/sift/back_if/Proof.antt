@@ -1,3 +1,4 @@
+-- `edit::sift::back_if` meets its contract: each case. Assumes nothing.
 use borrow.Author.Needs.{needs}
 use Rattle.edit.proofs.sift.back_if.Statement.{statement}
 use Rattle.edit.proofs.sift.back_if.Tie as tie

@@ -1,3 +1,4 @@
+-- `edit::sift::end_if` meets its contract: each case. Assumes nothing.
 use Rattle.edit.proofs.sift.end_if.Statement.{statement}
 use Rattle.edit.proofs.sift.end_if.Tie as tie
 

@@ -1,3 +1,4 @@
+-- `edit::sift::sift` meets its contract: the entries closed up, those behind unused, the front for them. Assumes nothing.
 use Rattle.edit.specs.Sift.{sifted, siftedHead, fewer, head-fits, sift-end}
 use Rattle.edit.specs.Fate.{endOf}
 use Rattle.page.specs.Stage.{staged, blanked, entriesIn}

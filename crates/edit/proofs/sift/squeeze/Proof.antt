@@ -1,3 +1,4 @@
+-- `edit::sift::squeeze` meets its contract: before turn i the page begins with what is left of its first i entries. Assumes nothing.
 use Prim.Native.Nat.{ℕ, _≤_, _-_, _+_, _*_}
 use mathlib.Core.Path.{_≡_, refl, ap, sym, _∙_}
 use mathlib.Core.List.{List, [], _∷_, _++_, append-nil}

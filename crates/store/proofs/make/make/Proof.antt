@@ -1,3 +1,4 @@
+-- `store::make::make` meets its contract: the stages of specs/Fresh, one call after the other. Assumes nothing.
 use Rattle.store.specs.Fresh.{rootHead, rootSlot, freshHeader, made}
 use Rattle.store.specs.Tested.{whole-least, whole-most}
 use Rattle.store.specs.Header.{namedBy, nameParts, putHeader}

@@ -1,3 +1,4 @@
+-- `store::make::put_root` meets its contract: what is lent is page 5, and it comes back in its place. Assumes nothing.
 use Rattle.store.specs.Parts.{part-page, part-back, length-page}
 use Rattle.page.specs.Editions.{bytes-is, count-bits}
 use Rattle.model.specs.Layout.{pageOf, withPage}
