@@ -25,7 +25,8 @@ use Rattle.page.specs.Exact as page
 use Rattle.store.specs.Slots.{slotParts, directory, directory-bytes, directory-length}
 use Rattle.store.specs.Header.{namedBy, nameParts, valueParts, putHeader, header-is}
 use Rattle.store.specs.Pages.{AllValid}
-use Rattle.store.specs.Set.{bytesOf, encode-of, slot-in, page-out, page-in, directory-add, drop-set}
+use Rattle.store.specs.Inside.{bytesOf, encode-of, slot-in, page-out, page-in, directory-add}
+use Rattle.store.specs.Set.{drop-set}
 
 -- the front of page 5: "page 5 begins 10 00 00 07 FF FF 80"
 abbrev pub rootHead : Head
