@@ -1,14 +1,14 @@
 -- Fields of lists that are put together, and of parts. Assumes nothing.
 use Prim.Native.Nat.{ℕ, zero, suc, _+_, _*_, _-_, _/_, _%_, _^_, _≤_, _<_}
-use mathlib.Core.Path.{_≡_, refl, ap, sym, _∙_, subst}
+use mathlib.Core.Path.{_≡_, refl, ap, sym, _∙_}
 use mathlib.Core.List.{List, [], _∷_, _++_}
-use mathlib.Core.Logic.{_⊎_, inl, inr, ⊎-elim, _≢_}
-use lib.ListN.{length, getD, take, drop, set, length-set, length-append, List·getD-append, length-take}
+use mathlib.Core.Logic.{_⊎_, inl, inr, ⊎-elim}
+use lib.ListN.{length, getD, take, drop, set, List·getD-append}
 use lib.Seq.{getD-append-add, set-append-left, getD-take, getD-drop}
 use native.Mathlib.Nat.{add-assoc, suc-add}
 use native.Mathlib.Omega.{arith}
-use Rattle.model.specs.Field.{field, bitAt, bitOf, putBit, setBit, putField, Bytes}
-use Rattle.bits.specs.Laws.{field-ext, field-more, bit-lt}
+use Rattle.model.specs.Field.{field, bitAt, putBit, setBit, putField, Bytes}
+use Rattle.bits.specs.Laws.{field-ext, bit-lt}
 use Rattle.bits.specs.Put.{less, length-put, bytes-put, bit-put-out, field-put-same, bits-ext}
 
 pub set-append-add : (xs ys : List ℕ) (n v : ℕ) → set (xs ++ ys) (length xs + n) v ≡ xs ++ set ys n v

@@ -1,11 +1,10 @@
 -- Laws of bit fields. Assumes nothing.
 use Prim.Native.Nat.{ℕ, zero, suc, _+_, _*_, _-_, _/_, _%_, _^_, _≤_, _<_}
-use mathlib.Core.Path.{_≡_, refl, ap, sym, _∙_, subst}
-use mathlib.Core.List.{List, [], _∷_, _++_}
-use lib.ListN.{length, getD, take, drop}
-use lib.Seq.{getD-take, getD-drop}
+use mathlib.Core.Path.{_≡_, refl, _∙_}
+use mathlib.Core.List.{List}
+use lib.ListN.{getD}
 use lib.Pow.{pow-mono, shr-shr}
-use native.Mathlib.Nat.{mod-lt, two-pow-succ, add-suc, add-zero, mul-add, add-mul, mul-assoc, mul-one, add-assoc, mul-comm}
+use native.Mathlib.Nat.{two-pow-succ, add-suc, add-zero, mul-add, mul-one, add-assoc}
 use native.Mathlib.Numerals.{add-one}
 use native.Mathlib.Omega.{arith}
 use Rattle.model.specs.Field.{field, bitAt, bitOf}

@@ -7,7 +7,7 @@ use native.Mathlib.Omega.{arith}
 use native.Mathlib.Nat.{zero-div}
 use lib.ListN.{length, getD, take, drop, replicate, length-take, length-drop, length-replicate, getD-replicate, List·getD-append, List·getD-eq-default}
 use lib.Seq.{getD-append-add, getD-take, getD-drop, take-add, drop-drop}
-use Rattle.model.specs.Field.{field, putField, bitAt, Bytes, Part, _bits_, lay, zeros, packed}
+use Rattle.model.specs.Field.{field, putField, bitAt, Bytes, Part, lay, zeros, packed}
 use Rattle.bits.specs.Laws.{field-lt, field-ext}
 use Rattle.bits.specs.Put.{less, length-put, bytes-put, field-put-same, bits-ext, bit-put-out}
 use Rattle.bits.specs.Append.{field-bits}

@@ -1,12 +1,12 @@
 -- Fields that are laid over what stands there already. Assumes nothing.
-use Prim.Native.Nat.{ℕ, zero, suc, _+_, _*_, _-_, _<_, _≤_, _^_}
-use mathlib.Core.Path.{_≡_, refl, ap, sym, _∙_}
+use Prim.Native.Nat.{ℕ, _+_, _*_, _<_, _≤_}
+use mathlib.Core.Path.{_≡_, refl, sym, _∙_}
 use mathlib.Core.List.{List, [], _∷_, _++_}
 use mathlib.Core.Logic.{_⊎_, inl, inr, ⊎-elim}
 use native.Mathlib.Nat.{add-assoc}
 use native.Mathlib.Omega.{arith}
-use lib.ListN.{length, take, drop, replicate, replicate-append-replicate}
-use Rattle.model.specs.Field.{field, putField, bitAt, Bytes, Part, _bits_, lay, zeros, packed}
+use lib.ListN.{length, take, drop, replicate-append-replicate}
+use Rattle.model.specs.Field.{field, putField, bitAt, Bytes, Part, lay, zeros, packed}
 use Rattle.bits.specs.Put.{length-put, bits-ext}
 use Rattle.bits.specs.Append.{put-left, put-right, bit-part, where-bit}
 use Rattle.bits.specs.Lay.{total, Shows, Fit, length-lay, bytes-lay, lay-in, lay-out, lay-shows, packed-whole, length-zeros, bytes-zeros, zeros-bit, zero-at, zero-field, part-bytes, part-length}

@@ -1,18 +1,18 @@
 -- Laws of bit fields that are written. Assumes nothing.
 use Prim.Native.Nat.{ℕ, zero, suc, _+_, _*_, _-_, _/_, _%_, _^_, _≤_, _<_}
-use mathlib.Core.Path.{_≡_, refl, ap, sym, _∙_, subst}
-use mathlib.Core.List.{List, [], _∷_, _++_}
+use mathlib.Core.Path.{_≡_, refl, ap, sym, _∙_}
+use mathlib.Core.List.{List}
 use mathlib.Core.Logic.{_⊎_, inl, inr, ⊎-elim, _≢_}
-use lib.ListN.{length, getD, take, drop, set, length-set}
+use lib.ListN.{length, getD, set, length-set}
 use lib.Seq.{getD-set-same, getD-set-other, ext-getD}
-use lib.Pow.{pow-pos, pow-add, pow-mono, shr-shr, shr-lt}
-use lib.Arith.{digits-div, digits-mod, digits-lt}
-use native.Mathlib.Nat.{mod-lt, two-pow-succ, add-suc, add-zero, mul-add, add-mul, mul-assoc, mul-one, add-assoc, mul-comm, mul-add-div-right, div-add-mod', div-one}
+use lib.Pow.{pow-pos, pow-add, shr-shr, shr-lt}
+use lib.Arith.{digits-div, digits-lt}
+use native.Mathlib.Nat.{mod-lt, two-pow-succ, mul-assoc, mul-add-div-right, div-add-mod', div-one}
 use native.Mathlib.Numerals.{add-one}
 use native.Mathlib.Decide.{decLt, ℕ-discrete}
 use native.Mathlib.Omega.{arith}
 use Rattle.model.specs.Field.{field, bitAt, bitOf, putBit, setBit, putField, Bytes}
-use Rattle.bits.specs.Laws.{bit-lt, field-ext, field-byte, field-lt}
+use Rattle.bits.specs.Laws.{field-ext, field-byte}
 
 -- ---- tests on numbers, as sums
 

@@ -1,21 +1,20 @@
 -- A change to a page, as a value. Assumes nothing.
-use Prim.Native.Nat.{ℕ, zero, suc, _+_, _*_, _-_, _^_, _<_, _≤_}
+use Prim.Native.Nat.{ℕ, zero, suc, _+_, _*_, _^_, _<_, _≤_}
 use mathlib.Core.Path.{_≡_, refl, ap, sym, _∙_}
-use mathlib.Core.Bool.{Bool, true, false, _&&_, _||_, not}
-use mathlib.Core.List.{List, [], _∷_, _++_, map}
-use lib.Dec.{leb, ltb, eqb}
+use mathlib.Core.Bool.{Bool, true, false, _&&_}
+use mathlib.Core.List.{List, [], _∷_}
+use lib.Dec.{leb}
 use lib.ListN.{length}
 use native.Mathlib.Omega.{arith}
 use borrow.Author.Tests.{le-leb}
 use Rattle.model.specs.declared.Entry.{Entry}
 use Rattle.model.specs.declared.Pair.{Pair}
 use Rattle.model.specs.Basic.{has}
-use Rattle.model.specs.Entry.{born, enter, liveAt, endThose}
+use Rattle.model.specs.Entry.{born, liveAt, endThose}
 use Rattle.model.specs.Page.{Page, bornAll, changed}
 use Rattle.model.specs.Page as model
 use Rattle.edit.specs.declared.Change.{Change}
-use Rattle.edit.specs.declared.Rule.{Rule}
-use Rattle.edit.specs.declared.Rule.the-variants.{End}
+use Rattle.edit.specs.declared.sift.Rule.the-variants.{End}
 use Rattle.edit.specs.Fate.{endOf}
 use Rattle.edit.specs.Sift.{sifted, siftedPage}
 use Rattle.edit.specs.Same.{firstOf, ends}

@@ -1,17 +1,16 @@
 -- What becomes of an entry, and of a page's end, under a rule. Assumes nothing.
-use Prim.Native.Nat.{ℕ, zero, suc, _+_, _*_, _-_, _^_, _<_, _≤_}
-use mathlib.Core.Path.{_≡_, refl, ap, sym, _∙_}
+use Prim.Native.Nat.{ℕ, _^_, _<_}
 use mathlib.Core.Bool.{Bool, true, false, _&&_, _||_, not}
-use mathlib.Core.List.{List, [], _∷_, _++_, map}
-use lib.Dec.{leb, ltb, eqb}
+use mathlib.Core.List.{List, []}
+use lib.Dec.{leb, eqb}
 use native.Mathlib.Omega.{arith}
 use Rattle.model.specs.declared.Entry.{Entry}
-use Rattle.model.specs.Basic.{pick, has, those, keep}
-use Rattle.model.specs.Entry.{liveAt, alive, endedAt, endOne, endThose}
+use Rattle.model.specs.Basic.{pick, keep}
+use Rattle.model.specs.Entry.{liveAt, alive, endedAt}
 use Rattle.page.specs.Read.{Sized}
-use Rattle.edit.specs.declared.Rule.{Rule}
-use Rattle.edit.specs.declared.Rule.the-variants.{Kill, End, Back}
-use Rattle.edit.specs.declared.Fate.{Fate}
+use Rattle.edit.specs.declared.sift.Rule.{Rule}
+use Rattle.edit.specs.declared.sift.Rule.the-variants.{Kill, End, Back}
+use Rattle.edit.specs.declared.sift.Fate.{Fate}
 
 abbrev pub amongOf : ℕ → ℕ → ℕ → ℕ → Bool
 amongOf k n a b = (leb 1 n && eqb k a) || (leb 2 n && eqb k b)

@@ -1,19 +1,19 @@
 -- A page that is filled with pairs. Assumes nothing.
-use Prim.Native.Nat.{ℕ, zero, suc, _+_, _*_, _-_, _^_, _<_, _≤_}
+use Prim.Native.Nat.{ℕ, suc, _+_, _*_, _^_, _<_, _≤_}
 use mathlib.Core.Path.{_≡_, refl, ap, sym, _∙_}
 use mathlib.Core.List.{List, [], _∷_, _++_, map}
-use lib.ListN.{length, getD, take, drop, length-append}
-use lib.Seq.{take-suc, length-take-le, take-all}
+use lib.ListN.{length, getD, take}
+use lib.Seq.{take-suc, length-take-le}
 use native.Mathlib.Numerals.{add-one}
 use native.Mathlib.Omega.{arith}
 use Rattle.model.specs.declared.Pair.{Pair}
 use Rattle.model.specs.declared.Entry.{Entry}
 use Rattle.model.specs.Entry.{born, alive}
 use Rattle.model.specs.Field.{lay, zeros}
-use Rattle.model.specs.Page.{Page, free, filled}
-use Rattle.model.specs.Layout.{unused, entryParts, encodePage, countOf}
+use Rattle.model.specs.Page.{free, filled}
+use Rattle.model.specs.Layout.{entryParts, encodePage, countOf}
 use Rattle.page.specs.declared.Head.{Head}
-use Rattle.page.specs.Head.{putHead, HeadFits}
+use Rattle.page.specs.Head.{putHead}
 use Rattle.page.specs.Read.{Sized}
 use Rattle.page.specs.Editions.{count-bits}
 use Rattle.page.specs.Exact.{Exact, free-zeros, encode-exact, encode-count, valid-free}

@@ -1,21 +1,18 @@
 -- What each writer leaves of a page can be held. Assumes nothing.
-use Prim.Native.Nat.{ℕ, zero, suc, _+_, _*_, _-_, _^_, _<_, _≤_}
-use mathlib.Core.Path.{_≡_, refl, ap, sym, _∙_}
+use Prim.Native.Nat.{ℕ, suc, _*_, _^_, _<_, _≤_}
 use mathlib.Core.Bool.{Bool, true, false}
-use mathlib.Core.List.{List, [], _∷_, _++_, map}
-use lib.Dec.{leb, eqb}
+use mathlib.Core.List.{List, [], _∷_, map}
+use lib.Dec.{leb}
 use lib.ListN.{length, getD}
 use native.Mathlib.Omega.{arith}
-use Rattle.model.specs.declared.Entry.{Entry}
 use Rattle.model.specs.declared.Pair.{Pair}
 use Rattle.model.specs.Entry.{born}
-use Rattle.model.specs.Page.{Page, free, filled, changed, gone, goneIf, killed, active}
-use Rattle.model.specs.Calls.{back, backBy, restored}
-use Rattle.model.specs.Layout.{unused}
-use Rattle.page.specs.Read.{Sized, sized-unused}
+use Rattle.model.specs.Page.{Page, filled, changed, gone, goneIf, active}
+use Rattle.model.specs.Calls.{back, backBy}
+use Rattle.page.specs.Read.{sized-unused}
 use Rattle.page.specs.Exact.{Valid, valid-free}
 use Rattle.edit.specs.declared.Change.{Change}
-use Rattle.edit.specs.declared.Rule.the-variants.{Kill, Back}
+use Rattle.edit.specs.declared.sift.Rule.the-variants.{Kill, Back}
 use Rattle.edit.specs.Valid.{valid-sifted, AllSized, sized-cons}
 use Rattle.edit.specs.Same.{killed-is, restored-is}
 use Rattle.edit.specs.Change.{changeOf, second, third, third-is, valid-if, second-valid, second-room}

@@ -1,19 +1,17 @@
 -- What the rules leave is what the definitions say: killed, ended, restored. Assumes nothing.
-use Prim.Native.Nat.{ℕ, zero, suc, _+_, _*_, _-_, _^_, _<_, _≤_}
-use mathlib.Core.Path.{_≡_, refl, ap, sym, _∙_}
+use Prim.Native.Nat.{ℕ, zero, suc}
+use mathlib.Core.Path.{_≡_, refl, sym}
 use mathlib.Core.Bool.{Bool, true, false, _&&_, _||_, not}
 use mathlib.Core.List.{List, [], _∷_, _++_, map}
-use lib.Dec.{leb, ltb, eqb}
+use lib.Dec.{eqb}
 use native.Mathlib.Omega.{arith}
 use borrow.Author.Tests.{eq-eqb, ne-eqb, le-leb}
 use Rattle.model.specs.declared.Entry.{Entry}
 use Rattle.model.specs.Basic.{pick, has, those, keep}
 use Rattle.model.specs.Entry.{liveAt, alive, endedAt, endOne, endThose}
-use Rattle.model.specs.Page.{Page, free, killed, active, gone}
+use Rattle.model.specs.Page.{Page, free, killed, gone}
 use Rattle.model.specs.Calls.{back, restored, restoredEntries, revived}
-use Rattle.edit.specs.declared.Rule.{Rule}
-use Rattle.edit.specs.declared.Rule.the-variants.{Kill, End, Back}
-use Rattle.edit.specs.declared.Fate.{Fate}
+use Rattle.edit.specs.declared.sift.Rule.the-variants.{Kill, End, Back}
 use Rattle.edit.specs.Fate.{fateOf, endOf, left, endIf, amongOf, backIf}
 use Rattle.edit.specs.Sift.{sifted, siftedPage}
 

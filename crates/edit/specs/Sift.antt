@@ -1,5 +1,5 @@
 -- A page whose entries meet their fates one after the other, and are closed up. Assumes nothing.
-use Prim.Native.Nat.{ℕ, zero, suc, _+_, _*_, _-_, _^_, _<_, _≤_}
+use Prim.Native.Nat.{ℕ, _+_, _*_, _-_, _^_, _<_, _≤_}
 use mathlib.Core.Path.{_≡_, refl, ap, sym, _∙_}
 use mathlib.Core.Bool.{Bool, true, false}
 use mathlib.Core.List.{List, [], _∷_, _++_, append-assoc, append-nil}
@@ -18,9 +18,9 @@ use Rattle.page.specs.Read.{Sized, count-of, entries-of, level-of, start-of, en
 use Rattle.page.specs.Front.{read-fits}
 use Rattle.page.specs.Editions.{count-bits}
 use Rattle.page.specs.Exact.{Exact}
-use Rattle.page.specs.Stage.{staged, blanked, entriesIn, pageWith, staged-from, staged-put, staged-read, staged-shut}
-use Rattle.edit.specs.declared.Rule.{Rule}
-use Rattle.edit.specs.declared.Fate.{Fate}
+use Rattle.page.specs.Stage.{staged, blanked, entriesIn, staged-from, staged-put, staged-read, staged-shut}
+use Rattle.edit.specs.declared.sift.Rule.{Rule}
+use Rattle.edit.specs.declared.sift.Fate.{Fate}
 use Rattle.edit.specs.Fate.{fateOf, endOf, left, end-fits}
 
 unfoldable pub sifted : Rule → ℕ → List Entry → List Entry

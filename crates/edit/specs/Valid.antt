@@ -1,21 +1,20 @@
 -- What a rule or an entering pair leaves of a page can be held. Assumes nothing.
-use Prim.Native.Nat.{ℕ, zero, suc, _+_, _*_, _-_, _^_, _<_, _≤_}
-use mathlib.Core.Path.{_≡_, refl, ap, sym, _∙_}
-use mathlib.Core.Bool.{Bool, true, false, _&&_, _||_, not}
-use mathlib.Core.List.{List, [], _∷_, _++_, map}
-use lib.ListN.{length, getD, length-append}
+use Prim.Native.Nat.{ℕ, zero, suc, _*_, _^_, _<_}
+use mathlib.Core.Path.{_≡_, refl, ap}
+use mathlib.Core.Bool.{Bool, true, false}
+use mathlib.Core.List.{List, [], _∷_, _++_}
+use lib.ListN.{length, getD}
 use native.Mathlib.Omega.{arith}
 use Rattle.model.specs.declared.Entry.{Entry}
 use Rattle.model.specs.declared.Pair.{Pair}
 use Rattle.model.specs.Basic.{keep}
 use Rattle.model.specs.Entry.{before, born, placed, enter}
-use Rattle.model.specs.Page.{Page, free}
+use Rattle.model.specs.Page.{Page}
 use Rattle.model.specs.Layout.{unused}
 use Rattle.page.specs.Read.{Sized, sized-unused}
 use Rattle.page.specs.Exact.{Valid}
-use Rattle.edit.specs.declared.Rule.{Rule}
-use Rattle.edit.specs.declared.Fate.{Fate}
-use Rattle.edit.specs.Fate.{fateOf, endOf, left, fate-sized, end-fits}
+use Rattle.edit.specs.declared.sift.Rule.{Rule}
+use Rattle.edit.specs.Fate.{fateOf, fate-sized, end-fits}
 use Rattle.edit.specs.Sift.{sifted, siftedPage, sifted-short}
 use Rattle.edit.specs.Place.{entered}
 

@@ -1,8 +1,8 @@
 -- Bytes of a page that pass rule 1's test of zero bits are exact. Assumes nothing.
-use Prim.Native.Nat.{ℕ, zero, suc, _+_, _*_, _-_, _^_, _<_, _≤_}
-use mathlib.Core.Path.{_≡_, refl, ap, sym, _∙_}
-use mathlib.Core.Bool.{Bool, true, false, _&&_}
-use mathlib.Core.List.{List, [], _∷_, _++_, append-assoc}
+use Prim.Native.Nat.{ℕ, _+_, _*_, _-_, _≤_}
+use mathlib.Core.Path.{_≡_, ap, sym, _∙_}
+use mathlib.Core.Bool.{true, _&&_}
+use mathlib.Core.List.{List, _++_, append-assoc}
 use native.Mathlib.Omega.{arith}
 use borrow.Author.Tests.{leb-true, eqb-true}
 use lib.Dec.{leb, eqb}
@@ -10,16 +10,14 @@ use lib.ListN.{length, take, drop}
 use lib.Seq.{take-all}
 use Rattle.bits.specs.Lay.{two-parts}
 use Rattle.bits.specs.Over.{zeros-append, zero-part}
-use Rattle.model.specs.declared.Entry.{Entry}
 use Rattle.model.specs.Limits.{countBits}
 use Rattle.model.specs.Field.{field, Bytes, zeros}
 use Rattle.model.specs.Layout.{entriesBytes, readEntries, padded, encodePage, decodePage, countOf}
 use Rattle.model.specs.Clean.{cleanPage}
 use Rattle.model.proofs.Lists.{both-true}
 use Rattle.page.specs.declared.Head.{Head}
-use Rattle.page.specs.Editions.{Counts, count-bits}
-use Rattle.page.specs.Head.{readHead, headOf, frontBytes}
-use Rattle.page.specs.Read.{length-entries, level-of, start-of, end-of, count-of, entries-of}
+use Rattle.page.specs.Head.{readHead, frontBytes}
+use Rattle.page.specs.Read.{length-entries, count-of, entries-of}
 use Rattle.page.specs.Entries.{entries-part, padded-bytes}
 use Rattle.page.specs.Front.{head-part}
 use Rattle.page.specs.Exact.{Exact, bodyBytes, encode-is, head-is}

@@ -1,21 +1,21 @@
 -- Entries in their bytes, and the entries of a page with those unused behind them. Assumes nothing.
-use Prim.Native.Nat.{ℕ, zero, suc, _+_, _*_, _-_, _^_, _<_, _≤_}
+use Prim.Native.Nat.{ℕ, zero, suc, _+_, _*_, _-_, _<_, _≤_}
 use mathlib.Core.Path.{_≡_, refl, ap, sym, _∙_}
 use mathlib.Core.List.{List, [], _∷_, _++_, append-assoc}
-use mathlib.Core.Logic.{_⊎_, inl, inr, ⊎-elim}
+use mathlib.Core.Logic.{⊎-elim}
 use native.Mathlib.Omega.{arith}
 use lib.ListN.{length, getD, set, take, drop, replicate, length-append, length-replicate, getD-replicate, List·getD-append, List·getD-eq-default}
 use lib.Seq.{getD-append-add}
 use Rattle.bits.specs.Put.{less}
 use Rattle.bits.specs.Append.{field-part}
-use Rattle.bits.specs.Lay.{Shows, Fit, total, length-packed, bytes-packed, packed-shows, packed-whole, part-bytes, part-length, two-parts}
+use Rattle.bits.specs.Lay.{Shows, Fit, length-packed, bytes-packed, packed-shows, packed-whole, part-bytes, part-length, two-parts}
 use Rattle.bits.specs.Over.{relay, packed-zeros, zeros-append}
 use Rattle.bits.specs.Rows.{Even, rows-length, row-field, row-lay}
 use Rattle.model.specs.declared.Entry.{Entry}
 use Rattle.model.specs.Basic.{flatMap}
 use Rattle.model.specs.Field.{field, Bytes, lay, zeros, packed}
 use Rattle.model.specs.Layout.{entryParts, entryBytes, readEntry, readEntries, entriesBytes, unused, padded}
-use Rattle.page.specs.Read.{Sized, sized-unused, length-entries}
+use Rattle.page.specs.Read.{Sized}
 
 -- ---- one entry
 

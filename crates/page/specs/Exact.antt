@@ -1,19 +1,18 @@
 -- A page that its bytes can hold comes back from them. Assumes nothing.
-use Prim.Native.Nat.{ℕ, zero, suc, _+_, _*_, _-_, _^_, _<_, _≤_}
-use mathlib.Core.Path.{_≡_, refl, ap, sym, _∙_}
-use mathlib.Core.List.{List, [], _∷_, _++_}
+use Prim.Native.Nat.{ℕ, _+_, _*_, _-_, _^_, _<_, _≤_}
+use mathlib.Core.Path.{_≡_, refl, ap, _∙_}
+use mathlib.Core.List.{List, _++_}
 use native.Mathlib.Omega.{arith}
-use lib.ListN.{length, getD, take, drop, replicate, length-append}
-use lib.Seq.{take-append-seam, ext-getD}
+use lib.ListN.{length, getD, length-append}
+use lib.Seq.{ext-getD}
 use Rattle.bits.specs.Lay.{length-zeros}
 use Rattle.bits.specs.Over.{zeros-append, packed-zeros}
 use Rattle.model.specs.declared.Entry.{Entry}
-use Rattle.model.specs.Limits.{countBits}
-use Rattle.model.specs.Field.{field, zeros}
+use Rattle.model.specs.Field.{zeros}
 use Rattle.model.specs.Page.{Page, free}
-use Rattle.model.specs.Layout.{entriesBytes, readEntry, readEntries, unused, padded, headParts, headBytes, encodePage, decodePage, countOf}
+use Rattle.model.specs.Layout.{entriesBytes, readEntry, readEntries, unused, padded, headBytes, encodePage, decodePage, countOf}
 use Rattle.page.specs.declared.Head.{Head}
-use Rattle.page.specs.Editions.{Counts, count-bits}
+use Rattle.page.specs.Editions.{count-bits}
 use Rattle.page.specs.Head.{readHead, headOf, frontBytes, partsOf, HeadFits}
 use Rattle.page.specs.Read.{Sized, sized-unused, sized-entries, length-entries, entries-at, level-of, start-of, end-of, count-of, entries-of, level-lt, start-lt, end-lt}
 use Rattle.page.specs.Entries.{entries-length, entry-get, length-padded, padded-get, padded-sized, unused-zeros}

@@ -1,16 +1,15 @@
 -- Laws of a page's front. Assumes nothing.
-use Prim.Native.Nat.{ℕ, zero, suc, _+_, _*_, _-_, _^_, _<_, _≤_}
-use mathlib.Core.Path.{_≡_, refl, ap, sym, _∙_}
-use mathlib.Core.List.{List, [], _∷_, _++_}
+use Prim.Native.Nat.{ℕ, _+_, _*_, _-_, _≤_}
+use mathlib.Core.Path.{_≡_, refl, ap, _∙_}
+use mathlib.Core.List.{List, _++_}
 use native.Mathlib.Omega.{arith}
 use lib.ListN.{length, take, drop}
-use Rattle.bits.specs.Laws.{field-lt}
 use Rattle.bits.specs.Append.{field-left, field-part, bit-part}
 use Rattle.bits.specs.Lay.{Shows, Fit, total, length-packed, bytes-packed, packed-shows, packed-whole, zero-at, part-bytes, part-length}
-use Rattle.bits.specs.Over.{relay, lay-left, packed-zeros}
+use Rattle.bits.specs.Over.{relay, lay-left}
 use Rattle.model.specs.Limits.{countBits}
-use Rattle.model.specs.Field.{field, Bytes, lay, zeros, packed}
-use Rattle.model.specs.Layout.{headParts, headBytes, countOf}
+use Rattle.model.specs.Field.{field, Bytes, packed}
+use Rattle.model.specs.Layout.{headBytes, countOf}
 use Rattle.page.specs.declared.Head.{Head}
 use Rattle.page.specs.Editions.{Counts, count-bits}
 use Rattle.page.specs.Head.{readHead, partsOf, frontBytes, putHead, HeadFits}

@@ -1,5 +1,5 @@
 -- An entry put into a page at a place: those behind it move up by one. Assumes nothing.
-use Prim.Native.Nat.{ℕ, zero, suc, _+_, _*_, _-_, _^_, _<_, _≤_}
+use Prim.Native.Nat.{ℕ, zero, suc, _+_, _*_, _<_, _≤_}
 use mathlib.Core.Path.{_≡_, refl, ap, sym, _∙_}
 use mathlib.Core.List.{List, [], _∷_, _++_}
 use native.Mathlib.Numerals.{add-one}
@@ -11,12 +11,12 @@ use Rattle.model.specs.Field.{lay}
 use Rattle.model.specs.Page.{Page}
 use Rattle.model.specs.Layout.{entryParts, unused, countOf, decodePage, encodePage, readEntries}
 use Rattle.page.specs.declared.Head.{Head}
-use Rattle.page.specs.Head.{readHead, headOf, putHead, HeadFits}
+use Rattle.page.specs.Head.{readHead, putHead, HeadFits}
 use Rattle.page.specs.Read.{Sized, sized-unused, sized-entries, count-of, entries-of, level-of, start-of, end-of}
-use Rattle.page.specs.Editions.{Counts, count-bits}
+use Rattle.page.specs.Editions.{count-bits}
 use Rattle.page.specs.Front.{read-fits}
 use Rattle.page.specs.Exact.{Exact}
-use Rattle.page.specs.Stage.{staged, staged-from, staged-put, staged-end, entriesIn, pageWith, count}
+use Rattle.page.specs.Stage.{staged, staged-from, staged-put, staged-end, entriesIn, count}
 
 unfoldable pub insertAt : ℕ → Entry → List Entry → List Entry
 insertAt i e l = take i l ++ e ∷ drop i l

@@ -5,5 +5,6 @@ pub mod Entries
 pub mod Front
 pub mod Exact
 pub mod Clean
+pub mod Over
 pub mod Stage
 pub mod Insert

@@ -2,7 +2,7 @@
 use model::Entry;
 use model::Limits;
 ghost use mathlib.Core.Path.{_≡_};
-ghost use Prim.Native.Nat.{ℕ, _+_, _*_, _-_, _^_, _≤_, _<_};
+ghost use Prim.Native.Nat.{_+_, _*_, _-_, _^_, _≤_, _<_};
 ghost use lib.ListN.{length};
 ghost use Rattle.model.specs.Limits.{Edition};
 ghost use Rattle.model.specs.Field.{lay, zeros};
@@ -12,6 +12,9 @@ ghost use Rattle.page.specs.Read.{Sized};
 ghost use Rattle.page.specs.Exact.{Exact};
 ghost use Rattle.page.specs.Stage.{blanked};
 ghost use Rattle.page.specs.Insert.{withEntry};
+
+// "End 1,048,575 means alive."
+pub const ALIVE: u32 = 1048575;
 
 // The front of a page: "level 4 bits, entry count 5, start 20, end 20".
 pub struct Head {

@@ -1,5 +1,5 @@
 -- The answers of the tests of length and name, case by case. Assumes nothing.
-use Prim.Native.Nat.{ℕ, zero, suc, _+_, _*_, _-_, _/_, _%_, _<_, _≤_}
+use Prim.Native.Nat.{ℕ, _*_, _%_, _<_, _≤_}
 use mathlib.Core.Bool.{Bool, true, false, _&&_}
 use mathlib.Core.Path.{_≡_, refl, ap, sym, _∙_}
 use mathlib.Core.List.{List, [], _∷_}
@@ -8,7 +8,7 @@ use borrow.Author.Tests.{lt-leb, le-leb, eq-eqb, ne-eqb}
 use lib.Dec.{leb, eqb}
 use lib.ListN.{length, getD, take, length-take}
 use lib.Seq.{ext-getD, getD-take, length-take-le}
-use Rattle.model.specs.Basic.{pick, eqList}
+use Rattle.model.specs.Basic.{eqList}
 use Rattle.model.specs.Layout.{sizeOf, magic, encode}
 use Rattle.model.specs.Store.{fresh}
 use Rattle.model.specs.Judged.{lengthOk, magicOk}

@@ -1,22 +1,19 @@
 -- Bytes with nothing beside the store that they show are that store's. Assumes nothing.
-use Prim.Native.Nat.{ℕ, zero, suc, _+_, _*_, _-_, _/_, _<_, _≤_, _^_}
-use mathlib.Core.Bool.{Bool, true, false, _&&_}
-use mathlib.Core.Path.{_≡_, refl, ap, sym, _∙_}
-use mathlib.Core.List.{List, [], _∷_, _++_, append-assoc}
+use Prim.Native.Nat.{ℕ, zero, suc, _+_, _*_, _-_, _<_, _≤_}
+use mathlib.Core.Path.{_≡_, ap, sym, _∙_}
+use mathlib.Core.List.{List, _++_, append-assoc}
 use native.Mathlib.Omega.{arith}
 use native.Mathlib.Nat.{suc-mul, mul-le-mul-right, add-mul}
 use native.Mathlib.Numerals.{add-one}
-use lib.ListN.{length, take, drop, length-replicate}
+use lib.ListN.{length, take, drop}
 use lib.Seq.{take-all}
 use Rattle.bits.specs.Lay.{Shows, two-parts}
 use Rattle.bits.specs.Over.{zero-part}
 use Rattle.model.specs.declared.Slot.{Slot}
-use Rattle.model.specs.declared.Header.{Header}
 use Rattle.model.specs.Limits.{rootBits}
-use Rattle.model.specs.Field.{field, Bytes, zeros}
-use Rattle.model.specs.Page.{Page}
+use Rattle.model.specs.Field.{field, Bytes}
 use Rattle.model.specs.Store.{Store}
-use Rattle.model.specs.Layout.{pageOf, decodePage, encodePage, readHeader, readSlots, readPages, slotsBytes, pagesBytes, headerBytes, headerOf, encode, decode, sizeOf}
+use Rattle.model.specs.Layout.{pageOf, readHeader, readSlots, readPages, slotsBytes, pagesBytes, headerBytes, headerOf, encode, decode, sizeOf}
 use Rattle.page.specs.Clean.{Clean, exact}
 use Rattle.store.specs.Read.{size-is, length-slots, count-pages, behind, current-of, opened-of, slots-of}
 use Rattle.store.specs.Parts.{page-take}

@@ -1,31 +1,32 @@
 -- The stages of making a fresh store: each law takes the bytes one write further. Assumes nothing.
-use Prim.Native.Nat.{ℕ, zero, suc, _+_, _*_, _-_, _<_, _≤_, _^_}
-use mathlib.Core.Bool.{Bool, true, false}
+use Prim.Native.Nat.{ℕ, zero, suc, _+_, _*_, _-_, _<_, _≤_}
+use mathlib.Core.Bool.{false}
 use mathlib.Core.Path.{_≡_, refl, ap, sym, _∙_}
 use mathlib.Core.List.{List, [], _∷_, _++_}
 use native.Mathlib.Omega.{arith}
 use native.Mathlib.Nat.{suc-mul, add-mul}
 use lib.ListN.{length, getD, set, drop, replicate, length-set, length-replicate}
 use Rattle.bits.specs.Put.{put-byte-whole, length-put, bytes-put}
-use Rattle.bits.specs.Lay.{total, length-lay, length-zeros}
+use Rattle.bits.specs.Lay.{length-lay, length-zeros}
 use Rattle.bits.specs.Over.{lay-left, zeros-append}
 use Rattle.model.specs.declared.Header.{Header}
 use Rattle.model.specs.declared.Slot.{Slot}
 use Rattle.model.specs.Entry.{alive}
 use Rattle.model.specs.Field.{Bytes, putField, lay, zeros}
 use Rattle.model.specs.Page.{Page, free, filled}
-use Rattle.model.specs.Store.{Store, fresh}
-use Rattle.model.specs.Layout.{pageOf, withPage, encodePage, slotsBytes, pagesBytes, headerBytes, headerOf, padded, encode}
+use Rattle.model.specs.Store.{fresh}
+use Rattle.model.specs.Layout.{pageOf, withPage, encodePage, slotsBytes, pagesBytes, headerOf, padded, encode}
 use Rattle.page.specs.declared.Head.{Head}
-use Rattle.page.specs.Head.{headOf, frontBytes, putHead, HeadFits}
+use Rattle.page.specs.Head.{headOf, putHead}
 use Rattle.page.specs.Editions.{count-bits, root-bits}
 use Rattle.page.specs.Front.{head-put}
-use Rattle.page.specs.Exact.{Valid, valid-free, free-zeros, bodyBytes}
+use Rattle.page.specs.Exact.{valid-free, free-zeros, bodyBytes}
 use Rattle.page.specs.Exact as page
-use Rattle.store.specs.Slots.{SlotFits, slotParts, directory, directory-bytes, directory-length}
-use Rattle.store.specs.Header.{HeaderFits, namedBy, nameParts, valueParts, putHeader, header-is}
+use Rattle.store.specs.Slots.{slotParts, directory, directory-bytes, directory-length}
+use Rattle.store.specs.Header.{namedBy, nameParts, valueParts, putHeader, header-is}
 use Rattle.store.specs.Pages.{AllValid}
-use Rattle.store.specs.Set.{bytesOf, encode-of, slot-in, page-out, page-in, directory-add, drop-set}
+use Rattle.store.specs.Inside.{bytesOf, encode-of, slot-in, page-out, page-in, directory-add}
+use Rattle.store.specs.Set.{drop-set}
 
 -- the front of page 5: "page 5 begins 10 00 00 07 FF FF 80"
 abbrev pub rootHead : Head

@@ -1,25 +1,21 @@
 -- A store that its bytes can hold comes back from them, and page by page. Assumes nothing.
-use Prim.Native.Nat.{ℕ, zero, suc, _+_, _*_, _-_, _/_, _<_, _≤_, _^_}
-use mathlib.Core.Bool.{Bool, true, false}
-use mathlib.Core.Path.{_≡_, refl, ap, sym, _∙_}
-use mathlib.Core.List.{List, [], _∷_, _++_, append-assoc}
-use mathlib.Core.Logic.{_⊎_, inl, inr, ⊎-elim}
+use Prim.Native.Nat.{ℕ, _+_, _*_, _-_, _<_, _≤_, _^_}
+use mathlib.Core.Path.{_≡_, ap, sym, _∙_}
+use mathlib.Core.List.{List, _++_}
 use native.Mathlib.Omega.{arith}
 use native.Mathlib.Nat.{add-mul}
-use lib.ListN.{length, getD, set, take, drop, replicate, length-append, length-replicate, length-drop, take-append-drop, List·getD-append, List·getD-eq-default}
-use lib.Seq.{ext-getD, getD-drop, take-append-seam}
-use Rattle.bits.specs.Put.{less}
-use Rattle.model.specs.declared.Slot.{Slot}
+use lib.ListN.{length, getD, take, drop, replicate, length-append, length-drop, take-append-drop}
+use lib.Seq.{ext-getD, getD-drop}
 use Rattle.model.specs.declared.Header.{Header}
 use Rattle.model.specs.Page.{Page, free}
 use Rattle.model.specs.Store.{Store, page}
-use Rattle.model.specs.Layout.{pageOf, withPage, decodePage, encodePage, readHeader, readSlot, readSlots, readPages, slotsBytes, pagesBytes, headerBytes, headerOf, noSlot, encode, decode, sizeOf}
+use Rattle.model.specs.Layout.{pageOf, decodePage, encodePage, readHeader, readSlot, readSlots, readPages, slotsBytes, pagesBytes, headerBytes, headerOf, noSlot, encode, decode, sizeOf}
 use Rattle.page.specs.Editions.{root-bits}
-use Rattle.page.specs.Exact.{Valid, decode-encode, valid-free}
-use Rattle.store.specs.Read.{size-is, length-slots, length-pages, pages-at, slots-at, current-of, opened-of, slots-of}
-use Rattle.store.specs.Slots.{SlotFits, none-fits, slots-length, slot-get, directory, directory-length, directory-low}
+use Rattle.page.specs.Exact.{decode-encode}
+use Rattle.store.specs.Read.{size-is, length-slots, length-pages, pages-at, slots-at}
+use Rattle.store.specs.Slots.{SlotFits, slots-length, slot-get, directory, directory-length, directory-low}
 use Rattle.store.specs.Header.{HeaderFits, header-length, header-read}
-use Rattle.store.specs.Pages.{AllValid, pages-length, page-of, with-page}
+use Rattle.store.specs.Pages.{AllValid, pages-length, page-of}
 use Rattle.store.specs.Exactly.{frontOf, encode-is}
 
 -- a store that its bytes can hold

@@ -5,6 +5,7 @@ pub mod Header
 pub mod Pages
 pub mod Exactly
 pub mod Holds
+pub mod Inside
 pub mod Set
 pub mod Tested
 pub mod Sure

@@ -1,10 +1,9 @@
 -- Pages one after the other, behind bytes that make whole pages. Assumes nothing.
-use Prim.Native.Nat.{ℕ, zero, suc, _+_, _*_, _-_, _<_, _≤_}
+use Prim.Native.Nat.{ℕ, _+_, _*_, _<_, _≤_}
 use mathlib.Core.Path.{_≡_, refl, ap, sym, _∙_}
 use mathlib.Core.List.{List, [], _∷_, _++_, append-nil}
 use native.Mathlib.Nat.{add-mul}
-use native.Mathlib.Omega.{arith}
-use lib.ListN.{length, getD, set, take, drop}
+use lib.ListN.{length, getD, set}
 use Rattle.bits.specs.Rows.{Even, rows-length, row-part, row-with}
 use Rattle.model.specs.Basic.{flatMap}
 use Rattle.model.specs.Page.{Page, free}

@@ -1,15 +1,14 @@
 -- Laws of what is decoded. Assumes nothing.
-use Prim.Native.Nat.{ℕ, zero, suc, _+_, _*_, _-_, _/_, _<_, _≤_, _^_}
-use mathlib.Core.Path.{_≡_, refl, ap, sym, _∙_}
-use mathlib.Core.List.{List, [], _∷_, _++_}
-use lib.ListN.{length, getD, take, drop, replicate, length-append, length-replicate}
+use Prim.Native.Nat.{ℕ, zero, suc, _+_, _*_, _-_, _<_, _≤_, _^_}
+use mathlib.Core.Path.{_≡_, refl, ap, _∙_}
+use mathlib.Core.List.{List, [], _∷_}
+use lib.ListN.{length, getD, take, drop, replicate}
 use native.Mathlib.Omega.{arith}
 use native.Mathlib.Nat.{mul-div-left}
 use Rattle.bits.specs.Laws.{field-lt}
-use Rattle.model.specs.declared.Slot.{Slot}
 use Rattle.model.specs.Limits.{rootBits}
-use Rattle.model.specs.Page.{Page, free}
-use Rattle.model.specs.Store.{Store, page}
+use Rattle.model.specs.Page.{free}
+use Rattle.model.specs.Store.{page}
 use Rattle.model.specs.Layout.{pageOf, decodePage, readHeader, readSlot, readSlots, readPages, decode, sizeOf, noSlot}
 
 -- ---- the number of pages

@@ -1,88 +1,23 @@
 -- A page, a slot or the header set in the bytes is set in the store, and nothing else moves. Assumes nothing.
 use Prim.Native.Nat.{ℕ, zero, suc, _+_, _*_, _-_, _<_, _≤_, _^_}
-use mathlib.Core.Bool.{Bool, true, false}
+use mathlib.Core.Bool.{Bool}
 use mathlib.Core.Path.{_≡_, refl, ap, sym, _∙_}
-use mathlib.Core.List.{List, [], _∷_, _++_, append-assoc}
+use mathlib.Core.List.{List, [], _∷_, _++_}
 use native.Mathlib.Omega.{arith}
-use lib.ListN.{length, getD, set, take, drop, replicate, length-append, length-replicate, length-drop, length-set}
-use lib.Seq.{set-append-left, set-at}
+use lib.ListN.{length, getD, set, take, drop, length-append, length-drop, length-set}
 use Rattle.model.specs.declared.Slot.{Slot}
 use Rattle.model.specs.declared.Header.{Header}
 use Rattle.model.specs.Field.{lay}
-use Rattle.model.specs.Page.{Page, free}
+use Rattle.model.specs.Page.{Page}
 use Rattle.model.specs.Store.{Store}
-use Rattle.model.specs.Layout.{pageOf, withPage, encodePage, slotsBytes, pagesBytes, headerBytes, headerOf, noSlot, encode}
+use Rattle.model.specs.Layout.{withPage, encodePage, headerOf, noSlot, encode}
 use Rattle.page.specs.Editions.{root-bits}
-use Rattle.store.specs.Slots.{SlotFits, none-fits, slotParts, slot-put, directory, directory-length, slots-length}
-use Rattle.store.specs.Header.{HeaderFits, putHeader, header-length, header-put}
-use Rattle.store.specs.Pages.{AllValid, page-of, with-page}
+use Rattle.page.specs.Exact.{Valid}
+use Rattle.store.specs.Slots.{SlotFits, none-fits, slotParts, directory, directory-length}
+use Rattle.store.specs.Header.{HeaderFits, putHeader}
+use Rattle.store.specs.Pages.{AllValid}
+use Rattle.store.specs.Inside.{bytesOf, encode-of, header-in, slot-in, page-in, directory-set, directory-add, directory-drop}
 use Rattle.store.specs.Holds.{Holds, header-holds, behind-valid}
-
--- ---- in the bytes of a header, a directory and pages
-
-abbrev pub bytesOf : ℕ → Header → List Slot → List Page → List ℕ
-bytesOf least h xs ps = headerBytes least h ++ (slotsBytes xs ++ pagesBytes least ps)
-
-pub encode-of : (least : ℕ) (s : Store) → encode least s ≡ bytesOf least (headerOf s) (directory least (s .slots)) (drop 5 (s .pages))
-unfolding encode directory
-encode-of least s = refl
-
-module _ (least : ℕ) (four : 4 ≤ least) (eight : least ≤ 8) (h : Header) (xs : List Slot) (ps : List Page) where
-  pub header-in : (g : Header) → HeaderFits least g → putHeader least (bytesOf least h xs ps) g ≡ bytesOf least g xs ps
-  header-in g f = header-put least four eight h g (slotsBytes xs ++ pagesBytes least ps) f
-
-  pub slot-in : (i : ℕ) (x : Slot) → i < length xs → SlotFits x → lay (bytesOf least h xs ps) (512 * least + 32 * i) (slotParts x) ≡ bytesOf least h (set xs i x) ps
-  slot-in i x lt f =
-      let o : 512 * least + 32 * i ≡ 8 * length (headerBytes least h) + 32 * i = omega (arith, header-length least h) in
-      rw o (slot-put (headerBytes least h) (pagesBytes least ps) xs i lt x f)
-
-  pub page-out : length xs ≡ 64 * least → AllValid least ps → (n : ℕ) → 5 ≤ n → n < 5 + length ps → pageOf least (bytesOf least h xs ps) n ≡ encodePage least (getD ps (n - 5) free)
-  page-out full v n le lt =
-      let a : List ℕ = headerBytes least h in
-      let b : List ℕ = slotsBytes xs in
-      let whole : length (a ++ b) ≡ 5 * (64 * least) = length-append a b ∙ omega (arith, header-length least h, slots-length xs) in
-      let e : n ≡ 5 + (n - 5) = omega arith in
-      ap (λ (k : ℕ). pageOf least (a ++ (b ++ pagesBytes least ps)) k) e ∙ ap (λ (s : List ℕ). pageOf least s (5 + (n - 5))) (sym (append-assoc a b (pagesBytes least ps)))
-      ∙ page-of least four ps v (a ++ b) 5 whole (n - 5) (omega arith)
-
-  pub page-in : length xs ≡ 64 * least → AllValid least ps → (n : ℕ) (q : Page) → 5 ≤ n → n < 5 + length ps
-      → withPage least (bytesOf least h xs ps) n (encodePage least q) ≡ bytesOf least h xs (set ps (n - 5) q)
-  page-in full v n q le lt =
-      let a : List ℕ = headerBytes least h in
-      let b : List ℕ = slotsBytes xs in
-      let whole : length (a ++ b) ≡ 5 * (64 * least) = length-append a b ∙ omega (arith, header-length least h, slots-length xs) in
-      let e : n ≡ 5 + (n - 5) = omega arith in
-      ap (λ (k : ℕ). withPage least (a ++ (b ++ pagesBytes least ps)) k (encodePage least q)) e
-      ∙ ap (λ (s : List ℕ). withPage least s (5 + (n - 5)) (encodePage least q)) (sym (append-assoc a b (pagesBytes least ps)))
-      ∙ with-page least four ps v (a ++ b) 5 whole (n - 5) (omega arith) q ∙ append-assoc a b (pagesBytes least (set ps (n - 5) q))
-
--- ---- the directory
-
-module _ (least : ℕ) (xs : List Slot) where
-  pub directory-set : (i : ℕ) (x : Slot) → i < length xs → set (directory least xs) i x ≡ directory least (set xs i x)
-  unfolding directory
-  directory-set i x lt =
-      set-append-left xs (replicate (64 * least - length xs) noSlot) i x lt
-      ∙ ap (λ (n : ℕ). set xs i x ++ replicate (64 * least - n) noSlot) (sym (length-set xs i x))
-
-  -- one behind the last
-  after : (x : Slot) → directory least (xs ++ x ∷ []) ≡ xs ++ x ∷ replicate (64 * least - (length xs + 1)) noSlot
-  unfolding directory
-  after x =
-      let n : length (xs ++ x ∷ []) ≡ length xs + 1 = length-append xs (x ∷ []) in
-      append-assoc xs (x ∷ []) (replicate (64 * least - length (xs ++ x ∷ [])) noSlot) ∙ ap (λ (k : ℕ). xs ++ x ∷ replicate (64 * least - k) noSlot) n
-
-  before : length xs < 64 * least → directory least xs ≡ xs ++ noSlot ∷ replicate (64 * least - (length xs + 1)) noSlot
-  unfolding directory
-  before lt = let e : 64 * least - length xs ≡ suc (64 * least - (length xs + 1)) = omega arith in ap (λ (k : ℕ). xs ++ replicate k noSlot) e
-
-  pub directory-add : (x : Slot) → length xs < 64 * least → set (directory least xs) (length xs) x ≡ directory least (xs ++ x ∷ [])
-  directory-add x lt = rw (before lt, after x) (set-at xs noSlot (replicate (64 * least - (length xs + 1)) noSlot) x (length xs) refl)
-
-  pub directory-drop : (x : Slot) → length xs < 64 * least → set (directory least (xs ++ x ∷ [])) (length xs) noSlot ≡ directory least xs
-  directory-drop x lt = rw (before lt, after x) (set-at xs x (replicate (64 * least - (length xs + 1)) noSlot) noSlot (length xs) refl)
-
--- ---- in the store
 
 abbrev pub withPages : Store → List Page → Store
 withPages s ps = record { current = s .current; opened = s .opened; slots = s .slots; pages = ps }
@@ -161,3 +96,37 @@ module _ (least : ℕ) (four : 4 ≤ least) (eight : least ≤ 8) (s : Store) (v
       let n : length (s .slots) ≡ length xs + 1 = ap length e ∙ length-append xs (x ∷ []) in
       let lt : length xs < 64 * least = omega (arith, v .few) in
       slots-to xs (length xs) noSlot lt none-fits (omega arith) (ap (λ (ys : List Slot). set (directory least ys) (length xs) noSlot) e ∙ directory-drop least xs x lt)
+
+-- ---- what is set can be held
+
+valid-set : (least : ℕ) (ps : List Page) (n : ℕ) (q : Page) → AllValid least ps → Valid least q → AllValid least (set ps n q)
+valid-set least [] n q v z k = v k
+valid-set least (p ∷ ps) zero q v z zero = z
+valid-set least (p ∷ ps) zero q v z (suc k) = v (suc k)
+valid-set least (p ∷ ps) (suc n) q v z zero = v 0
+valid-set least (p ∷ ps) (suc n) q v z (suc k) = valid-set least ps n q (λ j. v (suc j)) z k
+
+take-set : (ps : List Page) (m n : ℕ) (q : Page) → m ≤ n → take m (set ps n q) ≡ take m ps
+take-set ps zero n q h = refl
+take-set [] (suc m) n q h = refl
+take-set (p ∷ ps) (suc m) zero q h = absurd (omega arith)
+take-set (p ∷ ps) (suc m) (suc n) q h = ap (λ (l : List Page). p ∷ l) (take-set ps m n q (omega arith))
+
+module _ (least : ℕ) (s : Store) (v : Holds least s) where
+  pub holds-page : (n : ℕ) (q : Page) → 5 ≤ n → Valid least q → Holds least (withPages s (set (s .pages) n q))
+  holds-page n q h z =
+      record {
+        five = omega (arith, length-set (s .pages) n q, v .five);
+        most = omega (arith, length-set (s .pages) n q, v .most);
+        front = take-set (s .pages) 5 n q h ∙ v .front;
+        current = v .current;
+        few = v .few;
+        slots = v .slots;
+        pages = valid-set least (s .pages) n q (v .pages) z;
+      }
+
+  pub holds-slots : (xs : List Slot) → length xs ≤ 64 * least → ((k : ℕ) → SlotFits (getD xs k noSlot)) → Holds least (withSlots s xs)
+  holds-slots xs h f = record { five = v .five; most = v .most; front = v .front; current = v .current; few = h; slots = f; pages = v .pages }
+
+  pub holds-state : (c : ℕ) (o : Bool) → c < 2 ^ 20 → Holds least (withState s c o)
+  holds-state c o h = record { five = v .five; most = v .most; front = v .front; current = h; few = v .few; slots = v .slots; pages = v .pages }

@@ -5,7 +5,7 @@ use mathlib.Core.List.{List, [], _∷_, _++_, append-assoc}
 use native.Mathlib.Omega.{arith}
 use lib.ListN.{length, getD, set, take, drop, replicate, length-append, length-replicate, List·getD-append}
 use Rattle.bits.specs.Append.{field-part}
-use Rattle.bits.specs.Lay.{Shows, Fit, total, length-packed, packed-shows, packed-whole, part-bytes, part-length, two-parts}
+use Rattle.bits.specs.Lay.{Shows, length-packed, packed-shows, packed-whole, part-bytes, part-length, two-parts}
 use Rattle.bits.specs.Over.{relay, packed-zeros, zeros-append}
 use Rattle.bits.specs.Rows.{Even, rows-length, row-field, row-lay}
 use Rattle.model.specs.declared.Slot.{Slot}

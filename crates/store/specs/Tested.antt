@@ -1,25 +1,24 @@
 -- Bytes that pass the tests of length, name, edition and zero bits are exactly a store's, and that store can be held. Assumes nothing.
-use Prim.Native.Nat.{ℕ, zero, suc, _+_, _*_, _-_, _/_, _%_, _<_, _≤_, _^_}
-use mathlib.Core.Bool.{Bool, true, false, _&&_}
+use Prim.Native.Nat.{ℕ, zero, suc, _+_, _*_, _-_, _%_, _<_, _≤_, _^_}
+use mathlib.Core.Bool.{Bool, true, _&&_}
 use mathlib.Core.Path.{_≡_, refl, ap, sym, _∙_}
-use mathlib.Core.List.{List, [], _∷_, _++_}
+use mathlib.Core.List.{List, [], _∷_}
 use mathlib.Core.Logic.{⊎-elim}
 use native.Mathlib.Omega.{arith}
 use native.Mathlib.Nat.{div-add-mod', mul-le-mul-right}
 use borrow.Author.Tests.{leb-true, eqb-true}
 use lib.Dec.{leb, eqb}
-use lib.ListN.{length, getD, take, drop, replicate, List·getD-eq-default}
+use lib.ListN.{length, getD, take, List·getD-eq-default}
 use lib.Seq.{getD-take}
 use Rattle.bits.specs.Laws.{field-byte}
 use Rattle.bits.specs.Put.{less}
 use Rattle.bits.specs.Lay.{Shows, part-bytes}
-use Rattle.model.specs.declared.Slot.{Slot}
 use Rattle.model.specs.Basic.{eqList}
 use Rattle.model.specs.Limits.{rootBits, editionOf}
 use Rattle.model.specs.Field.{field, Bytes}
-use Rattle.model.specs.Page.{Page, free}
-use Rattle.model.specs.Store.{Store, page}
-use Rattle.model.specs.Layout.{pageOf, readHeader, decodePage, countOf, decode, encode, sizeOf, magic, noSlot}
+use Rattle.model.specs.Page.{free}
+use Rattle.model.specs.Store.{page}
+use Rattle.model.specs.Layout.{pageOf, readHeader, decode, sizeOf, magic}
 use Rattle.model.specs.Clean.{cleanPage, cleanPages, cleanFront, clean}
 use Rattle.model.specs.Judged.{lengthOk, magicOk, editionOk}
 use Rattle.model.proofs.Lists.{both-true}
@@ -29,7 +28,7 @@ use Rattle.store.specs.Read.{size-is, front-free, front-five, count-page
 use Rattle.store.specs.Parts.{page-fits, length-page, page-take}
 use Rattle.store.specs.Slots.{slots-fit}
 use Rattle.store.specs.Header.{nameParts}
-use Rattle.store.specs.Exactly.{Exactly, encode-decode}
+use Rattle.store.specs.Exactly.{Exactly}
 use Rattle.store.specs.Holds.{Holds}
 
 -- ---- length

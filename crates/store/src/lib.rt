@@ -2,25 +2,20 @@
 use model::Header;
 use model::Limits;
 use model::Slot;
-use page::Head;
+
+mod make;
+
 ghost use mathlib.Core.Path.{_≡_};
-ghost use Prim.Native.Nat.{ℕ, _+_, _*_, _^_, _≤_, _<_};
+ghost use Prim.Native.Nat.{_+_, _*_, _^_, _≤_, _<_};
 ghost use lib.ListN.{length};
-ghost use mathlib.Core.List.{[], _∷_};
-ghost use Rattle.model.specs.Limits.{Edition, editionOf};
-ghost use Rattle.model.specs.Field.{lay, Bytes};
+ghost use Rattle.model.specs.Limits.{Edition};
+ghost use Rattle.model.specs.Field.{lay};
 ghost use Rattle.model.specs.Store.{fresh};
-ghost use Rattle.model.specs.Layout.{readHeader, readSlot, pageOf, withPage, sizeOf, bit, encode};
-ghost use Rattle.page.specs.Head.{putHead};
-ghost use Rattle.store.specs.Fresh.{rootHead};
+ghost use Rattle.model.specs.Layout.{readHeader, readSlot, pageOf, sizeOf, bit};
 ghost use Rattle.model.specs.Judged.{lengthOk, magicOk};
 ghost use Rattle.model.specs.Lent.{freshLent};
 ghost use Rattle.store.specs.Slots.{SlotFits, slotParts};
-ghost use Rattle.store.specs.Header.{HeaderFits, putHeader, namedBy};
-ghost use Rattle.store.specs.Tested.{Whole};
-
-// "End 1,048,575 means alive."
-const ALIVE: u32 = 1048575;
+ghost use Rattle.store.specs.Header.{HeaderFits, putHeader};
 
 // The number of pages that the length makes.
 pub fn size(s: &[u8], l: Limits) -> usize
@@ -105,19 +100,6 @@ pub fn part(s: &[u8], l: Limits, n: usize) -> &[u8]
     &s[a..a + l.bytes]
 }
 
-// Writes the four bytes of a store, and its edition.
-fn put_name(s: &mut [u8], edition: u8)
-    requires { ⌜ (5 ≤ length (now s)) × Bytes (now s) ⌝ }
-    ensures { λ _. ⌜ now (s .exit) ≡ lay (now (s .entry)) 0 (namedBy edition) ⌝ }
-{
-    let name = b"RCST";
-    s[0] = name[0];
-    s[1] = name[1];
-    s[2] = name[2];
-    s[3] = name[3];
-    s[4] = edition;
-}
-
 fn flag(b: bool) -> u64
     ensures { λ r. ⌜ r ≡ bit b ⌝ }
 {
@@ -145,54 +127,6 @@ pub fn put_slot(s: &mut [u8], l: Limits, i: usize, x: Slot)
     bits::put_field(s, o + 20, 12, x.root as u64);
 }
 
-// Page 5 of a fresh store: a leaf of version 0 with no entry.
-fn put_root(s: &mut [u8], l: Limits)
-    requires { ⌜ Edition l × (6 * (64 * l .least) ≤ length (now s)) × (length (now s) ≤ 2 ^ 40) ⌝ }
-    ensures { λ _. ⌜ now (s .exit) ≡ withPage (l .least) (now (s .entry)) 5 (putHead (l .least) (pageOf (l .least) (now (s .entry)) 5) rootHead) ⌝ }
-{
-    let a = offset(l, 5);
-    page::put_head(
-        &mut s[a..a + l.bytes],
-        l,
-        Head {
-            level: 1,
-            count: 0,
-            start: 0,
-            end: ALIVE,
-        },
-    );
-}
-
-// Makes the fresh store of an edition, from any bytes.
-fn make(s: &mut [u8], l: Limits, edition: u8)
-    requires { ⌜ Edition l × (edition ≡ editionOf (l .least)) × Whole (l .least) (now s) ⌝ }
-    ensures { λ _. ⌜ now (s .exit) ≡ encode (l .least) (fresh (sizeOf (l .least) (now (s .entry)))) ⌝ }
-{
-    let n = size(s, l);
-    page::clear(s);
-    put_name(s, edition);
-    put_header(
-        s,
-        l,
-        Header {
-            pages: n as u32,
-            current: 0,
-            opened: false,
-            roots: 1,
-        },
-    );
-    put_slot(
-        s,
-        l,
-        0,
-        Slot {
-            version: 0,
-            root: 5,
-        },
-    );
-    put_root(s, l);
-}
-
 // Making fresh: 1 for a length that is not 6 to 4,096 whole pages, and then not a byte changes.
 pub fn fresh(s: &mut [u8]) -> u32
     ensures { λ r. ⌜ (r ≡ freshLent 4 (now (s .entry)) .number) × (now (s .exit) ≡ freshLent 4 (now (s .entry)) .store) ⌝ }
@@ -201,6 +135,6 @@ pub fn fresh(s: &mut [u8]) -> u32
     if !whole(s, l) {
         return 1;
     }
-    make(s, l, 1);
+    make::make(s, l, 1);
     0
 }

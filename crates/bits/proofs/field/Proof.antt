@@ -1,17 +1,11 @@
-use Prim.Native.Nat.{_≤_, _<_, _-_, _^_, _+_, _*_, _/_, _%_, suc}
-use mathlib.Core.Path.{_≡_, refl, ap, sym, _∙_}
+-- `bits::field` meets its contract: after i turns r is the field of the first i bits. Assumes nothing.
+use Prim.Native.Nat.{_≤_, _-_, _+_, _*_}
+use mathlib.Core.Path.{_≡_, ap, _∙_}
 use native.Mathlib.Omega.{arith}
-use native.Mathlib.Nat.{two-pow-succ}
-use native.Mathlib.Numerals.{add-one}
-use lib.Pow.{pow-mono}
-use lib.ListN.{length}
 use Rattle.model.specs.Field.{field as fieldOf, bitAt}
 use Rattle.bits.specs.Laws.{field-fits, field-more}
 use Rattle.bits.proofs.field.Statement.{statement}
 use Rattle.bits.proofs.field.Tie as tie
-use Rattle.bits.proofs.field.Reads as reads
-use Rattle.bits.proofs.field.Lts as lts
-use Rattle.bits.proofs.bit.Reads as bit-reads
 
 abbrev Inv-loop : tie.InvT-loop
 Inv-loop s at width r₀ i₀ r i = (i ≤ width) × (r ≡ fieldOf s at i)
@@ -19,26 +13,21 @@ Inv-loop s at width r₀ i₀ r i = (i ≤ width) × (r ≡ fieldOf s at i)
 abbrev μ-loop : tie.MeasureT-loop
 μ-loop s at width r₀ i₀ r i = width - i
 
--- src/lib.rt:22:5
 loop-holds : tie.Need-loop-holds Inv-loop μ-loop
 unfolding fieldOf
 loop-holds c = omega arith
 
--- src/lib.rt:23:17
 add-k : tie.Need-add-k Inv-loop μ-loop
 add-k c = omega arith
 
--- src/lib.rt:24:17
 shared-slice-read-b : tie.Need-shared-slice-read-b Inv-loop μ-loop
 shared-slice-read-b c = omega arith
 
--- src/lib.rt:25:13
 mul-r : tie.Need-mul-r Inv-loop μ-loop
 mul-r c =
     let l = c .before .before .loop in let a = c .before .before .before .before .args in
     omega (arith, field-more (a .s .now) (a .at) (l .i), field-fits (a .s .now) (a .at) (l .i + 1) (omega arith))
 
--- src/lib.rt:25:21
 bit-requires : tie.Need-bit-requires Inv-loop μ-loop
 bit-requires c κs = omega arith
 
@@ -49,25 +38,20 @@ step c =
     let l = c .before .before .before .loop in let a = c .before .before .before .before .before .args in
     rw (c .bit .ensures, l .inv .1) (field-more (a .s .now) (a .at) (l .i))
 
--- src/lib.rt:25:13
 add-r : tie.Need-add-r Inv-loop μ-loop
 add-r c =
     let l = c .before .before .before .loop in let a = c .before .before .before .before .before .args in
     omega (arith, step c, field-fits (a .s .now) (a .at) (l .i + 1) (omega arith))
 
--- src/lib.rt:26:9
 add-i : tie.Need-add-i Inv-loop μ-loop
 add-i c = omega arith
 
--- src/lib.rt:22:5
 loop-less : tie.Need-loop-less Inv-loop μ-loop
 loop-less c = omega arith
 
--- src/lib.rt:22:5
 loop-again : tie.Need-loop-again Inv-loop μ-loop
 loop-again c = (omega arith, step c)
 
--- src/lib.rt:16:1
 returns : tie.Need-returns Inv-loop μ-loop
 returns c =
     let e : c .before .loop .i ≡ c .before .before .before .args .width = omega arith in

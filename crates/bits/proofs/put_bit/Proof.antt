@@ -1,7 +1,7 @@
 -- `bits::put_bit` meets its contract: its value is `putBit`'s, which is a byte. Assumes nothing.
 use borrow.Author.Needs.{needs}
-use Prim.Native.Nat.{_<_, _-_, _^_, _+_, _*_, _/_, _%_}
-use mathlib.Core.Path.{_≡_, refl}
+use Prim.Native.Nat.{_<_, _-_, _+_, _*_, _/_, _%_}
+use mathlib.Core.Path.{_≡_}
 use native.Mathlib.Omega.{arith}
 use native.Mathlib.Nat.{div-le-self}
 use lib.Pow.{pow-pos}

@@ -1,5 +1,6 @@
-use Prim.Native.Nat.{ℕ, _≤_, _<_, _-_, _^_, _+_, _*_, _/_, _%_, suc}
-use mathlib.Core.Path.{_≡_, refl, ap, sym, _∙_}
+-- `bits::put_field` meets its contract: after i turns the first i bits of the number stand there. Assumes nothing.
+use Prim.Native.Nat.{_≤_, _-_, _^_, _/_}
+use mathlib.Core.Path.{_≡_, refl, ap, _∙_}
 use native.Mathlib.Omega.{arith}
 use lib.Pow.{pow-pos}
 use lib.ListN.{length, length-set}
@@ -7,10 +8,6 @@ use Rattle.model.specs.Field.{putField, setBit}
 use Rattle.bits.specs.Put.{put-more, put-all}
 use Rattle.bits.proofs.put_field.Statement.{statement}
 use Rattle.bits.proofs.put_field.Tie as tie
-use Rattle.bits.proofs.put_field.Reads as reads
-use Rattle.bits.proofs.put_field.Lts as lts
-use Rattle.bits.proofs.power.Reads as power-reads
-use Rattle.bits.proofs.put_bit.Reads as put-bit-reads
 
 abbrev Inv-loop : tie.InvT-loop
 Inv-loop s₀ at width v i₀ s i = (i ≤ width) × (length s ≡ length s₀) × (s ≡ putField s₀ at i (v / 2 ^ (width - i)))
@@ -18,64 +15,50 @@ Inv-loop s₀ at width v i₀ s i = (i ≤ width) × (length s ≡ length s₀) 
 abbrev μ-loop : tie.MeasureT-loop
 μ-loop s₀ at width v i₀ s i = width - i
 
--- src/lib.rt:79:5
 loop-holds : tie.Need-loop-holds Inv-loop μ-loop
 unfolding putField
 loop-holds c = (omega arith, refl, refl)
 
--- src/lib.rt:80:17
 add-k : tie.Need-add-k Inv-loop μ-loop
 add-k c = omega arith
 
--- src/lib.rt:82:24
 slice-read-put-bit : tie.Need-slice-read-put-bit Inv-loop μ-loop
 slice-read-put-bit c = omega arith
 
--- src/lib.rt:82:47
 sub-power : tie.Need-sub-power Inv-loop μ-loop
 sub-power c = omega arith
 
--- src/lib.rt:82:47
 sub-power-2 : tie.Need-sub-power-2 Inv-loop μ-loop
 sub-power-2 c = omega arith
 
--- src/lib.rt:82:41
 power-requires : tie.Need-power-requires Inv-loop μ-loop
 power-requires c κs = omega arith
 
--- src/lib.rt:82:37
 div-put-bit : tie.Need-div-put-bit Inv-loop μ-loop
 div-put-bit c =
     rw (c .power .ensures) (pow-pos _)
 
--- src/lib.rt:82:16
 put-bit-requires : tie.Need-put-bit-requires Inv-loop μ-loop
 put-bit-requires c κs = omega arith
 
--- src/lib.rt:82:9
 slice-write-s : tie.Need-slice-write-s Inv-loop μ-loop
 slice-write-s c = omega arith
 
--- src/lib.rt:83:9
 add-i : tie.Need-add-i Inv-loop μ-loop
 add-i c = omega arith
 
--- src/lib.rt:79:5
 loop-less : tie.Need-loop-less Inv-loop μ-loop
 loop-less c = omega arith
 
--- src/lib.rt:79:5
 loop-again : tie.Need-loop-again Inv-loop μ-loop
 unfolding setBit
 loop-again c =
     let l = c .before .before .before .before .loop in let a = c .before .before .before .before .before .before .args in
     (omega arith, simp length-set (l .inv .1), rw (c .put-bit .ensures, c .before .power .ensures, l .inv .2) (put-more (a .s .now) (a .at) (l .i) (a .width) (a .v) (omega arith)))
 
--- src/lib.rt:74:1
 same-length : tie.Need-same-length Inv-loop μ-loop
 same-length c = omega arith
 
--- src/lib.rt:74:1
 returns : tie.Need-returns Inv-loop μ-loop
 returns c =
     let l = c .before .loop in let a = c .before .before .before .args in

@@ -1,23 +1,17 @@
-use Rattle.model.specs.declared.Pair.{Pair}
-use Prim.Native.Nat.{ℕ, _≤_, _<_, _-_, _^_, _+_, _*_, suc}
-use mathlib.Core.Path.{_≡_, refl, ap, sym, _∙_}
+-- `edit::fill` meets its contract: after k turns the first k pairs stand in a page of zeros. Assumes nothing.
+use Prim.Native.Nat.{ℕ, _≤_, _-_, _+_, _*_}
+use mathlib.Core.Path.{_≡_, ap, _∙_}
 use mathlib.Core.List.{List}
 use native.Mathlib.Omega.{arith}
 use Rattle.model.specs.Field.{zeros}
-use Rattle.bits.specs.Lay.{length-zeros}
-use Rattle.page.specs.Head.{HeadFits, putHead}
+use Rattle.page.specs.Head.{putHead}
 use Rattle.page.specs.Editions.{count-bits}
 use Rattle.edit.specs.Fill.{nil, Fitting, filling, fillHead, filling-start, filling-step, filling-end}
 use lib.Seq.{getD-drop}
-use lib.ListN.{length, getD, take, drop, length-drop}
+use lib.ListN.{length, getD, drop, length-drop}
 use borrow.Author.Needs.{needs}
 use Rattle.edit.proofs.fill.Statement.{statement}
 use Rattle.edit.proofs.fill.Tie as tie
-use Rattle.edit.proofs.fill.Reads as reads
-use Rattle.edit.proofs.fill.Lts as lts
-use Rattle.page.proofs.clear.Reads as clear-reads
-use Rattle.page.proofs.put_entry.Reads as put-entry-reads
-use Rattle.page.proofs.put_head.Reads as put-head-reads
 
 abbrev Inv-loop : tie.InvT-loop
 Inv-loop page₀ l level w from n list k₀ page k = (k ≤ n) × (length page ≡ 64 * l .least) × (page ≡ filling (l .least) w (drop from list) k)
@@ -25,43 +19,34 @@ Inv-loop page₀ l level w from n list k₀ page k = (k ≤ n) × (length page �
 abbrev μ-loop : tie.MeasureT-loop
 μ-loop page₀ l level w from n list k₀ page k = n - k
 
--- src/lib.rt:286:5
 clear-requires : tie.Need-clear-requires Inv-loop μ-loop
 clear-requires c κs = search needs
 
--- src/lib.rt:288:5
 loop-holds : tie.Need-loop-holds Inv-loop μ-loop
 loop-holds c =
     let a = c .before .before .before .before .before .args in let d = c .before .before .before .before .before .pre .0 in
     (omega arith, omega (arith, c .before .before .clear .kept .0, c .before .before .before .before .before .pre .1), c .before .before .clear .ensures ∙ ap zeros (c .before .before .before .before .before .pre .1) ∙ filling-start (a .l .least) (d .four) (d .eight) (a .w) (drop (a .from) (a .t5)))
 
--- src/lib.rt:289:22
 add-x : tie.Need-add-x Inv-loop μ-loop
 add-x c = search needs
 
--- src/lib.rt:289:17
 mul-x : tie.Need-mul-x Inv-loop μ-loop
 mul-x c = search needs
 
--- src/lib.rt:289:17
 array-copy-out-x : tie.Need-array-copy-out-x Inv-loop μ-loop
 array-copy-out-x c = search needs
 
--- src/lib.rt:290:9
 put-entry-requires : tie.Need-put-entry-requires Inv-loop μ-loop
 put-entry-requires c κs =
     let f : Fitting (getD (c .before .before .before .before .before .before .before .before .before .args .t5) (c .before .before .before .before .before .before .before .before .before .args .from + c .before .before .before .loop .k) nil) = c .before .before .before .before .before .before .before .before .before .pre .6 (c .before .before .before .before .before .before .before .before .before .args .from + c .before .before .before .loop .k) in
     (omega (arith, c .before .before .before .before .before .before .before .before .before .pre .0 .four, c .before .before .before .before .before .before .before .before .before .pre .4), omega (arith, c .before .before .before .before .before .before .before .before .before .pre .0 .eight), record { key = f .key; start = c .before .before .before .before .before .before .before .before .before .pre .3; end = omega arith; value = f .value })
 
--- src/lib.rt:300:9
 add-k : tie.Need-add-k Inv-loop μ-loop
 add-k c = search needs
 
--- src/lib.rt:288:5
 loop-less : tie.Need-loop-less Inv-loop μ-loop
 loop-less c = omega arith
 
--- src/lib.rt:288:5
 loop-again : tie.Need-loop-again Inv-loop μ-loop
 loop-again c =
     let a = c .before .before .before .before .before .before .before .before .before .before .before .before .args in let d = c .before .before .before .before .before .before .before .before .before .before .before .before .pre .0 in let l = c .before .before .before .before .before .before .loop in
@@ -74,17 +59,14 @@ loop-again c =
           (getD-drop (a .from) (a .t5) (l .k) nil) f),
     )
 
--- src/lib.rt:302:5
 put-head-requires : tie.Need-put-head-requires Inv-loop μ-loop
 put-head-requires c κs =
     let a = c .before .before .before .before .before .before .before .before .args in let d = c .before .before .before .before .before .before .before .before .pre .0 in
     (d, record { level = c .before .before .before .before .before .before .before .before .pre .2; count = omega (arith, c .before .before .before .before .before .before .before .before .pre .4, count-bits (a .l .least) (d .eight)); start = c .before .before .before .before .before .before .before .before .pre .3; end = omega arith }, omega (arith, d .four), omega (arith, d .eight))
 
--- src/lib.rt:282:1
 same-length : tie.Need-same-length Inv-loop μ-loop
 same-length c = omega (arith, c .before .before .put-head .kept .0, c .before .before .before .before .before .before .before .before .before .before .before .pre .1)
 
--- src/lib.rt:282:1
 returns : tie.Need-returns Inv-loop μ-loop
 returns c =
     let a = c .before .before .before .before .before .before .before .before .before .before .before .args in let d = c .before .before .before .before .before .before .before .before .before .before .before .pre .0 in let l = c .before .before .before .before .before .loop in

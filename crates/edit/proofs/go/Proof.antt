@@ -1,3 +1,4 @@
+-- `edit::go` meets its contract: an active page is cleared, another sifted. Assumes nothing.
 use Rattle.edit.specs.Same.{gone-yes, gone-no}
 use Rattle.page.specs.Exact.{free-zeros}
 use Rattle.page.specs.Read.{start-of}
@@ -5,44 +6,32 @@ use Rattle.page.specs.declared.Head.{Head}
 use Rattle.model.specs.Layout.{encodePage, decodePage}
 use Rattle.model.specs.Field.{zeros}
 use native.Mathlib.Omega.{arith}
-use mathlib.Core.Path.{_≡_, refl, ap, sym, _∙_}
+use mathlib.Core.Path.{ap, sym, _∙_}
 use borrow.Author.Needs.{needs}
 use Rattle.edit.proofs.go.Statement.{statement}
 use Rattle.edit.proofs.go.Tie as tie
-use Rattle.edit.proofs.go.Reads as reads
-use Rattle.edit.proofs.go.Lts as lts
-use Rattle.edit.proofs.sift.Reads as sift-reads
-use Rattle.page.proofs.clear.Reads as clear-reads
-use Rattle.page.proofs.head_of.Reads as head-of-reads
 
--- src/lib.rt:189:9
 head-of-requires : tie.Need-head-of-requires
 head-of-requires c κs = (c .before .before .pre .0, omega (arith, c .before .before .pre .0 .four, c .before .before .pre .1 .size), omega (arith, c .before .before .pre .0 .eight, c .before .before .pre .1 .size))
 
--- src/lib.rt:191:9
 clear-requires : tie.Need-clear-requires
 clear-requires c κs = search needs
 
--- src/lib.rt:193:9
 sift-requires : tie.Need-sift-requires
 sift-requires c κs = search needs
 
--- src/lib.rt:185:1
 same-length : tie.Need-same-length
 same-length c = search needs
 
--- src/lib.rt:185:1
 returns : tie.Need-returns
 returns c =
     let a = c .before .before .before .before .before .before .before .before .before .args in let d = c .before .before .before .before .before .before .before .before .before .pre .0 in
     let e = start-of (a .l .least) (a .page .now) ∙ sym (ap (λ (h : Head). h .start) (c .before .before .before .before .before .before .head-of .ensures)) ∙ c .before .before .before .before .if1 .taken in
     c .before .before .clear .ensures ∙ ap zeros (c .before .before .before .before .before .before .before .before .before .pre .1 .size) ∙ sym (free-zeros (a .l .least) (d .four) (d .eight)) ∙ sym (ap (encodePage (a .l .least)) (gone-yes (a .w) (decodePage (a .l .least) (a .page .now)) e))
 
--- src/lib.rt:185:1
 same-length-2 : tie.Need-same-length-2
 same-length-2 c = search needs
 
--- src/lib.rt:185:1
 returns-2 : tie.Need-returns-2
 returns-2 c =
     let a = c .before .before .before .before .before .before .before .before .before .args in

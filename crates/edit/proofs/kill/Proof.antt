@@ -1,22 +1,17 @@
+-- `edit::kill` meets its contract: a page sifted by the rule that ends all that lives. Assumes nothing.
 use Rattle.edit.specs.Same.{killed-is}
 use Rattle.model.specs.Layout.{encodePage}
-use mathlib.Core.Path.{_≡_, refl, ap, sym, _∙_}
+use mathlib.Core.Path.{ap, _∙_}
 use borrow.Author.Needs.{needs}
 use Rattle.edit.proofs.kill.Statement.{statement}
 use Rattle.edit.proofs.kill.Tie as tie
-use Rattle.edit.proofs.kill.Reads as reads
-use Rattle.edit.proofs.kill.Lts as lts
-use Rattle.edit.proofs.sift.Reads as sift-reads
 
--- src/lib.rt:186:5
 sift-requires : tie.Need-sift-requires
 sift-requires c κs = search needs
 
--- src/lib.rt:182:1
 same-length : tie.Need-same-length
 same-length c = search needs
 
--- src/lib.rt:182:1
 returns : tie.Need-returns
 returns c = c .before .before .sift .ensures ∙ ap (encodePage _) (killed-is _ _)
 

@@ -1,18 +1,13 @@
+-- `edit::take_change` meets its contract: the ends, then each pair that enters. Assumes nothing.
 use Rattle.edit.specs.Change.{first, second, third, third-is, first-valid, first-room, second-valid, second-room}
-use Rattle.page.specs.Exact.{Valid, Exact, valid-read, encode-exact, encode-count, decode-encode}
-use Rattle.model.specs.Layout.{countOf, encodePage, decodePage}
+use Rattle.page.specs.Exact.{Valid, valid-read, encode-exact, encode-count, decode-encode}
+use Rattle.model.specs.Layout.{encodePage, decodePage}
 use native.Mathlib.Omega.{arith}
-use mathlib.Core.Path.{_≡_, refl, ap, sym, _∙_}
-use Prim.Native.Nat.{ℕ, _≤_, _<_, _-_, _^_, _+_, _*_, suc}
+use mathlib.Core.Path.{_≡_, ap, _∙_}
 use borrow.Author.Needs.{needs}
 use Rattle.edit.proofs.take_change.Statement.{statement}
 use Rattle.edit.proofs.take_change.Tie as tie
-use Rattle.edit.proofs.take_change.Reads as reads
-use Rattle.edit.proofs.take_change.Lts as lts
-use Rattle.edit.proofs.enter_if.Reads as enter-if-reads
-use Rattle.edit.proofs.sift.Reads as sift-reads
 
--- src/lib.rt:267:5
 sift-requires : tie.Need-sift-requires
 sift-requires c κs = search needs
 
@@ -25,7 +20,6 @@ one-valid c =
     let s = c .before .before .before in let a = s .args in
     first-valid (a .l .least) (a .w) (a .c) (decodePage (a .l .least) (a .page .now)) (valid-read (a .l .least) (a .page .now) (s .pre .1 .room)) (s .pre .2) (s .pre .3) (omega (arith, s .good .1 .1 .1 .0)) (s .pre .5)
 
--- src/lib.rt:277:5
 enter-if-requires : tie.Need-enter-if-requires
 enter-if-requires c κs =
     let a = c .before .before .before .before .before .before .before .args in let d = c .before .before .before .before .before .before .before .pre .0 in let least = a .l .least in
@@ -49,7 +43,6 @@ two-ends c =
     let f = c .before .before .before .before .before in
     c .enter-if .ensures ∙ rw (one-ends f, decode-encode (a .l .least) (d .four) (d .eight) q (one-valid f))
 
--- src/lib.rt:278:5
 enter-if-requires-2 : tie.Need-enter-if-requires-2
 enter-if-requires-2 c κs =
     let a = c .before .before .before .before .before .before .before .before .before .before .before .before .args in let d = c .before .before .before .before .before .before .before .before .before .before .before .before .pre .0 in let least = a .l .least in
@@ -64,11 +57,9 @@ enter-if-requires-2 c κs =
       c .before .before .before .before .before .before .before .before .before .before .before .before .pre .4,
     )
 
--- src/lib.rt:263:1
 same-length : tie.Need-same-length
 same-length c = search needs
 
--- src/lib.rt:263:1
 returns : tie.Need-returns
 unfolding third
 returns c =

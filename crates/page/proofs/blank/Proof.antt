@@ -1,15 +1,12 @@
+-- `page::blank` meets its contract: after each turn one entry more is unused. Assumes nothing.
 use Rattle.page.specs.Stage.{blanked, blanked-more, blanked-none}
 use Rattle.page.specs.Read.{sized-unused}
 use lib.ListN.{length}
 use native.Mathlib.Omega.{arith}
-use mathlib.Core.Path.{_≡_, refl, ap, sym, _∙_}
-use Prim.Native.Nat.{ℕ, _≤_, _+_, _-_, _^_}
-use borrow.Author.Needs.{needs}
+use mathlib.Core.Path.{_≡_, refl, ap, _∙_}
+use Prim.Native.Nat.{ℕ, _≤_, _-_}
 use Rattle.page.proofs.blank.Statement.{statement}
 use Rattle.page.proofs.blank.Tie as tie
-use Rattle.page.proofs.blank.Reads as reads
-use Rattle.page.proofs.blank.Lts as lts
-use Rattle.page.proofs.put_entry.Reads as put-entry-reads
 
 abbrev Inv-loop : tie.InvT-loop
 Inv-loop page₀ j n k₀ page k = (j ≤ k) × (k ≤ n) × (length page ≡ length page₀) × (page ≡ blanked page₀ j (k - j))
@@ -17,32 +14,25 @@ Inv-loop page₀ j n k₀ page k = (j ≤ k) × (k ≤ n) × (length page ≡ le
 abbrev μ-loop : tie.MeasureT-loop
 μ-loop page₀ j n k₀ page k = n - k
 
--- src/lib.rt:100:5
 loop-holds : tie.Need-loop-holds Inv-loop μ-loop
 loop-holds c = (omega arith, omega arith, refl, blanked-none (c .before .args .page .now) (c .before .args .j))
 
--- src/lib.rt:101:9
 put-entry-requires : tie.Need-put-entry-requires Inv-loop μ-loop
 put-entry-requires c κs = (omega arith, omega arith, sized-unused)
 
--- src/lib.rt:111:9
 add-k : tie.Need-add-k Inv-loop μ-loop
 add-k c = omega arith
 
--- src/lib.rt:100:5
 loop-less : tie.Need-loop-less Inv-loop μ-loop
 loop-less c = omega arith
 
--- src/lib.rt:100:5
 loop-again : tie.Need-loop-again Inv-loop μ-loop
 loop-again c =
     (omega arith, omega arith, omega (arith, c .before .before .put-entry .kept .0), c .before .before .put-entry .ensures ∙ rw (c .before .before .before .before .before .loop .inv .3) (blanked-more (c .before .before .before .before .before .before .before .args .page .now) (c .before .before .before .before .before .before .before .args .j) (c .before .before .before .before .before .loop .k) (omega arith)))
 
--- src/lib.rt:95:1
 same-length : tie.Need-same-length Inv-loop μ-loop
 same-length c = omega arith
 
--- src/lib.rt:95:1
 returns : tie.Need-returns Inv-loop μ-loop
 returns c = let e : c .before .loop .k ≡ c .before .before .before .args .n = omega arith in c .before .loop .inv .3 ∙ ap (λ (k : ℕ). blanked (c .before .before .before .args .page .now) (c .before .before .before .args .j) (k - c .before .before .before .args .j)) e
 

@@ -1,15 +1,13 @@
+-- `page::clear` meets its contract: after i turns the first i bytes are zero. Assumes nothing.
 use Rattle.model.specs.Field.{zeros}
 use lib.ListN.{length, drop, replicate, length-set, drop-of-length-le}
 use borrow.Author.Fill.{fill-more}
 use native.Mathlib.Omega.{arith}
 use mathlib.Core.List.{List, _++_, append-nil}
-use mathlib.Core.Path.{_≡_, refl, ap, sym, _∙_}
+use mathlib.Core.Path.{_≡_, refl, ap, _∙_}
 use Prim.Native.Nat.{ℕ, _≤_, _-_}
-use borrow.Author.Needs.{needs}
 use Rattle.page.proofs.clear.Statement.{statement}
 use Rattle.page.proofs.clear.Tie as tie
-use Rattle.page.proofs.clear.Reads as reads
-use Rattle.page.proofs.clear.Lts as lts
 
 abbrev Inv-loop : tie.InvT-loop
 Inv-loop page₀ n i₀ page i = (i ≤ n) × (n ≡ length page₀) × (length page ≡ n) × (page ≡ replicate i 0 ++ drop i page₀)
@@ -17,31 +15,24 @@ Inv-loop page₀ n i₀ page i = (i ≤ n) × (n ≡ length page₀) × (length 
 abbrev μ-loop : tie.MeasureT-loop
 μ-loop page₀ n i₀ page i = n - i
 
--- src/lib.rt:64:5
 loop-holds : tie.Need-loop-holds Inv-loop μ-loop
 loop-holds c = (omega arith, refl, refl, refl)
 
--- src/lib.rt:65:9
 slice-write-page : tie.Need-slice-write-page Inv-loop μ-loop
 slice-write-page c = omega arith
 
--- src/lib.rt:66:9
 add-i : tie.Need-add-i Inv-loop μ-loop
 add-i c = omega arith
 
--- src/lib.rt:64:5
 loop-less : tie.Need-loop-less Inv-loop μ-loop
 loop-less c = omega arith
 
--- src/lib.rt:64:5
 loop-again : tie.Need-loop-again Inv-loop μ-loop
 loop-again c = (omega arith, c .before .loop .inv .1, simp length-set (c .before .loop .inv .2), rw (c .before .loop .inv .3) (fill-more (c .before .loop .i) 0 (c .before .before .args .page .now) (omega arith)))
 
--- src/lib.rt:59:1
 same-length : tie.Need-same-length Inv-loop μ-loop
 same-length c = omega arith
 
--- src/lib.rt:59:1
 returns : tie.Need-returns Inv-loop μ-loop
 unfolding zeros
 returns c =

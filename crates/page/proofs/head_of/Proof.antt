@@ -1,3 +1,4 @@
+-- `page::head_of` meets its contract: the four fields are read at the widths of the limits. Assumes nothing.
 use Rattle.page.specs.Editions.{counter-is, counter-counts}
 use Rattle.page.specs.Head.{readHead}
 use Rattle.model.specs.Layout.{countOf}
@@ -5,40 +6,28 @@ use native.Mathlib.Omega.{arith}
 use borrow.Author.Needs.{needs}
 use Rattle.page.proofs.head_of.Statement.{statement}
 use Rattle.page.proofs.head_of.Tie as tie
-use Rattle.page.proofs.head_of.Reads as reads
-use Rattle.page.proofs.head_of.Lts as lts
-use Rattle.bits.proofs.field.Reads as field-reads
-use Rattle.page.proofs.wide.Reads as wide-reads
 
--- src/lib.rt:32:16
 field-requires : tie.Need-field-requires
 field-requires c κs = search needs
 
--- src/lib.rt:33:21
 field-requires-2 : tie.Need-field-requires-2
 field-requires-2 c κs = omega (arith, counter-counts (c .before .before .pre .0))
 
--- src/lib.rt:33:16
 wide-requires : tie.Need-wide-requires
 wide-requires c κs = search needs
 
--- src/lib.rt:34:34
 add-field : tie.Need-add-field
 add-field c = omega (arith, counter-counts (c .before .before .before .before .pre .0))
 
--- src/lib.rt:34:16
 field-requires-3 : tie.Need-field-requires-3
 field-requires-3 c κs = omega (arith, counter-counts (c .before .before .before .before .pre .0))
 
--- src/lib.rt:35:32
 add-field-2 : tie.Need-add-field-2
 add-field-2 c = omega (arith, counter-counts (c .before .before .before .before .before .pre .0))
 
--- src/lib.rt:35:14
 field-requires-4 : tie.Need-field-requires-4
 field-requires-4 c κs = omega (arith, counter-counts (c .before .before .before .before .before .pre .0))
 
--- src/lib.rt:26:1
 returns : tie.Need-returns
 unfolding readHead countOf
 returns c = rw (← counter-is (c .before .before .before .before .before .before .pre .0)) cc

@@ -1,9 +1,10 @@
+-- `page::insert_entry` meets its contract: before turn k the first k entries are those wanted, and x is the next of them. Assumes nothing.
 use Rattle.page.specs.Insert.{insertAt, more, insert-here, insert-next, wanted-sized, wanted-length, insert-start, insert-step, insert-end}
 use Rattle.page.specs.Stage.{staged, entriesIn, staged-read, count}
 use Rattle.page.specs.Editions.{count-bits}
 use Rattle.page.specs.Front.{read-fits}
-use Rattle.page.specs.Read.{Sized, count-of}
-use Rattle.page.specs.Head.{readHead, putHead, HeadFits}
+use Rattle.page.specs.Read.{count-of}
+use Rattle.page.specs.Head.{putHead, HeadFits}
 use Rattle.page.specs.declared.Head.{Head}
 use Rattle.model.specs.Layout.{unused, countOf}
 use Rattle.model.specs.declared.Entry.{Entry}
@@ -12,16 +13,9 @@ use lib.Seq.{length-take-le}
 use native.Mathlib.Omega.{arith}
 use mathlib.Core.List.{List}
 use mathlib.Core.Path.{_≡_, refl, ap, sym, _∙_}
-use Prim.Native.Nat.{ℕ, _≤_, _<_, _+_, _*_, _-_, _^_}
-use borrow.Author.Needs.{needs}
+use Prim.Native.Nat.{ℕ, _≤_, _+_, _-_}
 use Rattle.page.proofs.insert_entry.Statement.{statement}
 use Rattle.page.proofs.insert_entry.Tie as tie
-use Rattle.page.proofs.insert_entry.Reads as reads
-use Rattle.page.proofs.insert_entry.Lts as lts
-use Rattle.page.proofs.entry_at.Reads as entry-at-reads
-use Rattle.page.proofs.head_of.Reads as head-of-reads
-use Rattle.page.proofs.put_entry.Reads as put-entry-reads
-use Rattle.page.proofs.put_head.Reads as put-head-reads
 
 abbrev Inv-loop : tie.InvT-loop
 Inv-loop page₀ l i h count x₀ k₀ page x k =
@@ -32,14 +26,12 @@ Inv-loop page₀ l i h count x₀ k₀ page x k =
 abbrev μ-loop : tie.MeasureT-loop
 μ-loop page₀ l i h count x₀ k₀ page x k = count - k
 
--- src/lib.rt:120:9
 head-of-requires : tie.Need-head-of-requires Inv-loop μ-loop
 head-of-requires c κs = (c .before .before .pre .0, omega (arith, c .before .before .pre .0 .four, c .before .before .pre .1 .size), omega (arith, c .before .before .pre .0 .eight, c .before .before .pre .1 .size))
 
 counted : (c : tie.After-head-of Inv-loop μ-loop) → c .head-of .result .count ≡ countOf (c .before .before .before .args .l .least) (c .before .before .before .args .page .now)
 counted c = let a = c .before .before .before .args in ap (λ (h : Head). h .count) (c .head-of .ensures) ∙ sym (count-of (a .l .least) (a .page .now))
 
--- src/lib.rt:124:5
 loop-holds : tie.Need-loop-holds Inv-loop μ-loop
 loop-holds c =
     let a = c .before .before .before .args in let d = c .before .before .before .pre .0 in
@@ -52,11 +44,9 @@ loop-holds c =
       sym (insert-here (a .i) (a .e) (entriesIn (a .l .least) p) (omega (arith, c .before .before .before .pre .3, count (a .l .least) (d .four) (d .eight) p (c .before .before .before .pre .1)))),
     )
 
--- src/lib.rt:125:13
 entry-at-requires : tie.Need-entry-at-requires Inv-loop μ-loop
 entry-at-requires c κs = omega (arith, c .before .before .before .before .before .before .pre .1 .size, c .before .before .before .before .before .before .pre .2, c .before .before .before .before .before .before .pre .0 .four, c .before .before .before .before .before .before .pre .0 .eight, counted ((c .before .before .before)))
 
--- src/lib.rt:126:9
 put-entry-requires : tie.Need-put-entry-requires Inv-loop μ-loop
 put-entry-requires c κs =
     let a = c .before .before .before .before .before .before .before .before .args in let d = c .before .before .before .before .before .before .before .before .pre .0 in (
@@ -65,15 +55,12 @@ put-entry-requires c κs =
       rw (c .before .before .before .before .loop .inv .4) (wanted-sized (a .l .least) (d .four) (d .eight) (a .page .now) (c .before .before .before .before .before .before .before .before .pre .1) (a .i) (a .e) (c .before .before .before .before .before .before .before .before .pre .2) (c .before .before .before .before .before .before .before .before .pre .3) (c .before .before .before .before .before .before .before .before .pre .4) (c .before .before .before .before .loop .k)),
     )
 
--- src/lib.rt:128:9
 add-k : tie.Need-add-k Inv-loop μ-loop
 add-k c = omega arith
 
--- src/lib.rt:124:5
 loop-less : tie.Need-loop-less Inv-loop μ-loop
 loop-less c = omega arith
 
--- src/lib.rt:124:5
 loop-again : tie.Need-loop-again Inv-loop μ-loop
 loop-again c =
     let a = c .before .before .before .before .before .before .before .before .before .before .before .args in let d = c .before .before .before .before .before .before .before .before .before .before .before .pre .0 in let l = c .before .before .before .before .before .before .before .loop in
@@ -90,7 +77,6 @@ loop-again c =
           ∙ sym (insert-next (a .i) (l .k) (a .e) es (omega arith)),
     )
 
--- src/lib.rt:130:5
 put-entry-requires-2 : tie.Need-put-entry-requires-2 Inv-loop μ-loop
 put-entry-requires-2 c κs =
     let a = c .before .before .before .before .before .before .args in let d = c .before .before .before .before .before .before .pre .0 in (
@@ -99,11 +85,9 @@ put-entry-requires-2 c κs =
       rw (c .before .before .loop .inv .4) (wanted-sized (a .l .least) (d .four) (d .eight) (a .page .now) (c .before .before .before .before .before .before .pre .1) (a .i) (a .e) (c .before .before .before .before .before .before .pre .2) (c .before .before .before .before .before .before .pre .3) (c .before .before .before .before .before .before .pre .4) (c .before .before .loop .k)),
     )
 
--- src/lib.rt:136:20
 add-more : tie.Need-add-more Inv-loop μ-loop
 add-more c = omega (arith, c .before .before .before .before .before .before .before .before .before .pre .2, c .before .before .before .before .before .before .before .before .before .pre .0 .eight, counted ((c .before .before .before .before .before .before)))
 
--- src/lib.rt:131:5
 put-head-requires : tie.Need-put-head-requires Inv-loop μ-loop
 put-head-requires c κs =
     let a = c .before .before .before .before .before .before .before .before .before .before .args in let d = c .before .before .before .before .before .before .before .before .before .before .pre .0 in
@@ -115,11 +99,9 @@ put-head-requires c κs =
       omega (arith, c .before .before .before .before .before .before .before .before .before .before .pre .1 .size, d .eight, c .before .before .before .put-entry2 .kept .0),
     )
 
--- src/lib.rt:116:1
 same-length : tie.Need-same-length Inv-loop μ-loop
 same-length c = omega arith
 
--- src/lib.rt:116:1
 returns : tie.Need-returns Inv-loop μ-loop
 returns c =
     let a = c .before .before .before .before .before .before .before .before .before .before .before .before .before .args in let d = c .before .before .before .before .before .before .before .before .before .before .before .before .before .pre .0 in let l = c .before .before .before .before .before .before .before .before .before .loop in

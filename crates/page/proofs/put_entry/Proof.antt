@@ -1,3 +1,4 @@
+-- `page::put_entry` meets its contract: the four fields are laid one after the other. Assumes nothing.
 use Rattle.model.specs.Field.{lay}
 use native.Mathlib.Omega.{arith}
 use mathlib.Core.Path.{_≡_}
@@ -5,67 +6,49 @@ use Prim.Native.Nat.{_+_, _*_}
 use borrow.Author.Needs.{needs}
 use Rattle.page.proofs.put_entry.Statement.{statement}
 use Rattle.page.proofs.put_entry.Tie as tie
-use Rattle.page.proofs.put_entry.Reads as reads
-use Rattle.page.proofs.put_entry.Lts as lts
-use Rattle.bits.proofs.put_field.Reads as put-field-reads
 
--- src/lib.rt:87:19
 mul-o : tie.Need-mul-o
 mul-o c = search needs
 
--- src/lib.rt:87:13
 add-o : tie.Need-add-o
 add-o c = search needs
 
--- src/lib.rt:88:34
 cast-put-field : tie.Need-cast-put-field
 cast-put-field c = search needs
 
--- src/lib.rt:88:5
 put-field-requires : tie.Need-put-field-requires
 put-field-requires c κs = search needs
 
--- src/lib.rt:89:27
 add-put-field : tie.Need-add-put-field
 add-put-field c = search needs
 
--- src/lib.rt:89:39
 cast-put-field-2 : tie.Need-cast-put-field-2
 cast-put-field-2 c = search needs
 
--- src/lib.rt:89:5
 put-field-requires-2 : tie.Need-put-field-requires-2
 put-field-requires-2 c κs = search needs
 
--- src/lib.rt:90:27
 add-put-field-2 : tie.Need-add-put-field-2
 add-put-field-2 c = search needs
 
--- src/lib.rt:90:39
 cast-put-field-3 : tie.Need-cast-put-field-3
 cast-put-field-3 c = search needs
 
--- src/lib.rt:90:5
 put-field-requires-3 : tie.Need-put-field-requires-3
 put-field-requires-3 c κs = search needs
 
--- src/lib.rt:91:27
 add-put-field-3 : tie.Need-add-put-field-3
 add-put-field-3 c = search needs
 
--- src/lib.rt:91:39
 cast-put-field-4 : tie.Need-cast-put-field-4
 cast-put-field-4 c = search needs
 
--- src/lib.rt:91:5
 put-field-requires-4 : tie.Need-put-field-requires-4
 put-field-requires-4 c κs = search needs
 
--- src/lib.rt:83:1
 same-length : tie.Need-same-length
 same-length c = search needs
 
--- src/lib.rt:83:1
 returns : tie.Need-returns
 unfolding lay
 returns c =

@@ -1,30 +1,23 @@
+-- `store::header` meets its contract: the fields are read one by one. Assumes nothing.
 use Rattle.page.specs.Editions.{rooter-is, rooter-roots}
 use Rattle.model.specs.Layout.{readHeader}
 use native.Mathlib.Omega.{arith}
 use borrow.Author.Needs.{needs}
 use Rattle.store.proofs.header.Statement.{statement}
 use Rattle.store.proofs.header.Tie as tie
-use Rattle.store.proofs.header.Reads as reads
-use Rattle.store.proofs.header.Lts as lts
-use Rattle.bits.proofs.field.Reads as field-reads
 
--- src/lib.rt:16:9
 field-requires : tie.Need-field-requires
 field-requires c κs = search needs
 
--- src/lib.rt:18:16
 field-requires-2 : tie.Need-field-requires-2
 field-requires-2 c κs = search needs
 
--- src/lib.rt:19:18
 field-requires-3 : tie.Need-field-requires-3
 field-requires-3 c κs = search needs
 
--- src/lib.rt:21:16
 field-requires-4 : tie.Need-field-requires-4
 field-requires-4 c κs = omega (arith, rooter-roots (c .before .before .before .before .pre .0))
 
--- src/lib.rt:12:1
 returns : tie.Need-returns
 unfolding readHeader
 returns c = rw (← rooter-is (c .before .before .before .before .before .pre .0)) cc

@@ -1,16 +1,13 @@
+-- `store::named` meets its contract: before turn i the first i bytes are those of the name. Assumes nothing.
 use Rattle.store.specs.Answers.{name-same, name-other}
 use Rattle.model.specs.Layout.{magic}
 use borrow.Author.Count.{below-more}
-use lib.ListN.{length, getD}
+use lib.ListN.{getD}
 use native.Mathlib.Omega.{arith}
-use mathlib.Core.List.{List, [], _∷_}
-use mathlib.Core.Path.{_≡_, refl, ap, sym, _∙_}
-use Prim.Native.Nat.{ℕ, _≤_, _<_, _-_, _+_, _*_}
-use borrow.Author.Needs.{needs}
+use mathlib.Core.Path.{_≡_, refl, sym}
+use Prim.Native.Nat.{ℕ, _≤_, _<_, _-_}
 use Rattle.store.proofs.named.Statement.{statement}
 use Rattle.store.proofs.named.Tie as tie
-use Rattle.store.proofs.named.Reads as reads
-use Rattle.store.proofs.named.Lts as lts
 
 abbrev Inv-loop : tie.InvT-loop
 Inv-loop s name i₀ i = (i ≤ 4) × (name ≡ magic) × ((k : ℕ) → k < i → getD s k 0 ≡ getD name k 0)
@@ -18,35 +15,27 @@ Inv-loop s name i₀ i = (i ≤ 4) × (name ≡ magic) × ((k : ℕ) → k < i �
 abbrev μ-loop : tie.MeasureT-loop
 μ-loop s name i₀ i = 4 - i
 
--- src/lib.rt:55:5
 loop-holds : tie.Need-loop-holds Inv-loop μ-loop
 loop-holds c = (omega arith, refl, λ k h. absurd (omega arith))
 
--- src/lib.rt:56:12
 shared-slice-read-if1 : tie.Need-shared-slice-read-if1 Inv-loop μ-loop
 shared-slice-read-if1 c = omega arith
 
--- src/lib.rt:56:20
 element-copy-out-if1 : tie.Need-element-copy-out-if1 Inv-loop μ-loop
 element-copy-out-if1 c = omega arith
 
--- src/lib.rt:57:13
 returns : tie.Need-returns Inv-loop μ-loop
 returns c = sym (name-other (c .before .before .before .before .before .before .args .s .now) (c .before .before .before .before .loop .i) (omega arith) (c .if1 .taken))
 
--- src/lib.rt:59:9
 add-i : tie.Need-add-i Inv-loop μ-loop
 add-i c = omega arith
 
--- src/lib.rt:55:5
 loop-less : tie.Need-loop-less Inv-loop μ-loop
 loop-less c = omega arith
 
--- src/lib.rt:55:5
 loop-again : tie.Need-loop-again Inv-loop μ-loop
 loop-again c = (omega arith, refl, below-more _ _ (c .before .before .before .before .loop .inv .2) (c .if1 .left))
 
--- src/lib.rt:49:1
 returns-2 : tie.Need-returns-2 Inv-loop μ-loop
 returns-2 c = let l = c .before .loop in sym (name-same (c .before .before .before .args .s .now) (omega arith) (λ k h. l .inv .2 k (omega arith)))
 

@@ -1,36 +1,28 @@
+-- `store::part` meets its contract: what is lent is the page. Assumes nothing.
 use Rattle.store.specs.Parts.{part-page, length-page}
 use Rattle.page.specs.Editions.{bytes-is}
 use lib.ListN.{length}
-use mathlib.Core.Path.{_≡_, refl, ap, sym, _∙_}
+use mathlib.Core.Path.{ap, _∙_}
 use native.Mathlib.Omega.{arith}
 use borrow.Author.Needs.{needs}
 use Rattle.store.proofs.part.Statement.{statement}
 use Rattle.store.proofs.part.Tie as tie
-use Rattle.store.proofs.part.Reads as reads
-use Rattle.store.proofs.part.Lts as lts
-use Rattle.store.proofs.offset.Reads as offset-reads
 
--- src/lib.rt:51:9
 offset-requires : tie.Need-offset-requires
 offset-requires c κs = (c .before .pre .0, omega arith)
 
--- src/lib.rt:52:11
 add-result : tie.Need-add-result
 add-result c = omega (arith, bytes-is (c .before .before .before .pre .0))
 
--- src/lib.rt:52:5
 sub-result : tie.Need-sub-result
 sub-result c = search needs
 
--- src/lib.rt:52:5
 part-result-start : tie.Need-part-result-start
 part-result-start c = search needs
 
--- src/lib.rt:52:5
 part-result-end : tie.Need-part-result-end
 part-result-end c = omega (arith, bytes-is (c .before .before .before .pre .0))
 
--- src/lib.rt:47:1
 returns : tie.Need-returns
 returns c =
     let a = c .before .before .before .before .args in

@@ -1,55 +1,39 @@
+-- `store::put_header` meets its contract: the fields are laid one after the other. Assumes nothing.
 use Rattle.store.specs.Header.{putHeader, bit-small}
 use Rattle.page.specs.Editions.{rooter-is, rooter-roots}
-use Rattle.model.specs.Limits.{rootBits}
 use Rattle.model.specs.Field.{lay}
-use Prim.Native.Nat.{ℕ, _+_, _*_, _^_, _<_}
-use mathlib.Core.Path.{_≡_, ap, sym, _∙_}
 use native.Mathlib.Omega.{arith}
 use borrow.Author.Needs.{needs}
 use Rattle.store.proofs.put_header.Statement.{statement}
 use Rattle.store.proofs.put_header.Tie as tie
-use Rattle.store.proofs.put_header.Reads as reads
-use Rattle.store.proofs.put_header.Lts as lts
-use Rattle.bits.proofs.put_field.Reads as put-field-reads
-use Rattle.store.proofs.flag.Reads as flag-reads
 
--- src/lib.rt:132:32
 cast-put-field : tie.Need-cast-put-field
 cast-put-field c = search needs
 
--- src/lib.rt:132:5
 put-field-requires : tie.Need-put-field-requires
 put-field-requires c κs = search needs
 
--- src/lib.rt:133:32
 cast-put-field-2 : tie.Need-cast-put-field-2
 cast-put-field-2 c = search needs
 
--- src/lib.rt:133:5
 put-field-requires-2 : tie.Need-put-field-requires-2
 put-field-requires-2 c κs = search needs
 
--- src/lib.rt:134:31
 flag-requires : tie.Need-flag-requires
 flag-requires c κs = search needs
 
--- src/lib.rt:134:5
 put-field-requires-3 : tie.Need-put-field-requires-3
 put-field-requires-3 c κs = (omega (arith, c .before .before .before .before .before .before .before .before .before .before .before .before .before .pre .0 .four), rw (c .flag .ensures) (bit-small (c .before .before .before .before .before .before .before .before .before .before .before .before .before .args .h .opened)), omega arith, omega arith)
 
--- src/lib.rt:135:38
 cast-put-field-3 : tie.Need-cast-put-field-3
 cast-put-field-3 c = search needs
 
--- src/lib.rt:135:5
 put-field-requires-4 : tie.Need-put-field-requires-4
 put-field-requires-4 c κs = (omega (arith, c .before .before .before .before .before .before .before .before .before .before .before .before .before .before .before .before .before .before .pre .0 .four, rooter-roots (c .before .before .before .before .before .before .before .before .before .before .before .before .before .before .before .before .before .before .pre .0)), rw (rooter-is (c .before .before .before .before .before .before .before .before .before .before .before .before .before .before .before .before .before .before .pre .0)) (c .before .before .before .before .before .before .before .before .before .before .before .before .before .before .before .before .before .before .pre .1 .roots), omega (arith, rooter-roots (c .before .before .before .before .before .before .before .before .before .before .before .before .before .before .before .before .before .before .pre .0)), omega arith)
 
--- src/lib.rt:128:1
 same-length : tie.Need-same-length
 same-length c = search needs
 
--- src/lib.rt:128:1
 returns : tie.Need-returns
 unfolding putHeader lay
 returns c = rw (← rooter-is (c .before .before .before .before .before .before .before .before .before .before .before .before .before .before .before .before .before .before .before .before .before .pre .0)) cc

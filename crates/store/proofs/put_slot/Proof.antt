@@ -1,52 +1,40 @@
+-- `store::put_slot` meets its contract: the fields are laid one after the other. Assumes nothing.
 use Rattle.page.specs.Editions.{bytes-is}
 use Rattle.model.specs.Field.{lay}
-use Prim.Native.Nat.{ℕ, _+_, _*_, _^_, _<_}
-use mathlib.Core.Path.{_≡_, ap, sym, _∙_}
+use Prim.Native.Nat.{_*_}
+use mathlib.Core.Path.{_≡_}
 use native.Mathlib.Omega.{arith}
 use borrow.Author.Needs.{needs}
 use Rattle.store.proofs.put_slot.Statement.{statement}
 use Rattle.store.proofs.put_slot.Tie as tie
-use Rattle.store.proofs.put_slot.Reads as reads
-use Rattle.store.proofs.put_slot.Lts as lts
-use Rattle.bits.proofs.put_field.Reads as put-field-reads
 
--- src/lib.rt:143:13
 mul-o : tie.Need-mul-o
 mul-o c = omega (arith, bytes-is (c .before .before .pre .0), c .before .before .pre .0 .eight)
 
--- src/lib.rt:143:27
 mul-o-2 : tie.Need-mul-o-2
 mul-o-2 c = omega (arith, c .before .before .pre .0 .eight)
 
--- src/lib.rt:143:13
 add-o : tie.Need-add-o
 add-o c = omega (arith, bytes-is (c .before .before .pre .0), c .before .before .pre .0 .eight)
 
--- src/lib.rt:144:31
 cast-put-field : tie.Need-cast-put-field
 cast-put-field c = search needs
 
--- src/lib.rt:144:5
 put-field-requires : tie.Need-put-field-requires
 put-field-requires c κs = omega (arith, bytes-is (c .before .before .before .before .pre .0), c .before .before .before .before .pre .1 .version)
 
--- src/lib.rt:145:24
 add-put-field : tie.Need-add-put-field
 add-put-field c = omega (arith, bytes-is (c .before .before .before .before .before .before .before .before .pre .0), c .before .before .before .before .before .before .before .before .pre .0 .eight)
 
--- src/lib.rt:145:36
 cast-put-field-2 : tie.Need-cast-put-field-2
 cast-put-field-2 c = search needs
 
--- src/lib.rt:145:5
 put-field-requires-2 : tie.Need-put-field-requires-2
 put-field-requires-2 c κs = omega (arith, bytes-is (c .before .before .before .before .before .before .before .before .before .pre .0), c .before .before .before .before .before .before .before .before .before .pre .1 .root)
 
--- src/lib.rt:139:1
 same-length : tie.Need-same-length
 same-length c = search needs
 
--- src/lib.rt:139:1
 returns : tie.Need-returns
 unfolding lay
 returns c =

@@ -1,18 +1,15 @@
+-- `store::size` meets its contract: the page bytes are those of the limits. Assumes nothing.
 use Rattle.page.specs.Editions.{bytes-is}
 use lib.ListN.{length}
 use Prim.Native.Nat.{ℕ, _/_}
-use mathlib.Core.Path.{_≡_, ap}
+use mathlib.Core.Path.{ap}
 use native.Mathlib.Omega.{arith}
 use Rattle.store.proofs.size.Statement.{statement}
 use Rattle.store.proofs.size.Tie as tie
-use Rattle.store.proofs.size.Reads as reads
-use Rattle.store.proofs.size.Lts as lts
 
--- src/lib.rt:30:5
 div-result : tie.Need-div-result
 div-result c = omega (arith, bytes-is (c .before .pre), c .before .pre .four)
 
--- src/lib.rt:26:1
 returns : tie.Need-returns
 returns c = ap (λ (b : ℕ). length (c .before .args .s .now) / b) (bytes-is (c .before .pre))
 

@@ -1,35 +1,27 @@
+-- `store::whole` meets its contract: one answer for each way the length can be wrong, and one for the rest. Assumes nothing.
 use Rattle.store.specs.Answers.{length-odd, length-few, length-rest}
 use Rattle.page.specs.Editions.{bytes-is}
-use Rattle.model.specs.Layout.{sizeOf}
 use lib.Dec.{leb}
 use lib.ListN.{length}
-use Prim.Native.Nat.{ℕ, _%_, _≤_, _<_}
-use mathlib.Core.Path.{_≡_, ap, sym, _∙_}
+use Prim.Native.Nat.{ℕ, _%_}
+use mathlib.Core.Path.{ap, sym, _∙_}
 use native.Mathlib.Omega.{arith}
 use borrow.Author.Needs.{needs}
 use Rattle.store.proofs.whole.Statement.{statement}
 use Rattle.store.proofs.whole.Tie as tie
-use Rattle.store.proofs.whole.Reads as reads
-use Rattle.store.proofs.whole.Lts as lts
-use Rattle.store.proofs.size.Reads as size-reads
 
--- src/lib.rt:38:8
 rem-if1 : tie.Need-rem-if1
 rem-if1 c = omega (arith, bytes-is (c .before .before .pre), c .before .before .pre .four)
 
--- src/lib.rt:39:9
 returns : tie.Need-returns
 returns c = let a = c .before .before .before .args in sym (length-odd (a .l .least) (a .s .now) (λ e. c .if1 .taken (ap (λ (b : ℕ). length (a .s .now) % b) (bytes-is (c .before .before .before .pre)) ∙ e)))
 
--- src/lib.rt:41:9
 size-requires : tie.Need-size-requires
 size-requires c κs = search needs
 
--- src/lib.rt:43:9
 returns-2 : tie.Need-returns-2
 returns-2 c = let a = c .before .before .before .before .before .args in sym (length-few (a .l .least) (a .s .now) (rw (← c .before .size .ensures) (c .if2 .taken)))
 
--- src/lib.rt:34:1
 returns-3 : tie.Need-returns-3
 returns-3 c =
     let a = c .before .before .before .before .before .args in

@@ -1,28 +1,22 @@
-use Rattle.edit.specs.Change.{one, enteredIf}
-use mathlib.Core.Path.{_≡_, refl, ap, sym, _∙_}
+-- `edit::enter::enter_if` meets its contract: each case. Assumes nothing.
+use Rattle.edit.specs.Change.{one}
+use mathlib.Core.Path.{_≡_, ap, sym}
 use native.Mathlib.Omega.{arith}
 use borrow.Author.Needs.{needs}
-use Rattle.edit.proofs.enter_if.Statement.{statement}
-use Rattle.edit.proofs.enter_if.Tie as tie
-use Rattle.edit.proofs.enter_if.Reads as reads
-use Rattle.edit.proofs.enter_if.Lts as lts
-use Rattle.edit.proofs.enter.Reads as enter-reads
+use Rattle.edit.proofs.enter.enter_if.Statement.{statement}
+use Rattle.edit.proofs.enter.enter_if.Tie as tie
 
--- src/lib.rt:258:9
 enter-requires : tie.Need-enter-requires
 enter-requires c κs =
     let e : one (c .before .before .before .args .yes) ≡ 1 = ap one (c .before .if1 .taken) in
     (c .before .before .before .pre .0, c .before .before .before .pre .1, omega (arith, e, c .before .before .before .pre .2), c .before .before .before .pre .3, c .before .before .before .pre .4)
 
--- src/lib.rt:253:1
 same-length : tie.Need-same-length
 same-length c = search needs
 
--- src/lib.rt:253:1
 returns : tie.Need-returns
 returns c = rw (c .before .before .before .before .if1 .taken) (c .before .before .enter .ensures)
 
--- src/lib.rt:253:1
 returns-2 : tie.Need-returns-2
 returns-2 c = rw (c .if1 .left) (sym (c .before .before .pre .1 .same))
 

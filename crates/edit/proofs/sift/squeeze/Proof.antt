@@ -1,4 +1,5 @@
-use Prim.Native.Nat.{ℕ, _≤_, _<_, _-_, _^_, _+_, _*_, suc}
+-- `edit::sift::squeeze` meets its contract: before turn i the page begins with what is left of its first i entries. Assumes nothing.
+use Prim.Native.Nat.{ℕ, _≤_, _-_, _+_, _*_}
 use mathlib.Core.Path.{_≡_, refl, ap, sym, _∙_}
 use mathlib.Core.List.{List, [], _∷_, _++_, append-nil}
 use mathlib.Core.Logic.{⊎-elim}
@@ -9,17 +10,12 @@ use Rattle.model.specs.Layout.{entryParts, countOf, readEntries, unused}
 use Rattle.page.specs.Stage.{staged}
 use Rattle.page.specs.Read.{Sized, read-sized, length-entries}
 use Rattle.edit.specs.Fate.{fateOf, fate-sized, left}
-use Rattle.edit.specs.Sift.{sifted, Staged, sift-none, sift-read, sift-put, sifted-more, sifted-short}
-use lib.Seq.{length-take-le, take-all}
+use Rattle.edit.specs.Sift.{sifted, Staged, sift-none, sift-read, sift-put, sifted-more}
+use lib.Seq.{take-all}
 use lib.ListN.{length, getD, take, length-append}
 use borrow.Author.Needs.{needs}
-use Rattle.edit.proofs.squeeze.Statement.{statement}
-use Rattle.edit.proofs.squeeze.Tie as tie
-use Rattle.edit.proofs.squeeze.Reads as reads
-use Rattle.edit.proofs.squeeze.Lts as lts
-use Rattle.edit.proofs.meet.Reads as meet-reads
-use Rattle.page.proofs.entry_at.Reads as entry-at-reads
-use Rattle.page.proofs.put_entry.Reads as put-entry-reads
+use Rattle.edit.proofs.sift.squeeze.Statement.{statement}
+use Rattle.edit.proofs.sift.squeeze.Tie as tie
 
 abbrev Inv-loop : tie.InvT-loop
 Inv-loop page₀ count rule w j₀ i₀ page j i =
@@ -29,20 +25,16 @@ Inv-loop page₀ count rule w j₀ i₀ page j i =
 abbrev μ-loop : tie.MeasureT-loop
 μ-loop page₀ count rule w j₀ i₀ page j i = count - i
 
--- src/lib.rt:145:5
 loop-holds : tie.Need-loop-holds Inv-loop μ-loop
 unfolding sifted
 loop-holds c = let a = c .before .args in (omega arith, refl, omega arith, refl, sift-none (a .page .now) (a .count) (a .rule) (a .w))
 
--- src/lib.rt:146:31
 entry-at-requires : tie.Need-entry-at-requires Inv-loop μ-loop
 entry-at-requires c κs = omega (arith, c .before .before .before .before .pre .1 .size, c .before .before .before .before .pre .1 .room, c .before .before .before .before .pre .0 .four, c .before .before .before .before .pre .0 .eight)
 
--- src/lib.rt:146:13
 meet-requires : tie.Need-meet-requires Inv-loop μ-loop
 meet-requires c κs = search needs
 
--- src/lib.rt:148:13
 put-entry-requires : tie.Need-put-entry-requires Inv-loop μ-loop
 put-entry-requires c κs = (
   omega (arith, c .before .before .before .before .before .before .before .before .pre .1 .size, c .before .before .before .before .before .before .before .before .pre .1 .room, c .before .before .before .before .before .before .before .before .pre .0 .four, c .before .before .before .before .before .before .before .before .pre .0 .eight),
@@ -50,19 +42,15 @@ put-entry-requires c κs = (
   rw (c .before .before .meet .ensures, c .before .before .before .entry-at .ensures) (fate-sized _ _ _ (read-sized _ _) (c .before .before .before .before .before .before .before .before .pre .3)),
 )
 
--- src/lib.rt:149:13
 add-j : tie.Need-add-j Inv-loop μ-loop
 add-j c = omega arith
 
--- src/lib.rt:151:9
 add-i : tie.Need-add-i Inv-loop μ-loop
 add-i c = omega arith
 
--- src/lib.rt:145:5
 loop-less : tie.Need-loop-less Inv-loop μ-loop
 loop-less c = omega arith
 
--- src/lib.rt:145:5
 loop-again : tie.Need-loop-again Inv-loop μ-loop
 loop-again c =
     let d = c .before .before .before .before .before .before .before .pre .0 in let a = c .before .before .before .before .before .before .before .args in let l = c .before .before .before .before .before .loop in let m = c .before .meet .result in
@@ -92,11 +80,9 @@ loop-again c =
     (omega arith, t .2 ∙ rw m1 (l .inv .1), omega (arith, t .2), ap length (t .1) ∙ l .inv .3, λ least four eight x e. t .1 ∙ l .inv .4 least four eight x e ∙ ap (staged least p) (sym m1)))
     (c .if1 .came)
 
--- src/lib.rt:139:1
 same-length : tie.Need-same-length Inv-loop μ-loop
 same-length c = search needs
 
--- src/lib.rt:139:1
 returns : tie.Need-returns Inv-loop μ-loop
 returns c =
     let d = c .before .before .before .pre .0 in let a = c .before .before .before .args in let l = c .before .loop in

@@ -1,39 +1,30 @@
+-- `store::make::put_root` meets its contract: what is lent is page 5, and it comes back in its place. Assumes nothing.
 use Rattle.store.specs.Parts.{part-page, part-back, length-page}
 use Rattle.page.specs.Editions.{bytes-is, count-bits}
 use Rattle.model.specs.Layout.{pageOf, withPage}
 use lib.ListN.{length}
-use Prim.Native.Nat.{ℕ, _+_, _*_, _^_, _<_, _≤_}
-use mathlib.Core.Path.{_≡_, ap, sym, _∙_}
+use Prim.Native.Nat.{_*_}
+use mathlib.Core.Path.{_≡_, ap, _∙_}
 use native.Mathlib.Omega.{arith}
 use borrow.Author.Needs.{needs}
-use Rattle.store.proofs.put_root.Statement.{statement}
-use Rattle.store.proofs.put_root.Tie as tie
-use Rattle.store.proofs.put_root.Reads as reads
-use Rattle.store.proofs.put_root.Lts as lts
-use Rattle.page.proofs.put_head.Reads as put-head-reads
-use Rattle.store.proofs.offset.Reads as offset-reads
+use Rattle.store.proofs.make.put_root.Statement.{statement}
+use Rattle.store.proofs.make.put_root.Tie as tie
 
--- src/lib.rt:153:9
 offset-requires : tie.Need-offset-requires
 offset-requires c κs = (c .before .pre .0, omega (arith, c .before .pre .0 .eight))
 
--- src/lib.rt:155:19
 add-put-head : tie.Need-add-put-head
 add-put-head c = omega (arith, bytes-is (c .before .before .before .pre .0), c .before .offset .ensures, c .before .before .before .pre .0 .eight)
 
--- src/lib.rt:155:9
 sub-put-head : tie.Need-sub-put-head
 sub-put-head c = search needs
 
--- src/lib.rt:155:9
 part-put-head-start : tie.Need-part-put-head-start
 part-put-head-start c = search needs
 
--- src/lib.rt:155:9
 part-put-head-end : tie.Need-part-put-head-end
 part-put-head-end c = omega (arith, bytes-is (c .before .before .before .pre .0), c .before .offset .ensures)
 
--- src/lib.rt:154:5
 put-head-requires : tie.Need-put-head-requires
 put-head-requires c κs =
     let a = c .before .before .before .before .args in let d = c .before .before .before .before .pre .0 in
@@ -41,11 +32,9 @@ put-head-requires c κs =
     rw (part-page (a .l .least) (a .s .now) 5 (c .before .before .offset .result) (a .l .bytes) (c .before .before .offset .ensures) (bytes-is d))
     (d, record { level = omega arith; count = omega (arith, count-bits (a .l .least) (d .eight)); start = omega arith; end = omega arith }, omega (arith, d .four), omega (arith, d .eight))
 
--- src/lib.rt:149:1
 same-length : tie.Need-same-length
 same-length c = search needs
 
--- src/lib.rt:149:1
 returns : tie.Need-returns
 returns c =
     let a = c .before .before .before .before .before .before .before .args in let d = c .before .before .before .before .before .before .before .pre .0 in

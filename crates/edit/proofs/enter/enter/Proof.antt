@@ -1,35 +1,27 @@
+-- `edit::enter::enter` meets its contract: the entry is inserted at its place. Assumes nothing.
 use Rattle.edit.specs.Place.{placeOf, place-low, entered-is}
 use Rattle.page.specs.Insert.{withEntry}
 use Rattle.page.specs.Read.{count-of, entries-of, length-entries}
 use Rattle.page.specs.declared.Head.{Head}
 use Rattle.model.specs.Layout.{countOf, encodePage, decodePage, readEntries}
 use Rattle.model.specs.Entry.{born}
-use Rattle.model.specs.declared.Entry.{Entry}
 use native.Mathlib.Omega.{arith}
 use mathlib.Core.List.{List}
-use mathlib.Core.Path.{_≡_, refl, ap, sym, _∙_}
-use Prim.Native.Nat.{ℕ, _≤_, _<_, _-_, _^_, _+_, _*_, suc}
+use mathlib.Core.Path.{_≡_, ap, sym, _∙_}
+use Prim.Native.Nat.{ℕ}
 use borrow.Author.Needs.{needs}
-use Rattle.edit.proofs.enter.Statement.{statement}
-use Rattle.edit.proofs.enter.Tie as tie
-use Rattle.edit.proofs.enter.Reads as reads
-use Rattle.edit.proofs.enter.Lts as lts
-use Rattle.edit.proofs.place.Reads as place-reads
-use Rattle.page.proofs.head_of.Reads as head-of-reads
-use Rattle.page.proofs.insert_entry.Reads as insert-entry-reads
+use Rattle.edit.proofs.enter.enter.Statement.{statement}
+use Rattle.edit.proofs.enter.enter.Tie as tie
 
--- src/lib.rt:237:9
 head-of-requires : tie.Need-head-of-requires
 head-of-requires c κs = (c .before .before .pre .0, omega (arith, c .before .before .pre .0 .four, c .before .before .pre .1 .size), omega (arith, c .before .before .pre .0 .eight, c .before .before .pre .1 .size))
 
 counted : (c : tie.After-head-of) → c .head-of .result .count ≡ countOf (c .before .before .before .args .l .least) (c .before .before .before .args .page .now)
 counted c = let a = c .before .before .before .args in ap (λ (h : Head). h .count) (c .head-of .ensures) ∙ sym (count-of (a .l .least) (a .page .now))
 
--- src/lib.rt:238:9
 place-requires : tie.Need-place-requires
 place-requires c κs = omega (arith, counted ((c .before)), c .before .before .before .before .pre .1 .size, c .before .before .before .before .pre .2, c .before .before .before .before .pre .0 .four, c .before .before .before .before .pre .0 .eight)
 
--- src/lib.rt:239:5
 insert-entry-requires : tie.Need-insert-entry-requires
 insert-entry-requires c κs =
     let a = c .before .before .before .before .before .before .args in (
@@ -40,11 +32,9 @@ insert-entry-requires c κs =
       record { key = c .before .before .before .before .before .before .pre .4; start = c .before .before .before .before .before .before .pre .3; end = omega arith; value = omega arith },
     )
 
--- src/lib.rt:233:1
 same-length : tie.Need-same-length
 same-length c = search needs
 
--- src/lib.rt:233:1
 returns : tie.Need-returns
 returns c =
     let a = c .before .before .before .before .before .before .before .before .before .args in

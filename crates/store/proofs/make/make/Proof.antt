@@ -1,3 +1,4 @@
+-- `store::make::make` meets its contract: the stages of specs/Fresh, one call after the other. Assumes nothing.
 use Rattle.store.specs.Fresh.{rootHead, rootSlot, freshHeader, made}
 use Rattle.store.specs.Tested.{whole-least, whole-most}
 use Rattle.store.specs.Header.{namedBy, nameParts, putHeader}
@@ -5,44 +6,31 @@ use Rattle.store.specs.Slots.{slotParts}
 use Rattle.page.specs.Editions.{root-bits}
 use Rattle.page.specs.Head.{putHead}
 use Rattle.model.specs.Layout.{pageOf, withPage, sizeOf}
-use Rattle.model.specs.Field.{lay, zeros, Bytes}
-use Rattle.bits.specs.Lay.{bytes-zeros, length-zeros}
+use Rattle.model.specs.Field.{lay, zeros}
+use Rattle.bits.specs.Lay.{bytes-zeros}
 use lib.ListN.{length}
-use Prim.Native.Nat.{ℕ, _+_, _*_, _^_, _<_, _≤_}
+use Prim.Native.Nat.{ℕ, _+_, _*_}
 use mathlib.Core.List.{List}
-use mathlib.Core.Path.{_≡_, refl, ap, sym, _∙_}
+use mathlib.Core.Path.{ap, _∙_}
 use native.Mathlib.Omega.{arith}
 use borrow.Author.Needs.{needs}
-use Rattle.store.proofs.make.Statement.{statement}
-use Rattle.store.proofs.make.Tie as tie
-use Rattle.store.proofs.make.Reads as reads
-use Rattle.store.proofs.make.Lts as lts
-use Rattle.page.proofs.clear.Reads as clear-reads
-use Rattle.store.proofs.put_header.Reads as put-header-reads
-use Rattle.store.proofs.put_name.Reads as put-name-reads
-use Rattle.store.proofs.put_root.Reads as put-root-reads
-use Rattle.store.proofs.put_slot.Reads as put-slot-reads
-use Rattle.store.proofs.size.Reads as size-reads
+use Rattle.store.proofs.make.make.Statement.{statement}
+use Rattle.store.proofs.make.make.Tie as tie
 
--- src/lib.rt:171:9
 size-requires : tie.Need-size-requires
 size-requires c κs = c .before .before .pre .0
 
--- src/lib.rt:172:5
 clear-requires : tie.Need-clear-requires
 clear-requires c κs = search needs
 
--- src/lib.rt:173:5
 put-name-requires : tie.Need-put-name-requires
 put-name-requires c κs =
     let a = c .before .before .before .before .before .before .before .before .args in
     (omega (arith, c .before .before .before .clear .kept .0, whole-least (a .l .least) (a .s .now) (c .before .before .before .before .before .before .before .before .pre .2), c .before .before .before .before .before .before .before .before .pre .0 .four), rw (c .before .before .before .clear .ensures) (bytes-zeros (length (a .s .now))))
 
--- src/lib.rt:178:20
 cast-t14 : tie.Need-cast-t14
 cast-t14 c = omega (arith, c .before .before .before .before .before .before .before .before .before .size .ensures, c .before .before .before .before .before .before .before .before .before .before .before .before .pre .2 .most)
 
--- src/lib.rt:174:5
 put-header-requires : tie.Need-put-header-requires
 put-header-requires c κs =
     let a = c .before .before .before .before .before .before .before .before .before .before .before .before .args in let d = c .before .before .before .before .before .before .before .before .before .before .before .before .pre .0 in (
@@ -52,7 +40,6 @@ put-header-requires c κs =
       omega (arith, c .before .before .before .put-name .kept .0, c .before .before .before .before .before .before .before .clear .kept .0, whole-most (a .l .least) (a .s .now) (c .before .before .before .before .before .before .before .before .before .before .before .before .pre .2), d .eight),
     )
 
--- src/lib.rt:184:5
 put-slot-requires : tie.Need-put-slot-requires
 put-slot-requires c κs =
     let a = c .before .before .before .before .before .before .before .before .before .before .before .before .before .before .before .before .args in let d = c .before .before .before .before .before .before .before .before .before .before .before .before .before .before .before .before .pre .0 in (
@@ -63,7 +50,6 @@ put-slot-requires c κs =
       omega (arith, c .before .before .before .put-header .kept .0, c .before .before .before .before .before .before .before .put-name .kept .0, c .before .before .before .before .before .before .before .before .before .before .before .clear .kept .0, whole-most (a .l .least) (a .s .now) (c .before .before .before .before .before .before .before .before .before .before .before .before .before .before .before .before .pre .2), d .eight),
     )
 
--- src/lib.rt:185:5
 put-root-requires : tie.Need-put-root-requires
 put-root-requires c κs =
     let a = c .before .before .before .before .before .before .before .before .before .before .before .before .before .before .before .before .before .before .before .before .args in let d = c .before .before .before .before .before .before .before .before .before .before .before .before .before .before .before .before .before .before .before .before .pre .0 in (
@@ -72,11 +58,9 @@ put-root-requires c κs =
       omega (arith, c .before .before .before .put-slot .kept .0, c .before .before .before .before .before .before .before .put-header .kept .0, c .before .before .before .before .before .before .before .before .before .before .before .put-name .kept .0, c .before .before .before .before .before .before .before .before .before .before .before .before .before .before .before .clear .kept .0, whole-most (a .l .least) (a .s .now) (c .before .before .before .before .before .before .before .before .before .before .before .before .before .before .before .before .before .before .before .before .pre .2), d .eight),
     )
 
--- src/lib.rt:167:1
 same-length : tie.Need-same-length
 same-length c = omega (arith, c .before .before .put-root .kept .0, c .before .before .before .before .before .before .put-slot .kept .0, c .before .before .before .before .before .before .before .before .before .before .put-header .kept .0, c .before .before .before .before .before .before .before .before .before .before .before .before .before .before .put-name .kept .0, c .before .before .before .before .before .before .before .before .before .before .before .before .before .before .before .before .before .before .clear .kept .0)
 
--- src/lib.rt:167:1
 returns : tie.Need-returns
 returns c =
     let a = c .before .before .before .before .before .before .before .before .before .before .before .before .before .before .before .before .before .before .before .before .before .before .before .args in let d = c .before .before .before .before .before .before .before .before .before .before .before .before .before .before .before .before .before .before .before .before .before .before .before .pre .0 in let least = a .l .least in

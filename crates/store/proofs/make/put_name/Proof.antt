@@ -1,54 +1,41 @@
+-- `store::make::put_name` meets its contract: five bytes are five fields of eight bits. Assumes nothing.
 use Rattle.store.specs.Fresh.{name-laid}
-use lib.ListN.{length, length-set}
-use mathlib.Core.Path.{_≡_}
+use lib.ListN.{length-set}
 use native.Mathlib.Omega.{arith}
 use borrow.Author.Needs.{needs}
-use Rattle.store.proofs.put_name.Statement.{statement}
-use Rattle.store.proofs.put_name.Tie as tie
-use Rattle.store.proofs.put_name.Reads as reads
-use Rattle.store.proofs.put_name.Lts as lts
+use Rattle.store.proofs.make.put_name.Statement.{statement}
+use Rattle.store.proofs.make.put_name.Tie as tie
 
--- src/lib.rt:114:12
 element-copy-out-s : tie.Need-element-copy-out-s
 element-copy-out-s c = search needs
 
--- src/lib.rt:114:5
 slice-write-s : tie.Need-slice-write-s
 slice-write-s c = omega arith
 
--- src/lib.rt:115:12
 element-copy-out-s-2 : tie.Need-element-copy-out-s-2
 element-copy-out-s-2 c = search needs
 
--- src/lib.rt:115:5
 slice-write-s-2 : tie.Need-slice-write-s-2
 slice-write-s-2 c = simp length-set (omega arith)
 
--- src/lib.rt:116:12
 element-copy-out-s-3 : tie.Need-element-copy-out-s-3
 element-copy-out-s-3 c = search needs
 
--- src/lib.rt:116:5
 slice-write-s-3 : tie.Need-slice-write-s-3
 slice-write-s-3 c = simp length-set (omega arith)
 
--- src/lib.rt:117:12
 element-copy-out-s-4 : tie.Need-element-copy-out-s-4
 element-copy-out-s-4 c = search needs
 
--- src/lib.rt:117:5
 slice-write-s-4 : tie.Need-slice-write-s-4
 slice-write-s-4 c = simp length-set (omega arith)
 
--- src/lib.rt:118:5
 slice-write-s-5 : tie.Need-slice-write-s-5
 slice-write-s-5 c = simp length-set (omega arith)
 
--- src/lib.rt:109:1
 same-length : tie.Need-same-length
 same-length c = simp length-set
 
--- src/lib.rt:109:1
 returns : tie.Need-returns
 returns c = name-laid (c .before .before .before .before .before .args .s .now) (c .before .before .before .before .before .args .edition) (c .before .before .before .before .before .pre .1) (c .before .before .before .before .before .pre .0) (omega arith)
 

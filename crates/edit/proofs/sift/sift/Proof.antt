@@ -1,3 +1,4 @@
+-- `edit::sift::sift` meets its contract: the entries closed up, those behind unused, the front for them. Assumes nothing.
 use Rattle.edit.specs.Sift.{sifted, siftedHead, fewer, head-fits, sift-end}
 use Rattle.edit.specs.Fate.{endOf}
 use Rattle.page.specs.Stage.{staged, blanked, entriesIn}
@@ -9,20 +10,12 @@ use Rattle.model.specs.declared.Entry.{Entry}
 use lib.ListN.{length}
 use native.Mathlib.Omega.{arith}
 use mathlib.Core.List.{List}
-use mathlib.Core.Path.{_≡_, refl, ap, sym, _∙_}
-use Prim.Native.Nat.{ℕ, _≤_, _<_, _-_, _^_, _+_, _*_, suc}
+use mathlib.Core.Path.{_≡_, ap, sym, _∙_}
+use Prim.Native.Nat.{ℕ, _≤_, _-_}
 use borrow.Author.Needs.{needs}
-use Rattle.edit.proofs.sift.Statement.{statement}
-use Rattle.edit.proofs.sift.Tie as tie
-use Rattle.edit.proofs.sift.Reads as reads
-use Rattle.edit.proofs.sift.Lts as lts
-use Rattle.edit.proofs.end_of.Reads as end-of-reads
-use Rattle.edit.proofs.squeeze.Reads as squeeze-reads
-use Rattle.page.proofs.blank.Reads as blank-reads
-use Rattle.page.proofs.head_of.Reads as head-of-reads
-use Rattle.page.proofs.put_head.Reads as put-head-reads
+use Rattle.edit.proofs.sift.sift.Statement.{statement}
+use Rattle.edit.proofs.sift.sift.Tie as tie
 
--- src/lib.rt:161:9
 head-of-requires : tie.Need-head-of-requires
 head-of-requires c κs = (c .before .before .pre .0, omega (arith, c .before .before .pre .0 .four, c .before .before .pre .1 .size), omega (arith, c .before .before .pre .0 .eight, c .before .before .pre .1 .size))
 
@@ -34,19 +27,15 @@ few c =
     let s = c .before .before .before .before .before in
     rw (c .squeeze .ensures .1) (fewer (s .args .l .least) (s .pre .0 .four) (s .pre .0 .eight) (s .args .page .now) (s .pre .1) (s .args .rule) (s .args .w) (s .pre .2))
 
--- src/lib.rt:162:9
 squeeze-requires : tie.Need-squeeze-requires
 squeeze-requires c κs = (c .before .before .before .before .pre .0, c .before .before .before .before .pre .1, counted ((c .before)), c .before .before .before .before .pre .2)
 
--- src/lib.rt:163:5
 blank-requires : tie.Need-blank-requires
 blank-requires c κs = omega (arith, c .before .before .before .squeeze .kept .0, few ((c .before .before .before)), counted ((c .before .before .before .before .before)), c .before .before .before .before .before .before .before .before .pre .1 .size, c .before .before .before .before .before .before .before .before .pre .1 .room, c .before .before .before .before .before .before .before .before .pre .0 .four, c .before .before .before .before .before .before .before .before .pre .0 .eight)
 
--- src/lib.rt:171:18
 end-of-requires : tie.Need-end-of-requires
 end-of-requires c κs = search needs
 
--- src/lib.rt:164:5
 put-head-requires : tie.Need-put-head-requires
 put-head-requires c κs =
     let a = c .before .before .before .before .before .before .before .before .before .before .before .before .before .args in let d = c .before .before .before .before .before .before .before .before .before .before .before .before .before .pre .0 in
@@ -63,11 +52,9 @@ put-head-requires c κs =
       omega (arith, c .before .before .before .before .blank .kept .0, c .before .before .before .before .before .before .before .before .squeeze .kept .0, c .before .before .before .before .before .before .before .before .before .before .before .before .before .pre .1 .size, d .eight),
     )
 
--- src/lib.rt:157:1
 same-length : tie.Need-same-length
 same-length c = search needs
 
--- src/lib.rt:157:1
 returns : tie.Need-returns
 returns c =
     let a = c .before .before .before .before .before .before .before .before .before .before .before .before .before .before .before .before .args in let d = c .before .before .before .before .before .before .before .before .before .before .before .before .before .before .before .before .pre .0 in

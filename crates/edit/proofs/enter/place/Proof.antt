@@ -1,15 +1,12 @@
-use Prim.Native.Nat.{ℕ, _≤_, _<_, _-_, _^_, _+_, _*_, suc}
-use mathlib.Core.Path.{_≡_, refl, ap, sym, _∙_}
+-- `edit::enter::place` meets its contract: the place in the whole is i and the place in what is left. Assumes nothing.
+use Prim.Native.Nat.{_≤_, _-_, _+_, _*_}
+use mathlib.Core.Path.{_≡_, ap, sym, _∙_}
 use native.Mathlib.Omega.{arith}
 use Rattle.model.specs.Layout.{readEntries}
 use Rattle.edit.specs.Place.{placeOf, beforeOf, place-start, place-here, place-later, place-none}
 use borrow.Author.Needs.{needs}
-use Rattle.edit.proofs.place.Statement.{statement}
-use Rattle.edit.proofs.place.Tie as tie
-use Rattle.edit.proofs.place.Reads as reads
-use Rattle.edit.proofs.place.Lts as lts
-use Rattle.edit.proofs.stands_before.Reads as stands-before-reads
-use Rattle.page.proofs.entry_at.Reads as entry-at-reads
+use Rattle.edit.proofs.enter.place.Statement.{statement}
+use Rattle.edit.proofs.enter.place.Tie as tie
 
 abbrev Inv-loop : tie.InvT-loop
 Inv-loop page count key start i₀ i = (i ≤ count) × (placeOf key start (readEntries page 128 count) ≡ i + placeOf key start (readEntries page (128 + 96 * i) (count - i)))
@@ -17,39 +14,31 @@ Inv-loop page count key start i₀ i = (i ≤ count) × (placeOf key start (read
 abbrev μ-loop : tie.MeasureT-loop
 μ-loop page count key start i₀ i = count - i
 
--- src/lib.rt:223:5
 loop-holds : tie.Need-loop-holds Inv-loop μ-loop
 loop-holds c = let a = c .before .args in (omega arith, place-start (a .page .now) (a .key) (a .start) (a .count))
 
--- src/lib.rt:224:38
 entry-at-requires : tie.Need-entry-at-requires Inv-loop μ-loop
 entry-at-requires c κs = search needs
 
--- src/lib.rt:224:12
 stands-before-requires : tie.Need-stands-before-requires Inv-loop μ-loop
 stands-before-requires c κs = search needs
 
--- src/lib.rt:225:13
 returns : tie.Need-returns Inv-loop μ-loop
 returns c =
     let l = c .before .before .before .before .loop in let a = c .before .before .before .before .before .before .args in
     omega (arith, l .inv .1, place-here (a .page .now) (a .key) (a .start) (l .i) (a .count) (omega arith) (sym (c .before .stands-before .ensures ∙ ap (beforeOf (a .key) (a .start)) (c .before .before .entry-at .ensures)) ∙ c .if1 .taken))
 
--- src/lib.rt:227:9
 add-i : tie.Need-add-i Inv-loop μ-loop
 add-i c = search needs
 
--- src/lib.rt:223:5
 loop-less : tie.Need-loop-less Inv-loop μ-loop
 loop-less c = omega arith
 
--- src/lib.rt:223:5
 loop-again : tie.Need-loop-again Inv-loop μ-loop
 loop-again c =
     let l = c .before .before .before .before .loop in let a = c .before .before .before .before .before .before .args in
     (omega arith, omega (arith, l .inv .1, place-later (a .page .now) (a .key) (a .start) (l .i) (a .count) (omega arith) (sym (c .before .stands-before .ensures ∙ ap (beforeOf (a .key) (a .start)) (c .before .before .entry-at .ensures)) ∙ c .if1 .left)))
 
--- src/lib.rt:218:1
 returns-2 : tie.Need-returns-2 Inv-loop μ-loop
 returns-2 c =
     let l = c .before .loop in let a = c .before .before .before .args in
