@@ -25,18 +25,26 @@ abbrev pub kidWeight : ℕ → ℕ
 kidWeight zero = 0
 kidWeight (suc u) = weight u
 
+-- page m may be passed over: what is done holds it, it shows nothing, and the rule is the fourth
+pub record Bare (least : ℕ) (s : List ℕ) (v rule : ℕ) (done : List Seen) (m : ℕ) : Type 0 where
+  pub fourth : rule ≡ 4
+  pub nothing : pairsAt v (page (decode least s .pages) m) ≡ []
+  pub met : any (isNumber m) done ≡ true
+
 -- at the head of the loop over pages
-pub record Walking (least : ℕ) (s : List ℕ) (root up v rule : ℕ) (marks : List Bool) (items : List Item) (top : ℕ) : Type 0 where
+pub record Walking (least : ℕ) (s : List ℕ) (root up v rule : ℕ) (marks empty : List Bool) (items : List Item) (top : ℕ) : Type 0 where
   pub slots : length items ≡ 281
   pub size : length marks ≡ 4096
+  pub size-empty : length empty ≡ 4096
   pub fine : (k : ℕ) → k < top → Fine least s up k (getD items k none)
   pub done : List Seen
   pub same : Same (whole least s up v root) (done ++ pend (decode least s .pages) v items top)
   pub good : all (passes least rule) done ≡ true
   pub mark : (m : ℕ) → getD marks m false ≡ any (isNumber m) done
+  pub bare : (m : ℕ) → getD empty m false ≡ true → Bare least s v rule done m
 
 -- at the head of the loop over the entries of page n, which is taken from the list as `it`
-pub record Entering (least : ℕ) (s : List ℕ) (root up v rule : ℕ) (marks : List Bool) (items₀ : List Item) (top₀ : ℕ) (it : Item) (n : ℕ) (p : List ℕ) (count : ℕ) (items : List Item) (top j : ℕ) : Type 0 where
+pub record Entering (least : ℕ) (s : List ℕ) (root up v rule : ℕ) (marks empty : List Bool) (items₀ : List Item) (top₀ : ℕ) (it : Item) (n : ℕ) (p : List ℕ) (count : ℕ) (items : List Item) (top j : ℕ) : Type 0 where
   pub number : n ≡ it .page
   pub bytes : p ≡ pageOf least s n
   pub sized : length p ≡ 64 * least
@@ -44,6 +52,7 @@ pub record Entering (least : ℕ) (s : List ℕ) (root up v rule : ℕ) (marks :
   pub room : count ≤ 5 * least
   pub slots : length items ≡ 281
   pub size : length marks ≡ 4096
+  pub size-empty : length empty ≡ 4096
   pub own : Fine least s up top₀ it
   pub fine : (k : ℕ) → k < top → Fine least s up k (getD items k none)
   pub above : top ≤ top₀ + j
@@ -57,6 +66,7 @@ pub record Entering (least : ℕ) (s : List ℕ) (root up v rule : ℕ) (marks :
   pub opened : openOk least rule (it .root) (it .up) (it .low) (pairsFrom p v 0 count) ≡ true
   pub chain : chainOk rule (it .low) (it .high) (pairsFrom p v 0 count) ≡ chainOk rule (it .low) (it .high) (pairsFrom p v j count)
   pub mark : (m : ℕ) → getD marks m false ≡ any (isNumber m) (here (decode least s .pages) v it ∷ done)
+  pub bare : (m : ℕ) → getD empty m false ≡ true → Bare least s v rule (here (decode least s .pages) v it ∷ done) m
 
 -- ---- the list of items
 

@@ -1,6 +1,8 @@
 // "walk from its root over entries alive then": one walk, for one rule at one version.
 use model::Limits;
 ghost use mathlib.Core.Path.{_≡_};
+ghost use mathlib.Core.Bool.{_&&_};
+ghost use lib.Dec.{leb, eqb};
 ghost use Prim.Native.Nat.{_+_, _≤_};
 ghost use Rattle.model.specs.Limits.{Edition};
 ghost use Rattle.local.specs.Local.{IsPage, levelAt};
@@ -21,14 +23,25 @@ pub(crate) struct Walked {
     pub marks: [bool; 4096],
 }
 
+// Whether a page is to be passed over when it is met again: it shows nothing at this version, and rule 4 asks nothing of it.
+fn passed_over(rule: u32, j: usize, count: usize) -> bool
+    ensures { λ r. ⌜ r ≡ (eqb rule 4 && leb count j) ⌝ }
+{
+    if rule != 4 {
+        return false;
+    }
+    count <= j
+}
+
 // The walk for one rule. "the walk down stops at the first page that breaks a rule".
-// The pages that wait are at most 40 for each of the 7 levels, and the root. Each page is tested before its routers are followed, and under rule 4
-// a page below two routers passes at one of them only: so no walk follows the routers of a page twice (docs/CHECK-COST.md).
+// The pages that wait are at most 40 for each of the 7 levels, and the root. Each page is tested before its routers are followed, and under
+// rule 4 a page that shows something passes under one of the routers that lead to it: so no page is read again and again (docs/CHECK-COST.md).
 pub(crate) fn walk(s: &[u8], l: Limits, root: usize, up: usize, v: u32, rule: u32) -> Walked
     requires { ⌜ Edition l × Linked (l .least) (now s) × IsPage (l .least) (now s) root × (levelAt (l .least) (now s) root ≡ up + 1) × (up ≤ 6) ⌝ }
     ensures { λ r. ⌜ Tells (l .least) (now (s .entry)) root up v rule r ⌝ }
 {
     let mut marks = [false; 4096];
+    let mut empty = [false; 4096];
     let first = Item {
         page: root,
         up: up,
@@ -45,6 +58,9 @@ pub(crate) fn walk(s: &[u8], l: Limits, root: usize, up: usize, v: u32, rule: u3
         top -= 1;
         let it = items[top];
         let n = it.page;
+        if empty[n] {
+            continue 'walk;
+        }
         let p = store::part(s, l, n);
         let h = page::head_of(p, l);
         let count = h.count;
@@ -53,6 +69,7 @@ pub(crate) fn walk(s: &[u8], l: Limits, root: usize, up: usize, v: u32, rule: u3
         }
         marks[n] = true;
         let mut j = crate::live::next_live(p, v, 0, count);
+        empty[n] = passed_over(rule, j, count);
         while j < count {
             let e = page::entry_at(p, j);
             let k = crate::live::next_live(p, v, j + 1, count);
