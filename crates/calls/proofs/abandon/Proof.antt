@@ -1,0 +1,47 @@
+-- `abandon` meets its contract. Assumes nothing.
+use mathlib.Core.Path.{sym, _∙_}
+use borrow.Author.Needs.{needs}
+use Rattle.calls.specs.Turning.{closing, abandon-refused, abandon-done, is-open}
+use Rattle.calls.specs.Guard.{four-is, edition, guard-sound}
+use Rattle.calls.proofs.abandon.Statement.{statement}
+use Rattle.calls.proofs.abandon.Tie as tie
+
+edition-one-requires : tie.Need-edition-one-requires
+edition-one-requires c κs = search needs
+
+guard-closing-requires : tie.Need-guard-closing-requires
+guard-closing-requires c κs = edition (c .before .edition-one .result) (c .before .edition-one .ensures)
+
+same-length : tie.Need-same-length
+same-length c = search needs
+
+returns : tie.Need-returns
+returns c =
+    let q = four-is (c .before .before .before .edition-one .result) (c .before .before .before .edition-one .ensures) in
+    abandon-refused 4 (c .before .before .before .before .before .args .s .now) (c .before .guard-closing .result) (rw q at (c .before .guard-closing .ensures)) (c .if1 .taken)
+
+abandon-requires : tie.Need-abandon-requires
+abandon-requires c κs =
+    let a = c .before .before .before .before .before .before .args in
+    let z = sym (c .before .before .guard-closing .ensures) ∙ c .before .if1 .left in
+    (edition (c .before .before .before .before .edition-one .result) (c .before .before .before .before .edition-one .ensures), guard-sound (c .before .before .before .before .edition-one .result .least) (a .s .now) closing z, is-open (c .before .before .before .before .edition-one .result .least) (a .s .now) z)
+
+same-length-2 : tie.Need-same-length-2
+same-length-2 c = search needs
+
+returns-2 : tie.Need-returns-2
+returns-2 c =
+    let q = four-is (c .before .before .before .before .before .before .before .edition-one .result) (c .before .before .before .before .before .before .before .edition-one .ensures) in
+    abandon-done 4 (c .before .before .before .before .before .before .before .before .before .args .s .now) (c .before .before .before .before .before .guard-closing .result) (rw q at (c .before .before .before .before .before .guard-closing .ensures)) (c .before .before .before .before .if1 .left) _ (rw q at (c .before .before .abandon .ensures))
+
+pub abandon-spec : {M : Type 1} → statement M
+abandon-spec =
+    tie.close
+    (tie.spec
+    edition-one-requires
+    guard-closing-requires
+    same-length
+    returns
+    abandon-requires
+    same-length-2
+    returns-2)

@@ -1,0 +1,151 @@
+// The calls, for any bytes and any numbers lent: each is its guard, which judges the store and then goes through the call's
+// refusals in order, and a core that rests on a sound store.
+use model::Limits;
+use model::Looked;
+use walk::Counted;
+ghost use mathlib.Core.Path.{_≡_};
+ghost use Rattle.model.specs.Limits.{Edition};
+ghost use Rattle.model.specs.Lent.{openLent, commitLent, abandonLent, lookupLent, rangeLent};
+ghost use Rattle.walk.specs.Counted.{withList};
+ghost use Rattle.calls.specs.Guard.{guarded};
+ghost use Rattle.calls.specs.Reading.{reading, badRange};
+ghost use Rattle.calls.specs.Turning.{opening, closing, ended};
+
+// "Keys are 0 to 16,777,215".
+const KEYS: u32 = 16777216;
+
+// "Versions are 0 to 1,048,574."
+const LAST: u32 = 1048574;
+
+// Whether a range's keys are wrong: "key too large, or range low above high".
+fn bad_range(low: u32, high: u32) -> bool
+    ensures { λ r. ⌜ r ≡ badRange low high ⌝ }
+{
+    if KEYS <= low {
+        return true;
+    }
+    if KEYS <= high {
+        return true;
+    }
+    high < low
+}
+
+// The guard of lookup and range: judging, then 5 where the keys are wrong, then 6.
+fn guard_reading(s: &[u8], l: Limits, bad: bool, v: u32) -> u32
+    requires { ⌜ Edition l ⌝ }
+    ensures { λ r. ⌜ r ≡ guarded (l .least) (now (s .entry)) (reading bad v) ⌝ }
+{
+    let j = judge::judge_in(s, l);
+    if j.number != 0 {
+        return j.number;
+    }
+    if bad {
+        return 5;
+    }
+    let h = store::header(s, l);
+    if h.last() < v {
+        return 6;
+    }
+    0
+}
+
+// The guard of open: judging, then 8 and 9.
+fn guard_opening(s: &[u8], l: Limits) -> u32
+    requires { ⌜ Edition l ⌝ }
+    ensures { λ r. ⌜ r ≡ guarded (l .least) (now (s .entry)) opening ⌝ }
+{
+    let j = judge::judge_in(s, l);
+    if j.number != 0 {
+        return j.number;
+    }
+    let h = store::header(s, l);
+    if h.opened {
+        return 8;
+    }
+    if LAST <= h.current {
+        return 9;
+    }
+    0
+}
+
+// The guard of commit and abandon: judging, then 7.
+fn guard_closing(s: &[u8], l: Limits) -> u32
+    requires { ⌜ Edition l ⌝ }
+    ensures { λ r. ⌜ r ≡ guarded (l .least) (now (s .entry)) closing ⌝ }
+{
+    let j = judge::judge_in(s, l);
+    if j.number != 0 {
+        return j.number;
+    }
+    let h = store::header(s, l);
+    if !h.opened {
+        return 7;
+    }
+    0
+}
+
+// Opens an update.
+pub fn open(s: &mut [u8]) -> u32
+    ensures { λ r. ⌜ ended r (now (s .exit)) ≡ openLent 4 (now (s .entry)) ⌝ }
+{
+    let l = model::edition_one();
+    let n = guard_opening(s, l);
+    if n != 0 {
+        return n;
+    }
+    turn::begin(s, l);
+    0
+}
+
+// Commits the open update.
+pub fn commit(s: &mut [u8]) -> u32
+    ensures { λ r. ⌜ ended r (now (s .exit)) ≡ commitLent 4 (now (s .entry)) ⌝ }
+{
+    let l = model::edition_one();
+    let n = guard_closing(s, l);
+    if n != 0 {
+        return n;
+    }
+    turn::commit(s, l);
+    0
+}
+
+// Abandons the open update.
+pub fn abandon(s: &mut [u8]) -> u32
+    ensures { λ r. ⌜ ended r (now (s .exit)) ≡ abandonLent 4 (now (s .entry)) ⌝ }
+{
+    let l = model::edition_one();
+    let n = guard_closing(s, l);
+    if n != 0 {
+        return n;
+    }
+    turn::abandon(s, l);
+    0
+}
+
+// "lookup(s, key, version)": the value at the version, that the key is absent, or a number.
+pub fn lookup(s: &[u8], key: u32, v: u32) -> Looked
+    ensures { λ r. ⌜ r ≡ lookupLent 4 (now (s .entry)) key v ⌝ }
+{
+    let l = model::edition_one();
+    let n = guard_reading(s, l, KEYS <= key, v);
+    if n != 0 {
+        return Looked::Refused(n);
+    }
+    walk::lookup(s, l, key, v)
+}
+
+// The settings from low to high, both included, in key order: their number, and key, value, key, value in the caller's list.
+pub fn range(s: &[u8], low: u32, high: u32, v: u32, list: &mut [u32]) -> Counted
+    ensures { λ r. ⌜ withList r (now (list .exit)) ≡ rangeLent 4 (now (s .entry)) low high v (now (list .entry)) ⌝ }
+{
+    let l = model::edition_one();
+    let n = guard_reading(s, l, bad_range(low, high), v);
+    if n != 0 {
+        return Counted {
+            number: n,
+            count: 0,
+        };
+    }
+    walk::range(s, l, low, high, v, list)
+}
