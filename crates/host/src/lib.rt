@@ -1,7 +1,11 @@
 // The calls for programs in other languages: numbers and byte slices, any of them. include/rcst.h says the same to a C programmer.
+use model::Looked;
 ghost use mathlib.Core.Path.{_≡_};
-ghost use Rattle.model.specs.Lent.{freshLent};
+ghost use Rattle.model.specs.Layout.{bit};
 ghost use Rattle.model.specs.Judged.{judged};
+ghost use Rattle.model.specs.Calls.{lookedNumber, lookedFound, lookedValue};
+ghost use Rattle.model.specs.Lent.{freshLent, openLent, commitLent, abandonLent, lookupLent, rangeLent};
+ghost use Rattle.calls.specs.Turning.{ended};
 
 // Makes a fresh store.
 #[no_mangle]
@@ -21,4 +25,83 @@ pub extern "C" fn rcst_check(store: &[u8], rule: &mut u32) -> u32
     let v = judge::check(store);
     *rule = v.rule;
     v.number
+}
+
+// Opens an update.
+#[no_mangle]
+pub extern "C" fn rcst_open(store: &mut [u8]) -> u32
+    ensures { λ r. ⌜ ended r (now (store .exit)) ≡ openLent 4 (now (store .entry)) ⌝ }
+{
+    calls::open(store)
+}
+
+// Commits the open update.
+#[no_mangle]
+pub extern "C" fn rcst_commit(store: &mut [u8]) -> u32
+    ensures { λ r. ⌜ ended r (now (store .exit)) ≡ commitLent 4 (now (store .entry)) ⌝ }
+{
+    calls::commit(store)
+}
+
+// Abandons the open update.
+#[no_mangle]
+pub extern "C" fn rcst_abandon(store: &mut [u8]) -> u32
+    ensures { λ r. ⌜ ended r (now (store .exit)) ≡ abandonLent 4 (now (store .entry)) ⌝ }
+{
+    calls::abandon(store)
+}
+
+fn number_of(r: Looked) -> u32
+    ensures { λ n. ⌜ n ≡ lookedNumber r ⌝ }
+{
+    match r {
+        Looked::Value(_) => 0,
+        Looked::Absent => 0,
+        Looked::Refused(n) => n,
+    }
+}
+
+fn found_of(r: Looked) -> u32
+    ensures { λ n. ⌜ n ≡ bit (lookedFound r) ⌝ }
+{
+    match r {
+        Looked::Value(_) => 1,
+        Looked::Absent => 0,
+        Looked::Refused(_) => 0,
+    }
+}
+
+fn value_of(r: Looked) -> u32
+    ensures { λ n. ⌜ n ≡ lookedValue r ⌝ }
+{
+    match r {
+        Looked::Value(x) => x,
+        Looked::Absent => 0,
+        Looked::Refused(_) => 0,
+    }
+}
+
+// Looks a key up at a version: whether it is alive goes to `found`, its value to `value`.
+#[no_mangle]
+pub extern "C" fn rcst_lookup(store: &[u8], key: u32, version: u32, found: &mut u32, value: &mut u32) -> u32
+    ensures number { λ r. ⌜ r ≡ lookedNumber (lookupLent 4 (now (store .entry)) key version) ⌝ }
+    ensures alive { λ _. ⌜ now (found .exit) ≡ bit (lookedFound (lookupLent 4 (now (store .entry)) key version)) ⌝ }
+    ensures setting { λ _. ⌜ now (value .exit) ≡ lookedValue (lookupLent 4 (now (store .entry)) key version) ⌝ }
+{
+    let r = calls::lookup(store, key, version);
+    *found = found_of(r);
+    *value = value_of(r);
+    number_of(r)
+}
+
+// The settings from low to high at a version go to `list`, their number to `count`.
+#[no_mangle]
+pub extern "C" fn rcst_range(store: &[u8], low: u32, high: u32, version: u32, list: &mut [u32], count: &mut u32) -> u32
+    ensures number { λ r. ⌜ r ≡ rangeLent 4 (now (store .entry)) low high version (now (list .entry)) .number ⌝ }
+    ensures settings { λ _. ⌜ now (count .exit) ≡ rangeLent 4 (now (store .entry)) low high version (now (list .entry)) .count ⌝ }
+    ensures written { λ _. ⌜ now (list .exit) ≡ rangeLent 4 (now (store .entry)) low high version (now (list .entry)) .list ⌝ }
+{
+    let r = calls::range(store, low, high, version, list);
+    *count = r.count as u32;
+    r.number
 }

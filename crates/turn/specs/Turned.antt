@@ -22,7 +22,8 @@ use Rattle.store.specs.Sure.{sure, exact, held, same-bytes}
 use Rattle.store.specs.Slots.{slotParts, none-fits, directory, directory-length}
 use Rattle.store.specs.Header.{HeaderFits, putHeader}
 use Rattle.store.specs.Holds.{Holds, header-holds}
-use Rattle.store.specs.Set.{bytesOf, encode-of, header-in, slot-in, directory-drop, withSlots, withState, state-set}
+use Rattle.store.specs.Inside.{bytesOf, encode-of, header-in, slot-in, directory-drop}
+use Rattle.store.specs.Set.{withSlots, withState, state-set}
 
 -- an update begun, and one committed
 abbrev pub begun : Store → Store
