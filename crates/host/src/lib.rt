@@ -96,12 +96,12 @@ pub extern "C" fn rcst_lookup(store: &[u8], key: u32, version: u32, found: &mut 
 
 // The settings from low to high at a version go to `list`, their number to `count`.
 #[no_mangle]
-pub extern "C" fn rcst_range(store: &[u8], low: u32, high: u32, version: u32, list: &mut [u32], count: &mut u32) -> u32
+pub extern "C" fn rcst_range(store: &[u8], low: u32, high: u32, version: u32, list: &mut [u32], count: &mut usize) -> u32
     ensures number { λ r. ⌜ r ≡ rangeLent 4 (now (store .entry)) low high version (now (list .entry)) .number ⌝ }
     ensures settings { λ _. ⌜ now (count .exit) ≡ rangeLent 4 (now (store .entry)) low high version (now (list .entry)) .count ⌝ }
     ensures written { λ _. ⌜ now (list .exit) ≡ rangeLent 4 (now (store .entry)) low high version (now (list .entry)) .list ⌝ }
 {
     let r = calls::range(store, low, high, version, list);
-    *count = r.count as u32;
+    *count = r.count;
     r.number
 }
