@@ -1,6 +1,6 @@
 -- Fields that are laid over what stands there already. Assumes nothing.
-use Prim.Native.Nat.{ℕ, _+_, _*_, _<_, _≤_}
-use mathlib.Core.Path.{_≡_, refl, sym, _∙_}
+use Prim.Native.Nat.{ℕ, _+_, _-_, _*_, _<_, _≤_}
+use mathlib.Core.Path.{_≡_, refl, ap, sym, _∙_}
 use mathlib.Core.List.{List, [], _∷_, _++_}
 use mathlib.Core.Logic.{_⊎_, inl, inr, ⊎-elim}
 use native.Mathlib.Nat.{add-assoc}
@@ -8,8 +8,8 @@ use native.Mathlib.Omega.{arith}
 use lib.ListN.{length, take, drop, replicate-append-replicate}
 use Rattle.model.specs.Field.{field, putField, bitAt, Bytes, Part, lay, zeros, packed}
 use Rattle.bits.specs.Put.{length-put, bits-ext}
-use Rattle.bits.specs.Append.{put-left, put-right, bit-part, where-bit}
-use Rattle.bits.specs.Lay.{total, Shows, Fit, length-lay, bytes-lay, lay-in, lay-out, lay-shows, packed-whole, length-zeros, bytes-zeros, zeros-bit, zero-at, zero-field, part-bytes, part-length}
+use Rattle.bits.specs.Append.{put-left, put-right, bit-left, bit-right, bit-part, where-bit}
+use Rattle.bits.specs.Lay.{total, Shows, Fit, length-packed, packed-rest, length-lay, bytes-lay, lay-in, lay-out, lay-shows, packed-whole, length-zeros, bytes-zeros, zeros-bit, zero-at, zero-field, part-bytes, part-length}
 
 -- ---- in a part
 
@@ -80,3 +80,16 @@ pub zero-part : (s : List ℕ) (a n : ℕ) → Bytes s → a + n ≤ length s �
 zero-part s a n b h e =
     bits-ext (take n (drop a s)) (zeros n) (part-bytes s a n b) (bytes-zeros n) (part-length s a n h ∙ sym (length-zeros n)) λ i l.
     bit-part s a n i (omega (arith, part-length s a n h)) ∙ zero-at s (8 * a) (8 * n) e (8 * a + i) (omega arith) (omega (arith, part-length s a n h)) ∙ sym (zeros-bit n i)
+
+-- behind a list there are zeros
+pub zeros-behind : (a : List ℕ) (n at m : ℕ) → 8 * length a ≤ at → field (a ++ zeros n) at m ≡ 0
+zeros-behind a n at m h =
+    zero-field (a ++ zeros n) at m λ i l k.
+    let e : 8 * length a + (i - 8 * length a) ≡ i = omega arith in
+    ap (bitAt (a ++ zeros n)) (sym e) ∙ bit-right a (zeros n) (i - 8 * length a) ∙ zeros-bit n (i - 8 * length a)
+
+-- bits behind packed fields, where other bytes follow
+pub packed-spare : (n : ℕ) (fs : List Part) (z : List ℕ) (at m : ℕ) → total fs ≤ at → at + m ≤ 8 * n → field (packed n fs ++ z) at m ≡ 0
+packed-spare n fs z at m h l =
+    zero-field (packed n fs ++ z) at m λ i p q.
+    bit-left (packed n fs) z i (omega (arith, length-packed n fs)) ∙ packed-rest n fs i (omega arith) (omega arith)

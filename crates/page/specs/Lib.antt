@@ -8,3 +8,4 @@ pub mod Clean
 pub mod Over
 pub mod Stage
 pub mod Insert
+pub mod Passes

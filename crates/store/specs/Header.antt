@@ -8,7 +8,7 @@ use lib.Dec.{leb, eqb}
 use lib.ListN.{length, take, drop}
 use Rattle.bits.specs.Laws.{field-lt}
 use Rattle.bits.specs.Append.{field-left, field-part, bit-part}
-use Rattle.bits.specs.Lay.{Shows, Fit, total, length-lay, bytes-lay, length-packed, packed-shows, packed-whole, zero-at, part-bytes, part-length, bytes-zeros, length-zeros}
+use Rattle.bits.specs.Lay.{Shows, Fit, total, length-lay, bytes-lay, length-packed, bytes-packed, packed-shows, packed-whole, zero-at, part-bytes, part-length, bytes-zeros, length-zeros}
 use Rattle.bits.specs.Over.{lay-left, lay-append, lay-twice}
 use Rattle.model.specs.declared.Header.{Header}
 use Rattle.model.specs.Basic.{pick}
@@ -104,15 +104,23 @@ module _ (least : ℕ) (four : 4 ≤ least) (eight : least ≤ 8) where
       (lay-left a f 40 (valueParts least h) (omega (arith, width))
       ∙ ap (λ (x : List ℕ). x ++ f) (lay-twice named 40 (valueParts least g) (valueParts least h) named-bytes (omega (arith, width, named-length)) refl (values-fit h z)))
 
+  pub header-bytes : (h : Header) → Bytes (headerBytes least h)
+  unfolding headerBytes
+  header-bytes h = bytes-packed (64 * least) (headerParts least h) (omega (arith, total-is h, width))
+
+  pub header-shows : (h : Header) → HeaderFits least h → Shows (headerBytes least h) 0 (headerParts least h)
+  unfolding headerBytes
+  header-shows h z =
+      packed-shows (64 * least) (headerParts least h) (omega (arith, total-is h, width))
+      (omega arith, (omega arith, (omega arith, (omega arith, (edition-small least, values-fit h z)))))
+
   pub header-read : (h : Header) (f : List ℕ) → HeaderFits least h → readHeader least (headerBytes least h ++ f) ≡ h
   unfolding headerBytes readHeader
   header-read h f z =
       let t : List ℕ = packed (64 * least) (headerParts least h) in
       let n : length t ≡ 64 * least = length-packed (64 * least) (headerParts least h) in
       let w : Rooted least (rootBits least) = width in
-      let s : Shows t 0 (headerParts least h)
-      = packed-shows (64 * least) (headerParts least h) (omega (arith, total-is h))
-      (omega arith, (omega arith, (omega arith, (omega arith, (edition-small least, values-fit h z))))) in
+      let s : Shows t 0 (headerParts least h) = header-shows h z in
       let v = s .1 .1 .1 .1 .1 in
       let a : field (t ++ f) 40 13 ≡ h .pages = field-left t f 40 13 (omega arith) ∙ v .0 in
       let b : field (t ++ f) 53 20 ≡ h .current = field-left t f 53 20 (omega arith) ∙ v .1 .0 in

@@ -11,3 +11,4 @@ pub mod Tested
 pub mod Sure
 pub mod Fresh
 pub mod Answers
+pub mod Passes
