@@ -116,13 +116,13 @@ pub fn settings(page: &[u8], n: usize, q: Query, list: &mut [u32], found: usize)
     requires { ⌜ Stands (now page) n × Space (q .write) (now list) found (between (q .low) (q .high) (live (q .version) (from (now page) 0 n))) ⌝ }
     ensures { λ r. ⌜ Gathers (q .write) (now (list .entry)) (now (list .exit)) found r (between (q .low) (q .high) (live (q .version) (from (now (page .entry)) 0 n))) ⌝ }
 {
-    let mut k = found;
+    let mut sum = found;
     let mut i = next_place(page, n, q.version, q.low, q.high, 0);
     while i < n {
         let e = page::entry_at(page, i);
-        put(list, k, e, q.write);
-        k += 1;
+        put(list, sum, e, q.write);
+        sum += 1;
         i = next_place(page, n, q.version, q.low, q.high, i + 1);
     }
-    k
+    sum
 }

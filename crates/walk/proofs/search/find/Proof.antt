@@ -6,6 +6,8 @@ use borrow.Author.Needs.{needs}
 use Rattle.model.specs.Calls.{lookedAt}
 use Rattle.model.specs.Walk.{between}
 use Rattle.model.specs.Entry.{pairOf}
+use Rattle.model.specs.declared.Entry.{Entry}
+use Rattle.model.specs.declared.Looked.the-variants.{Value}
 use Rattle.walk.specs.Scan.{from, entry, next-none, find-found, find-none}
 use Rattle.walk.specs.Live.{live}
 use Rattle.walk.proofs.search.find.Statement.{statement}
@@ -22,8 +24,8 @@ returns c =
     let a = c .before .before .before .before .args in
     let r = c .before .before .next-place .result in
     let n = c .before .before .next-place .ensures in
-    rw (c .entry-at .ensures)
-    (sym (ap lookedAt (find-found (a .key) (pairOf (entry (a .page .now) r)) (live (a .v) (from (a .page .now) 0 (a .n))) (between (a .key) (a .key) (live (a .v) (from (a .page .now) (r + 1) (a .n)))) (n .same ∙ n .here (c .before .if1 .taken)))))
+    ap (λ (e : Entry). Value (e .value)) (c .entry-at .ensures)
+    ∙ sym (ap lookedAt (find-found (a .key) (pairOf (entry (a .page .now) r)) (live (a .v) (from (a .page .now) 0 (a .n))) (between (a .key) (a .key) (live (a .v) (from (a .page .now) (r + 1) (a .n)))) (n .same ∙ n .here (c .before .if1 .taken))))
 
 returns-2 : tie.Need-returns-2
 returns-2 c =
