@@ -1,0 +1,206 @@
+//! The proved library beside the same work in Rust, as ratios of one run.
+//! `bench/run` builds and runs it; docs/BENCH.md tells what follows.
+
+mod measure;
+mod plain;
+mod proved;
+mod same;
+mod stores;
+
+use std::hint::black_box;
+
+use measure::{in_turn, times, told, Times};
+use reference::foreign::raise_current;
+use reference::image::Image;
+use reference::layout::{HIGHEST_VERSION, PAGE_BYTES};
+use reference::rng::Rng;
+use reference::{calls, store};
+
+fn main() {
+    byte_layer();
+    check_of_histories();
+    empty_commits();
+    worst_stores();
+}
+
+/// Entries in the bytes from which fields are read.
+const ENTRIES: usize = 1000;
+
+fn byte_layer() {
+    println!("## Fields and pages\n");
+    println!(
+        "Times as long as the same in Rust; then one proved, one bit by bit, one by whole bytes.\n"
+    );
+    println!("| | bit by bit in Rust | whole bytes in Rust | proved | bit by bit | whole bytes |");
+    println!("|---|---|---|---|---|---|");
+    let mut rng = Rng::new(1);
+    let bytes: Vec<u8> = (0..16 + 12 * (ENTRIES + 1))
+        .map(|_| rng.word() as u8)
+        .collect();
+    for (name, at, width) in [
+        ("key", 0, 24),
+        ("start", 24, 20),
+        ("end", 44, 20),
+        ("value", 64, 32),
+    ] {
+        let name = format!("read a field: {name}, {width} bits");
+        row(&name, ENTRIES, read_fields(&bytes, 128 + at, width));
+    }
+    row("read an entry", ENTRIES, read_entries(&bytes));
+    row("write a page of 20 entries", 1, write_pages());
+    println!();
+}
+
+/// One line of the table; each call does a thing `count` times.
+fn row(name: &str, count: usize, taken: Times) {
+    let each = |way| told(taken.of(way) / count as f64);
+    println!(
+        "| {name} | {} | {} | {} | {} | {} |",
+        times(taken.ratio(0, 1)),
+        times(taken.ratio(0, 2)),
+        each(0),
+        each(1),
+        each(2)
+    );
+}
+
+fn read_fields(bytes: &[u8], at: usize, width: usize) -> Times {
+    let sum = plain::fields(bytes, at, width, ENTRIES);
+    assert_eq!(proved::fields(bytes, at, width, ENTRIES), sum);
+    assert_eq!(same::fields(bytes, at, width, ENTRIES), sum);
+    let (at, width) = (black_box(at), black_box(width));
+    in_turn(&mut [
+        &mut || proved::fields(black_box(bytes), at, width, ENTRIES),
+        &mut || same::fields(black_box(bytes), at, width, ENTRIES),
+        &mut || plain::fields(black_box(bytes), at, width, ENTRIES),
+    ])
+}
+
+fn read_entries(bytes: &[u8]) -> Times {
+    let sum = plain::entries(bytes, ENTRIES);
+    assert_eq!(proved::entries(bytes, ENTRIES), sum);
+    assert_eq!(same::entries(bytes, ENTRIES), sum);
+    in_turn(&mut [
+        &mut || proved::entries(black_box(bytes), ENTRIES),
+        &mut || same::entries(black_box(bytes), ENTRIES),
+        &mut || plain::entries(black_box(bytes), ENTRIES),
+    ])
+}
+
+fn write_pages() -> Times {
+    type Fill = fn(&mut [u8], u32, u32, u32, usize) -> bool;
+    let ways: [Fill; 3] = [proved::fill, same::fill, plain::fill];
+    let page = |fill: Fill| {
+        let mut page = [0xA5; PAGE_BYTES];
+        assert!(fill(&mut page, 0xABCDE, 0x123456, 0x89AB_CDEF, 20));
+        page
+    };
+    assert!(ways.iter().all(|way| page(*way) == page(ways[0])));
+    let timed = |fill: Fill| {
+        let mut page = [0; PAGE_BYTES];
+        move || fill(black_box(&mut page), black_box(0xABCDE), 0x123456, 7, 20).into()
+    };
+    let [mut proved, mut same, mut plain] = ways.map(timed);
+    in_turn(&mut [&mut proved, &mut same, &mut plain])
+}
+
+/// Judged by both, with the same answer.
+fn judged(store: &[u8]) -> Times {
+    assert_eq!(calls::check(store), (0, 0));
+    assert_eq!(proved::check(store), (0, 0));
+    in_turn(&mut [
+        &mut || proved::check(black_box(store)).0.into(),
+        &mut || calls::check(black_box(store)).0.into(),
+    ])
+}
+
+/// Pages in use, and versions at which something starts or ends.
+fn shape(bytes: &[u8]) -> (usize, usize) {
+    let image = Image::read(bytes);
+    (image.used().count(), image.turning_points().len())
+}
+
+fn check_of_histories() {
+    println!("## Check\n");
+    println!("Times as long as the reference program's check.\n");
+    println!(
+        "| pages | in use | versions walked | ratio | proved | reference | proved, a used page and version |"
+    );
+    println!("|---|---|---|---|---|---|---|");
+    for (pages, versions) in [
+        (16, 2),
+        (16, 32),
+        (256, 4),
+        (256, 256),
+        (4096, 4),
+        (4096, 32),
+    ] {
+        let store = stores::grown(pages, versions);
+        let (used, turning) = shape(&store);
+        let taken = judged(&store);
+        println!(
+            "| {pages} | {used} | {turning} | {} | {} | {} | {} |",
+            times(taken.ratio(0, 1)),
+            told(taken.of(0)),
+            told(taken.of(1)),
+            told(taken.of(0) / (used * turning) as f64)
+        );
+    }
+    println!();
+}
+
+fn empty_commits() {
+    let store = stores::grown(256, 16);
+    let mut later = store.clone();
+    raise_current(&mut later, HIGHEST_VERSION - 1);
+    let more = store::header(&later).current - store::header(&store).current;
+    assert_eq!(proved::check(&later), (0, 0));
+    let taken = in_turn(&mut [
+        &mut || proved::check(black_box(&later)).0.into(),
+        &mut || proved::check(black_box(&store)).0.into(),
+    ]);
+    println!("## Empty commits\n");
+    println!("| | ratio | with them | without |\n|---|---|---|---|");
+    println!(
+        "| 256 pages, 16 versions, then {more} empty commits | {} | {} | {} |\n",
+        times(taken.ratio(0, 1)),
+        told(taken.of(0)),
+        told(taken.of(1))
+    );
+}
+
+/// No larger store is judged after one that took the proved check so long, in
+/// seconds.
+const LONG: f64 = 4.0;
+
+fn worst_stores() {
+    println!("## The worst stores\n");
+    println!(
+        "| pages | versions walked | ratio | proved | reference | proved, times the one above |"
+    );
+    println!("|---|---|---|---|---|---|");
+    let mut before: Option<f64> = None;
+    for leaves in [10, 20, 40, 80, 160, 320, 640, 1280, 2560, 3870] {
+        let store = stores::flickering(leaves);
+        let (_, turning) = shape(&store);
+        let taken = judged(&store);
+        let growth = before.map_or(String::new(), |before| times(taken.of(0) / before));
+        println!(
+            "| {} | {turning} | {} | {} | {} | {growth} |",
+            store.len() / PAGE_BYTES,
+            times(taken.ratio(0, 1)),
+            told(taken.of(0)),
+            told(taken.of(1))
+        );
+        before = Some(taken.of(0));
+        if taken.of(0) > LONG {
+            break;
+        }
+    }
+    let largest = stores::flickering(3870);
+    println!(
+        "\nThe largest of this kind has {} pages and {} such versions.",
+        largest.len() / PAGE_BYTES,
+        shape(&largest).1
+    );
+}

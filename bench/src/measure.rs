@@ -1,0 +1,85 @@
+//! Two or more ways to do the same work, timed in turn.
+//!
+//! A round times each way once, for some milliseconds, one right after the
+//! other: what else the machine does then weighs on all of them. A ratio is
+//! the median of the rounds' ratios.
+
+use std::hint::black_box;
+use std::time::{Duration, Instant};
+
+/// The least time of one way in one round, in seconds.
+const LEAST: f64 = 0.004;
+/// After this time no further round is begun, but for the fewest.
+const PATIENCE: Duration = Duration::from_secs(3);
+const FEWEST_ROUNDS: usize = 3;
+const MOST_ROUNDS: usize = 31;
+
+/// One way to do the work; what it gives back keeps the work from being
+/// optimised away.
+pub type Way<'a> = dyn FnMut() -> u64 + 'a;
+
+/// Seconds that one call took, for each round and way.
+pub struct Times {
+    rounds: Vec<Vec<f64>>,
+}
+
+impl Times {
+    /// The median time of one call of a way, in seconds.
+    pub fn of(&self, way: usize) -> f64 {
+        median(self.rounds.iter().map(|round| round[way]))
+    }
+
+    /// How many times as long `way` takes as `other`.
+    pub fn ratio(&self, way: usize, other: usize) -> f64 {
+        median(self.rounds.iter().map(|round| round[way] / round[other]))
+    }
+}
+
+/// Times the ways in turn.
+pub fn in_turn(ways: &mut [&mut Way]) -> Times {
+    let begun = Instant::now();
+    let repeats: Vec<u32> = ways
+        .iter_mut()
+        .map(|way| (LEAST / seconds(way, 1)).ceil().clamp(1.0, 1e6) as u32)
+        .collect();
+    let mut rounds = Vec::new();
+    while rounds.len() < FEWEST_ROUNDS || rounds.len() < MOST_ROUNDS && begun.elapsed() < PATIENCE {
+        let pairs = ways.iter_mut().zip(&repeats);
+        rounds.push(pairs.map(|(way, times)| seconds(way, *times)).collect());
+    }
+    Times { rounds }
+}
+
+/// Seconds a call, over some calls.
+fn seconds(way: &mut Way, times: u32) -> f64 {
+    let begun = Instant::now();
+    for _ in 0..times {
+        black_box(way());
+    }
+    begun.elapsed().as_secs_f64() / f64::from(times)
+}
+
+fn median(numbers: impl Iterator<Item = f64>) -> f64 {
+    let mut numbers: Vec<f64> = numbers.collect();
+    numbers.sort_by(f64::total_cmp);
+    numbers[numbers.len() / 2]
+}
+
+/// A time in a unit that suits it.
+pub fn told(seconds: f64) -> String {
+    match seconds {
+        s if s >= 1.0 => format!("{s:.2} s"),
+        s if s >= 1e-3 => format!("{:.2} ms", s * 1e3),
+        s if s >= 1e-6 => format!("{:.2} µs", s * 1e6),
+        s => format!("{:.2} ns", s * 1e9),
+    }
+}
+
+/// A ratio with three digits.
+pub fn times(ratio: f64) -> String {
+    match ratio {
+        r if r >= 100.0 => format!("{r:.0}"),
+        r if r >= 10.0 => format!("{r:.1}"),
+        r => format!("{r:.2}"),
+    }
+}

@@ -1,0 +1,51 @@
+//! The proved code, as safe functions over its C interface.
+//!
+//! Neither library has a precondition. What this file answers for is that the
+//! declarations are those of `crates/gauge` and `include/rcst.h`, and that a
+//! slice is passed as its own pointer and length.
+
+mod c {
+    extern "C" {
+        pub fn gauge_fields(
+            bytes: *const u8,
+            length: usize,
+            at: usize,
+            width: usize,
+            count: usize,
+        ) -> u64;
+        pub fn gauge_entries(page: *const u8, length: usize, count: usize) -> u64;
+        pub fn gauge_fill(
+            page: *mut u8,
+            length: usize,
+            version: u32,
+            key: u32,
+            value: u32,
+            count: usize,
+        ) -> u32;
+        pub fn rcst_check(store: *const u8, length: usize, rule: *mut u32) -> u32;
+    }
+}
+
+/// The sum of `count` fields of `width` bits, the first at bit `at`, 96 bits
+/// from one to the next.
+pub fn fields(bytes: &[u8], at: usize, width: usize, count: usize) -> u64 {
+    unsafe { c::gauge_fields(bytes.as_ptr(), bytes.len(), at, width, count) }
+}
+
+/// The sum of all fields of the first `count` entries of a page.
+pub fn entries(page: &[u8], count: usize) -> u64 {
+    unsafe { c::gauge_entries(page.as_ptr(), page.len(), count) }
+}
+
+/// Makes the page a leaf of `version` with `count` entries of one key and
+/// value; whether that was done.
+pub fn fill(page: &mut [u8], version: u32, key: u32, value: u32, count: usize) -> bool {
+    unsafe { c::gauge_fill(page.as_mut_ptr(), page.len(), version, key, value, count) == 1 }
+}
+
+/// The number and, with 4, the lowest number of a broken rule.
+pub fn check(store: &[u8]) -> (u32, u32) {
+    let mut rule = 0;
+    let number = unsafe { c::rcst_check(store.as_ptr(), store.len(), &mut rule) };
+    (number, rule)
+}

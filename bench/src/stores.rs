@@ -1,0 +1,111 @@
+//! The stores that are judged.
+
+use std::collections::BTreeSet;
+
+use reference::image::Image;
+use reference::layout::{
+    Entry, Header, Page, Slot, Span, ALIVE, FIRST_PAGE, HIGHEST_KEY, LEAF, MOST_ENTRIES, PAGE_BYTES,
+};
+use reference::rng::Rng;
+use reference::{calls, number, unjudged};
+
+/// A store of `pages` pages with a history of `versions` committed versions,
+/// of which each makes as many inserts and deletes, ten a page in all.
+pub fn grown(pages: usize, versions: usize) -> Vec<u8> {
+    let mut store = vec![0; pages * PAGE_BYTES];
+    assert_eq!(calls::fresh(&mut store), number::DONE);
+    let mut rng = Rng::new(pages as u64);
+    let mut alive = BTreeSet::new();
+    let each = (10 * pages).div_ceil(versions);
+    for _ in 0..versions {
+        assert_eq!(unjudged::open(&mut store), number::DONE);
+        for _ in 0..each {
+            update(&mut store, &mut alive, &mut rng);
+        }
+        assert_eq!(unjudged::commit(&mut store), number::DONE);
+    }
+    store
+}
+
+/// Three inserts for each delete. One that finds no page or slot is left out.
+fn update(store: &mut [u8], alive: &mut BTreeSet<u32>, rng: &mut Rng) {
+    let key = rng.below(HIGHEST_KEY + 1);
+    let old = alive.range(key..).next().copied();
+    match old.filter(|_| rng.once_in(4)) {
+        Some(old) => {
+            if unjudged::delete(store, old) == number::DONE {
+                alive.remove(&old);
+            }
+        }
+        None => {
+            if unjudged::insert(store, key, rng.word()) == number::DONE {
+                alive.insert(key);
+            }
+        }
+    }
+}
+
+/// A sound store made to keep judging busy. Each of `leaves` leaves has four
+/// settings that stay and one with sixteen lives that do not touch, and every
+/// start and end is a version of its own: 32 versions a leaf at which
+/// something starts or ends, and at each of them every leaf is reached.
+pub fn flickering(leaves: u32) -> Vec<u8> {
+    let mut pages = vec![Page::new(LEAF, Span { start: 0, end: 1 }, Vec::new())];
+    let mut routers = Vec::new();
+    for leaf in 0..leaves {
+        routers.push((32 * leaf, FIRST_PAGE + pages.len() as u32));
+        pages.push(flickering_leaf(leaf));
+    }
+    for level in LEAF + 1.. {
+        if routers.len() == 1 {
+            break;
+        }
+        routers = above(&mut pages, level, &routers);
+    }
+    let root = routers[0].1;
+    Image {
+        header: Header {
+            page_count: 0,
+            current: 2 + 32 * leaves,
+            open: false,
+            roots: 0,
+        },
+        slots: vec![
+            Slot {
+                version: 0,
+                root: FIRST_PAGE,
+            },
+            Slot { version: 1, root },
+        ],
+        pages,
+    }
+    .write()
+}
+
+fn flickering_leaf(leaf: u32) -> Page {
+    let low = 32 * leaf;
+    let entry = |key, start, end| Entry {
+        key,
+        span: Span { start, end },
+        value: 7,
+    };
+    let staying = (0..4).map(|index| entry(low + index, 1, ALIVE));
+    let first = 2 + 32 * leaf;
+    let lives = (0..16).map(|life| entry(low + 4, first + 2 * life, first + 2 * life + 1));
+    Page::new(LEAF, Span::alive_from(1), staying.chain(lives).collect())
+}
+
+/// The index pages of `level` over these routers, none with fewer than four of
+/// them; the routers to those pages.
+fn above(pages: &mut Vec<Page>, level: u32, routers: &[(u32, u32)]) -> Vec<(u32, u32)> {
+    let count = routers.len().div_ceil(MOST_ENTRIES);
+    let mut over = Vec::new();
+    for part in 0..count {
+        let own = &routers[part * routers.len() / count..(part + 1) * routers.len() / count];
+        over.push((own[0].0, FIRST_PAGE + pages.len() as u32));
+        let span = Span::alive_from(1);
+        let entries = own.iter().map(|&(key, value)| Entry { key, span, value });
+        pages.push(Page::new(level, span, entries.collect()));
+    }
+    over
+}
