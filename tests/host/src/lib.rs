@@ -5,12 +5,33 @@
 //! answers for is that the declarations are those of the header, and that a
 //! slice is passed as its own pointer and length.
 
-use reference::engine::{Answer, Call, Engine};
+use reference::engine::{apply, Answer, Call, Engine};
 
 mod c {
     extern "C" {
         pub fn rcst_fresh(store: *mut u8, length: usize) -> u32;
         pub fn rcst_check(store: *const u8, length: usize, rule: *mut u32) -> u32;
+        pub fn rcst_open(store: *mut u8, length: usize) -> u32;
+        pub fn rcst_commit(store: *mut u8, length: usize) -> u32;
+        pub fn rcst_abandon(store: *mut u8, length: usize) -> u32;
+        pub fn rcst_lookup(
+            store: *const u8,
+            length: usize,
+            key: u32,
+            version: u32,
+            found: *mut u32,
+            value: *mut u32,
+        ) -> u32;
+        pub fn rcst_range(
+            store: *const u8,
+            length: usize,
+            low: u32,
+            high: u32,
+            version: u32,
+            list: *mut u32,
+            room: usize,
+            count: *mut usize,
+        ) -> u32;
     }
 }
 
@@ -26,13 +47,67 @@ pub fn check(store: &[u8]) -> (u32, u32) {
     (number, rule)
 }
 
-/// The proved library.
+/// Opens an update.
+pub fn open(store: &mut [u8]) -> u32 {
+    unsafe { c::rcst_open(store.as_mut_ptr(), store.len()) }
+}
+
+/// Commits the open update.
+pub fn commit(store: &mut [u8]) -> u32 {
+    unsafe { c::rcst_commit(store.as_mut_ptr(), store.len()) }
+}
+
+/// Abandons the open update.
+pub fn abandon(store: &mut [u8]) -> u32 {
+    unsafe { c::rcst_abandon(store.as_mut_ptr(), store.len()) }
+}
+
+/// The number, whether the key is alive at the version, and its value.
+pub fn lookup(store: &[u8], key: u32, version: u32) -> (u32, bool, u32) {
+    let (mut found, mut value) = (0, 0);
+    let number = unsafe {
+        c::rcst_lookup(
+            store.as_ptr(),
+            store.len(),
+            key,
+            version,
+            &mut found,
+            &mut value,
+        )
+    };
+    (number, found == 1, value)
+}
+
+/// The number and the count of settings found; these go to the list.
+pub fn range(store: &[u8], low: u32, high: u32, version: u32, list: &mut [u32]) -> (u32, usize) {
+    let mut count = 0;
+    let number = unsafe {
+        c::rcst_range(
+            store.as_ptr(),
+            store.len(),
+            low,
+            high,
+            version,
+            list.as_mut_ptr(),
+            list.len(),
+            &mut count,
+        )
+    };
+    (number, count)
+}
+
+/// The proved library. It has no insert and no delete yet: the reference makes
+/// these, on the library's copy of the store.
 pub struct Proved;
 
 impl Engine for Proved {
-    fn apply(&mut self, call: Call, store: &mut [u8], _list: &mut [u32]) -> Answer {
+    fn apply(&mut self, call: Call, store: &mut [u8], list: &mut [u32]) -> Answer {
         match call {
             Call::Fresh => Answer::of(fresh(store)),
+            Call::Open => Answer::of(open(store)),
+            Call::Commit => Answer::of(commit(store)),
+            Call::Abandon => Answer::of(abandon(store)),
+            Call::Insert(..) | Call::Delete(..) => apply(call, store, list),
             Call::Check => {
                 let (number, rule) = check(store);
                 Answer {
@@ -40,7 +115,21 @@ impl Engine for Proved {
                     ..Answer::of(number)
                 }
             }
-            _ => panic!("the library has no such call yet: {call:?}"),
+            Call::Lookup(key, version) => {
+                let (number, found, value) = lookup(store, key, version);
+                Answer {
+                    found,
+                    value,
+                    ..Answer::of(number)
+                }
+            }
+            Call::Range(low, high, version, _) => {
+                let (number, count) = range(store, low, high, version, list);
+                Answer {
+                    count: count as u32,
+                    ..Answer::of(number)
+                }
+            }
         }
     }
 }

@@ -1,33 +1,18 @@
 //! Check and making fresh, beside the reference: sound, damaged, hostile and
 //! any bytes; number, rule and every byte of the store.
 
-use host::Proved;
-use reference::beside::compare;
+mod common;
+
+use common::{both, rounds};
 use reference::damage::{kinds, tamper};
-use reference::engine::{Call, Reference};
+use reference::engine::Call;
 use reference::rng::Rng;
 use reference::samples::sound_store;
 
-fn rounds(usual: u64) -> u64 {
-    match std::env::var("RCST_LONG") {
-        Ok(_) => usual * 20,
-        Err(_) => usual,
-    }
-}
-
 /// Both judge `store`, and leave it alone; the number and the rule.
 fn judged(store: &[u8]) -> (u32, u32) {
-    let (mut left, mut right) = (store.to_vec(), store.to_vec());
-    let answer = compare(
-        &mut Reference,
-        &mut Proved,
-        Call::Check,
-        &mut left,
-        &mut right,
-    )
-    .unwrap_or_else(|difference| panic!("{difference:?}"));
-    assert_eq!(left, store);
-    assert_eq!(right, store);
+    let (answer, after) = both(Call::Check, store);
+    assert_eq!(after, store);
     (answer.number, answer.rule)
 }
 
@@ -99,14 +84,6 @@ fn fresh_over_any_bytes() {
     let mut rng = Rng::new(2);
     for length in (0..40 * 256).step_by(128).chain([256 * 4096, 256 * 4097]) {
         let store: Vec<u8> = (0..length).map(|_| rng.word() as u8).collect();
-        let (mut left, mut right) = (store.clone(), store);
-        compare(
-            &mut Reference,
-            &mut Proved,
-            Call::Fresh,
-            &mut left,
-            &mut right,
-        )
-        .unwrap_or_else(|difference| panic!("{length} bytes: {difference:?}"));
+        both(Call::Fresh, &store);
     }
 }

@@ -1,0 +1,24 @@
+//! What the test files share.
+
+use host::Proved;
+use reference::beside::compare;
+use reference::engine::{Answer, Call, Reference};
+
+/// How often a test goes round: `usual`, or twenty times that if `RCST_LONG` is
+/// set.
+pub fn rounds(usual: u64) -> u64 {
+    match std::env::var("RCST_LONG") {
+        Ok(_) => usual * 20,
+        Err(_) => usual,
+    }
+}
+
+/// One call on both programs, each on a copy of `store`: equal in number,
+/// results, every byte of the store and every number of the list. Its answer,
+/// and the store after it.
+pub fn both(call: Call, store: &[u8]) -> (Answer, Vec<u8>) {
+    let (mut left, mut right) = (store.to_vec(), store.to_vec());
+    let answer = compare(&mut Reference, &mut Proved, call, &mut left, &mut right)
+        .unwrap_or_else(|difference| panic!("{difference:?}"));
+    (answer, left)
+}
