@@ -2,6 +2,7 @@ pub mod Pending
 pub mod Tests
 pub mod Live
 pub mod Walking
+pub mod Taking
 pub mod Steps
 pub mod Versions
 pub mod Quiet

@@ -8,7 +8,7 @@ use lib.ListN.{length, getD}
 use Rattle.model.specs.declared.Pair.{Pair}
 use Rattle.model.specs.Basic.{those, pick, all, any}
 use Rattle.model.specs.Entry.{pairOf, liveAt, within}
-use Rattle.model.specs.Page.{Page, pairsAt}
+use Rattle.model.specs.Page.{Page}
 use Rattle.model.specs.Store.{page}
 use Rattle.model.specs.Walk.{Seen, spread, seenAs, seenBelow, keyLimit}
 use Rattle.model.specs.Sound.{startsAt, fewest}

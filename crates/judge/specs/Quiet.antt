@@ -1,17 +1,16 @@
 -- Laws of quiet stretches, one more page or entry at a time, and what they give for the rules. Assumes nothing.
-use Prim.Native.Nat.{ℕ, zero, suc, _+_, _*_, _-_, _<_, _≤_}
-use mathlib.Core.Bool.{Bool, true, false, _&&_, _||_, not}
+use Prim.Native.Nat.{ℕ, zero, suc, _+_, _*_, _<_, _≤_}
+use mathlib.Core.Bool.{Bool, _&&_, _||_, not}
 use mathlib.Core.Path.{_≡_, refl, ap₂, sym, subst}
-use mathlib.Core.List.{List, [], _∷_, _++_}
+use mathlib.Core.List.{List}
 use mathlib.Core.Logic.{_⊎_, inl, inr, ⊎-elim}
 use native.Mathlib.Omega.{arith}
 use lib.Dec.{eqb}
-use lib.ListN.{length, getD}
 use Rattle.bits.specs.Put.{less}
 use Rattle.model.specs.declared.Entry.{Entry}
 use Rattle.model.specs.declared.Slot.{Slot}
 use Rattle.model.specs.Basic.{all}
-use Rattle.model.specs.Page.{Page, free}
+use Rattle.model.specs.Page.{free}
 use Rattle.model.specs.Store.{page}
 use Rattle.model.specs.Walk.{Seen}
 use Rattle.model.specs.Layout.{readEntry, readEntries, readSlot, readSlots, pageOf, decodePage, decode, sizeOf}
@@ -20,7 +19,6 @@ use Rattle.model.proofs.Quiet.{Out, QuietPage, Quiet, seen-still, reached-still
 use Rattle.page.specs.Head.{readHead}
 use Rattle.page.specs.Read.{start-of, end-of, entries-of}
 use Rattle.store.specs.Read.{slots-of, count-pages, page-at}
-use Rattle.local.specs.Local.{IsPage}
 use Rattle.judge.specs.Pending.{passes}
 use Rattle.judge.specs.Versions.{QuietEntries, QuietPart, QuietBytes, versionOk}
 

@@ -6,7 +6,7 @@ use mathlib.Core.List.{List, [], _∷_}
 use native.Mathlib.Omega.{arith}
 use native.Mathlib.Numerals.{add-one}
 use lib.Dec.{leb, ltb, eqb}
-use lib.ListN.{length, drop}
+use lib.ListN.{drop}
 use borrow.Author.Tests.{ne-eqb}
 use Rattle.model.specs.declared.Entry.{Entry}
 use Rattle.model.specs.declared.Header.{Header}
@@ -21,14 +21,14 @@ use Rattle.model.specs.Clean.{clean}
 use Rattle.model.proofs.Lists.{both-true}
 use Rattle.model.proofs.Members.{not-both}
 use Rattle.model.proofs.Given.{enough, numbers}
-use Rattle.model.proofs.Rising.{firstOk, in-order-step, lower, lower-carries}
+use Rattle.model.proofs.Rising.{in-order-step, lower, lower-carries}
 use Rattle.local.specs.Local.{Sized, Ruled, Held, IsPage, headAt, levelAt, countAt, entryAt, slotAt, linkOk, linksOk, rootUsed}
 use Rattle.local.specs.Loops.{and-true, and-assoc, page-of-all, entry-of-all, slot-of-all}
 use Rattle.local.specs.First.{last-is}
 use Rattle.local.specs.Ruled.{ruled, last-low}
 use Rattle.local.specs.Second.{some-root, root-zero}
 use Rattle.local.specs.Third.{link-is, by-lower, links-used, root-used-is, rule3-is}
-use Rattle.judge.specs.Pending.{firstKey, openOk, stepOk, chainOk, passes}
+use Rattle.judge.specs.Pending.{openOk, stepOk, chainOk, passes}
 use Rattle.judge.specs.Versions.{versionOk, Ready}
 use Rattle.judge.specs.Tests.{all-ext, all-true}
 

@@ -15,8 +15,7 @@ use Rattle.model.specs.Entry.{within}
 use Rattle.model.specs.Page.{Page}
 use Rattle.model.specs.Walk.{Seen, seen, rootAt, rootFrom, heightOf}
 use Rattle.model.specs.Sound.{same, reachedWell}
-use Rattle.model.specs.Layout.{pageOf, readHeader, readSlots, readPages, decode, sizeOf}
-use Rattle.model.proofs.Given.{numbers}
+use Rattle.model.specs.Layout.{pageOf, readSlots, readPages, decode, sizeOf}
 use Rattle.model.proofs.Quiet.{count-run}
 use Rattle.page.specs.Read.{level-of, start-of, end-of}
 use Rattle.store.specs.Read.{slots-step, slots-end, slots-of, pages-step, pages-end, behind, page-at}

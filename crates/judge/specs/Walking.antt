@@ -1,6 +1,6 @@
 -- What is known at the heads of the walk's two loops, and laws of the list of items. Assumes nothing.
 use Prim.Native.Nat.{ℕ, zero, suc, _+_, _*_, _-_, _<_, _≤_}
-use mathlib.Core.Path.{_≡_, refl, _∙_}
+use mathlib.Core.Path.{_≡_, refl}
 use mathlib.Core.Bool.{Bool, true, false}
 use mathlib.Core.List.{List, [], _∷_, _++_}
 use lib.ListN.{length, getD, set}
@@ -24,6 +24,11 @@ use Rattle.judge.specs.Tests.{spread-cons}
 abbrev pub kidWeight : ℕ → ℕ
 kidWeight zero = 0
 kidWeight (suc u) = weight u
+
+pub weight-kids : (u : ℕ) → weight u ≡ 1 + 40 * kidWeight u
+unfolding weight
+weight-kids zero = refl
+weight-kids (suc u) = refl
 
 -- page m may be passed over: what is done holds it, it shows nothing, and the rule is the fourth
 pub record Bare (least : ℕ) (s : List ℕ) (v rule : ℕ) (done : List Seen) (m : ℕ) : Type 0 where

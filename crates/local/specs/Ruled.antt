@@ -20,7 +20,8 @@ use Rattle.model.specs.Clean.{zeroFrom, cleanPages, cleanFront, clean}
 use Rattle.model.proofs.Lists.{both-true}
 use Rattle.local.specs.Local.{Sized, Ruled, IsPage, headAt, levelAt, countAt, entryAt, slotAt, entriesOk}
 use Rattle.local.specs.Loops.{page-of-all, entry-of-all, slot-of-all, clean-at}
-use Rattle.local.specs.First.{clean-count, fine-free, fine-used, rooted, rule1-is}
+use Rattle.local.specs.Pages.{clean-count, fine-free, fine-used}
+use Rattle.local.specs.First.{rooted, rule1-is}
 
 module _ (least : ℕ) (s : List ℕ) (size : ℕ) (z : Sized least s size) (r : clean least s ≡ true) where
   abbrev roots : ℕ

@@ -1,8 +1,7 @@
 // Rule 1: "Sizes, levels, counts, zero bits, order and header fields are as above".
 use model::Limits;
 ghost use mathlib.Core.Path.{_≡_};
-ghost use Prim.Native.Nat.{_*_, _^_, _≤_};
-ghost use lib.ListN.{length};
+ghost use Prim.Native.Nat.{_*_, _≤_};
 ghost use Rattle.model.specs.Limits.{Edition};
 ghost use Rattle.model.specs.Layout.{readSlots};
 ghost use Rattle.model.specs.Clean.{clean};

@@ -2,15 +2,14 @@
 -- neighbour for each router. Beside these: levels fall by one (Fits, `child-of`), what is alive is reached and the other way round
 -- (Fits, `reached-of`, `lives-of`), each page is met once (Once, `numbers-once`), no root above level 7 (Theorems, `roots-low`).
 -- Assumes nothing.
-use Prim.Native.Nat.{ℕ, zero, suc, _+_, _*_, _≤_, _<_}
+use Prim.Native.Nat.{ℕ, suc, _≤_, _<_}
 use native.Mathlib.Omega.{arith}
-use mathlib.Core.Bool.{Bool, true, false, _&&_, not}
+use mathlib.Core.Bool.{true, false, not}
 use mathlib.Core.Path.{_≡_, refl, ap, sym, _∙_, subst}
 use mathlib.Core.Logic.{_⊎_, inl, inr, _≢_}
-use mathlib.Core.List.{List, [], _∷_, _++_}
-use lib.Dec.{leb, ltb, eqb}
+use mathlib.Core.List.{List, [], _∷_}
 use lib.ListN.{length}
-use borrow.Author.Tests.{not-true, leb-true, ltb-true}
+use borrow.Author.Tests.{not-true}
 use Rattle.model.specs.declared.Pair.{Pair}
 use Rattle.model.specs.declared.Entry.{Entry}
 use Rattle.model.specs.Entry.{alive, within, liveAt}
@@ -19,10 +18,9 @@ use Rattle.model.specs.Store.{Store, page, last}
 use Rattle.model.specs.Walk.{heightOf, keyLimit, settings}
 use Rattle.model.proofs.Lists.{both-true}
 use Rattle.model.proofs.Members.{In}
-use Rattle.model.proofs.Given.{Sound, GoodPage, GoodEntry, Span, span-of, entry-of, livesAt, used-in, high-used}
-use Rattle.model.proofs.Walks.{Reach, Self, Above, reach-on, last-step}
-use Rattle.model.proofs.Shows.{Some}
-use Rattle.model.proofs.Fits.{used-level, level-used, within-of, shown-by, Child, child-of, root, root-used, root-level, holds-all, lives-by, reached-of, reach-level, many-all}
+use Rattle.model.proofs.Given.{Sound, span-of, entry-of, livesAt, used-in, high-used}
+use Rattle.model.proofs.Walks.{Reach, Self, Above, last-step}
+use Rattle.model.proofs.Fits.{level-used, within-of, shown-by, child-of, root, root-used, root-level, holds-all, lives-by, reached-of, reach-level, many-all}
 use Rattle.model.proofs.Parents.{above-one, reach-height}
 
 pub some-in : {A : Type 0} (x : A) (xs : List A) → In x xs → (y : A) × (ys : List A) × (xs ≡ y ∷ ys)

@@ -1,18 +1,17 @@
 -- What the numbers of check say: rule 7 follows from rules 1 and 3, and the number 0 means clean bytes that hold a sound store.
 -- Assumes nothing.
-use Prim.Native.Nat.{ℕ, zero, suc, _+_, _*_, _-_, _≤_, _<_, _%_}
+use Prim.Native.Nat.{ℕ, zero, suc, _*_, _-_, _≤_, _<_}
 use native.Mathlib.Omega.{arith}
 use mathlib.Core.Bool.{Bool, true, false, _&&_, _||_, not}
 use mathlib.Core.Path.{_≡_, refl, ap, sym, _∙_, subst}
 use mathlib.Core.Logic.{_⊎_, inl, inr}
-use mathlib.Core.List.{List, [], _∷_, _++_}
+use mathlib.Core.List.{List, [], _∷_}
 use lib.Dec.{leb, ltb, eqb}
 use lib.ListN.{length, take, drop}
 use borrow.Author.Tests.{leb-true, eqb-true, eq-eqb}
 use Rattle.model.specs.Basic.{all, pick, inOrder}
 use Rattle.model.specs.declared.Entry.{Entry}
 use Rattle.model.specs.declared.Slot.{Slot}
-use Rattle.model.specs.declared.Verdict.{Verdict}
 use Rattle.model.specs.Entry.{alive, before}
 use Rattle.model.specs.Page.{Page, isFree}
 use Rattle.model.specs.Store.{Store, page, last, lastOf, next}
@@ -22,7 +21,7 @@ use Rattle.model.specs.Layout.{decode, sizeOf}
 use Rattle.model.specs.Clean.{cleanFront, cleanPages, clean}
 use Rattle.model.specs.Judged.{lengthOk, magicOk, editionOk, brokenIn, verdict, ruled, judged}
 use Rattle.model.proofs.Lists.{both-true, both-intro}
-use Rattle.model.proofs.Members.{In, all-in, all-by, bool-cases, not-both, either-true}
+use Rattle.model.proofs.Members.{all-in, all-by}
 use Rattle.model.proofs.Given.{Sound, from-tests, spansWell, span-of}
 
 -- ---- rule 7

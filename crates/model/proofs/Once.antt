@@ -1,8 +1,8 @@
 -- At a version of a sound store a walk meets each page once.
 -- Assumes nothing.
-use Prim.Native.Nat.{ℕ, zero, suc, _+_, _≤_, _<_}
+use Prim.Native.Nat.{ℕ, zero, suc, _+_, _≤_}
 use native.Mathlib.Omega.{arith}
-use mathlib.Core.Bool.{Bool, true, false, _&&_, _||_, not}
+use mathlib.Core.Bool.{Bool, true, false, not}
 use mathlib.Core.Path.{_≡_, refl, ap, ap₂, sym, _∙_, subst}
 use mathlib.Core.Logic.{_⊎_, inl, inr}
 use mathlib.Core.List.{List, [], _∷_, _++_, map, map-append, append-nil}
@@ -12,12 +12,12 @@ use Rattle.model.specs.Basic.{all, flatMap, inOrder}
 use Rattle.model.specs.declared.Pair.{Pair}
 use Rattle.model.specs.Page.{Page, pairsAt}
 use Rattle.model.specs.Store.{Store, page, last}
-use Rattle.model.specs.Walk.{Seen, seen, seenAs, seenUnder, seenBelow, spread, heightOf, keyLimit, settings}
+use Rattle.model.specs.Walk.{Seen, seenAs, seenUnder, seenBelow, spread, heightOf, keyLimit, settings}
 use Rattle.model.proofs.Lists.{both-true, both-intro}
 use Rattle.model.proofs.Members.{In, in-append, all-by, all-in}
-use Rattle.model.proofs.Tree.{Row, Link, Holds, Tree, OfPage}
-use Rattle.model.proofs.Walks.{Reach, Self, Deeper, reach-self}
-use Rattle.model.proofs.Nodes.{Node, reach-node, InRow, row-in}
+use Rattle.model.proofs.Tree.{Row, Tree}
+use Rattle.model.proofs.Walks.{Reach, reach-self}
+use Rattle.model.proofs.Nodes.{Node, reach-node}
 use Rattle.model.proofs.Given.{Sound, numbers}
 use Rattle.model.proofs.Fits.{root, root-level, root-lives, holds-all}
 use Rattle.model.proofs.Parents.{Mark, mark-apart, row-marks, tree-marks, reach-height}

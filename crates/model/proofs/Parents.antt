@@ -1,17 +1,17 @@
 -- In a tree each page has one parent and one router: two ways to a page go over the same routers.
 -- Assumes nothing.
-use Prim.Native.Nat.{ℕ, zero, suc, _+_, _≤_, _<_}
+use Prim.Native.Nat.{ℕ, zero, suc, _≤_, _<_}
 use native.Mathlib.Omega.{arith}
-use mathlib.Core.Path.{_≡_, refl, ap, sym, _∙_, subst}
-use mathlib.Core.Logic.{_⊎_, inl, inr}
-use mathlib.Core.List.{List, [], _∷_, _++_}
+use mathlib.Core.Path.{_≡_, ap, sym, _∙_, subst}
+use mathlib.Core.Logic.{inl, inr}
+use mathlib.Core.List.{List, [], _∷_}
 use Rattle.model.specs.declared.Pair.{Pair}
 use Rattle.model.specs.Page.{Page, pairsAt}
 use Rattle.model.specs.Store.{page}
 use Rattle.model.proofs.Members.{In}
-use Rattle.model.proofs.Tree.{Row, Link, Holds, Tree, OfPage, row-le}
+use Rattle.model.proofs.Tree.{Row, Holds, Tree, row-le}
 use Rattle.model.proofs.Walks.{Reach, Self, Deeper, Above, reach-self, reach-on}
-use Rattle.model.proofs.Nodes.{InRow, row-in}
+use Rattle.model.proofs.Nodes.{row-in}
 
 module _ (least w : ℕ) (ps : List Page) where
   -- page m shows something, and its first key stands from lo up to hi

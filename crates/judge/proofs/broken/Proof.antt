@@ -1,3 +1,4 @@
+-- `judge::broken` meets its contract: the rules that hold so far give what the next one asks. Assumes nothing.
 use mathlib.Core.Path.{_≡_, sym, _∙_}
 use mathlib.Core.Bool.{true}
 use native.Mathlib.Omega.{arith}
@@ -9,26 +10,15 @@ use Rattle.model.proofs.Judging.{broken-one, broken-two, broken-three, broken-f
 use Rattle.model.specs.Clean.{clean}
 use Rattle.model.specs.Layout.{decode}
 use Rattle.model.specs.Sound.{rule2, rule3}
-use borrow.Author.Needs.{needs}
 use Rattle.judge.proofs.broken.Statement.{statement}
 use Rattle.judge.proofs.broken.Tie as tie
-use Rattle.judge.proofs.broken.Reads as reads
-use Rattle.judge.proofs.broken.Lts as lts
-use Rattle.judge.proofs.versions.versions.Reads as versions-reads
-use Rattle.local.proofs.first_rule.Reads as first-rule-reads
-use Rattle.local.proofs.second_rule.Reads as second-rule-reads
-use Rattle.local.proofs.third_rule.Reads as third-rule-reads
-use Rattle.store.proofs.header.Reads as header-reads
 
--- src/lib.rt:45:9
 first-rule-requires : tie.Need-first-rule-requires
 first-rule-requires c κs = (c .before .pre .0, c .before .pre .1)
 
--- src/lib.rt:46:9
 returns : tie.Need-returns
 returns c = let a = c .before .before .before .args in sym (broken-one (a .l .least) (a .s .now) (sym (c .before .first-rule .ensures) ∙ not-true (c .before .first-rule .result) (c .if1 .taken)))
 
--- src/lib.rt:48:9
 header-requires : tie.Need-header-requires
 header-requires c κs = (c .before .before .before .pre .0, omega (arith, c .before .before .before .pre .1 .front), omega (arith, c .before .before .before .pre .1 .long))
 
@@ -50,47 +40,36 @@ is-ready c =
     let h = c .before .before .before .before in let a = h .before .before .before .before .args in
     ready (a .l .least) (a .s .now) (h .header .result) (is-held h) (two (c .before .before)) (three c)
 
--- src/lib.rt:49:9
 second-rule-requires : tie.Need-second-rule-requires
 second-rule-requires c κs = (c .before .before .before .before .pre .0, is-held ((c)))
 
--- src/lib.rt:50:9
 returns-2 : tie.Need-returns-2
 returns-2 c = let a = c .before .before .before .before .before .before .args in sym (broken-two (a .l .least) (a .s .now) (one ((c .before .before .before))) (sym (c .before .second-rule .ensures) ∙ not-true (c .before .second-rule .result) (c .if2 .taken)))
 
--- src/lib.rt:52:9
 third-rule-requires : tie.Need-third-rule-requires
 third-rule-requires c κs = (c .before .before .before .before .before .before .pre .0, is-held ((c .before .before)))
 
--- src/lib.rt:53:9
 returns-3 : tie.Need-returns-3
 returns-3 c = let a = c .before .before .before .before .before .before .before .before .args in sym (broken-three (a .l .least) (a .s .now) (one ((c .before .before .before .before .before))) (two ((c .before .before))) (sym (c .before .third-rule .ensures) ∙ not-true (c .before .third-rule .result) (c .if3 .taken)))
 
--- src/lib.rt:55:8
 versions-requires : tie.Need-versions-requires
 versions-requires c κs = (c .before .before .before .before .before .before .before .before .pre .0, is-ready ((c)), omega arith)
 
--- src/lib.rt:56:9
 returns-4 : tie.Need-returns-4
 returns-4 c = let a = c .before .before .before .before .before .before .before .before .before .before .args in sym (broken-four (a .l .least) (a .s .now) (one ((c .before .before .before .before .before .before .before))) (two ((c .before .before .before .before))) (three ((c .before .before))) (told-false _ _ (c .before .versions .result) 4 (four-is (a .l .least) (a .s .now) (c .before .before .before .before .before .before .header .result) (c .before .before .before .before .before .before .header .ensures)) (c .before .versions .ensures) (c .if4 .taken)))
 
--- src/lib.rt:58:8
 versions-requires-2 : tie.Need-versions-requires-2
 versions-requires-2 c κs = (c .before .before .before .before .before .before .before .before .before .before .pre .0, is-ready ((c .before .before)), omega arith)
 
--- src/lib.rt:59:9
 returns-5 : tie.Need-returns-5
 returns-5 c = let a = c .before .before .before .before .before .before .before .before .before .before .before .before .args in sym (broken-five (a .l .least) (a .s .now) (one ((c .before .before .before .before .before .before .before .before .before))) (two ((c .before .before .before .before .before .before))) (three ((c .before .before .before .before))) (told-true _ _ (c .before .before .before .versions .result) 4 (four-is (a .l .least) (a .s .now) (c .before .before .before .before .before .before .before .before .header .result) (c .before .before .before .before .before .before .before .before .header .ensures)) (c .before .before .before .versions .ensures) (omega arith) (c .before .before .if4 .left)) (told-false _ _ (c .before .versions2 .result) 5 (five-is (a .l .least) (a .s .now) (c .before .before .before .before .before .before .before .before .header .result) (c .before .before .before .before .before .before .before .before .header .ensures)) (c .before .versions2 .ensures) (c .if5 .taken)))
 
--- src/lib.rt:61:8
 versions-requires-3 : tie.Need-versions-requires-3
 versions-requires-3 c κs = (c .before .before .before .before .before .before .before .before .before .before .before .before .pre .0, is-ready ((c .before .before .before .before)), omega arith)
 
--- src/lib.rt:62:9
 returns-6 : tie.Need-returns-6
 returns-6 c = let a = c .before .before .before .before .before .before .before .before .before .before .before .before .before .before .args in sym (broken-six (a .l .least) (a .s .now) (one ((c .before .before .before .before .before .before .before .before .before .before .before))) (two ((c .before .before .before .before .before .before .before .before))) (three ((c .before .before .before .before .before .before))) (told-true _ _ (c .before .before .before .before .before .versions .result) 4 (four-is (a .l .least) (a .s .now) (c .before .before .before .before .before .before .before .before .before .before .header .result) (c .before .before .before .before .before .before .before .before .before .before .header .ensures)) (c .before .before .before .before .before .versions .ensures) (omega arith) (c .before .before .before .before .if4 .left)) (told-true _ _ (c .before .before .before .versions2 .result) 5 (five-is (a .l .least) (a .s .now) (c .before .before .before .before .before .before .before .before .before .before .header .result) (c .before .before .before .before .before .before .before .before .before .before .header .ensures)) (c .before .before .before .versions2 .ensures) (omega arith) (c .before .before .if5 .left)) (told-false _ _ (c .before .versions3 .result) 6 (six-is (a .l .least) (a .s .now) (c .before .before .before .before .before .before .before .before .before .before .header .result) (c .before .before .before .before .before .before .before .before .before .before .header .ensures)) (c .before .versions3 .ensures) (c .if6 .taken)))
 
--- src/lib.rt:41:1
 returns-7 : tie.Need-returns-7
 returns-7 c = let a = c .before .before .before .before .before .before .before .before .before .before .before .before .before .before .args in sym (broken-none (a .l .least) (a .s .now) (one ((c .before .before .before .before .before .before .before .before .before .before .before))) (two ((c .before .before .before .before .before .before .before .before))) (three ((c .before .before .before .before .before .before))) (told-true _ _ (c .before .before .before .before .before .versions .result) 4 (four-is (a .l .least) (a .s .now) (c .before .before .before .before .before .before .before .before .before .before .header .result) (c .before .before .before .before .before .before .before .before .before .before .header .ensures)) (c .before .before .before .before .before .versions .ensures) (omega arith) (c .before .before .before .before .if4 .left)) (told-true _ _ (c .before .before .before .versions2 .result) 5 (five-is (a .l .least) (a .s .now) (c .before .before .before .before .before .before .before .before .before .before .header .result) (c .before .before .before .before .before .before .before .before .before .before .header .ensures)) (c .before .before .before .versions2 .ensures) (omega arith) (c .before .before .if5 .left)) (told-true _ _ (c .before .versions3 .result) 6 (six-is (a .l .least) (a .s .now) (c .before .before .before .before .before .before .before .before .before .before .header .result) (c .before .before .before .before .before .before .before .before .before .before .header .ensures)) (c .before .versions3 .ensures) (omega arith) (c .if6 .left)))
 

@@ -1,20 +1,16 @@
+-- `judge::live::fewest` meets its contract: each way out by the tests taken. Assumes nothing.
 use mathlib.Core.Path.{sym}
 use borrow.Author.Tests.{not-true, not-false}
 use Rattle.judge.specs.Live.{fewest-inner, fewest-leaf, fewest-index}
 use Rattle.judge.proofs.live.fewest.Statement.{statement}
 use Rattle.judge.proofs.live.fewest.Tie as tie
-use Rattle.judge.proofs.live.fewest.Reads as reads
-use Rattle.judge.proofs.live.fewest.Lts as lts
 
--- src/live.rt:71:9
 returns : tie.Need-returns
 returns c = let a = c .before .args in sym (fewest-inner (a .l .least) (a .root) (a .up) (not-true (a .root) (c .if1 .taken)))
 
--- src/live.rt:74:9
 returns-2 : tie.Need-returns-2
 returns-2 c = let a = c .before .before .args in sym (fewest-leaf (a .l .least) (a .root) (a .up) (not-false (a .root) (c .before .if1 .left)) (c .if2 .taken))
 
--- src/live.rt:67:1
 returns-3 : tie.Need-returns-3
 returns-3 c = let a = c .before .before .args in sym (fewest-index (a .l .least) (a .root) (a .up) (not-false (a .root) (c .before .if1 .left)) (c .if2 .left))
 

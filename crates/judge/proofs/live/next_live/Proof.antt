@@ -1,3 +1,4 @@
+-- `judge::live::next_live` meets its contract: no entry from i up to k is alive. Assumes nothing.
 use Prim.Native.Nat.{_≤_, _-_}
 use mathlib.Core.Path.{_≡_, refl, sym, _∙_}
 use native.Mathlib.Omega.{arith}
@@ -6,10 +7,6 @@ use Rattle.judge.specs.Pending.{pairsFrom}
 use borrow.Author.Needs.{needs}
 use Rattle.judge.proofs.live.next_live.Statement.{statement}
 use Rattle.judge.proofs.live.next_live.Tie as tie
-use Rattle.judge.proofs.live.next_live.Reads as reads
-use Rattle.judge.proofs.live.next_live.Lts as lts
-use Rattle.judge.proofs.live.is_live.Reads as is-live-reads
-use Rattle.page.proofs.entry_at.Reads as entry-at-reads
 
 abbrev Inv-loop : tie.InvT-loop
 Inv-loop page v i n k₀ k = (i ≤ k) × (k ≤ n) × (pairsFrom page v i n ≡ pairsFrom page v k n)
@@ -17,19 +14,15 @@ Inv-loop page v i n k₀ k = (i ≤ k) × (k ≤ n) × (pairsFrom page v i n ≡
 abbrev μ-loop : tie.MeasureT-loop
 μ-loop page v i n k₀ k = n - k
 
--- src/live.rt:31:5
 loop-holds : tie.Need-loop-holds Inv-loop μ-loop
 loop-holds c = (omega arith, c .before .pre .2, refl)
 
--- src/live.rt:32:13
 entry-at-requires : tie.Need-entry-at-requires Inv-loop μ-loop
 entry-at-requires c κs = (omega (arith, c .before .before .before .pre .0, c .loop-test .taken), c .before .before .before .pre .1)
 
--- src/live.rt:33:12
 is-live-requires : tie.Need-is-live-requires Inv-loop μ-loop
 is-live-requires c κs = search needs
 
--- src/live.rt:34:13
 returns : tie.Need-returns Inv-loop μ-loop
 returns c =
     let a = c .before .before .before .before .before .before .args in let l = c .before .before .before .before .loop in
@@ -40,21 +33,17 @@ returns c =
       live = λ h. pairs-live (a .page .now) (a .v) (l .k) (a .n) h (rw (c .before .before .entry-at .ensures) at (sym (c .before .is-live .ensures)) ∙ c .if1 .taken);
     }
 
--- src/live.rt:36:9
 add-k : tie.Need-add-k Inv-loop μ-loop
 add-k c = omega (arith, c .before .before .before .loop-test .taken, c .before .before .before .before .before .before .pre .0, c .before .before .before .before .before .before .pre .1)
 
--- src/live.rt:31:5
 loop-less : tie.Need-loop-less Inv-loop μ-loop
 loop-less c = omega (arith, c .before .before .before .loop-test .taken)
 
--- src/live.rt:31:5
 loop-again : tie.Need-loop-again Inv-loop μ-loop
 loop-again c =
     let a = c .before .before .before .before .before .before .args in let l = c .before .before .before .before .loop in
     (omega (arith, l .inv .0), omega (arith, c .before .before .before .loop-test .taken), l .inv .2 ∙ pairs-dead (a .page .now) (a .v) (l .k) (a .n) (c .before .before .before .loop-test .taken) (rw (c .before .before .entry-at .ensures) at (sym (c .before .is-live .ensures)) ∙ c .if1 .left))
 
--- src/live.rt:26:1
 returns-2 : tie.Need-returns-2 Inv-loop μ-loop
 returns-2 c = let l = c .before .loop in record { low = l .inv .0; high = l .inv .1; same = l .inv .2; live = λ h. absurd (omega (arith, c .loop-test .left)) }
 

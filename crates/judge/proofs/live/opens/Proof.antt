@@ -1,3 +1,4 @@
+-- `judge::live::opens` meets its contract: each way out is a law of what the rule asks. Assumes nothing.
 use mathlib.Core.Path.{ap, sym, _∙_}
 use lib.Dec.{eqb}
 use native.Mathlib.Omega.{arith}
@@ -6,49 +7,34 @@ use Rattle.model.specs.declared.Entry.{Entry}
 use borrow.Author.Needs.{needs}
 use Rattle.judge.proofs.live.opens.Statement.{statement}
 use Rattle.judge.proofs.live.opens.Tie as tie
-use Rattle.judge.proofs.live.opens.Reads as reads
-use Rattle.judge.proofs.live.opens.Lts as lts
-use Rattle.judge.proofs.live.count_live.Reads as count-live-reads
-use Rattle.judge.proofs.live.fewest.Reads as fewest-reads
-use Rattle.judge.proofs.live.next_live.Reads as next-live-reads
-use Rattle.page.proofs.entry_at.Reads as entry-at-reads
 
--- src/live.rt:86:13
 returns : tie.Need-returns
 returns c = open-leaf _ _ _ _ _ _ (c .before .before .if1 .taken) (c .if2 .taken)
 
--- src/live.rt:88:13
 next-live-requires : tie.Need-next-live-requires
 next-live-requires c κs = (c .before .before .before .before .pre .0, c .before .before .before .before .pre .1, omega arith)
 
--- src/live.rt:90:13
 returns-2 : tie.Need-returns-2
 returns-2 c = let a = c .before .before .before .before .before .before .args in open-starts _ _ _ _ _ _ _ (c .before .before .before .before .if1 .taken) (c .before .before .if2 .left) (starts-none (a .page .now) (a .v) 0 (a .n) (c .before .next-live .result) (a .it .low) (c .before .next-live .ensures) (c .if3 .taken))
 
--- src/live.rt:92:13
 entry-at-requires : tie.Need-entry-at-requires
 entry-at-requires c κs = (omega (arith, c .before .before .before .before .before .before .pre .0, c .if3 .left), c .before .before .before .before .before .before .pre .1)
 
--- src/live.rt:93:9
 returns-3 : tie.Need-returns-3
 returns-3 c =
     let a = c .before .before .before .before .before .before .before .before .before .args in
     open-starts _ _ _ _ _ _ _ (c .before .before .before .before .before .before .before .if1 .taken) (c .before .before .before .before .before .if2 .left)
     (starts-first (a .page .now) (a .v) 0 (a .n) (c .before .before .before .before .next-live .result) (a .it .low) (c .before .before .before .before .next-live .ensures) (c .before .before .before .if3 .left) ∙ ap (λ (x : Entry). eqb (x .key) (a .it .low)) (sym (c .before .before .entry-at .ensures)))
 
--- src/live.rt:96:16
 fewest-requires : tie.Need-fewest-requires
 fewest-requires c κs = search needs
 
--- src/live.rt:96:45
 count-live-requires : tie.Need-count-live-requires
 count-live-requires c κs = search needs
 
--- src/live.rt:96:9
 returns-4 : tie.Need-returns-4
 returns-4 c = open-counts _ _ _ _ _ _ _ _ (c .before .before .before .if1 .left) (c .before .before .if4 .taken) (c .before .fewest .ensures) (c .count-live .ensures)
 
--- src/live.rt:80:1
 returns-5 : tie.Need-returns-5
 returns-5 c = open-other _ _ _ _ _ _ (c .before .if1 .left) (c .if4 .left)
 

@@ -1,26 +1,21 @@
+-- `judge::live::steps` meets its contract: each way out by the tests taken. Assumes nothing.
 use borrow.Author.Tests.{eq-eqb, ne-eqb, lt-leb, le-leb, lt-ltb, le-ltb}
 use Rattle.judge.specs.Pending.{stepOk}
 use Rattle.judge.proofs.live.steps.Statement.{statement}
 use Rattle.judge.proofs.live.steps.Tie as tie
-use Rattle.judge.proofs.live.steps.Reads as reads
-use Rattle.judge.proofs.live.steps.Lts as lts
 
--- src/live.rt:106:9
 returns : tie.Need-returns
 unfolding stepOk
 returns c = simp (ne-eqb _ _ (c .if1 .taken))
 
--- src/live.rt:109:9
 returns-2 : tie.Need-returns-2
 unfolding stepOk
 returns-2 c = simp (eq-eqb _ _ (c .before .if1 .left), lt-leb _ _ (c .if2 .taken))
 
--- src/live.rt:112:9
 returns-3 : tie.Need-returns-3
 unfolding stepOk
 returns-3 c = simp (eq-eqb _ _ (c .before .before .if1 .left), le-leb _ _ (c .before .if2 .left), le-ltb _ _ (c .if3 .taken))
 
--- src/live.rt:102:1
 returns-4 : tie.Need-returns-4
 unfolding stepOk
 returns-4 c = simp (eq-eqb _ _ (c .before .before .if1 .left), le-leb _ _ (c .before .if2 .left), lt-ltb _ _ (c .if3 .left))

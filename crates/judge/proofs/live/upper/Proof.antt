@@ -1,21 +1,15 @@
+-- `judge::live::upper` meets its contract: each way out by the test taken. Assumes nothing.
 use native.Mathlib.Omega.{arith}
 use borrow.Author.Tests.{lt-ltb, le-ltb}
-use borrow.Author.Needs.{needs}
 use Rattle.judge.proofs.live.upper.Statement.{statement}
 use Rattle.judge.proofs.live.upper.Tie as tie
-use Rattle.judge.proofs.live.upper.Reads as reads
-use Rattle.judge.proofs.live.upper.Lts as lts
-use Rattle.page.proofs.entry_at.Reads as entry-at-reads
 
--- src/live.rt:60:13
 entry-at-requires : tie.Need-entry-at-requires
 entry-at-requires c κs = (omega (arith, c .before .before .pre .0, c .if1 .taken), c .before .before .pre .1)
 
--- src/live.rt:61:9
 returns : tie.Need-returns
 returns c = rw (lt-ltb _ _ (c .before .if1 .taken), c .entry-at .ensures)
 
--- src/live.rt:55:1
 returns-2 : tie.Need-returns-2
 returns-2 c = rw (le-ltb _ _ (c .if1 .left))
 

@@ -1,22 +1,13 @@
-use Prim.Native.Nat.{ℕ, _≤_, _<_, _-_, _*_}
-use mathlib.Core.Path.{_≡_, ap}
-use mathlib.Core.List.{List}
+-- `judge::versions::next_change` meets its contract: nothing of the pages before n starts or ends behind v and before q. Assumes nothing.
+use Prim.Native.Nat.{ℕ, _≤_, _<_, _-_}
 use native.Mathlib.Omega.{arith}
 use Rattle.judge.specs.Quiet.{out-less, pages-more}
-use Rattle.judge.specs.Versions.{Sooner, QuietPart}
+use Rattle.judge.specs.Versions.{QuietPart}
 use Rattle.local.specs.Sizes.{part-fits}
-use Rattle.page.specs.Head.{readHead}
 use Rattle.model.specs.Layout.{pageOf}
-use Rattle.model.specs.declared.Header.{Header}
 use borrow.Author.Needs.{needs}
 use Rattle.judge.proofs.versions.next_change.Statement.{statement}
 use Rattle.judge.proofs.versions.next_change.Tie as tie
-use Rattle.judge.proofs.versions.next_change.Reads as reads
-use Rattle.judge.proofs.versions.next_change.Lts as lts
-use Rattle.judge.proofs.versions.page_change.Reads as page-change-reads
-use Rattle.judge.proofs.versions.slot_change.Reads as slot-change-reads
-use Rattle.judge.proofs.wide.Reads as wide-reads
-use Rattle.store.proofs.part.Reads as part-reads
 
 abbrev Inv-loop : tie.InvT-loop
 Inv-loop s l v r pages q₀ n₀ q n = (5 ≤ n) × (n ≤ pages) × (q ≤ q₀) × (v < q) × ((m : ℕ) → 5 ≤ m → m < n → QuietPart (l .least) (pageOf (l .least) s m) v q)
@@ -24,35 +15,27 @@ Inv-loop s l v r pages q₀ n₀ q n = (5 ≤ n) × (n ≤ pages) × (q ≤ q₀
 abbrev μ-loop : tie.MeasureT-loop
 μ-loop s l v r pages q₀ n₀ q n = pages - n
 
--- src/versions.rt:133:9
 wide-requires : tie.Need-wide-requires Inv-loop μ-loop
 wide-requires c κs = search needs
 
--- src/versions.rt:134:9
 slot-change-requires : tie.Need-slot-change-requires Inv-loop μ-loop
 slot-change-requires c κs = (c .before .before .pre .0, c .before .before .pre .1, c .before .before .pre .2)
 
--- src/versions.rt:136:5
 loop-holds : tie.Need-loop-holds Inv-loop μ-loop
 loop-holds c = (omega arith, omega (arith, c .before .wide .ensures, c .before .before .before .pre .1 .sized .low), omega arith, c .slot-change .ensures .0 .above, λ m a b. absurd (omega arith))
 
--- src/versions.rt:137:25
 part-requires : tie.Need-part-requires Inv-loop μ-loop
 part-requires c κs = let a = c .before .before .before .before .before .args in (c .before .before .before .before .before .pre .0, part-fits (a .l .least) (c .before .before .before .before .before .pre .0 .four) (a .s .now) (c .before .loop .n) (omega (arith, c .loop-test .taken, c .before .before .before .wide .ensures, c .before .before .before .before .before .pre .1 .sized .is)), omega (arith, c .before .before .before .before .before .pre .1 .sized .long))
 
--- src/versions.rt:137:9
 page-change-requires : tie.Need-page-change-requires Inv-loop μ-loop
 page-change-requires c κs = (c .before .before .before .before .before .before .pre .0, c .part .ensures .1, rw (c .part .ensures .0) (c .before .before .before .before .before .before .pre .1 .linked .room (c .before .before .loop .n) (c .before .before .loop .inv .0, omega (arith, c .before .loop-test .taken, c .before .before .before .before .wide .ensures, c .before .before .before .before .before .before .pre .1 .sized .is))), c .before .before .loop .inv .3)
 
--- src/versions.rt:138:9
 add-n : tie.Need-add-n Inv-loop μ-loop
 add-n c = omega (arith, c .before .before .loop-test .taken, c .before .before .before .before .before .wide .ensures, c .before .before .before .before .before .before .before .pre .1 .sized .most)
 
--- src/versions.rt:136:5
 loop-less : tie.Need-loop-less Inv-loop μ-loop
 loop-less c = omega (arith, c .before .before .loop-test .taken)
 
--- src/versions.rt:136:5
 loop-again : tie.Need-loop-again Inv-loop μ-loop
 loop-again c =
     let a = c .before .before .before .before .before .before .before .args in let k = c .before .before .before .loop in let x = c .page-change .ensures in (
@@ -63,7 +46,6 @@ loop-again c =
       pages-more (a .l .least) (a .s .now) (k .n) (a .v) (k .q) (c .page-change .result) (k .inv .4) (x .0 .below) (rw (c .before .part .ensures .0) at (x .1)),
     )
 
--- src/versions.rt:129:1
 returns : tie.Need-returns Inv-loop μ-loop
 returns c =
     let k = c .before .loop in let x = c .before .before .slot-change .ensures in (

@@ -1,18 +1,13 @@
+-- `judge::versions::page_change` meets its contract: nothing of the first i entries starts or ends behind v and before q. Assumes nothing.
 use Prim.Native.Nat.{_≤_, _<_, _-_, _*_}
-use mathlib.Core.Path.{_≡_, ap, sym, _∙_}
+use mathlib.Core.Path.{_≡_, ap}
 use native.Mathlib.Omega.{arith}
 use Rattle.judge.specs.Quiet.{out-less, quiet-none, quiet-more}
 use Rattle.judge.specs.Versions.{QuietEntries}
 use Rattle.page.specs.Head.{readHead}
 use Rattle.page.specs.declared.Head.{Head}
-use borrow.Author.Needs.{needs}
 use Rattle.judge.proofs.versions.page_change.Statement.{statement}
 use Rattle.judge.proofs.versions.page_change.Tie as tie
-use Rattle.judge.proofs.versions.page_change.Reads as reads
-use Rattle.judge.proofs.versions.page_change.Lts as lts
-use Rattle.judge.proofs.versions.sooner.Reads as sooner-reads
-use Rattle.page.proofs.entry_at.Reads as entry-at-reads
-use Rattle.page.proofs.head_of.Reads as head-of-reads
 
 abbrev Inv-loop : tie.InvT-loop
 Inv-loop page v r count q₀ i₀ q i = (i ≤ count) × (q ≤ q₀) × (v < q) × QuietEntries page i v q
@@ -20,46 +15,36 @@ Inv-loop page v r count q₀ i₀ q i = (i ≤ count) × (q ≤ q₀) × (v < q)
 abbrev μ-loop : tie.MeasureT-loop
 μ-loop page v r count q₀ i₀ q i = count - i
 
--- src/versions.rt:100:9
 head-of-requires : tie.Need-head-of-requires Inv-loop μ-loop
 head-of-requires c κs = (c .before .pre .0, omega (arith, c .before .pre .1, c .before .pre .0 .four), omega (arith, c .before .pre .1, c .before .pre .0 .eight))
 
 few : (c : tie.After-head-of Inv-loop μ-loop) → c .head-of .result .count ≤ 5 * c .before .before .args .l .least
 few c = omega (arith, ap (λ (z : Head). z .count) (c .head-of .ensures), c .before .before .pre .2)
 
--- src/versions.rt:102:27
 sooner-requires : tie.Need-sooner-requires Inv-loop μ-loop
 sooner-requires c κs = c .before .before .pre .3
 
--- src/versions.rt:102:9
 sooner-requires-2 : tie.Need-sooner-requires-2 Inv-loop μ-loop
 sooner-requires-2 c κs = c .sooner .ensures .0 .above
 
--- src/versions.rt:104:5
 loop-holds : tie.Need-loop-holds Inv-loop μ-loop
 loop-holds c = (omega arith, omega arith, c .sooner2 .ensures .0 .above, quiet-none (c .before .before .before .before .args .page .now) (c .before .before .before .before .args .v) (c .sooner2 .result))
 
--- src/versions.rt:105:13
 entry-at-requires : tie.Need-entry-at-requires Inv-loop μ-loop
 entry-at-requires c κs = (omega (arith, c .loop-test .taken, few ((c .before .before .before .before)), c .before .before .before .before .before .before .pre .1, c .before .before .before .before .before .before .pre .0 .four), omega (arith, c .before .before .before .before .before .before .pre .1, c .before .before .before .before .before .before .pre .0 .eight))
 
--- src/versions.rt:106:23
 sooner-requires-3 : tie.Need-sooner-requires-3 Inv-loop μ-loop
 sooner-requires-3 c κs = c .before .before .loop .inv .2
 
--- src/versions.rt:106:9
 sooner-requires-4 : tie.Need-sooner-requires-4 Inv-loop μ-loop
 sooner-requires-4 c κs = c .sooner3 .ensures .0 .above
 
--- src/versions.rt:107:9
 add-i : tie.Need-add-i Inv-loop μ-loop
 add-i c = omega (arith, c .before .before .before .loop-test .taken, few ((c .before .before .before .before .before .before .before)), c .before .before .before .before .before .before .before .before .before .pre .0 .eight)
 
--- src/versions.rt:104:5
 loop-less : tie.Need-loop-less Inv-loop μ-loop
 loop-less c = omega (arith, c .before .before .before .loop-test .taken)
 
--- src/versions.rt:104:5
 loop-again : tie.Need-loop-again Inv-loop μ-loop
 loop-again c =
     let a = c .before .before .before .before .before .before .before .before .before .args in let k = c .before .before .before .before .loop in let e = c .before .before .entry-at .ensures in let x = c .before .sooner3 .ensures in let y = c .sooner4 .ensures in (
@@ -69,7 +54,6 @@ loop-again c =
       quiet-more (a .page .now) (k .i) (a .v) (k .q) (c .sooner4 .result) (k .inv .3) (omega (arith, x .0 .below, y .0 .below)) (rw e at (out-less _ _ _ _ (x .1) (y .0 .below))) (rw e at (y .1)),
     )
 
--- src/versions.rt:96:1
 returns : tie.Need-returns Inv-loop μ-loop
 returns c =
     let a = c .before .before .before .before .before .before .args in let k = c .before .loop in let x = c .before .before .before .sooner .ensures in let y = c .before .before .sooner2 .ensures in

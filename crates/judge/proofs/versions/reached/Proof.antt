@@ -1,4 +1,5 @@
-use Prim.Native.Nat.{ℕ, _≤_, _-_}
+-- `judge::versions::reached` meets its contract: the pages from n on answer as all. Assumes nothing.
+use Prim.Native.Nat.{_≤_, _-_}
 use mathlib.Core.Path.{_≡_, ap, sym, _∙_}
 use mathlib.Core.Bool.{Bool, false, _&&_, not}
 use lib.ListN.{getD}
@@ -17,13 +18,6 @@ use Rattle.page.specs.Head.{readHead}
 use borrow.Author.Needs.{needs}
 use Rattle.judge.proofs.versions.reached.Statement.{statement}
 use Rattle.judge.proofs.versions.reached.Tie as tie
-use Rattle.judge.proofs.versions.reached.Reads as reads
-use Rattle.judge.proofs.versions.reached.Lts as lts
-use Rattle.judge.proofs.versions.same.Reads as same-reads
-use Rattle.judge.proofs.versions.used_at.Reads as used-at-reads
-use Rattle.judge.proofs.wide.Reads as wide-reads
-use Rattle.page.proofs.head_of.Reads as head-of-reads
-use Rattle.store.proofs.part.Reads as part-reads
 
 abbrev Inv-loop : tie.InvT-loop
 Inv-loop s l v marks pages n₀ n = (5 ≤ n) × (n ≤ pages) × (markedWell v marks 5 (readPages (l .least) s 5 (sizeOf (l .least) s - 5)) ≡ markedWell v marks n (readPages (l .least) s n (pages - n)))
@@ -31,27 +25,21 @@ Inv-loop s l v marks pages n₀ n = (5 ≤ n) × (n ≤ pages) × (markedWell v 
 abbrev μ-loop : tie.MeasureT-loop
 μ-loop s l v marks pages n₀ n = pages - n
 
--- src/versions.rt:68:9
 wide-requires : tie.Need-wide-requires Inv-loop μ-loop
 wide-requires c κs = search needs
 
--- src/versions.rt:70:5
 loop-holds : tie.Need-loop-holds Inv-loop μ-loop
 loop-holds c = let e : c .wide .result ≡ c .before .before .args .h .pages = c .wide .ensures in (omega arith, omega (arith, c .before .before .pre .1 .sized .low), rw (c .before .before .pre .1 .sized .is, e))
 
--- src/versions.rt:71:31
 part-requires : tie.Need-part-requires Inv-loop μ-loop
 part-requires c κs = let a = c .before .before .before .before .args in (c .before .before .before .before .pre .0, part-fits (a .l .least) (c .before .before .before .before .pre .0 .four) (a .s .now) (c .before .loop .n) (omega (arith, c .loop-test .taken, c .before .before .wide .ensures, c .before .before .before .before .pre .1 .sized .is)), omega (arith, c .before .before .before .before .pre .1 .sized .long))
 
--- src/versions.rt:71:13
 head-of-requires : tie.Need-head-of-requires Inv-loop μ-loop
 head-of-requires c κs = (c .before .before .before .before .before .pre .0, omega (arith, c .part .ensures .1, c .before .before .before .before .before .pre .0 .four), omega (arith, c .part .ensures .1, c .before .before .before .before .before .pre .0 .eight))
 
--- src/versions.rt:72:13
 used-at-requires : tie.Need-used-at-requires Inv-loop μ-loop
 used-at-requires c κs = search needs
 
--- src/versions.rt:73:24
 array-read-same : tie.Need-array-read-same Inv-loop μ-loop
 array-read-same c = omega (arith, c .before .before .before .loop-test .taken, c .before .before .before .before .before .wide .ensures, c .before .before .before .before .before .before .before .pre .1 .sized .most)
 
@@ -65,25 +53,20 @@ want-is c =
     ap (λ (h : Head). sameOf (not (eqb (h .level) 0) && within (h .start) (h .end) (a .v)) (getD (a .t4) (k .loop .n) false)) (sym f)
     ∙ ap (λ (b : Bool). sameOf b (getD (a .t4) (k .loop .n) false)) (sym (c .before .used-at .ensures)) ∙ sym (c .same .ensures)
 
--- src/versions.rt:73:13
 same-requires : tie.Need-same-requires Inv-loop μ-loop
 same-requires c κs = search needs
 
--- src/versions.rt:74:13
 returns : tie.Need-returns Inv-loop μ-loop
 returns c =
     let a = c .before .before .before .before .before .before .before .before .before .args in let k = c .before .before .before .before .before .before .loop in
     sym (k .inv .2 ∙ marked-step (a .l .least) (a .s .now) (a .v) (a .t4) (k .n) (c .before .before .before .before .before .before .before .wide .result) (c .before .before .before .before .before .loop-test .taken) ∙ rw (want-is ((c .before)), not-true (c .before .same .result) (c .if1 .taken)))
 
--- src/versions.rt:76:9
 add-n : tie.Need-add-n Inv-loop μ-loop
 add-n c = omega (arith, c .before .before .before .before .before .loop-test .taken, c .before .before .before .before .before .before .before .wide .ensures, c .before .before .before .before .before .before .before .before .before .pre .1 .sized .most)
 
--- src/versions.rt:70:5
 loop-less : tie.Need-loop-less Inv-loop μ-loop
 loop-less c = omega (arith, c .before .before .before .before .before .loop-test .taken)
 
--- src/versions.rt:70:5
 loop-again : tie.Need-loop-again Inv-loop μ-loop
 loop-again c =
     let a = c .before .before .before .before .before .before .before .before .before .args in let k = c .before .before .before .before .before .before .loop in (
@@ -92,7 +75,6 @@ loop-again c =
       k .inv .2 ∙ marked-step (a .l .least) (a .s .now) (a .v) (a .t4) (k .n) (c .before .before .before .before .before .before .before .wide .result) (c .before .before .before .before .before .loop-test .taken) ∙ rw (want-is ((c .before)), not-false (c .before .same .result) (c .if1 .left)),
     )
 
--- src/versions.rt:64:1
 returns-2 : tie.Need-returns-2 Inv-loop μ-loop
 returns-2 c = let a = c .before .before .before .before .args in let k = c .before .loop in sym (k .inv .2 ∙ marked-end (a .l .least) (a .s .now) (a .v) (a .t4) (k .n) (c .before .before .wide .result) (c .loop-test .left))
 

@@ -1,4 +1,5 @@
-use Prim.Native.Nat.{ℕ, _≤_, _<_, _-_, _+_, _*_}
+-- `judge::versions::root_at` meets its contract: the slots from i on, after r, give the root of v. Assumes nothing.
+use Prim.Native.Nat.{_≤_, _<_, _-_, _+_, _*_}
 use mathlib.Core.Path.{_≡_, ap, sym, _∙_}
 use mathlib.Core.Logic.{⊎-elim}
 use native.Mathlib.Omega.{arith}
@@ -12,10 +13,6 @@ use Rattle.model.specs.declared.Slot.{Slot}
 use borrow.Author.Needs.{needs}
 use Rattle.judge.proofs.versions.root_at.Statement.{statement}
 use Rattle.judge.proofs.versions.root_at.Tie as tie
-use Rattle.judge.proofs.versions.root_at.Reads as reads
-use Rattle.judge.proofs.versions.root_at.Lts as lts
-use Rattle.judge.proofs.wide.Reads as wide-reads
-use Rattle.store.proofs.slot.Reads as slot-reads
 
 abbrev Inv-loop : tie.InvT-loop
 Inv-loop s l v roots r₀ i₀ r i = (1 ≤ i) × (i ≤ roots) × (rootAt (decode (l .least) s .slots) v ≡ rootFrom r (readSlots s (512 * l .least + 32 * i) (roots - i)) v) × RootFine (l .least) s r
@@ -23,19 +20,15 @@ Inv-loop s l v roots r₀ i₀ r i = (1 ≤ i) × (i ≤ roots) × (rootAt (deco
 abbrev μ-loop : tie.MeasureT-loop
 μ-loop s l v roots r₀ i₀ r i = roots - i
 
--- src/versions.rt:28:9
 wide-requires : tie.Need-wide-requires Inv-loop μ-loop
 wide-requires c κs = search needs
 
--- src/versions.rt:29:9
 slot-requires : tie.Need-slot-requires Inv-loop μ-loop
 slot-requires c κs = (c .before .before .pre .0, omega (arith, c .before .before .pre .1 .sized .front), omega (arith, c .before .before .pre .0 .four), omega (arith, c .before .before .pre .1 .sized .long))
 
--- src/versions.rt:30:9
 wide-requires-2 : tie.Need-wide-requires-2 Inv-loop μ-loop
 wide-requires-2 c κs = search needs
 
--- src/versions.rt:32:5
 loop-holds : tie.Need-loop-holds Inv-loop μ-loop
 loop-holds c =
     let a = c .before .before .before .before .args in let y = c .before .before .before .before .pre .1 in
@@ -43,23 +36,18 @@ loop-holds c =
     let n : c .before .before .wide .result ≡ a .h .roots = c .before .before .wide .ensures in
     (omega arith, omega (arith, y .some, n), rw (e, n) (root-start (a .l .least) (a .s .now) (a .v) (a .h) y), rw e (y .rooted 0 (y .some)))
 
--- src/versions.rt:33:13
 slot-requires-2 : tie.Need-slot-requires-2 Inv-loop μ-loop
 slot-requires-2 c κs = (c .before .before .before .before .before .before .pre .0, omega (arith, c .before .before .before .before .before .before .pre .1 .sized .front), omega (arith, c .loop-test .taken, c .before .before .before .before .wide .ensures, c .before .before .before .before .before .before .pre .1 .roots), omega (arith, c .before .before .before .before .before .before .pre .1 .sized .long))
 
--- src/versions.rt:35:13
 wide-requires-3 : tie.Need-wide-requires-3 Inv-loop μ-loop
 wide-requires-3 c κs = search needs
 
--- src/versions.rt:37:9
 add-i : tie.Need-add-i Inv-loop μ-loop
 add-i c = omega (arith, c .before .before .before .loop-test .taken, c .before .before .before .before .before .before .before .wide .ensures, c .before .before .before .before .before .before .before .before .before .pre .1 .roots, c .before .before .before .before .before .before .before .before .before .pre .0 .eight)
 
--- src/versions.rt:32:5
 loop-less : tie.Need-loop-less Inv-loop μ-loop
 loop-less c = omega (arith, c .before .before .before .loop-test .taken)
 
--- src/versions.rt:32:5
 loop-again : tie.Need-loop-again Inv-loop μ-loop
 loop-again c =
     let a = c .before .before .before .before .before .before .before .before .before .args in let y = c .before .before .before .before .before .before .before .before .before .pre .1 in let k = c .before .before .before .before .loop in let x = c .before .before .slot2 .ensures in let t = c .before .before .before .loop-test .taken in
@@ -75,7 +63,6 @@ loop-again c =
     (omega arith, omega (arith, t), k .inv .2 ∙ n ∙ rw (lt-leb (slotAt (a .l .least) (a .s .now) (k .i) .version) (a .v) h, e), rw e (k .inv .3)))
     (c .if1 .came)
 
--- src/versions.rt:24:1
 returns : tie.Need-returns Inv-loop μ-loop
 returns c = let a = c .before .before .before .before .before .before .args in let k = c .before .loop in (sym (k .inv .2 ∙ root-end (a .l .least) (a .s .now) (a .v) (k .r) (k .i) (c .before .before .before .before .wide .result) (c .loop-test .left)), k .inv .3)
 

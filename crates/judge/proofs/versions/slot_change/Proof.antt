@@ -1,3 +1,4 @@
+-- `judge::versions::slot_change` meets its contract: no slot before i has its version behind v and before q. Assumes nothing.
 use Prim.Native.Nat.{ℕ, _≤_, _<_, _-_}
 use native.Mathlib.Omega.{arith}
 use Rattle.judge.specs.Quiet.{outs-more}
@@ -7,11 +8,6 @@ use Rattle.model.proofs.Quiet.{Out}
 use borrow.Author.Needs.{needs}
 use Rattle.judge.proofs.versions.slot_change.Statement.{statement}
 use Rattle.judge.proofs.versions.slot_change.Tie as tie
-use Rattle.judge.proofs.versions.slot_change.Reads as reads
-use Rattle.judge.proofs.versions.slot_change.Lts as lts
-use Rattle.judge.proofs.versions.sooner.Reads as sooner-reads
-use Rattle.judge.proofs.wide.Reads as wide-reads
-use Rattle.store.proofs.slot.Reads as slot-reads
 
 abbrev Inv-loop : tie.InvT-loop
 Inv-loop s l v r roots q₀ i₀ q i = (i ≤ roots) × Sooner v r q × ((k : ℕ) → k < i → Out v q (slotAt (l .least) s k .version))
@@ -19,31 +15,24 @@ Inv-loop s l v r roots q₀ i₀ q i = (i ≤ roots) × Sooner v r q × ((k : �
 abbrev μ-loop : tie.MeasureT-loop
 μ-loop s l v r roots q₀ i₀ q i = roots - i
 
--- src/versions.rt:117:9
 wide-requires : tie.Need-wide-requires Inv-loop μ-loop
 wide-requires c κs = search needs
 
--- src/versions.rt:120:5
 loop-holds : tie.Need-loop-holds Inv-loop μ-loop
 loop-holds c = (omega arith, record { below = omega arith; above = c .before .before .pre .2 }, λ k l. absurd (omega arith))
 
--- src/versions.rt:121:13
 slot-requires : tie.Need-slot-requires Inv-loop μ-loop
 slot-requires c κs = (c .before .before .before .before .pre .0, omega (arith, c .before .before .before .before .pre .1 .sized .front), omega (arith, c .loop-test .taken, c .before .before .wide .ensures, c .before .before .before .before .pre .1 .roots), omega (arith, c .before .before .before .before .pre .1 .sized .long))
 
--- src/versions.rt:122:9
 sooner-requires : tie.Need-sooner-requires Inv-loop μ-loop
 sooner-requires c κs = c .before .before .loop .inv .1 .above
 
--- src/versions.rt:123:9
 add-i : tie.Need-add-i Inv-loop μ-loop
 add-i c = omega (arith, c .before .before .loop-test .taken, c .before .before .before .before .wide .ensures, c .before .before .before .before .before .before .pre .1 .roots, c .before .before .before .before .before .before .pre .0 .eight)
 
--- src/versions.rt:120:5
 loop-less : tie.Need-loop-less Inv-loop μ-loop
 loop-less c = omega (arith, c .before .before .loop-test .taken)
 
--- src/versions.rt:120:5
 loop-again : tie.Need-loop-again Inv-loop μ-loop
 loop-again c =
     let a = c .before .before .before .before .before .before .args in let k = c .before .before .before .loop in let x = c .sooner .ensures in (
@@ -52,7 +41,6 @@ loop-again c =
       outs-more (λ (i : ℕ). slotAt (a .l .least) (a .s .now) i .version) (k .i) (a .v) (k .q) (c .sooner .result) (k .inv .2) (x .0 .below) (rw (c .before .slot .ensures) at (x .1)),
     )
 
--- src/versions.rt:113:1
 returns : tie.Need-returns Inv-loop μ-loop
 returns c = let k = c .before .loop in (k .inv .1, λ i l. k .inv .2 i (omega (arith, c .loop-test .left, c .before .before .wide .ensures)))
 

@@ -1,18 +1,14 @@
+-- `judge::versions::used_at` meets its contract: each way out by the tests taken. Assumes nothing.
 use borrow.Author.Tests.{eq-eqb, ne-eqb, lt-leb, le-leb}
 use Rattle.judge.proofs.versions.used_at.Statement.{statement}
 use Rattle.judge.proofs.versions.used_at.Tie as tie
-use Rattle.judge.proofs.versions.used_at.Reads as reads
-use Rattle.judge.proofs.versions.used_at.Lts as lts
 
--- src/versions.rt:46:9
 returns : tie.Need-returns
 returns c = simp (eq-eqb _ _ (c .if1 .taken))
 
--- src/versions.rt:49:9
 returns-2 : tie.Need-returns-2
 returns-2 c = simp (ne-eqb _ _ (c .before .before .if1 .left), lt-leb _ _ (c .if2 .taken))
 
--- src/versions.rt:42:1
 returns-3 : tie.Need-returns-3
 returns-3 c = simp (ne-eqb _ _ (c .before .before .before .if1 .left), le-leb _ _ (c .before .if2 .left))
 

@@ -1,3 +1,4 @@
+-- `judge::versions::versions` meets its contract: the versions from v on answer as all, since each stretch answers as its first. Assumes nothing.
 use Prim.Native.Nat.{ℕ, _≤_, _-_, _+_}
 use mathlib.Core.Path.{_≡_, ap, sym, _∙_}
 use mathlib.Core.Bool.{Bool}
@@ -8,14 +9,8 @@ use Rattle.judge.specs.Versions.{versionOk}
 use Rattle.model.specs.Store.{lastOf}
 use Rattle.model.specs.Basic.{all, count, pick}
 use Rattle.store.specs.Read.{current-lt}
-use borrow.Author.Needs.{needs}
 use Rattle.judge.proofs.versions.versions.Statement.{statement}
 use Rattle.judge.proofs.versions.versions.Tie as tie
-use Rattle.judge.proofs.versions.versions.Reads as reads
-use Rattle.judge.proofs.versions.versions.Lts as lts
-use Rattle.judge.proofs.versions.next_change.Reads as next-change-reads
-use Rattle.judge.proofs.versions.version_ok.Reads as version-ok-reads
-use Rattle.model.proofs.Header.last.Reads as last-reads
 
 abbrev Inv-loop : tie.InvT-loop
 Inv-loop s l h rule end v₀ v = (v ≤ end) × (all (versionOk (l .least) rule s) (count 0 (lastOf (h .opened) (h .current) + 1)) ≡ all (versionOk (l .least) rule s) (count v (end - v)))
@@ -23,40 +18,32 @@ Inv-loop s l h rule end v₀ v = (v ≤ end) × (all (versionOk (l .least) rule 
 abbrev μ-loop : tie.MeasureT-loop
 μ-loop s l h rule end v₀ v = end - v
 
--- src/versions.rt:167:15
 last-requires : tie.Need-last-requires Inv-loop μ-loop
 last-requires c κs = rw (c .before .pre .1 .header) (current-lt (c .before .args .l .least) (c .before .args .s .now))
 
--- src/versions.rt:167:15
 add-end : tie.Need-add-end Inv-loop μ-loop
 add-end c = omega (arith, c .last .ensures, c .before .before .pre .1 .last)
 
--- src/versions.rt:169:5
 loop-holds : tie.Need-loop-holds Inv-loop μ-loop
 loop-holds c =
     let a = c .before .before .args in
     let e : lastOf (a .h .opened) (a .h .current) + 1 ≡ c .last .result + 1 - 0 = omega (arith, c .last .ensures) in
     (omega arith, ap (λ (n : ℕ). all (versionOk (a .l .least) (a .rule) (a .s .now)) (count 0 n)) e)
 
--- src/versions.rt:170:13
 version-ok-requires : tie.Need-version-ok-requires Inv-loop μ-loop
 version-ok-requires c κs = (c .before .before .before .before .pre .0, c .before .before .before .before .pre .1, c .before .before .before .before .pre .2)
 
--- src/versions.rt:171:13
 returns : tie.Need-returns Inv-loop μ-loop
 returns c =
     let a = c .before .before .before .before .before .before .args in let k = c .before .before .before .loop in
     sym (ap (λ (b : Bool). pick b 0 (a .rule)) (k .inv .1 ∙ run-fails (versionOk (a .l .least) (a .rule) (a .s .now)) (k .v) (c .before .before .before .before .last .result + 1) (c .before .before .loop-test .taken) (sym (c .before .version-ok .ensures) ∙ not-true (c .before .version-ok .result) (c .if1 .taken))))
 
--- src/versions.rt:173:9
 next-change-requires : tie.Need-next-change-requires Inv-loop μ-loop
 next-change-requires c κs = (c .before .before .before .before .before .before .pre .0, c .before .before .before .before .before .before .pre .1, c .before .before .loop-test .taken)
 
--- src/versions.rt:169:5
 loop-less : tie.Need-loop-less Inv-loop μ-loop
 loop-less c = omega (arith, c .next-change .ensures .0 .above, c .next-change .ensures .0 .below)
 
--- src/versions.rt:169:5
 loop-again : tie.Need-loop-again Inv-loop μ-loop
 loop-again c =
     let a = c .before .before .before .before .before .before .before .args in let k = c .before .before .before .before .loop in let x = c .next-change .ensures in (
@@ -65,7 +52,6 @@ loop-again c =
           ∙ run-step (a .l .least) (a .s .now) (a .rule) (k .v) (c .next-change .result) (c .before .before .before .before .before .last .result + 1) (omega (arith, c .before .before .before .before .before .before .before .pre .1 .sized .is, c .before .before .before .before .before .before .before .pre .1 .sized .low)) (x .0 .above) (x .0 .below) (x .1) (sym (c .before .before .version-ok .ensures) ∙ not-false (c .before .before .version-ok .result) (c .before .if1 .left)),
     )
 
--- src/versions.rt:163:1
 returns-2 : tie.Need-returns-2 Inv-loop μ-loop
 returns-2 c = let a = c .before .before .before .before .args in let k = c .before .loop in sym (ap (λ (b : Bool). pick b 0 (a .rule)) (k .inv .1 ∙ run-ends (versionOk (a .l .least) (a .rule) (a .s .now)) (k .v) (c .before .before .last .result + 1) (c .loop-test .left)))
 

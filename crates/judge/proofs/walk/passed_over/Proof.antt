@@ -1,14 +1,11 @@
+-- `judge::walk::passed_over` meets its contract: each way out by the test taken. Assumes nothing.
 use borrow.Author.Tests.{eq-eqb, ne-eqb}
 use Rattle.judge.proofs.walk.passed_over.Statement.{statement}
 use Rattle.judge.proofs.walk.passed_over.Tie as tie
-use Rattle.judge.proofs.walk.passed_over.Reads as reads
-use Rattle.judge.proofs.walk.passed_over.Lts as lts
 
--- src/walk.rt:31:9
 returns : tie.Need-returns
 returns c = simp (ne-eqb _ _ (c .if1 .taken))
 
--- src/walk.rt:27:1
 returns-2 : tie.Need-returns-2
 returns-2 c = simp (eq-eqb _ _ (c .if1 .left))
 

@@ -1,10 +1,12 @@
+-- `judge::walk::walk` meets its contract: what is done and what waits are the whole walk (specs/Walking), and each step keeps it so (specs/Taking, Steps). Assumes nothing.
 use Prim.Native.Nat.{ℕ, _≤_, _<_, _-_, _+_, _*_}
 use mathlib.Core.Path.{_≡_, refl, ap, sym, _∙_}
 use mathlib.Core.List.{List}
 use lib.ListN.{length, getD}
 use native.Mathlib.Omega.{arith}
 use borrow.Author.Tests.{not-true, not-false}
-use Rattle.judge.specs.Steps.{start, fewer, skipped, enter, shut, stops, passed, pushed, left, lighter, finish, stopped}
+use Rattle.judge.specs.Taking.{start, fewer, skipped, enter, shut, finish, stopped}
+use Rattle.judge.specs.Steps.{stops, passed, pushed, left, lighter}
 use Rattle.judge.specs.Walking.{Walking, Entering, weigh-top}
 use Rattle.judge.specs.Pending.{none, weight, weigh, stepOk}
 use Rattle.local.specs.Sizes.{part-fits}
@@ -16,17 +18,6 @@ use Rattle.page.specs.declared.Head.{Head}
 use borrow.Author.Needs.{needs}
 use Rattle.judge.proofs.walk.walk.Statement.{statement}
 use Rattle.judge.proofs.walk.walk.Tie as tie
-use Rattle.judge.proofs.walk.walk.Reads as reads
-use Rattle.judge.proofs.walk.walk.Lts as lts
-use Rattle.judge.proofs.live.next_live.Reads as next-live-reads
-use Rattle.judge.proofs.live.opens.Reads as opens-reads
-use Rattle.judge.proofs.live.steps.Reads as steps-reads
-use Rattle.judge.proofs.live.upper.Reads as upper-reads
-use Rattle.judge.proofs.walk.passed_over.Reads as passed-over-reads
-use Rattle.judge.proofs.wide.Reads as wide-reads
-use Rattle.page.proofs.entry_at.Reads as entry-at-reads
-use Rattle.page.proofs.head_of.Reads as head-of-reads
-use Rattle.store.proofs.part.Reads as part-reads
 
 abbrev Inv-loop : tie.InvT-loop
 Inv-loop s l root up v rule marks empty items₀ top₀ it n p count j₀ items top j = Entering (l .least) s root up v rule marks empty items₀ top₀ it n p count items top j
@@ -40,11 +31,9 @@ Inv-walk s l root up v rule marks₀ empty₀ items₀ top₀ marks empty items 
 abbrev μ-walk : tie.MeasureT-walk
 μ-walk s l root up v rule marks₀ empty₀ items₀ top₀ marks empty items top = weigh items top
 
--- src/walk.rt:54:9
 walk-holds : tie.Need-walk-holds Inv-loop μ-loop Inv-walk μ-walk
 walk-holds c = let a = c .before .args in start (a .l .least) (c .before .pre .0 .four) (c .before .pre .0 .eight) (a .s .now) (a .root) (a .up) (a .v) (a .rule) (c .before .pre .2) (c .before .pre .3)
 
--- src/walk.rt:58:9
 sub-top : tie.Need-sub-top Inv-loop μ-loop Inv-walk μ-walk
 sub-top c = omega arith
 
@@ -56,31 +45,24 @@ small c = let k = c .before in let h : 0 < k .walk .top = omega (arith, c .if1 .
 here-page : (c : tie.Else1 Inv-loop μ-loop Inv-walk μ-walk) → let a = c .before .before .before .args in IsPage (a .l .least) (a .s .now) (getD (c .before .walk .items) (c .before .walk .top - 1) none .page)
 here-page c = let k = c .before in k .walk .inv .fine (k .walk .top - 1) (omega (arith, c .if1 .left)) .isPage
 
--- src/walk.rt:59:18
 mul-it : tie.Need-mul-it Inv-loop μ-loop Inv-walk μ-walk
 mul-it c = omega (arith, small c)
 
--- src/walk.rt:59:18
 array-copy-out-it : tie.Need-array-copy-out-it Inv-loop μ-loop Inv-walk μ-walk
 array-copy-out-it c = small c
 
--- src/walk.rt:61:12
 array-read-if2 : tie.Need-array-read-if2 Inv-loop μ-loop Inv-walk μ-walk
 array-read-if2 c = omega (arith, here-page ((c .before)) .1, c .before .before .before .before .pre .1 .most)
 
--- src/walk.rt:54:9
 walk-less : tie.Need-walk-less Inv-loop μ-loop Inv-walk μ-walk
 walk-less c = let a = c .before .before .before .before .before .args in let k = c .before .before .before .walk in fewer (a .l .least) (c .before .before .before .before .before .pre .0 .four) (c .before .before .before .before .before .pre .0 .eight) (a .s .now) (a .root) (a .up) (a .v) (a .rule) (c .before .before .before .before .before .pre .1) (k .marks) (k .empty) (k .items) (k .top) (k .inv) (omega (arith, c .before .before .if1 .left)) (getD (k .items) (k .top - 1) none) refl ((getD (k .items) (k .top - 1) none) .page) refl
 
--- src/walk.rt:54:9
 walk-again : tie.Need-walk-again Inv-loop μ-loop Inv-walk μ-walk
 walk-again c = let a = c .before .before .before .before .before .args in let k = c .before .before .before .walk in skipped (a .l .least) (c .before .before .before .before .before .pre .0 .four) (c .before .before .before .before .before .pre .0 .eight) (a .s .now) (a .root) (a .up) (a .v) (a .rule) (c .before .before .before .before .before .pre .1) (k .marks) (k .empty) (k .items) (k .top) (k .inv) (omega (arith, c .before .before .if1 .left)) (getD (k .items) (k .top - 1) none) refl ((getD (k .items) (k .top - 1) none) .page) refl (c .if2 .taken)
 
--- src/walk.rt:64:13
 part-requires : tie.Need-part-requires Inv-loop μ-loop Inv-walk μ-walk
 part-requires c κs = let a = c .before .before .before .before .before .args in (c .before .before .before .before .before .pre .0, part-fits (a .l .least) (c .before .before .before .before .before .pre .0 .four) (a .s .now) _ (here-page ((c .before .before)) .1), omega (arith, c .before .before .before .before .before .pre .1 .long))
 
--- src/walk.rt:65:13
 head-of-requires : tie.Need-head-of-requires Inv-loop μ-loop Inv-walk μ-walk
 head-of-requires c κs = (c .before .before .before .before .before .before .pre .0, omega (arith, c .part .ensures .1, c .before .before .before .before .before .before .pre .0 .four), omega (arith, c .part .ensures .1, c .before .before .before .before .before .before .pre .0 .eight))
 
@@ -95,60 +77,47 @@ fits c =
     let e = c .before .before .before .before in let pre = e .before .before .before .pre in
     omega (arith, counted c, pre .1 .room _ (here-page e), c .before .part .ensures .1, pre .0 .four)
 
--- src/walk.rt:67:13
 opens-requires : tie.Need-opens-requires Inv-loop μ-loop Inv-walk μ-walk
 opens-requires c κs = (fits ((c)), omega (arith, c .before .part .ensures .1, c .before .before .before .before .before .before .before .pre .0 .eight))
 
--- src/walk.rt:70:9
 array-write-marks : tie.Need-array-write-marks Inv-loop μ-loop Inv-walk μ-walk
 array-write-marks c = omega (arith, here-page ((c .before .before .before .before .before .before)) .1, c .before .before .before .before .before .before .before .before .before .pre .1 .most)
 
--- src/walk.rt:71:13
 next-live-requires : tie.Need-next-live-requires Inv-loop μ-loop Inv-walk μ-walk
 next-live-requires c κs = (fits ((c .before .before)), omega (arith, c .before .before .before .part .ensures .1, c .before .before .before .before .before .before .before .before .before .pre .0 .eight), omega arith)
 
--- src/walk.rt:72:20
 passed-over-requires : tie.Need-passed-over-requires Inv-loop μ-loop Inv-walk μ-walk
 passed-over-requires c κs = search needs
 
--- src/walk.rt:72:9
 array-write-empty : tie.Need-array-write-empty Inv-loop μ-loop Inv-walk μ-walk
 array-write-empty c = omega (arith, here-page ((c .before .before .before .before .before .before .before .before)) .1, c .before .before .before .before .before .before .before .before .before .before .before .pre .1 .most)
 
--- src/walk.rt:73:9
 loop-holds : tie.Need-loop-holds Inv-loop μ-loop Inv-walk μ-walk
 loop-holds c =
     let a = c .before .before .before .before .before .before .before .before .before .before .before .args in let k = c .before .before .before .before .before .before .before .before .before .walk in
     enter (a .l .least) (c .before .before .before .before .before .before .before .before .before .before .before .pre .0 .four) (c .before .before .before .before .before .before .before .before .before .before .before .pre .0 .eight) (a .s .now) (a .root) (a .up) (a .v) (a .rule) (c .before .before .before .before .before .before .before .before .before .before .before .pre .1) (k .marks) (k .empty) (k .items) (k .top) (k .inv) (omega (arith, c .before .before .before .before .before .before .before .before .if1 .left)) (getD (k .items) (k .top - 1) none) refl ((getD (k .items) (k .top - 1) none) .page) refl (c .before .before .before .before .before .part .result .now) (c .before .before .before .before .before .part .ensures .0) (c .before .before .before .before .head-of .result .count) (counted ((c .before .before .before .before))) (c .before .next-live .result) (c .passed-over .result) (c .passed-over .ensures) (c .before .before .before .before .before .part .ensures .1) (sym (c .before .before .before .opens .ensures) ∙ not-false (c .before .before .before .opens .result) (c .before .before .if3 .left)) (c .before .next-live .ensures)
 
--- src/walk.rt:54:9
 walk-less-2 : tie.Need-walk-less-2 Inv-loop μ-loop Inv-walk μ-walk
 walk-less-2 c =
     let m = c .before .loop in let k = c .before .before .before .before .before .before .before .before .before .before .before .walk in
     let f : weigh (m .items) (m .top) < weight ((getD (k .items) (k .top - 1) none) .up) + weigh (k .items) (k .top - 1) = lighter _ (c .before .before .before .before .before .before .before .before .before .before .before .before .before .pre .0 .four) (c .before .before .before .before .before .before .before .before .before .before .before .before .before .pre .0 .eight) _ _ _ _ _ _ _ _ _ _ _ _ _ _ _ _ (m .inv) (c .loop-test .left) in
     omega (arith, f, weigh-top (k .items) (k .top) (omega (arith, c .before .before .before .before .before .before .before .before .before .before .if1 .left)))
 
--- src/walk.rt:54:9
 walk-again-2 : tie.Need-walk-again-2 Inv-loop μ-loop Inv-walk μ-walk
 walk-again-2 c = left _ (c .before .before .before .before .before .before .before .before .before .before .before .before .before .pre .0 .four) (c .before .before .before .before .before .before .before .before .before .before .before .before .before .pre .0 .eight) _ _ _ _ _ _ _ _ _ _ _ _ _ _ _ _ (c .before .loop .inv) (c .loop-test .left)
 
--- src/walk.rt:74:17
 entry-at-requires : tie.Need-entry-at-requires Inv-loop μ-loop Inv-walk μ-walk
 entry-at-requires c κs = let w = c .before .loop .inv in (omega (arith, w .sized, w .room, c .loop-test .taken, c .before .before .before .before .before .before .before .before .before .before .before .before .before .pre .0 .four), omega (arith, w .sized, c .before .before .before .before .before .before .before .before .before .before .before .before .before .pre .0 .eight))
 
--- src/walk.rt:75:50
 add-next-live : tie.Need-add-next-live Inv-loop μ-loop Inv-walk μ-walk
 add-next-live c = omega (arith, c .before .loop-test .taken, c .before .before .loop .inv .room, c .before .before .before .before .before .before .before .before .before .before .before .before .before .before .pre .0 .eight)
 
--- src/walk.rt:75:17
 next-live-requires-2 : tie.Need-next-live-requires-2 Inv-loop μ-loop Inv-walk μ-walk
 next-live-requires-2 c κs = let w = c .before .before .loop .inv in (omega (arith, w .sized, w .room, c .before .before .before .before .before .before .before .before .before .before .before .before .before .before .pre .0 .four), omega (arith, w .sized, c .before .before .before .before .before .before .before .before .before .before .before .before .before .before .pre .0 .eight), omega (arith, c .before .loop-test .taken))
 
--- src/walk.rt:76:17
 upper-requires : tie.Need-upper-requires Inv-loop μ-loop Inv-walk μ-walk
 upper-requires c κs = let w = c .before .before .before .loop .inv in (omega (arith, w .sized, w .room, c .before .before .before .before .before .before .before .before .before .before .before .before .before .before .before .pre .0 .four), omega (arith, w .sized, c .before .before .before .before .before .before .before .before .before .before .before .before .before .before .before .pre .0 .eight))
 
--- src/walk.rt:77:17
 steps-requires : tie.Need-steps-requires Inv-loop μ-loop Inv-walk μ-walk
 steps-requires c κs = search needs
 
@@ -164,55 +133,43 @@ pushes c =
     let m = c .before .before .before .before .before .before .before .before in let pre = m .before .before .before .before .before .before .before .before .before .before .before .before .pre in
     omega (arith, m .loop .inv .above, m .loop .inv .own .place, m .loop .inv .room, c .before .before .before .before .before .before .before .loop-test .taken, pre .4, pre .0 .eight, c .if5 .taken)
 
--- src/walk.rt:82:27
 wide-requires : tie.Need-wide-requires Inv-loop μ-loop Inv-walk μ-walk
 wide-requires c κs = search needs
 
--- src/walk.rt:83:25
 sub-t39 : tie.Need-sub-t39 Inv-loop μ-loop Inv-walk μ-walk
 sub-t39 c = c .before .before .if5 .taken
 
--- src/walk.rt:81:17
 mul-items : tie.Need-mul-items Inv-loop μ-loop Inv-walk μ-walk
 mul-items c = omega (arith, pushes ((c .before .before)))
 
--- src/walk.rt:81:17
 array-set-from-items : tie.Need-array-set-from-items Inv-loop μ-loop Inv-walk μ-walk
 array-set-from-items c = pushes ((c .before .before))
 
--- src/walk.rt:88:17
 add-top : tie.Need-add-top Inv-loop μ-loop Inv-walk μ-walk
 add-top c = omega (arith, pushes ((c .before .before)))
 
--- src/walk.rt:73:9
 loop-less : tie.Need-loop-less Inv-loop μ-loop Inv-walk μ-walk
 loop-less c = omega (arith, c .before .before .before .before .before .before .before .next-live2 .ensures .low, c .before .before .before .before .before .before .before .before .before .loop-test .taken)
 
--- src/walk.rt:73:9
 loop-again : tie.Need-loop-again Inv-loop μ-loop Inv-walk μ-walk
 loop-again c =
     let f = c .before .before .before .before .before .before .before .before .entry-at .ensures in
     pushed _ (c .before .before .before .before .before .before .before .before .before .before .before .before .before .before .before .before .before .before .before .before .before .before .pre .0 .four) (c .before .before .before .before .before .before .before .before .before .before .before .before .before .before .before .before .before .before .before .before .before .before .pre .0 .eight) _ _ _ _ _ (c .before .before .before .before .before .before .before .before .before .before .before .before .before .before .before .before .before .before .before .before .before .before .pre .1) _ _ _ _ _ _ _ _ _ _ _ (c .before .before .before .before .before .before .before .before .before .before .loop .inv) (c .before .before .before .before .before .before .before .before .before .loop-test .taken) (c .before .before .before .before .before .before .before .next-live2 .result) (c .before .before .before .before .before .before .upper .result) (c .before .before .before .before .before .before .before .next-live2 .ensures) (c .before .before .before .before .before .before .upper .ensures) (step-is ((c .before .before .before .before .before)) ∙ not-false (c .before .before .before .before .before .steps .result) (c .before .before .before .before .if4 .left)) (c .before .before .before .before .before .before .before .before .before .before .before .before .before .before .before .before .before .before .before .before .before .before .pre .4) (c .before .before .if5 .taken) _ (c .before .wide .ensures ∙ ap (λ (x : Entry). x .value) f) refl refl (ap (λ (x : Entry). x .key) f) refl
 
--- src/walk.rt:73:9
 loop-less-2 : tie.Need-loop-less-2 Inv-loop μ-loop Inv-walk μ-walk
 loop-less-2 c = omega (arith, c .before .before .before .before .before .next-live2 .ensures .low, c .before .before .before .before .before .before .before .loop-test .taken)
 
--- src/walk.rt:73:9
 loop-again-2 : tie.Need-loop-again-2 Inv-loop μ-loop Inv-walk μ-walk
 loop-again-2 c = passed _ (c .before .before .before .before .before .before .before .before .before .before .before .before .before .before .before .before .before .before .before .before .pre .0 .four) (c .before .before .before .before .before .before .before .before .before .before .before .before .before .before .before .before .before .before .before .before .pre .0 .eight) _ _ _ _ _ (c .before .before .before .before .before .before .before .before .before .before .before .before .before .before .before .before .before .before .before .before .pre .1) _ _ _ _ _ _ _ _ _ _ _ (c .before .before .before .before .before .before .before .before .loop .inv) (c .before .before .before .before .before .before .before .loop-test .taken) (c .before .before .before .before .before .next-live2 .result) (c .before .before .before .before .upper .result) (c .before .before .before .before .before .next-live2 .ensures) (c .before .before .before .before .upper .ensures) (step-is ((c .before .before .before)) ∙ not-false (c .before .before .before .steps .result) (c .before .before .if4 .left)) (omega (arith, c .if5 .left))
 
--- src/walk.rt:39:1
 returns : tie.Need-returns Inv-loop μ-loop Inv-walk μ-walk
 returns c = finish _ (c .before .before .before .pre .0 .four) (c .before .before .before .pre .0 .eight) _ _ _ _ _ _ _ _ _ (c .before .walk .inv) (c .if1 .taken)
 
--- src/walk.rt:39:1
 returns-2 : tie.Need-returns-2 Inv-loop μ-loop Inv-walk μ-walk
 returns-2 c =
     let a = c .before .before .before .before .before .before .before .before .before .args in let k = c .before .before .before .before .before .before .before .walk in
     stopped _ (c .before .before .before .before .before .before .before .before .before .pre .0 .four) (c .before .before .before .before .before .before .before .before .before .pre .0 .eight) _ _ _ _ _ _ (shut (a .l .least) (c .before .before .before .before .before .before .before .before .before .pre .0 .four) (c .before .before .before .before .before .before .before .before .before .pre .0 .eight) (a .s .now) (a .root) (a .up) (a .v) (a .rule) (c .before .before .before .before .before .before .before .before .before .pre .1) (k .marks) (k .empty) (k .items) (k .top) (k .inv) (omega (arith, c .before .before .before .before .before .before .if1 .left)) (getD (k .items) (k .top - 1) none) refl ((getD (k .items) (k .top - 1) none) .page) refl (c .before .before .before .part .result .now) (c .before .before .before .part .ensures .0) (c .before .before .head-of .result .count) (counted ((c .before .before))) (sym (c .before .opens .ensures) ∙ not-true (c .before .opens .result) (c .if3 .taken)))
 
--- src/walk.rt:39:1
 returns-3 : tie.Need-returns-3 Inv-loop μ-loop Inv-walk μ-walk
 returns-3 c = stopped _ (c .before .before .before .before .before .before .before .before .before .before .before .before .before .before .before .before .before .before .pre .0 .four) (c .before .before .before .before .before .before .before .before .before .before .before .before .before .before .before .before .before .before .pre .0 .eight) _ _ _ _ _ _ (stops _ (c .before .before .before .before .before .before .before .before .before .before .before .before .before .before .before .before .before .before .pre .0 .four) (c .before .before .before .before .before .before .before .before .before .before .before .before .before .before .before .before .before .before .pre .0 .eight) _ _ _ _ _ (c .before .before .before .before .before .before .before .before .before .before .before .before .before .before .before .before .before .before .pre .1) _ _ _ _ _ _ _ _ _ _ _ (c .before .before .before .before .before .before .loop .inv) (c .before .before .before .before .before .loop-test .taken) (c .before .before .before .next-live2 .result) (c .before .before .upper .result) (c .before .before .before .next-live2 .ensures) (c .before .before .upper .ensures) (step-is ((c .before)) ∙ not-true (c .before .steps .result) (c .if4 .taken)))
 

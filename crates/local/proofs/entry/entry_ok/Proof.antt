@@ -1,31 +1,23 @@
+-- `local::entry::entry_ok` meets its contract: each way out is a law of one entry. Assumes nothing.
 use mathlib.Core.Path.{sym, _∙_}
 use borrow.Author.Tests.{not-true, not-false}
-use Rattle.local.specs.First.{entry-span, entry-leaf, entry-index}
+use Rattle.local.specs.Pages.{entry-span, entry-leaf, entry-index}
 use borrow.Author.Needs.{needs}
 use Rattle.local.proofs.entry.entry_ok.Statement.{statement}
 use Rattle.local.proofs.entry.entry_ok.Tie as tie
-use Rattle.local.proofs.entry.entry_ok.Reads as reads
-use Rattle.local.proofs.entry.entry_ok.Lts as lts
-use Rattle.local.proofs.entry.is_page.Reads as is-page-reads
-use Rattle.local.proofs.entry.span_ok.Reads as span-ok-reads
 
--- src/entry.rt:39:9
 span-ok-requires : tie.Need-span-ok-requires
 span-ok-requires c κs = search needs
 
--- src/entry.rt:40:9
 returns : tie.Need-returns
 returns c = let a = c .before .before .args in sym (entry-span (a .last) (a .size) (a .level) (a .e) (c .before .before .pre) (sym (c .before .span-ok .ensures) ∙ not-true (c .before .span-ok .result) (c .if1 .taken)))
 
--- src/entry.rt:43:9
 returns-2 : tie.Need-returns-2
 returns-2 c = let a = c .before .before .before .before .args in sym (entry-leaf (a .last) (a .size) (a .level) (a .e) (c .before .before .before .before .pre) (sym (c .before .before .before .span-ok .ensures) ∙ not-false (c .before .before .before .span-ok .result) (c .before .before .if1 .left)) (c .before .if2 .taken))
 
--- src/entry.rt:45:5
 is-page-requires : tie.Need-is-page-requires
 is-page-requires c κs = search needs
 
--- src/entry.rt:35:1
 returns-3 : tie.Need-returns-3
 returns-3 c = let a = c .before .before .before .before .args in c .is-page .ensures ∙ sym (entry-index (a .last) (a .size) (a .level) (a .e) (c .before .before .before .before .pre) (sym (c .before .before .before .span-ok .ensures) ∙ not-false (c .before .before .before .span-ok .result) (c .before .before .if1 .left)) (c .before .if2 .left))
 

@@ -1,20 +1,15 @@
+-- `local::entry::is_page` meets its contract: each way out by the tests taken. Assumes nothing.
 use borrow.Author.Tests.{lt-leb, le-leb}
 use borrow.Author.Needs.{needs}
 use Rattle.local.proofs.entry.is_page.Statement.{statement}
 use Rattle.local.proofs.entry.is_page.Tie as tie
-use Rattle.local.proofs.entry.is_page.Reads as reads
-use Rattle.local.proofs.entry.is_page.Lts as lts
-use Rattle.local.proofs.wide.Reads as wide-reads
 
--- src/entry.rt:29:9
 returns : tie.Need-returns
 returns c = simp (lt-leb _ _ (c .if1 .taken))
 
--- src/entry.rt:31:5
 wide-requires : tie.Need-wide-requires
 wide-requires c κs = search needs
 
--- src/entry.rt:25:1
 returns-2 : tie.Need-returns-2
 returns-2 c = simp (le-leb _ _ (c .before .if1 .left), c .wide .ensures)
 

@@ -1,18 +1,14 @@
+-- `local::entry::stands_before` meets its contract: each way out by the tests taken. Assumes nothing.
 use borrow.Author.Tests.{eq-eqb, ne-eqb, lt-ltb, le-ltb}
 use Rattle.local.proofs.entry.stands_before.Statement.{statement}
 use Rattle.local.proofs.entry.stands_before.Tie as tie
-use Rattle.local.proofs.entry.stands_before.Reads as reads
-use Rattle.local.proofs.entry.stands_before.Lts as lts
 
--- src/entry.rt:53:9
 returns : tie.Need-returns
 returns c = simp (lt-ltb _ _ (c .if1 .taken))
 
--- src/entry.rt:56:9
 returns-2 : tie.Need-returns-2
 returns-2 c = simp (le-ltb _ _ (c .before .before .before .if1 .left), ne-eqb _ _ (c .if2 .taken))
 
--- src/entry.rt:49:1
 returns-3 : tie.Need-returns-3
 returns-3 c = simp (le-ltb _ _ (c .before .before .before .before .before .if1 .left), eq-eqb _ _ (c .before .before .if2 .left))
 

@@ -1,3 +1,4 @@
+-- `local::first::roots_ok` meets its contract: the slots from i on answer as all. Assumes nothing.
 use Rattle.local.specs.Loops.{all-slots-start, all-slots-step, all-slots-end}
 use Prim.Native.Nat.{_≤_, _-_, _+_, _*_}
 use mathlib.Core.Path.{_≡_, sym, _∙_}
@@ -10,10 +11,6 @@ use Rattle.local.specs.First.{rooted}
 use borrow.Author.Needs.{needs}
 use Rattle.local.proofs.first.roots_ok.Statement.{statement}
 use Rattle.local.proofs.first.roots_ok.Tie as tie
-use Rattle.local.proofs.first.roots_ok.Reads as reads
-use Rattle.local.proofs.first.roots_ok.Lts as lts
-use Rattle.local.proofs.entry.is_page.Reads as is-page-reads
-use Rattle.store.proofs.slot.Reads as slot-reads
 
 abbrev Inv-loop : tie.InvT-loop
 Inv-loop s l roots size i₀ i = (i ≤ roots) × (rooted size (readSlots s (512 * l .least) roots) ≡ rooted size (readSlots s (512 * l .least + 32 * i) (roots - i)))
@@ -21,31 +18,24 @@ Inv-loop s l roots size i₀ i = (i ≤ roots) × (rooted size (readSlots s (512
 abbrev μ-loop : tie.MeasureT-loop
 μ-loop s l roots size i₀ i = roots - i
 
--- src/first.rt:18:5
 loop-holds : tie.Need-loop-holds Inv-loop μ-loop
 loop-holds c = let a = c .before .args in (omega arith, all-slots-start (λ (x : Slot). isPage (a .size) (x .root)) (a .s .now) (512 * a .l .least) (a .roots))
 
--- src/first.rt:19:13
 slot-requires : tie.Need-slot-requires Inv-loop μ-loop
 slot-requires c κs = (c .before .before .before .pre .0, omega (arith, c .before .before .before .pre .1 .front), omega (arith, c .loop-test .taken, c .before .before .before .pre .2), omega (arith, c .before .before .before .pre .1 .long))
 
--- src/first.rt:20:13
 is-page-requires : tie.Need-is-page-requires Inv-loop μ-loop
 is-page-requires c κs = search needs
 
--- src/first.rt:21:13
 returns : tie.Need-returns Inv-loop μ-loop
 returns c = let a = c .before .before .before .before .before .before .args in let k = c .before .before .before .before .loop in sym (k .inv .1 ∙ all-slots-step (λ (x : Slot). isPage (a .size) (x .root)) (a .s .now) (512 * a .l .least) (k .i) (a .roots) (c .before .before .before .loop-test .taken) ∙ rw (← c .before .before .slot .ensures, ← c .before .is-page .ensures, not-true (c .before .is-page .result) (c .if1 .taken)))
 
--- src/first.rt:23:9
 add-i : tie.Need-add-i Inv-loop μ-loop
 add-i c = omega (arith, c .before .before .before .loop-test .taken, c .before .before .before .before .before .before .pre .2, c .before .before .before .before .before .before .pre .0 .eight)
 
--- src/first.rt:18:5
 loop-less : tie.Need-loop-less Inv-loop μ-loop
 loop-less c = omega (arith, c .before .before .before .loop-test .taken)
 
--- src/first.rt:18:5
 loop-again : tie.Need-loop-again Inv-loop μ-loop
 loop-again c =
     let a = c .before .before .before .before .before .before .args in let k = c .before .before .before .before .loop in (
@@ -54,7 +44,6 @@ loop-again c =
           ∙ rw (← c .before .before .slot .ensures, ← c .before .is-page .ensures, not-false (c .before .is-page .result) (c .if1 .left)),
     )
 
--- src/first.rt:13:1
 returns-2 : tie.Need-returns-2 Inv-loop μ-loop
 returns-2 c = let a = c .before .before .before .args in let k = c .before .loop in sym (k .inv .1 ∙ all-slots-end (λ (x : Slot). isPage (a .size) (x .root)) (a .s .now) (512 * a .l .least) (k .i) (a .roots) (c .loop-test .left))
 

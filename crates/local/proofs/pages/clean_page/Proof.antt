@@ -1,56 +1,42 @@
-use Prim.Native.Nat.{_≤_, _*_}
+-- `local::pages::clean_page` meets its contract: each way out is a law of one page. Assumes nothing.
+use Prim.Native.Nat.{_*_}
 use mathlib.Core.Path.{_≡_, sym, _∙_}
 use native.Mathlib.Omega.{arith}
 use borrow.Author.Tests.{not-true, not-false}
-use Rattle.local.specs.First.{clean-room, clean-spare, clean-rest}
+use Rattle.local.specs.Pages.{clean-room, clean-spare, clean-rest}
 use Rattle.page.specs.Editions.{room-is, bytes-is, counter-is, counter-counts}
-use borrow.Author.Needs.{needs}
 use Rattle.local.proofs.pages.clean_page.Statement.{statement}
 use Rattle.local.proofs.pages.clean_page.Tie as tie
-use Rattle.local.proofs.pages.clean_page.Reads as reads
-use Rattle.local.proofs.pages.clean_page.Lts as lts
-use Rattle.local.proofs.pages.zero_from.Reads as zero-from-reads
-use Rattle.page.proofs.head_of.Reads as head-of-reads
 
--- src/pages.rt:35:9
 head-of-requires : tie.Need-head-of-requires
 head-of-requires c κs = (c .before .pre .0, omega (arith, c .before .pre .1, c .before .pre .0 .four), omega (arith, c .before .pre .1, c .before .pre .0 .eight))
 
--- src/pages.rt:38:9
 returns : tie.Need-returns
 returns c = let a = c .before .before .before .before .args in sym (clean-room (a .l .least) 0 0 (a .page .now) (rw (c .before .before .head-of .ensures, room-is (c .before .before .before .before .pre .0)) at (c .if1 .taken)))
 
--- src/pages.rt:40:25
 add-zero-from : tie.Need-add-zero-from
 add-zero-from c = omega (arith, counter-counts (c .before .before .before .before .before .pre .0))
 
--- src/pages.rt:40:9
 zero-from-requires : tie.Need-zero-from-requires
 zero-from-requires c κs = (omega (arith, counter-counts (c .before .before .before .before .before .pre .0)), omega (arith, c .before .before .before .before .before .pre .1, c .before .before .before .before .before .pre .0 .four), omega (arith, c .before .before .before .before .before .pre .1, c .before .before .before .before .before .pre .0 .eight))
 
--- src/pages.rt:41:9
 returns-2 : tie.Need-returns-2
 returns-2 c =
     let a = c .before .before .before .before .before .before .before .args in
     sym (clean-spare (a .l .least) 0 0 (a .page .now) (rw (c .before .before .before .before .before .head-of .ensures, room-is (c .before .before .before .before .before .before .before .pre .0)) at (c .before .before .before .if1 .left)) (rw (counter-is (c .before .before .before .before .before .before .before .pre .0)) at (sym (c .before .zero-from .ensures) ∙ not-true (c .before .zero-from .result) (c .if2 .taken))))
 
--- src/pages.rt:43:27
 mul-zero-from : tie.Need-mul-zero-from
 mul-zero-from c = omega (arith, c .before .before .before .if1 .left, room-is (c .before .before .before .before .before .before .before .pre .0), c .before .before .before .before .before .before .before .pre .0 .eight)
 
--- src/pages.rt:43:21
 add-zero-from-2 : tie.Need-add-zero-from-2
 add-zero-from-2 c = omega (arith, c .before .before .before .if1 .left, room-is (c .before .before .before .before .before .before .before .pre .0), c .before .before .before .before .before .before .before .pre .0 .eight)
 
--- src/pages.rt:43:35
 mul-zero-from-2 : tie.Need-mul-zero-from-2
 mul-zero-from-2 c = omega (arith, bytes-is (c .before .before .before .before .before .before .before .before .pre .0), c .before .before .before .before .before .before .before .before .pre .0 .eight)
 
--- src/pages.rt:43:5
 zero-from-requires-2 : tie.Need-zero-from-requires-2
 zero-from-requires-2 c κs = (omega (arith, c .before .before .before .before .if1 .left, room-is (c .before .before .before .before .before .before .before .before .pre .0), bytes-is (c .before .before .before .before .before .before .before .before .pre .0), c .before .before .before .before .before .before .before .before .pre .0 .four), omega (arith, c .before .before .before .before .before .before .before .before .pre .1, bytes-is (c .before .before .before .before .before .before .before .before .pre .0)), omega (arith, c .before .before .before .before .before .before .before .before .pre .1, c .before .before .before .before .before .before .before .before .pre .0 .eight))
 
--- src/pages.rt:31:1
 returns-3 : tie.Need-returns-3
 returns-3 c =
     let a = c .before .before .before .before .before .before .before .before .before .args in

@@ -1,3 +1,4 @@
+-- `local::pages::entries_ok` meets its contract: the entries from i on answer as all. Assumes nothing.
 use Prim.Native.Nat.{_≤_, _-_, _+_, _*_}
 use mathlib.Core.Path.{_≡_, refl, sym, _∙_}
 use native.Mathlib.Omega.{arith}
@@ -6,15 +7,9 @@ use borrow.Author.Tests.{not-true, not-false}
 use Rattle.page.specs.Read.{read-sized}
 use Rattle.model.specs.Layout.{readEntries}
 use Rattle.local.specs.Local.{entriesOk}
-use Rattle.local.specs.First.{entries-ok-step, entries-ok-end}
-use borrow.Author.Needs.{needs}
+use Rattle.local.specs.Pages.{entries-ok-step, entries-ok-end}
 use Rattle.local.proofs.pages.entries_ok.Statement.{statement}
 use Rattle.local.proofs.pages.entries_ok.Tie as tie
-use Rattle.local.proofs.pages.entries_ok.Reads as reads
-use Rattle.local.proofs.pages.entries_ok.Lts as lts
-use Rattle.local.proofs.entry.entry_ok.Reads as entry-ok-reads
-use Rattle.local.proofs.pages.in_order.Reads as in-order-reads
-use Rattle.page.proofs.entry_at.Reads as entry-at-reads
 
 abbrev Inv-loop : tie.InvT-loop
 Inv-loop page n level last size i₀ i = (i ≤ n) × (entriesOk last size level (readEntries page 128 n) ≡ entriesOk last size level (readEntries page (128 + 96 * i) (n - i)))
@@ -22,42 +17,33 @@ Inv-loop page n level last size i₀ i = (i ≤ n) × (entriesOk last size level
 abbrev μ-loop : tie.MeasureT-loop
 μ-loop page n level last size i₀ i = n - i
 
--- src/pages.rt:64:5
 loop-holds : tie.Need-loop-holds Inv-loop μ-loop
 loop-holds c = (omega arith, rw sub-zero refl)
 
--- src/pages.rt:65:13
 entry-at-requires : tie.Need-entry-at-requires Inv-loop μ-loop
 entry-at-requires c κs = (omega (arith, c .before .before .before .pre .0, c .loop-test .taken), c .before .before .before .pre .1)
 
--- src/pages.rt:66:13
 entry-ok-requires : tie.Need-entry-ok-requires Inv-loop μ-loop
 entry-ok-requires c κs = rw (c .entry-at .ensures) (read-sized _ _)
 
--- src/pages.rt:67:13
 returns : tie.Need-returns Inv-loop μ-loop
 returns c = let a = c .before .before .before .before .before .before .args in let l = c .before .before .before .before .loop in sym (l .inv .1 ∙ entries-ok-step (a .last) (a .size) (a .level) (a .page .now) (l .i) (a .n) (c .before .before .before .loop-test .taken) ∙ rw (← c .before .before .entry-at .ensures, ← c .before .entry-ok .ensures, not-true (c .before .entry-ok .result) (c .if1 .taken)))
 
--- src/pages.rt:69:13
 in-order-requires : tie.Need-in-order-requires Inv-loop μ-loop
 in-order-requires c κs = (c .before .before .before .before .before .before .pre .0, c .before .before .before .loop-test .taken, c .before .before .before .before .before .before .pre .1)
 
--- src/pages.rt:70:13
 returns-2 : tie.Need-returns-2 Inv-loop μ-loop
 returns-2 c =
     let a = c .before .before .before .before .before .before .before .before .args in let l = c .before .before .before .before .before .before .loop in
     sym (l .inv .1 ∙ entries-ok-step (a .last) (a .size) (a .level) (a .page .now) (l .i) (a .n) (c .before .before .before .before .before .loop-test .taken)
     ∙ rw (← c .before .in-order .ensures, not-true (c .before .in-order .result) (c .if2 .taken), ← c .before .before .before .before .entry-at .ensures, ← c .before .before .before .entry-ok .ensures, not-false (c .before .before .before .entry-ok .result) (c .before .before .if1 .left)))
 
--- src/pages.rt:72:9
 add-i : tie.Need-add-i Inv-loop μ-loop
 add-i c = omega (arith, c .before .before .before .before .before .loop-test .taken, c .before .before .before .before .before .before .before .before .pre .0, c .before .before .before .before .before .before .before .before .pre .1)
 
--- src/pages.rt:64:5
 loop-less : tie.Need-loop-less Inv-loop μ-loop
 loop-less c = omega (arith, c .before .before .before .before .before .loop-test .taken)
 
--- src/pages.rt:64:5
 loop-again : tie.Need-loop-again Inv-loop μ-loop
 loop-again c =
     let a = c .before .before .before .before .before .before .before .before .args in let l = c .before .before .before .before .before .before .loop in (
@@ -66,7 +52,6 @@ loop-again c =
           ∙ rw (← c .before .in-order .ensures, not-false (c .before .in-order .result) (c .if2 .left), ← c .before .before .before .before .entry-at .ensures, ← c .before .before .before .entry-ok .ensures, not-false (c .before .before .before .entry-ok .result) (c .before .before .if1 .left)),
     )
 
--- src/pages.rt:59:1
 returns-3 : tie.Need-returns-3 Inv-loop μ-loop
 returns-3 c = let a = c .before .before .before .args in let l = c .before .loop in sym (l .inv .1 ∙ entries-ok-end (a .last) (a .size) (a .level) (a .page .now) (l .i) (a .n) (c .loop-test .left))
 

@@ -1,40 +1,30 @@
+-- `local::pages::in_order` meets its contract: the next entry, or none. Assumes nothing.
 use mathlib.Core.Path.{sym, _∙_}
-use Rattle.local.specs.First.{next-none, next-some}
+use Rattle.local.specs.Pages.{next-none, next-some}
 use Prim.Native.Nat.{_+_, _*_}
 use Rattle.model.specs.Layout.{readEntry}
 use borrow.Author.Needs.{needs}
 use Rattle.local.proofs.pages.in_order.Statement.{statement}
 use Rattle.local.proofs.pages.in_order.Tie as tie
-use Rattle.local.proofs.pages.in_order.Reads as reads
-use Rattle.local.proofs.pages.in_order.Lts as lts
-use Rattle.local.proofs.entry.stands_before.Reads as stands-before-reads
-use Rattle.page.proofs.entry_at.Reads as entry-at-reads
 
--- src/pages.rt:51:13
 add-if1 : tie.Need-add-if1
 add-if1 c = search needs
 
--- src/pages.rt:52:9
 returns : tie.Need-returns
 returns c = let a = c .before .before .args in sym (next-none (a .page .now) (readEntry (a .page .now) (128 + 96 * a .i)) (a .i + 1) (a .n) (c .if1 .taken))
 
--- src/pages.rt:54:9
 entry-at-requires : tie.Need-entry-at-requires
 entry-at-requires c κs = search needs
 
--- src/pages.rt:55:34
 add-entry-at : tie.Need-add-entry-at
 add-entry-at c = search needs
 
--- src/pages.rt:55:9
 entry-at-requires-2 : tie.Need-entry-at-requires-2
 entry-at-requires-2 c κs = search needs
 
--- src/pages.rt:56:5
 stands-before-requires : tie.Need-stands-before-requires
 stands-before-requires c κs = search needs
 
--- src/pages.rt:47:1
 returns-2 : tie.Need-returns-2
 returns-2 c = let a = c .before .before .before .before .before .args in sym (next-some (a .page .now) (readEntry (a .page .now) (128 + 96 * a .i)) (a .i + 1) (a .n) (c .before .before .before .if1 .left) ∙ rw (← c .before .before .entry-at .ensures, ← c .before .entry-at2 .ensures) (sym (c .stands-before .ensures)))
 

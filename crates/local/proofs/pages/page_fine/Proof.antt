@@ -1,53 +1,40 @@
+-- `local::pages::page_fine` meets its contract: each way out is a law of one page. Assumes nothing.
 use mathlib.Core.Path.{ap, sym, _∙_}
 use lib.Dec.{eqb}
 use native.Mathlib.Omega.{arith}
 use borrow.Author.Tests.{not-true, not-false}
-use Rattle.local.specs.First.{fine-start, fine-end, fine-count, fine-level, fine-span, fine-entries}
+use Rattle.local.specs.Pages.{fine-start, fine-end, fine-count, fine-level, fine-span, fine-entries}
 use Rattle.page.specs.declared.Head.{Head}
 use borrow.Author.Needs.{needs}
 use Rattle.local.proofs.pages.page_fine.Statement.{statement}
 use Rattle.local.proofs.pages.page_fine.Tie as tie
-use Rattle.local.proofs.pages.page_fine.Reads as reads
-use Rattle.local.proofs.pages.page_fine.Lts as lts
-use Rattle.local.proofs.entry.span_ok.Reads as span-ok-reads
-use Rattle.local.proofs.pages.entries_ok.Reads as entries-ok-reads
-use Rattle.page.proofs.head_of.Reads as head-of-reads
 
--- src/pages.rt:82:9
 head-of-requires : tie.Need-head-of-requires
 head-of-requires c κs = (c .before .pre .0, omega (arith, c .before .pre .1, c .before .pre .0 .four), omega (arith, c .before .pre .1, c .before .pre .0 .eight))
 
--- src/pages.rt:85:13
 returns : tie.Need-returns
 returns c = let a = c .before .before .before .before .before .before .args in let h = c .before .before .before .before .head-of .ensures in sym (fine-start (a .l .least) (a .last) (a .size) (a .page .now) (rw h at (c .before .before .if1 .taken)) (rw h at (c .if2 .taken)))
 
--- src/pages.rt:88:13
 returns-2 : tie.Need-returns-2
 returns-2 c = let a = c .before .before .before .before .before .before .before .before .args in let h = c .before .before .before .before .before .before .head-of .ensures in sym (fine-end (a .l .least) (a .last) (a .size) (a .page .now) (rw h at (c .before .before .before .before .if1 .taken)) (rw h at (c .before .before .if2 .left)) (rw h at (c .if3 .taken)))
 
--- src/pages.rt:90:9
 returns-3 : tie.Need-returns-3
 returns-3 c = let a = c .before .before .before .before .before .before .before .before .before .args in let h = c .before .before .before .before .before .before .before .head-of .ensures in ap (λ (x : Head). eqb (x .count) 0) h ∙ sym (fine-count (a .l .least) (a .last) (a .size) (a .page .now) (rw h at (c .before .before .before .before .before .if1 .taken)) (rw h at (c .before .before .before .if2 .left)) (rw h at (c .before .if3 .left)))
 
--- src/pages.rt:93:9
 returns-4 : tie.Need-returns-4
 returns-4 c = let a = c .before .before .before .before .before .before .args in let h = c .before .before .before .before .head-of .ensures in sym (fine-level (a .l .least) (a .last) (a .size) (a .page .now) (rw h at (c .before .before .if1 .left)) (rw h at (c .if4 .taken)))
 
--- src/pages.rt:95:9
 span-ok-requires : tie.Need-span-ok-requires
 span-ok-requires c κs = search needs
 
--- src/pages.rt:96:9
 returns-5 : tie.Need-returns-5
 returns-5 c =
     let a = c .before .before .before .before .before .before .before .before .args in let h = c .before .before .before .before .before .before .head-of .ensures in
     sym (fine-span (a .l .least) (a .last) (a .size) (a .page .now) (rw h at (c .before .before .before .before .if1 .left)) (rw h at (c .before .before .if4 .left)) (c .before .before .before .before .before .before .before .before .pre .2) (rw h at (sym (c .before .span-ok .ensures)) ∙ not-true (c .before .span-ok .result) (c .if5 .taken)))
 
--- src/pages.rt:98:5
 entries-ok-requires : tie.Need-entries-ok-requires
 entries-ok-requires c κs = (omega (arith, c .before .before .before .before .before .before .before .before .pre .1, c .before .before .before .before .before .before .before .before .pre .0 .four, ap (λ (x : Head). x .count) (c .before .before .before .before .before .before .head-of .ensures), c .before .before .before .before .before .before .before .before .pre .2), omega (arith, c .before .before .before .before .before .before .before .before .pre .1, c .before .before .before .before .before .before .before .before .pre .0 .eight))
 
--- src/pages.rt:78:1
 returns-6 : tie.Need-returns-6
 returns-6 c =
     let a = c .before .before .before .before .before .before .before .before .before .args in let h = c .before .before .before .before .before .before .before .head-of .ensures in

@@ -1,18 +1,13 @@
+-- `local::pages::pages_ok` meets its contract: the pages from n on answer as all. Assumes nothing.
 use Prim.Native.Nat.{_≤_, _-_}
 use mathlib.Core.Path.{_≡_, refl, sym, _∙_}
 use native.Mathlib.Omega.{arith}
 use borrow.Author.Tests.{not-true, not-false}
-use Rattle.local.specs.First.{clean-count, pages-fine-step, pages-fine-end}
+use Rattle.local.specs.Pages.{clean-count, pages-fine-step, pages-fine-end}
 use Rattle.local.specs.Sizes.{part-fits}
 use Rattle.local.specs.Local.{pagesFine}
-use borrow.Author.Needs.{needs}
 use Rattle.local.proofs.pages.pages_ok.Statement.{statement}
 use Rattle.local.proofs.pages.pages_ok.Tie as tie
-use Rattle.local.proofs.pages.pages_ok.Reads as reads
-use Rattle.local.proofs.pages.pages_ok.Lts as lts
-use Rattle.local.proofs.pages.clean_page.Reads as clean-page-reads
-use Rattle.local.proofs.pages.page_fine.Reads as page-fine-reads
-use Rattle.store.proofs.part.Reads as part-reads
 
 abbrev Inv-loop : tie.InvT-loop
 Inv-loop s l size last n₀ n = (5 ≤ n) × (n ≤ size) × (pagesFine (l .least) last size s 5 (size - 5) ≡ pagesFine (l .least) last size s n (size - n))
@@ -20,44 +15,35 @@ Inv-loop s l size last n₀ n = (5 ≤ n) × (n ≤ size) × (pagesFine (l .leas
 abbrev μ-loop : tie.MeasureT-loop
 μ-loop s l size last n₀ n = size - n
 
--- src/pages.rt:107:5
 loop-holds : tie.Need-loop-holds Inv-loop μ-loop
 loop-holds c = (omega arith, omega (arith, c .before .pre .1 .low), refl)
 
--- src/pages.rt:108:13
 part-requires : tie.Need-part-requires Inv-loop μ-loop
 part-requires c κs = let a = c .before .before .before .args in (c .before .before .before .pre .0, part-fits (a .l .least) (c .before .before .before .pre .0 .four) (a .s .now) (c .before .loop .n) (omega (arith, c .loop-test .taken, c .before .before .before .pre .1 .is)), omega (arith, c .before .before .before .pre .1 .long))
 
--- src/pages.rt:109:13
 clean-page-requires : tie.Need-clean-page-requires Inv-loop μ-loop
 clean-page-requires c κs = (c .before .before .before .before .pre .0, c .part .ensures .1)
 
--- src/pages.rt:110:13
 returns : tie.Need-returns Inv-loop μ-loop
 returns c =
     let a = c .before .before .before .before .before .before .args in let k = c .before .before .before .before .loop in
     sym (k .inv .2 ∙ pages-fine-step (a .l .least) (a .last) (a .size) (a .s .now) (k .n) (a .size) (c .before .before .before .loop-test .taken) ∙ rw (← c .before .before .part .ensures .0, ← c .before .clean-page .ensures, not-true (c .before .clean-page .result) (c .if1 .taken)))
 
--- src/pages.rt:112:13
 page-fine-requires : tie.Need-page-fine-requires Inv-loop μ-loop
 page-fine-requires c κs = (c .before .before .before .before .before .before .pre .0, c .before .before .part .ensures .1, clean-count (c .before .before .before .before .before .before .args .l .least) _ (sym (c .before .clean-page .ensures) ∙ not-false (c .before .clean-page .result) (c .if1 .left)))
 
--- src/pages.rt:113:13
 returns-2 : tie.Need-returns-2 Inv-loop μ-loop
 returns-2 c =
     let a = c .before .before .before .before .before .before .before .before .args in let k = c .before .before .before .before .before .before .loop in
     sym (k .inv .2 ∙ pages-fine-step (a .l .least) (a .last) (a .size) (a .s .now) (k .n) (a .size) (c .before .before .before .before .before .loop-test .taken)
     ∙ rw (← c .before .before .before .before .part .ensures .0, ← c .before .before .before .clean-page .ensures, not-false (c .before .before .before .clean-page .result) (c .before .before .if1 .left), ← c .before .page-fine .ensures, not-true (c .before .page-fine .result) (c .if2 .taken)))
 
--- src/pages.rt:115:9
 add-n : tie.Need-add-n Inv-loop μ-loop
 add-n c = omega (arith, c .before .before .before .before .before .loop-test .taken, c .before .before .before .before .before .before .before .before .pre .1 .most)
 
--- src/pages.rt:107:5
 loop-less : tie.Need-loop-less Inv-loop μ-loop
 loop-less c = omega (arith, c .before .before .before .before .before .loop-test .taken)
 
--- src/pages.rt:107:5
 loop-again : tie.Need-loop-again Inv-loop μ-loop
 loop-again c =
     let a = c .before .before .before .before .before .before .before .before .args in let k = c .before .before .before .before .before .before .loop in (
@@ -67,7 +53,6 @@ loop-again c =
           ∙ rw (← c .before .before .before .before .part .ensures .0, ← c .before .before .before .clean-page .ensures, not-false (c .before .before .before .clean-page .result) (c .before .before .if1 .left), ← c .before .page-fine .ensures, not-false (c .before .page-fine .result) (c .if2 .left)),
     )
 
--- src/pages.rt:102:1
 returns-3 : tie.Need-returns-3 Inv-loop μ-loop
 returns-3 c = let a = c .before .before .before .args in let k = c .before .loop in sym (k .inv .2 ∙ pages-fine-end (a .l .least) (a .last) (a .size) (a .s .now) (k .n) (a .size) (c .loop-test .left))
 

@@ -1,15 +1,12 @@
+-- `local::pages::zero_from` meets its contract: what is left to test answers as the whole. Assumes nothing.
 use Prim.Native.Nat.{ℕ, _≤_, _-_}
 use mathlib.Core.Path.{_≡_, refl, ap, sym, _∙_}
 use native.Mathlib.Omega.{arith}
 use lib.Dec.{eqb}
 use Rattle.model.specs.Clean.{zeroFrom}
-use Rattle.local.specs.First.{zero-more, zero-not}
-use borrow.Author.Needs.{needs}
+use Rattle.local.specs.Pages.{zero-more, zero-not}
 use Rattle.local.proofs.pages.zero_from.Statement.{statement}
 use Rattle.local.proofs.pages.zero_from.Tie as tie
-use Rattle.local.proofs.pages.zero_from.Reads as reads
-use Rattle.local.proofs.pages.zero_from.Lts as lts
-use Rattle.bits.proofs.field.Reads as field-reads
 
 abbrev Inv-loop : tie.InvT-loop
 Inv-loop s a b k₀ k = (k ≤ b) × (zeroFrom s a b ≡ zeroFrom s k b)
@@ -17,43 +14,33 @@ Inv-loop s a b k₀ k = (k ≤ b) × (zeroFrom s a b ≡ zeroFrom s k b)
 abbrev μ-loop : tie.MeasureT-loop
 μ-loop s a b k₀ k = b - k
 
--- src/pages.rt:21:5
 loop-holds : tie.Need-loop-holds Inv-loop μ-loop
 loop-holds c = (c .before .pre .0, refl)
 
--- src/pages.rt:21:11
 add-loop : tie.Need-add-loop Inv-loop μ-loop
 add-loop c = omega (arith, c .loop .inv .0, c .before .before .pre .1, c .before .before .pre .2)
 
--- src/pages.rt:22:12
 field-requires : tie.Need-field-requires Inv-loop μ-loop
 field-requires c κs = (omega (arith, c .before .before .before .pre .1, c .loop-test .taken), omega arith, c .before .before .before .pre .2)
 
--- src/pages.rt:23:13
 returns : tie.Need-returns Inv-loop μ-loop
 returns c = let l = c .before .before .before .loop in let a = c .before .before .before .before .before .args in sym (l .inv .1 ∙ zero-not (a .s .now) (l .k) (a .b) 32 (c .before .before .loop-test .taken) (λ z. c .if1 .taken (c .before .field .ensures ∙ z)))
 
--- src/pages.rt:25:9
 add-k : tie.Need-add-k Inv-loop μ-loop
 add-k c = omega (arith, c .before .before .loop-test .taken, c .before .before .before .before .before .pre .1, c .before .before .before .before .before .pre .2)
 
--- src/pages.rt:21:5
 loop-less : tie.Need-loop-less Inv-loop μ-loop
 loop-less c = omega (arith, c .before .before .loop-test .taken)
 
--- src/pages.rt:21:5
 loop-again : tie.Need-loop-again Inv-loop μ-loop
 loop-again c = let l = c .before .before .before .loop in let a = c .before .before .before .before .before .args in (c .before .before .loop-test .taken, l .inv .1 ∙ zero-more (a .s .now) (l .k) (a .b) 32 (c .before .before .loop-test .taken) (sym (c .before .field .ensures) ∙ c .if1 .left))
 
--- src/pages.rt:27:23
 sub-field : tie.Need-sub-field Inv-loop μ-loop
 sub-field c = c .before .loop .inv .0
 
--- src/pages.rt:27:5
 field-requires-2 : tie.Need-field-requires-2 Inv-loop μ-loop
 field-requires-2 c κs = (omega (arith, c .before .before .before .pre .1, c .before .loop .inv .0), omega (arith, c .loop-test .left), c .before .before .before .pre .2)
 
--- src/pages.rt:16:1
 returns-2 : tie.Need-returns-2 Inv-loop μ-loop
 returns-2 c = ap (λ (x : ℕ). eqb x 0) (c .field2 .ensures) ∙ sym (c .before .before .loop .inv .1)
 

@@ -1,4 +1,5 @@
-use Prim.Native.Nat.{ℕ, _≤_, _<_, _-_, _+_, _*_}
+-- `local::second::second_rule` meets its contract: the slots from i on answer as the rule. Assumes nothing.
+use Prim.Native.Nat.{_≤_, _<_, _-_, _+_, _*_}
 use mathlib.Core.Path.{_≡_, ap, sym, _∙_}
 use native.Mathlib.Omega.{arith}
 use borrow.Author.Tests.{not-true, not-false, lt-leb, le-leb}
@@ -13,12 +14,6 @@ use Rattle.store.specs.Read.{current-lt}
 use borrow.Author.Needs.{needs}
 use Rattle.local.proofs.second.second_rule.Statement.{statement}
 use Rattle.local.proofs.second.second_rule.Tie as tie
-use Rattle.local.proofs.second.second_rule.Reads as reads
-use Rattle.local.proofs.second.second_rule.Lts as lts
-use Rattle.local.proofs.second.slot_rises.Reads as slot-rises-reads
-use Rattle.local.proofs.wide.Reads as wide-reads
-use Rattle.model.proofs.Header.last.Reads as last-reads
-use Rattle.store.proofs.slot.Reads as slot-reads
 
 abbrev Inv-loop : tie.InvT-loop
 Inv-loop s l roots last i₀ i = (i ≤ roots) × (rule2 (decode (l .least) s) ≡ slotsOk last (readSlots s (512 * l .least + 32 * i) (roots - i)))
@@ -36,27 +31,21 @@ some-of c = let n : c .before .wide .result ≡ 0 → ⊥ = c .if1 .left in omeg
 few : (c : tie.In-loop Inv-loop μ-loop) → let b = c .before .before .before .before .before .before .before .before .before in c .before .loop .i < 64 * b .args .l .least
 few c = let w = c .before .before .before .before .before .before .before in omega (arith, c .loop-test .taken, roots-of w, w .before .before .pre .1 .ruled .roots)
 
--- src/second.rt:30:9
 wide-requires : tie.Need-wide-requires Inv-loop μ-loop
 wide-requires c κs = search needs
 
--- src/second.rt:32:9
 returns : tie.Need-returns Inv-loop μ-loop
 returns c = let a = c .before .before .before .args in sym (two-none (a .l .least) (a .s .now) (roots-of ((c .before)) ∙ c .if1 .taken))
 
--- src/second.rt:34:9
 slot-requires : tie.Need-slot-requires Inv-loop μ-loop
 slot-requires c κs = (c .before .before .before .pre .0, omega (arith, c .before .before .before .pre .1 .sized .front), omega (arith, c .before .before .before .pre .0 .four), omega (arith, c .before .before .before .pre .1 .sized .long))
 
--- src/second.rt:36:9
 returns-2 : tie.Need-returns-2 Inv-loop μ-loop
 returns-2 c = let a = c .before .before .before .before .before .before .args in sym (two-first (a .l .least) (a .s .now) (some-of ((c .before .before .before))) (λ e. c .if2 .taken (rw (c .before .before .slot .ensures) e)))
 
--- src/second.rt:38:9
 last-requires : tie.Need-last-requires Inv-loop μ-loop
 last-requires c κs = rw (c .before .before .before .before .before .before .pre .1 .header) (current-lt (c .before .before .before .before .before .before .args .l .least) (c .before .before .before .before .before .before .args .s .now))
 
--- src/second.rt:40:5
 loop-holds : tie.Need-loop-holds Inv-loop μ-loop
 loop-holds c =
     let a = c .before .before .before .before .before .before .before .args in
@@ -66,36 +55,29 @@ loop-holds c =
           ∙ rw (roots-of ((c .before .before .before .before .before)), last-is (a .l .least) (a .s .now), ← c .before .before .before .before .before .before .before .pre .1 .header, ← last) (slots-ok-start (c .last .result) (a .s .now) (512 * a .l .least) 0 (c .before .before .before .before .before .wide .result)),
     )
 
--- src/second.rt:41:13
 slot-requires-2 : tie.Need-slot-requires-2 Inv-loop μ-loop
 slot-requires-2 c κs = (c .before .before .before .before .before .before .before .before .before .pre .0, omega (arith, c .before .before .before .before .before .before .before .before .before .pre .1 .sized .front), few ((c)), omega (arith, c .before .before .before .before .before .before .before .before .before .pre .1 .sized .long))
 
--- src/second.rt:43:13
 returns-3 : tie.Need-returns-3 Inv-loop μ-loop
 returns-3 c =
     let a = c .before .before .before .before .before .before .before .before .before .before .before .before .args in let k = c .before .before .before .before .loop in
     sym (k .inv .1 ∙ slots-ok-step (c .before .before .before .before .before .last .result) (a .s .now) (512 * a .l .least) (k .i) (c .before .before .before .before .before .before .before .before .before .before .wide .result) (c .before .before .before .loop-test .taken) ∙ rw (← c .before .before .slot2 .ensures, lt-leb (c .before .before .slot2 .result .version) (c .before .before .before .before .before .last .result) (c .if3 .taken)))
 
--- src/second.rt:45:13
 slot-rises-requires : tie.Need-slot-rises-requires Inv-loop μ-loop
 slot-rises-requires c κs = (c .before .before .before .before .before .before .before .before .before .before .before .before .pre .0, c .before .before .before .before .before .before .before .before .before .before .before .before .pre .1 .sized .front, c .before .before .before .before .before .before .before .before .before .before .before .before .pre .1 .sized .long, c .before .before .before .loop-test .taken, omega (arith, roots-of ((c .before .before .before .before .before .before .before .before .before .before)), c .before .before .before .before .before .before .before .before .before .before .before .before .pre .1 .ruled .roots))
 
--- src/second.rt:46:13
 returns-4 : tie.Need-returns-4 Inv-loop μ-loop
 returns-4 c =
     let a = c .before .before .before .before .before .before .before .before .before .before .before .before .before .before .args in let k = c .before .before .before .before .before .before .loop in
     sym (k .inv .1 ∙ slots-ok-step (c .before .before .before .before .before .before .before .last .result) (a .s .now) (512 * a .l .least) (k .i) (c .before .before .before .before .before .before .before .before .before .before .before .before .wide .result) (c .before .before .before .before .before .loop-test .taken)
     ∙ rw (← c .before .slot-rises .ensures, not-true (c .before .slot-rises .result) (c .if4 .taken), ← c .before .before .before .before .slot2 .ensures, le-leb (c .before .before .before .before .slot2 .result .version) (c .before .before .before .before .before .before .before .last .result) (c .before .before .if3 .left)))
 
--- src/second.rt:48:9
 add-i : tie.Need-add-i Inv-loop μ-loop
 add-i c = omega (arith, few ((c .before .before .before .before .before)), c .before .before .before .before .before .before .before .before .before .before .before .before .before .before .pre .0 .eight)
 
--- src/second.rt:40:5
 loop-less : tie.Need-loop-less Inv-loop μ-loop
 loop-less c = omega (arith, c .before .before .before .before .before .loop-test .taken)
 
--- src/second.rt:40:5
 loop-again : tie.Need-loop-again Inv-loop μ-loop
 loop-again c =
     let a = c .before .before .before .before .before .before .before .before .before .before .before .before .before .before .args in let k = c .before .before .before .before .before .before .loop in (
@@ -104,7 +86,6 @@ loop-again c =
           ∙ rw (← c .before .slot-rises .ensures, not-false (c .before .slot-rises .result) (c .if4 .left), ← c .before .before .before .before .slot2 .ensures, le-leb (c .before .before .before .before .slot2 .result .version) (c .before .before .before .before .before .before .before .last .result) (c .before .before .if3 .left)),
     )
 
--- src/second.rt:26:1
 returns-5 : tie.Need-returns-5 Inv-loop μ-loop
 returns-5 c = let a = c .before .before .before .before .before .before .before .before .before .args in let k = c .before .loop in sym (k .inv .1 ∙ slots-ok-end (c .before .before .last .result) (a .s .now) (512 * a .l .least) (k .i) (c .before .before .before .before .before .before .before .wide .result) (c .loop-test .left))
 

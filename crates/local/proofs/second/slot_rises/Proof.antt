@@ -1,3 +1,4 @@
+-- `local::second::slot_rises` meets its contract: the next slot, or none. Assumes nothing.
 use mathlib.Core.Path.{sym, _∙_}
 use Prim.Native.Nat.{_+_, _*_}
 use Rattle.local.specs.Second.{slot-none, slot-some}
@@ -5,31 +6,22 @@ use Rattle.local.specs.Local.{slotAt}
 use borrow.Author.Needs.{needs}
 use Rattle.local.proofs.second.slot_rises.Statement.{statement}
 use Rattle.local.proofs.second.slot_rises.Tie as tie
-use Rattle.local.proofs.second.slot_rises.Reads as reads
-use Rattle.local.proofs.second.slot_rises.Lts as lts
-use Rattle.store.proofs.slot.Reads as slot-reads
 
--- src/second.rt:18:13
 add-if1 : tie.Need-add-if1
 add-if1 c = search needs
 
--- src/second.rt:19:9
 returns : tie.Need-returns
 returns c = let a = c .before .before .args in sym (slot-none 0 (a .s .now) (512 * a .l .least) (a .i + 1) (a .n) (slotAt (a .l .least) (a .s .now) (a .i)) (c .if1 .taken))
 
--- src/second.rt:21:9
 slot-requires : tie.Need-slot-requires
 slot-requires c κs = search needs
 
--- src/second.rt:22:31
 add-slot : tie.Need-add-slot
 add-slot c = search needs
 
--- src/second.rt:22:9
 slot-requires-2 : tie.Need-slot-requires-2
 slot-requires-2 c κs = search needs
 
--- src/second.rt:14:1
 returns-2 : tie.Need-returns-2
 returns-2 c = let a = c .before .before .before .before .before .before .args in sym (slot-some 0 (a .s .now) (512 * a .l .least) (a .i + 1) (a .n) (slotAt (a .l .least) (a .s .now) (a .i)) (c .before .before .before .before .if1 .left) ∙ rw (← c .before .before .before .slot .ensures, ← c .before .before .slot2 .ensures))
 

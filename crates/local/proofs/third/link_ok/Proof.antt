@@ -1,7 +1,6 @@
+-- `local::third::link_ok` meets its contract: each way out is a law of one entry; the page below is read by its front. Assumes nothing.
 use Prim.Native.Nat.{ℕ, _+_}
 use mathlib.Core.Path.{_≡_, ap, sym, _∙_}
-use mathlib.Core.List.{List}
-use mathlib.Core.Bool.{Bool, true}
 use lib.Dec.{eqb}
 use native.Mathlib.Omega.{arith}
 use borrow.Author.Tests.{not-true, not-false}
@@ -15,22 +14,13 @@ use Rattle.page.specs.Read.{level-lt}
 use borrow.Author.Needs.{needs}
 use Rattle.local.proofs.third.link_ok.Statement.{statement}
 use Rattle.local.proofs.third.link_ok.Tie as tie
-use Rattle.local.proofs.third.link_ok.Reads as reads
-use Rattle.local.proofs.third.link_ok.Lts as lts
-use Rattle.local.proofs.third.lies_in.Reads as lies-in-reads
-use Rattle.local.proofs.wide.Reads as wide-reads
-use Rattle.page.proofs.head_of.Reads as head-of-reads
-use Rattle.store.proofs.part.Reads as part-reads
 
--- src/third.rt:31:9
 lies-in-requires : tie.Need-lies-in-requires
 lies-in-requires c κs = search needs
 
--- src/third.rt:32:9
 returns : tie.Need-returns
 returns c = let a = c .before .before .before .args in sym (link-own (a .l .least) (a .s .now) (a .n) (a .e) (ap (λ (h : Head). lies h (a .e)) (sym (c .before .before .before .pre .2)) ∙ sym (c .before .lies-in .ensures) ∙ not-true (c .before .lies-in .result) (c .if1 .taken)))
 
--- src/third.rt:35:9
 returns-2 : tie.Need-returns-2
 returns-2 c = let a = c .before .before .before .before .before .args in sym (link-leaf (a .l .least) (a .s .now) (a .n) (a .e) (ap (λ (h : Head). lies h (a .e)) (sym (c .before .before .before .before .before .pre .2)) ∙ sym (c .before .before .before .lies-in .ensures) ∙ not-false (c .before .before .before .lies-in .result) (c .before .before .if1 .left)) (ap (λ (h : Head). h .level) (sym (c .before .before .before .before .before .pre .2)) ∙ c .if2 .taken))
 
@@ -40,34 +30,27 @@ child-head c =
     let a = c .before .before .before .before .before .before .before .before .args in
     c .head-of .ensures ∙ ap (readHead (a .l .least)) (c .before .part .ensures .0) ∙ ap (λ (n : ℕ). readHead (a .l .least) (pageOf (a .l .least) (a .s .now) n)) (c .before .before .wide .ensures)
 
--- src/third.rt:37:9
 wide-requires : tie.Need-wide-requires
 wide-requires c κs = search needs
 
--- src/third.rt:38:27
 part-requires : tie.Need-part-requires
 part-requires c κs = let a = c .before .before .before .before .before .before .args in (c .before .before .before .before .before .before .pre .0, rw (c .wide .ensures) (part-fits (a .l .least) (c .before .before .before .before .before .before .pre .0 .four) (a .s .now) (a .e .value) (c .before .before .before .before .before .before .pre .3 (c .before .if2 .left) .1)), omega (arith, c .before .before .before .before .before .before .pre .1))
 
--- src/third.rt:38:9
 head-of-requires : tie.Need-head-of-requires
 head-of-requires c κs = (c .before .before .before .before .before .before .before .pre .0, omega (arith, c .part .ensures .1, c .before .before .before .before .before .before .before .pre .0 .four), omega (arith, c .part .ensures .1, c .before .before .before .before .before .before .before .pre .0 .eight))
 
--- src/third.rt:39:9
 lies-in-requires-2 : tie.Need-lies-in-requires-2
 lies-in-requires-2 c κs = search needs
 
--- src/third.rt:40:9
 returns-3 : tie.Need-returns-3
 returns-3 c =
     let a = c .before .before .before .before .before .before .before .before .before .before .args in
     sym (link-child (a .l .least) (a .s .now) (a .n) (a .e) (ap (λ (h : Head). lies h (a .e)) (sym (c .before .before .before .before .before .before .before .before .before .before .pre .2)) ∙ sym (c .before .before .before .before .before .before .before .before .lies-in .ensures) ∙ not-false (c .before .before .before .before .before .before .before .before .lies-in .result) (c .before .before .before .before .before .before .before .if1 .left)) (λ q. c .before .before .before .before .before .if2 .left (ap (λ (h : Head). h .level) (c .before .before .before .before .before .before .before .before .before .before .pre .2) ∙ q)) (c .before .before .before .before .before .before .before .before .before .before .pre .3 (c .before .before .before .before .before .if2 .left))
     (ap (λ (h : Head). lies h (a .e)) (sym (child-head ((c .before .before)))) ∙ sym (c .before .lies-in2 .ensures) ∙ not-true (c .before .lies-in2 .result) (c .if3 .taken)))
 
--- src/third.rt:42:5
 add-result : tie.Need-add-result
 add-result c = omega (arith, rw (← c .before .before .before .head-of .ensures) at (level-lt (c .before .before .before .before .before .before .before .before .before .before .before .args .l .least) (c .before .before .before .before .part .result .now)))
 
--- src/third.rt:27:1
 returns-4 : tie.Need-returns-4
 returns-4 c =
     let a = c .before .before .before .before .before .before .before .before .before .before .before .before .args in

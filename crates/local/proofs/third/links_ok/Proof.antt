@@ -1,6 +1,6 @@
-use Prim.Native.Nat.{ℕ, _≤_, _-_, _+_, _*_}
+-- `local::third::links_ok` meets its contract: the entries from i on answer as all. Assumes nothing.
+use Prim.Native.Nat.{_≤_, _-_, _+_, _*_}
 use mathlib.Core.Path.{_≡_, ap, sym, _∙_}
-use lib.ListN.{length}
 use native.Mathlib.Omega.{arith}
 use native.Mathlib.Nat.{sub-zero}
 use borrow.Author.Tests.{not-true, not-false}
@@ -12,15 +12,8 @@ use Rattle.model.specs.Layout.{pageOf, decodePage, readEntries, decode}
 use Rattle.model.specs.Basic.{all}
 use Rattle.page.specs.Head.{readHead}
 use Rattle.page.specs.declared.Head.{Head}
-use borrow.Author.Needs.{needs}
 use Rattle.local.proofs.third.links_ok.Statement.{statement}
 use Rattle.local.proofs.third.links_ok.Tie as tie
-use Rattle.local.proofs.third.links_ok.Reads as reads
-use Rattle.local.proofs.third.links_ok.Lts as lts
-use Rattle.local.proofs.third.link_ok.Reads as link-ok-reads
-use Rattle.page.proofs.entry_at.Reads as entry-at-reads
-use Rattle.page.proofs.head_of.Reads as head-of-reads
-use Rattle.store.proofs.part.Reads as part-reads
 
 abbrev Inv-loop : tie.InvT-loop
 Inv-loop s l n p h count i₀ i = (i ≤ count) × (linksOk (decode (l .least) s) (decodePage (l .least) (pageOf (l .least) s n)) ≡ all (linkOk (decode (l .least) s) (decodePage (l .least) (pageOf (l .least) s n))) (readEntries p (128 + 96 * i) (count - i)))
@@ -28,11 +21,9 @@ Inv-loop s l n p h count i₀ i = (i ≤ count) × (linksOk (decode (l .least) s
 abbrev μ-loop : tie.MeasureT-loop
 μ-loop s l n p h count i₀ i = count - i
 
--- src/third.rt:46:9
 part-requires : tie.Need-part-requires Inv-loop μ-loop
 part-requires c κs = let a = c .before .args in (c .before .pre .0, part-fits (a .l .least) (c .before .pre .0 .four) (a .s .now) (a .n) (c .before .pre .3 .1), omega (arith, c .before .pre .1))
 
--- src/third.rt:47:9
 head-of-requires : tie.Need-head-of-requires Inv-loop μ-loop
 head-of-requires c κs = (c .before .before .pre .0, omega (arith, c .part .ensures .1, c .before .before .pre .0 .four), omega (arith, c .part .ensures .1, c .before .before .pre .0 .eight))
 
@@ -43,42 +34,34 @@ own c = c .head-of .ensures ∙ ap (readHead (c .before .before .before .args .l
 room : (c : tie.After-head-of Inv-loop μ-loop) → c .head-of .result .count ≤ 5 * c .before .before .before .args .l .least
 room c = let b = c .before .before .before in omega (arith, ap (λ (h : Head). h .count) (own c), b .pre .2 .room (b .args .n) (b .pre .3))
 
--- src/third.rt:49:9
 returns : tie.Need-returns Inv-loop μ-loop
 returns c = let a = c .before .before .before .before .before .args in sym (links-free (a .l .least) (a .s .now) (a .n) (ap (λ (h : Head). h .level) (sym (own ((c .before .before)))) ∙ c .if1 .taken))
 
--- src/third.rt:53:5
 loop-holds : tie.Need-loop-holds Inv-loop μ-loop
 loop-holds c =
     let a = c .before .before .before .before .before .args in
     (omega arith, links-used (a .l .least) (a .s .now) (a .n) (λ q. c .if1 .left (ap (λ (h : Head). h .level) (own ((c .before .before))) ∙ q)) ∙ rw (sub-zero, own ((c .before .before)), c .before .before .before .part .ensures .0))
 
--- src/third.rt:54:13
 entry-at-requires : tie.Need-entry-at-requires Inv-loop μ-loop
 entry-at-requires c κs = (omega (arith, c .loop-test .taken, room ((c .before .before .before .before)), c .before .before .before .before .before .part .ensures .1, c .before .before .before .before .before .before .before .pre .0 .four), omega (arith, c .before .before .before .before .before .part .ensures .1, c .before .before .before .before .before .before .before .pre .0 .eight))
 
--- src/third.rt:55:13
 link-ok-requires : tie.Need-link-ok-requires Inv-loop μ-loop
 link-ok-requires c κs =
     let a = c .before .before .before .before .before .before .before .before .args in
     (c .before .before .before .before .before .before .before .before .pre .0, c .before .before .before .before .before .before .before .before .pre .1, own ((c .before .before .before .before .before)), λ d. rw (c .entry-at .ensures, c .before .before .before .before .before .before .part .ensures .0) (c .before .before .before .before .before .before .before .before .pre .2 .child (a .n) (c .before .before .loop .i) (c .before .before .before .before .before .before .before .before .pre .3) (λ q. d (ap (λ (h : Head). h .level) (own ((c .before .before .before .before .before))) ∙ q)) (omega (arith, c .before .loop-test .taken, ap (λ (h : Head). h .count) (own ((c .before .before .before .before .before)))))))
 
--- src/third.rt:56:13
 returns-2 : tie.Need-returns-2 Inv-loop μ-loop
 returns-2 c =
     let a = c .before .before .before .before .before .before .before .before .before .before .args in let k = c .before .before .before .before .loop in
     sym (k .inv .1 ∙ all-entries-step (linkOk (decode (a .l .least) (a .s .now)) (decodePage (a .l .least) (pageOf (a .l .least) (a .s .now) (a .n)))) (c .before .before .before .before .before .before .before .before .part .result .now) (k .i) (c .before .before .before .before .before .before .before .head-of .result .count) (c .before .before .before .loop-test .taken)
     ∙ rw (← c .before .before .entry-at .ensures, ← c .before .link-ok .ensures, not-true (c .before .link-ok .result) (c .if2 .taken)))
 
--- src/third.rt:58:9
 add-i : tie.Need-add-i Inv-loop μ-loop
 add-i c = omega (arith, c .before .before .before .loop-test .taken, room ((c .before .before .before .before .before .before .before)), c .before .before .before .before .before .before .before .before .before .before .pre .0 .eight)
 
--- src/third.rt:53:5
 loop-less : tie.Need-loop-less Inv-loop μ-loop
 loop-less c = omega (arith, c .before .before .before .loop-test .taken)
 
--- src/third.rt:53:5
 loop-again : tie.Need-loop-again Inv-loop μ-loop
 loop-again c =
     let a = c .before .before .before .before .before .before .before .before .before .before .args in let k = c .before .before .before .before .loop in (
@@ -87,7 +70,6 @@ loop-again c =
           ∙ rw (← c .before .before .entry-at .ensures, ← c .before .link-ok .ensures, not-false (c .before .link-ok .result) (c .if2 .left)),
     )
 
--- src/third.rt:42:1
 returns-3 : tie.Need-returns-3 Inv-loop μ-loop
 returns-3 c = let a = c .before .before .before .before .before .before .before .args in let k = c .before .loop in sym (k .inv .1 ∙ all-entries-end (linkOk (decode (a .l .least) (a .s .now)) (decodePage (a .l .least) (pageOf (a .l .least) (a .s .now) (a .n)))) (c .before .before .before .before .before .part .result .now) (k .i) (c .before .before .before .before .head-of .result .count) (c .loop-test .left))
 

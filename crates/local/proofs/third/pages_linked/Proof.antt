@@ -1,5 +1,6 @@
-use Prim.Native.Nat.{ℕ, _≤_, _-_}
-use mathlib.Core.Path.{_≡_, ap, sym, _∙_}
+-- `local::third::pages_linked` meets its contract: the pages from n on answer as all. Assumes nothing.
+use Prim.Native.Nat.{_≤_, _-_}
+use mathlib.Core.Path.{_≡_, sym, _∙_}
 use native.Mathlib.Omega.{arith}
 use borrow.Author.Tests.{not-true, not-false}
 use Rattle.local.specs.Loops.{all-pages-step, all-pages-end}
@@ -9,10 +10,6 @@ use Rattle.model.specs.Basic.{all}
 use borrow.Author.Needs.{needs}
 use Rattle.local.proofs.third.pages_linked.Statement.{statement}
 use Rattle.local.proofs.third.pages_linked.Tie as tie
-use Rattle.local.proofs.third.pages_linked.Reads as reads
-use Rattle.local.proofs.third.pages_linked.Lts as lts
-use Rattle.local.proofs.third.links_ok.Reads as links-ok-reads
-use Rattle.local.proofs.wide.Reads as wide-reads
 
 abbrev Inv-loop : tie.InvT-loop
 Inv-loop s l size n₀ n = (5 ≤ n) × (n ≤ size) × (all (linksOk (decode (l .least) s)) (readPages (l .least) s 5 (sizeOf (l .least) s - 5)) ≡ all (linksOk (decode (l .least) s)) (readPages (l .least) s n (size - n)))
@@ -20,33 +17,26 @@ Inv-loop s l size n₀ n = (5 ≤ n) × (n ≤ size) × (all (linksOk (decode (l
 abbrev μ-loop : tie.MeasureT-loop
 μ-loop s l size n₀ n = size - n
 
--- src/third.rt:67:9
 wide-requires : tie.Need-wide-requires Inv-loop μ-loop
 wide-requires c κs = search needs
 
--- src/third.rt:69:5
 loop-holds : tie.Need-loop-holds Inv-loop μ-loop
 loop-holds c = let e : c .wide .result ≡ c .before .before .args .h .pages = c .wide .ensures in (omega arith, omega (arith, c .before .before .pre .1 .sized .low), rw (c .before .before .pre .1 .sized .is, e))
 
--- src/third.rt:70:13
 links-ok-requires : tie.Need-links-ok-requires Inv-loop μ-loop
 links-ok-requires c κs = (c .before .before .before .before .pre .0, c .before .before .before .before .pre .1 .sized .long, c .before .before .before .before .pre .1 .ruled, (c .before .loop .inv .0, omega (arith, c .loop-test .taken, c .before .before .wide .ensures, c .before .before .before .before .pre .1 .sized .is)))
 
--- src/third.rt:71:13
 returns : tie.Need-returns Inv-loop μ-loop
 returns c =
     let a = c .before .before .before .before .before .before .args in let k = c .before .before .before .loop in
     sym (k .inv .2 ∙ all-pages-step (a .l .least) (a .s .now) (linksOk (decode (a .l .least) (a .s .now))) (k .n) (c .before .before .before .before .wide .result) (c .before .before .loop-test .taken) ∙ rw (← c .before .links-ok .ensures, not-true (c .before .links-ok .result) (c .if1 .taken)))
 
--- src/third.rt:73:9
 add-n : tie.Need-add-n Inv-loop μ-loop
 add-n c = omega (arith, c .before .before .loop-test .taken, c .before .before .before .before .wide .ensures, c .before .before .before .before .before .before .pre .1 .sized .most)
 
--- src/third.rt:69:5
 loop-less : tie.Need-loop-less Inv-loop μ-loop
 loop-less c = omega (arith, c .before .before .loop-test .taken)
 
--- src/third.rt:69:5
 loop-again : tie.Need-loop-again Inv-loop μ-loop
 loop-again c =
     let a = c .before .before .before .before .before .before .args in let k = c .before .before .before .loop in (
@@ -56,7 +46,6 @@ loop-again c =
           ∙ rw (← c .before .links-ok .ensures, not-false (c .before .links-ok .result) (c .if1 .left)),
     )
 
--- src/third.rt:63:1
 returns-2 : tie.Need-returns-2 Inv-loop μ-loop
 returns-2 c = let a = c .before .before .before .before .args in let k = c .before .loop in sym (k .inv .2 ∙ all-pages-end (a .l .least) (a .s .now) (linksOk (decode (a .l .least) (a .s .now))) (k .n) (c .before .before .wide .result) (c .loop-test .left))
 

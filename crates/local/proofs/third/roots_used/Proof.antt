@@ -1,4 +1,5 @@
-use Prim.Native.Nat.{ℕ, _≤_, _<_, _-_, _+_, _*_}
+-- `local::third::roots_used` meets its contract: the slots from i on answer as all. Assumes nothing.
+use Prim.Native.Nat.{_≤_, _-_, _+_, _*_}
 use mathlib.Core.Path.{_≡_, ap, sym, _∙_}
 use native.Mathlib.Omega.{arith}
 use borrow.Author.Tests.{eq-eqb, ne-eqb}
@@ -6,20 +7,12 @@ use Rattle.local.specs.Third.{root-used-is}
 use Rattle.local.specs.Loops.{all-slots-start, all-slots-step, all-slots-end}
 use Rattle.local.specs.Sizes.{part-fits}
 use Rattle.local.specs.Local.{slotAt, IsPage, levelAt, rootUsed}
-use Rattle.model.specs.Layout.{pageOf, readSlots, readHeader, decode}
+use Rattle.model.specs.Layout.{readSlots, readHeader, decode}
 use Rattle.model.specs.declared.Header.{Header}
 use Rattle.model.specs.Basic.{all}
-use Rattle.page.specs.Head.{readHead}
-use Rattle.page.specs.declared.Head.{Head}
 use borrow.Author.Needs.{needs}
 use Rattle.local.proofs.third.roots_used.Statement.{statement}
 use Rattle.local.proofs.third.roots_used.Tie as tie
-use Rattle.local.proofs.third.roots_used.Reads as reads
-use Rattle.local.proofs.third.roots_used.Lts as lts
-use Rattle.local.proofs.wide.Reads as wide-reads
-use Rattle.page.proofs.head_of.Reads as head-of-reads
-use Rattle.store.proofs.part.Reads as part-reads
-use Rattle.store.proofs.slot.Reads as slot-reads
 
 abbrev Inv-loop : tie.InvT-loop
 Inv-loop s l roots i₀ i = (i ≤ roots) × (all (rootUsed (decode (l .least) s)) (readSlots s (512 * l .least) (readHeader (l .least) s .roots)) ≡ all (rootUsed (decode (l .least) s)) (readSlots s (512 * l .least + 32 * i) (roots - i)))
@@ -38,46 +31,36 @@ level : (c : tie.After-head-of Inv-loop μ-loop) → let b = c .before .before .
     levelAt (a .l .least) (a .s .now) (slotAt (a .l .least) (a .s .now) (b .loop .i) .root) ≡ c .head-of .result .level
 level c = rw (c .head-of .ensures, c .before .part .ensures .0, c .before .before .wide2 .ensures, c .before .before .before .slot .ensures)
 
--- src/third.rt:82:9
 wide-requires : tie.Need-wide-requires Inv-loop μ-loop
 wide-requires c κs = search needs
 
--- src/third.rt:84:5
 loop-holds : tie.Need-loop-holds Inv-loop μ-loop
 loop-holds c = let a = c .before .before .args in (omega arith, rw (roots-of ((c))) (all-slots-start (rootUsed (decode (a .l .least) (a .s .now))) (a .s .now) (512 * a .l .least) (c .wide .result)))
 
--- src/third.rt:85:13
 slot-requires : tie.Need-slot-requires Inv-loop μ-loop
 slot-requires c κs = (c .before .before .before .before .pre .0, omega (arith, c .before .before .before .before .pre .1 .sized .front), omega (arith, c .loop-test .taken, roots-of ((c .before .before)), c .before .before .before .before .pre .1 .ruled .roots), omega (arith, c .before .before .before .before .pre .1 .sized .long))
 
--- src/third.rt:86:13
 wide-requires-2 : tie.Need-wide-requires-2 Inv-loop μ-loop
 wide-requires-2 c κs = search needs
 
--- src/third.rt:87:31
 part-requires : tie.Need-part-requires Inv-loop μ-loop
 part-requires c κs = let a = c .before .before .before .before .before .before .args in (c .before .before .before .before .before .before .pre .0, rw (c .wide2 .ensures, c .before .slot .ensures) (part-fits (a .l .least) (c .before .before .before .before .before .before .pre .0 .four) (a .s .now) (slotAt (a .l .least) (a .s .now) (c .before .before .before .loop .i) .root) (here ((c .before .before)) .1)), omega (arith, c .before .before .before .before .before .before .pre .1 .sized .long))
 
--- src/third.rt:87:13
 head-of-requires : tie.Need-head-of-requires Inv-loop μ-loop
 head-of-requires c κs = (c .before .before .before .before .before .before .before .pre .0, omega (arith, c .part .ensures .1, c .before .before .before .before .before .before .before .pre .0 .four), omega (arith, c .part .ensures .1, c .before .before .before .before .before .before .before .pre .0 .eight))
 
--- src/third.rt:89:13
 returns : tie.Need-returns Inv-loop μ-loop
 returns c =
     let a = c .before .before .before .before .before .before .before .before .before .before .args in let k = c .before .before .before .before .before .before .before .loop in let x = slotAt (a .l .least) (a .s .now) (k .i) in
     sym (k .inv .1 ∙ all-slots-step (rootUsed (decode (a .l .least) (a .s .now))) (a .s .now) (512 * a .l .least) (k .i) (c .before .before .before .before .before .before .before .before .wide .result) (c .before .before .before .before .before .before .loop-test .taken)
     ∙ rw (root-used-is (a .l .least) (a .s .now) x (here ((c .before .before .before .before .before .before))), eq-eqb (levelAt (a .l .least) (a .s .now) (x .root)) 0 (level ((c .before .before)) ∙ c .if1 .taken)))
 
--- src/third.rt:91:9
 add-i : tie.Need-add-i Inv-loop μ-loop
 add-i c = omega (arith, c .before .before .before .before .before .before .loop-test .taken, roots-of ((c .before .before .before .before .before .before .before .before)), c .before .before .before .before .before .before .before .before .before .before .pre .1 .ruled .roots, c .before .before .before .before .before .before .before .before .before .before .pre .0 .eight)
 
--- src/third.rt:84:5
 loop-less : tie.Need-loop-less Inv-loop μ-loop
 loop-less c = omega (arith, c .before .before .before .before .before .before .loop-test .taken)
 
--- src/third.rt:84:5
 loop-again : tie.Need-loop-again Inv-loop μ-loop
 loop-again c =
     let a = c .before .before .before .before .before .before .before .before .before .before .args in let k = c .before .before .before .before .before .before .before .loop in let x = slotAt (a .l .least) (a .s .now) (k .i) in (
@@ -86,7 +69,6 @@ loop-again c =
           ∙ rw (root-used-is (a .l .least) (a .s .now) x (here ((c .before .before .before .before .before .before))), ne-eqb (levelAt (a .l .least) (a .s .now) (x .root)) 0 (λ q. c .if1 .left (sym (level ((c .before .before))) ∙ q))),
     )
 
--- src/third.rt:78:1
 returns-2 : tie.Need-returns-2 Inv-loop μ-loop
 returns-2 c = let a = c .before .before .before .before .args in let k = c .before .loop in sym (k .inv .1 ∙ all-slots-end (rootUsed (decode (a .l .least) (a .s .now))) (a .s .now) (512 * a .l .least) (k .i) (c .before .before .wide .result) (c .loop-test .left))
 

@@ -1,27 +1,20 @@
+-- `local::third::third_rule` meets its contract: its two halves. Assumes nothing.
 use mathlib.Core.Path.{sym, _∙_}
 use borrow.Author.Tests.{not-true, not-false}
 use Rattle.local.specs.Third.{rule3-is}
 use borrow.Author.Needs.{needs}
 use Rattle.local.proofs.third.third_rule.Statement.{statement}
 use Rattle.local.proofs.third.third_rule.Tie as tie
-use Rattle.local.proofs.third.third_rule.Reads as reads
-use Rattle.local.proofs.third.third_rule.Lts as lts
-use Rattle.local.proofs.third.pages_linked.Reads as pages-linked-reads
-use Rattle.local.proofs.third.roots_used.Reads as roots-used-reads
 
--- src/third.rt:104:9
 pages-linked-requires : tie.Need-pages-linked-requires
 pages-linked-requires c κs = search needs
 
--- src/third.rt:105:9
 returns : tie.Need-returns
 returns c = let a = c .before .before .before .args in sym (rule3-is (a .l .least) (a .s .now) ∙ rw (← c .before .pages-linked .ensures, not-true (c .before .pages-linked .result) (c .if1 .taken)))
 
--- src/third.rt:107:5
 roots-used-requires : tie.Need-roots-used-requires
 roots-used-requires c κs = search needs
 
--- src/third.rt:100:1
 returns-2 : tie.Need-returns-2
 returns-2 c = let a = c .before .before .before .before .args in c .roots-used .ensures ∙ sym (rule3-is (a .l .least) (a .s .now) ∙ rw (← c .before .before .pages-linked .ensures, not-false (c .before .before .pages-linked .result) (c .before .if1 .left)))
 
