@@ -2,7 +2,8 @@
 //!
 //! A round times each way once, for some milliseconds, one right after the
 //! other: what else the machine does then weighs on all of them. A ratio is
-//! the median of the rounds' ratios.
+//! the median of the rounds' ratios. A time is processor time, not that on the
+//! wall: waiting for a busy machine is not counted.
 
 use std::hint::black_box;
 use std::time::{Duration, Instant};
@@ -52,11 +53,34 @@ pub fn in_turn(ways: &mut [&mut Way]) -> Times {
 
 /// Seconds a call, over some calls.
 fn seconds(way: &mut Way, times: u32) -> f64 {
-    let begun = Instant::now();
+    let begun = processor_time();
     for _ in 0..times {
         black_box(way());
     }
-    begun.elapsed().as_secs_f64() / f64::from(times)
+    (processor_time() - begun) / f64::from(times)
+}
+
+/// `struct timespec` of 64-bit Linux.
+#[repr(C)]
+struct Timespec {
+    seconds: i64,
+    nanoseconds: i64,
+}
+
+extern "C" {
+    fn clock_gettime(clock: i32, time: *mut Timespec) -> i32;
+}
+
+/// Seconds that this thread has run, by the C library that std links anyway.
+fn processor_time() -> f64 {
+    const CLOCK_THREAD_CPUTIME_ID: i32 = 3;
+    let mut time = Timespec {
+        seconds: 0,
+        nanoseconds: 0,
+    };
+    let given = unsafe { clock_gettime(CLOCK_THREAD_CPUTIME_ID, &mut time) };
+    assert_eq!(given, 0, "the clock of this thread");
+    time.seconds as f64 + time.nanoseconds as f64 * 1e-9
 }
 
 fn median(numbers: impl Iterator<Item = f64>) -> f64 {
