@@ -1,5 +1,5 @@
 -- Up to two page numbers as a value: those that a group may use. Assumes nothing.
-use Prim.Native.Nat.{ℕ, zero, suc, _+_, _≤_, _<_}
+use Prim.Native.Nat.{ℕ, zero, suc, _+_, _^_, _≤_, _<_}
 use mathlib.Core.Path.{_≡_, refl, sym, _∙_}
 use mathlib.Core.Bool.{Bool, true, false, _&&_}
 use mathlib.Core.Logic.{_⊎_, inl, inr}
@@ -18,7 +18,7 @@ use Rattle.model.specs.Needs.{actives}
 use Rattle.model.proofs.Members.{In, in-append, in-those, in-getD}
 use Rattle.model.proofs.Redo.{in-frees}
 use Rattle.model.proofs.PlanSizes.{actives-few}
-use Rattle.parts.specs.Kept.{Inside, pagesOf}
+use Rattle.parts.specs.Kept.{Kept, Inside, pagesOf}
 use Rattle.parts.specs.Free.{freePast, free-all, Found}
 use Rattle.group.specs.declared.Numbers.{Numbers}
 use Rattle.group.specs.declared.Routers.{Routers}
@@ -165,3 +165,9 @@ module _ (u : Numbers) (xs : List ℕ) (z : Numbered u (take 2 xs)) where
 
   pub second-in : 2 ≤ u .n → In (u .second) xs
   second-in h = rw (z .second) (in-take (getD (take 2 xs) 1 0) xs (in-getD 0 (take 2 xs) 1 (omega (arith, z .count))))
+
+-- a page's number is small
+pub numbers-small : (l : Limits) (b : List ℕ) → Kept l b → (u : Numbers) (ns : List ℕ) → Numbered u ns → ((n : ℕ) → In n ns → Inside l b n) → (u .first < 2 ^ 32) × (u .second < 2 ^ 32)
+numbers-small l b k u [] z i = (omega (arith, z .first), omega (arith, z .second))
+numbers-small l b k u (x ∷ []) z i = (omega (arith, z .first, i x (inl refl) .high, k .most), omega (arith, z .second))
+numbers-small l b k u (x ∷ y ∷ ns) z i = (omega (arith, z .first, i x (inl refl) .high, k .most), omega (arith, z .second, i y (inr (inl refl)) .high, k .most))

@@ -6,7 +6,8 @@ use model::Limits;
 use model::Pair;
 ghost use mathlib.Core.Path.{_≡_};
 ghost use Prim.Native.Nat.{_*_, _<_};
-ghost use lib.Dec.{leb, ltb};
+ghost use mathlib.Core.Bool.{_&&_};
+ghost use lib.Dec.{leb, ltb, eqb};
 ghost use lib.ListN.{length};
 ghost use Rattle.model.specs.Basic.{pick};
 ghost use Rattle.model.specs.Limits.{Edition};
@@ -76,6 +77,14 @@ pub fn takes_in_place(s: &[u8], l: Limits, n: usize, w: u32, c: Change, live: us
     ensures { λ r. ⌜ r ≡ takesInPlace (l .least) w (changeOf c) (page (pagesOf l (now (s .entry))) n) ⌝ }
 {
     edit::both(has_room(s, l, n, w, c), l.least <= live)
+}
+
+// "First of all, an index root whose wanted list is one router goes".
+pub fn goes(s: &[u8], l: Limits, n: usize, live: usize) -> bool
+    requires { ⌜ Kept l (now s) × Inside l (now s) n ⌝ }
+    ensures { λ r. ⌜ r ≡ (leb 2 (page (pagesOf l (now (s .entry))) n .level) && eqb live 1) ⌝ }
+{
+    edit::both(2 <= parts::level_of(s, l, n), live == 1)
 }
 
 // "Gather the wanted list. If the page isn't the root and the list has under 8, add the live entries of its neighbour under the same
