@@ -12,8 +12,12 @@ ghost use Rattle.gather.specs.Gather.{Lists};
 ghost use Rattle.gather.specs.Kept.{Fits};
 ghost use Rattle.parts.specs.Kept.{Kept, Inside, pagesOf};
 
+mod free;
 mod writers;
 
+pub use free::count_free;
+pub use free::first_free;
+pub use free::size_of;
 pub use writers::change_in;
 pub use writers::fill_in;
 pub use writers::go_in;

@@ -1,7 +1,7 @@
 use mathlib.Core.Path.{refl}
 use borrow.Author.Needs.{needs}
-use Rattle.group.proofs.chosen.Statement.{statement}
-use Rattle.group.proofs.chosen.Tie as tie
+use Rattle.group.proofs.used.chosen.Statement.{statement}
+use Rattle.group.proofs.used.chosen.Tie as tie
 
 returns : tie.Need-returns
 returns c = rw (c .before .if1 .taken, c .if2 .taken) (record { count = refl; first = refl; second = refl })

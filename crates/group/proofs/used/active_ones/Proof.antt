@@ -1,8 +1,8 @@
 use Rattle.group.specs.Numbers.{actives-are}
 use Rattle.parts.specs.Kept.{pagesOf}
 use borrow.Author.Needs.{needs}
-use Rattle.group.proofs.active_ones.Statement.{statement}
-use Rattle.group.proofs.active_ones.Tie as tie
+use Rattle.group.proofs.used.active_ones.Statement.{statement}
+use Rattle.group.proofs.used.active_ones.Tie as tie
 
 wide-requires : tie.Need-wide-requires
 wide-requires c κs = search needs

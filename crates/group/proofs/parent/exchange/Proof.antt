@@ -4,8 +4,8 @@ use mathlib.Core.Bool.{_&&_}
 use native.Mathlib.Omega.{arith}
 use mathlib.Core.Path.{_≡_, _∙_}
 use borrow.Author.Needs.{needs}
-use Rattle.group.proofs.exchange.Statement.{statement}
-use Rattle.group.proofs.exchange.Tie as tie
+use Rattle.group.proofs.parent.exchange.Statement.{statement}
+use Rattle.group.proofs.parent.exchange.Tie as tie
 
 not-among-requires : tie.Need-not-among-requires
 not-among-requires c κs = search needs

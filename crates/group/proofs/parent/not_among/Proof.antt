@@ -1,7 +1,7 @@
 use Rattle.group.specs.Exchange.{among-two}
 use borrow.Author.Needs.{needs}
-use Rattle.group.proofs.not_among.Statement.{statement}
-use Rattle.group.proofs.not_among.Tie as tie
+use Rattle.group.proofs.parent.not_among.Statement.{statement}
+use Rattle.group.proofs.parent.not_among.Tie as tie
 
 same-pair-requires : tie.Need-same-pair-requires
 same-pair-requires c κs = search needs

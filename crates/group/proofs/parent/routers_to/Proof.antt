@@ -5,8 +5,8 @@ use mathlib.Core.Path.{_≡_}
 use native.Mathlib.Omega.{arith}
 use Prim.Native.Nat.{ℕ, _+_, _*_, _/_, _≤_, _<_}
 use borrow.Author.Needs.{needs}
-use Rattle.group.proofs.routers_to.Statement.{statement}
-use Rattle.group.proofs.routers_to.Tie as tie
+use Rattle.group.proofs.parent.routers_to.Statement.{statement}
+use Rattle.group.proofs.parent.routers_to.Tie as tie
 
 cast-t13 : tie.Need-cast-t13
 cast-t13 c = search needs

@@ -1,7 +1,7 @@
 use mathlib.Core.Path.{_∙_}
 use borrow.Author.Needs.{needs}
-use Rattle.group.proofs.parent_change.Statement.{statement}
-use Rattle.group.proofs.parent_change.Tie as tie
+use Rattle.group.proofs.parent.parent_change.Statement.{statement}
+use Rattle.group.proofs.parent.parent_change.Tie as tie
 
 routers-to-requires : tie.Need-routers-to-requires
 routers-to-requires c κs = search needs

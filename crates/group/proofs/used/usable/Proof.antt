@@ -1,0 +1,31 @@
+use Rattle.group.specs.Numbers.{numbers-are, numbered-self, take-two, actives-two, usable-two}
+use Rattle.group.specs.Group.{routersOf}
+use Rattle.parts.specs.Kept.{pagesOf}
+use Rattle.model.specs.Needs.{actives}
+use lib.ListN.{take}
+use Rattle.model.specs.Store.{freeOnes}
+use mathlib.Core.Path.{_∙_}
+use borrow.Author.Needs.{needs}
+use Rattle.group.proofs.used.usable.Statement.{statement}
+use Rattle.group.proofs.used.usable.Tie as tie
+
+active-ones-requires : tie.Need-active-ones-requires
+active-ones-requires c κs = search needs
+
+free-ones-requires : tie.Need-free-ones-requires
+free-ones-requires c κs = search needs
+
+first-two-requires : tie.Need-first-two-requires
+first-two-requires c κs =
+    let ps = pagesOf (c .before .before .before .args .l) (c .before .before .before .args .s .now) in
+    (numbered-self (c .before .active-ones .result) (actives (c .before .before .before .args .w) ps (routersOf (c .before .before .before .args .rs))) (c .before .active-ones .ensures) (actives-two (c .before .before .before .args .w) ps (c .before .before .before .args .rs)), numbered-self (c .free-ones .result) (take 2 (freeOnes ps)) (c .free-ones .ensures) (take-two (freeOnes ps)))
+
+returns : tie.Need-returns
+returns c =
+    let ps = pagesOf (c .before .before .before .before .args .l) (c .before .before .before .before .args .s .now) in
+    rw (← usable-two (c .before .before .before .before .args .w) ps (c .before .before .before .before .args .rs))
+    (rw (numbers-are (c .before .before .active-ones .result) (actives (c .before .before .before .before .args .w) ps (routersOf (c .before .before .before .before .args .rs))) (c .before .before .active-ones .ensures) (actives-two (c .before .before .before .before .args .w) ps (c .before .before .before .before .args .rs)), numbers-are (c .before .free-ones .result) (take 2 (freeOnes ps)) (c .before .free-ones .ensures) (take-two (freeOnes ps))) at (c .first-two .ensures))
+
+pub usable-spec : {M : Type 1} → statement M
+usable-spec =
+    tie.close (tie.spec active-ones-requires free-ones-requires first-two-requires returns)

@@ -1,0 +1,15 @@
+use Rattle.page.specs.Editions.{full-is}
+use borrow.Author.Tests.{le-leb, lt-leb}
+use Prim.Native.Nat.{_*_}
+use native.Mathlib.Omega.{arith}
+use Rattle.plan.proofs.root_fills.Statement.{statement}
+use Rattle.plan.proofs.root_fills.Tie as tie
+
+returns : tie.Need-returns
+returns c = rw (le-leb (c .before .before .args .n) (4 * c .before .before .args .l .least) (omega (arith, full-is (c .before .before .pre))))
+
+returns-2 : tie.Need-returns-2
+returns-2 c = rw (lt-leb (c .before .before .args .n) (4 * c .before .before .args .l .least) (omega (arith, full-is (c .before .before .pre))))
+
+pub root-fills-spec : {M : Type 1} → statement M
+root-fills-spec = tie.close (tie.spec returns returns-2)
