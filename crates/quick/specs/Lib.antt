@@ -1,0 +1,4 @@
+pub mod Good
+pub mod Part
+pub mod Here
+pub mod Under

@@ -1,0 +1,152 @@
+-- The next one's low key, one entry at a time for a loop. In an empty stretch nothing is asked. Assumes nothing.
+use Prim.Native.Nat.{ℕ, zero, suc, _+_, _*_, _-_, _<_, _≤_, min, max}
+use mathlib.Core.Bool.{Bool, true, false, _&&_, _||_, not}
+use mathlib.Core.Path.{_≡_, refl, ap, sym, _∙_}
+use mathlib.Core.List.{List, [], _∷_}
+use native.Mathlib.Omega.{arith}
+use lib.Dec.{leb, ltb}
+use borrow.Author.Tests.{le-ltb, leb-true, ltb-false}
+use Rattle.model.specs.declared.Entry.{Entry}
+use Rattle.model.specs.Basic.{pick}
+use Rattle.model.specs.Page.{Page}
+use Rattle.model.specs.Store.{page}
+use Rattle.model.specs.Layout.{readEntry, readEntries, pageOf, decode}
+use Rattle.model.specs.Quick.{meets, past, pastAll, lastFine, lasts, under, nextFine, nexts, fineOver, routersFine}
+use Rattle.page.specs.Read.{entries-step, entries-end, entries-of}
+use Rattle.store.specs.Read.{page-at}
+use Rattle.local.specs.Local.{IsPage, countAt}
+use Rattle.quick.specs.declared.under.Way.{Way}
+use Rattle.quick.specs.Part.{highOver}
+
+-- where entry e is the last one alive, those behind it being es: its key is under h, and its page is asked for that stretch
+abbrev pub wayIf : Bool → ℕ → ℕ → ℕ → Entry → List Entry → Way
+wayIf true h a b e es = record { fine = ltb (e .key) h; from = pastAll (max a (e .start)) es; upto = min b (e .end); page = e .value }
+wayIf false h a b e es = record { fine = true; from = 0; upto = 0; page = e .value }
+
+abbrev pub wayOf : ℕ → ℕ → ℕ → Entry → List Entry → Way
+wayOf h a b e es = wayIf (meets a b e) h a b e es
+
+-- ---- an empty stretch
+
+meets-empty : (a b : ℕ) (e : Entry) → b ≤ a → meets a b e ≡ false
+meets-empty a b e h = le-ltb (max a (e .start)) (min b (e .end)) (omega arith)
+
+lasts-empty : (f : ℕ → ℕ → ℕ → Bool) (h a b : ℕ) (es : List Entry) → b ≤ a → lasts f h a b es ≡ true
+lasts-empty f h a b [] l = refl
+lasts-empty f h a b (e ∷ es) l = rw (meets-empty a b e l, lasts-empty f h a b es l)
+
+pub under-empty : (up : ℕ) (ps : List Page) (h a b n : ℕ) → b ≤ a → under up ps h a b n ≡ true
+under-empty zero ps h a b n l = lasts-empty (λ (c d m : ℕ). true) h a b (page ps n .entries) l
+under-empty (suc up) ps h a b n l = lasts-empty (under up ps h) h a b (page ps n .entries) l
+
+past-more : (a : ℕ) (e : Entry) → a ≤ past a e
+past-more a e = at (leb (e .start) a)
+  where
+    at : (t : Bool) → a ≤ pick t (max a (e .end)) a
+    at true = omega arith
+    at false = omega arith
+
+pub nexts-empty : (f : ℕ → ℕ → ℕ → Bool) (a b : ℕ) (es : List Entry) → b ≤ a → nexts f a b es ≡ true
+nexts-empty f a b [] l = refl
+nexts-empty f a b (e ∷ es) l = rw (meets-empty a b e l, nexts-empty f (past a e) b es (omega (arith, past-more a e)))
+
+-- ---- one entry
+
+or-true : (b : Bool) → (b || true) ≡ true
+or-true true = refl
+or-true false = refl
+
+and-one : (b : Bool) → (b && true) ≡ b
+and-one true = refl
+and-one false = refl
+
+last-is : (f : ℕ → ℕ → ℕ → Bool) → ((c d m : ℕ) → d ≤ c → f c d m ≡ true) → (h a b : ℕ) (e : Entry) (es : List Entry)
+    → lastFine f h a b e es ≡ (wayOf h a b e es .fine && f (wayOf h a b e es .from) (wayOf h a b e es .upto) (wayOf h a b e es .page))
+last-is f g h a b e es = at (meets a b e)
+  where
+    d : ℕ
+    d = min b (e .end)
+
+    c : ℕ
+    c = pastAll (max a (e .start)) es
+
+    by : (t : Bool) → leb d c ≡ t → (t || f c d (e .value)) ≡ f c d (e .value)
+    by true q = sym (g c d (e .value) (leb-true d c q))
+    by false q = refl
+
+    at : (t : Bool) → (not t || (ltb (e .key) h && (leb d c || f c d (e .value)))) ≡ (wayIf t h a b e es .fine && f (wayIf t h a b e es .from) (wayIf t h a b e es .upto) (wayIf t h a b e es .page))
+    at true = ap (λ (x : Bool). ltb (e .key) h && x) (by (leb d c) refl)
+    at false = sym (g 0 0 (e .value) (omega arith))
+
+lasts-high : (h a b : ℕ) (es : List Entry) → lasts (λ (c d m : ℕ). true) h a b es ≡ highOver h a b es
+lasts-high h a b [] = refl
+lasts-high h a b (e ∷ es) = rw (or-true (leb (min b (e .end)) (pastAll (max a (e .start)) es)), and-one (ltb (e .key) h), lasts-high h a b es)
+
+next-is : (f : ℕ → ℕ → ℕ → Bool) → ((h c d : ℕ) → d ≤ c → f h c d ≡ true) → (a b : ℕ) (e : Entry) → nextFine f a b e ≡ f (e .key) (max a (e .start)) (min b (e .end))
+next-is f g a b e = at (meets a b e) refl
+  where
+    at : (t : Bool) → meets a b e ≡ t → (not t || f (e .key) (max a (e .start)) (min b (e .end))) ≡ f (e .key) (max a (e .start)) (min b (e .end))
+    at true q = refl
+    at false q = sym (g (e .key) (max a (e .start)) (min b (e .end)) (ltb-false (max a (e .start)) (min b (e .end)) q))
+
+-- ---- what is left from place i on
+
+module _ (ps : List Page) (up : ℕ) (p : List ℕ) (i n : ℕ) where
+  abbrev e : Entry
+  e = readEntry p (128 + 96 * i)
+
+  abbrev here : List Entry
+  here = readEntries p (128 + 96 * i) (n - i)
+
+  abbrev rest : List Entry
+  rest = readEntries p (128 + 96 * (i + 1)) (n - (i + 1))
+
+  pub lasts-step : (h a b : ℕ) (w : Way) → w ≡ wayOf h a b e rest → i < n → lasts (under up ps h) h a b here ≡ ((w .fine && under up ps h (w .from) (w .upto) (w .page)) && lasts (under up ps h) h a b rest)
+  lasts-step h a b w q l =
+      ap (lasts (under up ps h) h a b) (entries-step p i n l) ∙ ap (λ (x : Bool). x && lasts (under up ps h) h a b rest) (last-is (under up ps h) (λ c d m k. under-empty up ps h c d m k) h a b e rest)
+      ∙ ap (λ (x : Way). (x .fine && under up ps h (x .from) (x .upto) (x .page)) && lasts (under up ps h) h a b rest) (sym q)
+
+  pub lasts-end : (h a b : ℕ) → n ≤ i → lasts (under up ps h) h a b here ≡ true
+  lasts-end h a b l = ap (lasts (under up ps h) h a b) (entries-end p (128 + 96 * i) i n l)
+
+  abbrev pub of : ℕ → ℕ → ℕ → ℕ → Bool
+  of m h a b = under up ps h a b m
+
+  pub nexts-step : (m a b : ℕ) (d : Entry) → d ≡ e → i < n → nexts (of m) a b here ≡ (under up ps (d .key) (max a (d .start)) (min b (d .end)) m && nexts (of m) (past a d) b rest)
+  nexts-step m a b d q l =
+      ap (nexts (of m) a b) (entries-step p i n l) ∙ ap (λ (x : Bool). x && nexts (of m) (past a e) b rest) (next-is (of m) (λ h c g k. under-empty up ps h c g m k) a b e)
+      ∙ ap (λ (x : Entry). under up ps (x .key) (max a (x .start)) (min b (x .end)) m && nexts (of m) (past a x) b rest) (sym q)
+
+  pub nexts-end : (m a b : ℕ) → n ≤ i → nexts (of m) a b here ≡ true
+  nexts-end m a b l = ap (nexts (of m) a b) (entries-end p (128 + 96 * i) i n l)
+
+  pub routers-step : (least : ℕ) → i < n → routersFine least up ps here ≡ ((fineOver least (e .key) (e .start) (e .end) (page ps (e .value)) && nexts (of (e .value)) (e .start) (e .end) rest) && routersFine least up ps rest)
+  routers-step least l = ap (routersFine least up ps) (entries-step p i n l)
+
+  pub routers-end : (least : ℕ) → n ≤ i → routersFine least up ps here ≡ true
+  routers-end least l = ap (routersFine least up ps) (entries-end p (128 + 96 * i) i n l)
+
+-- ---- page n of the bytes
+
+module _ (least : ℕ) (s : List ℕ) (n : ℕ) (k : IsPage least s n) where
+  pub entries-here : page (decode least s .pages) n .entries ≡ readEntries (pageOf least s n) 128 (countAt least s n)
+  entries-here = ap (λ (p : Page). p .entries) (page-at least s n (k .0) (k .1)) ∙ entries-of least (pageOf least s n)
+
+  pub under-leaf : (up h a b : ℕ) → up ≡ 0 → under up (decode least s .pages) h a b n ≡ highOver h a b (readEntries (pageOf least s n) 128 (countAt least s n))
+  under-leaf up h a b z =
+      ap (λ (u : ℕ). under u (decode least s .pages) h a b n) z ∙ lasts-high h a b (page (decode least s .pages) n .entries)
+      ∙ ap (highOver h a b) entries-here
+
+  pub under-start : (up h a b : ℕ) → (up ≡ 0 → ⊥) → under up (decode least s .pages) h a b n ≡ lasts (under (up - 1) (decode least s .pages) h) h a b (readEntries (pageOf least s n) 128 (countAt least s n))
+  under-start zero h a b z = absurd (z refl)
+  under-start (suc up) h a b z =
+      let q : up ≡ suc up - 1 = omega arith in
+      ap (lasts (under up (decode least s .pages) h) h a b) entries-here
+      ∙ ap (λ (u : ℕ). lasts (under u (decode least s .pages) h) h a b (readEntries (pageOf least s n) 128 (countAt least s n))) q
+
+pub way-page : (h a b : ℕ) (e : Entry) (es : List Entry) (w : Way) → w ≡ wayOf h a b e es → w .page ≡ e .value
+way-page h a b e es w q = ap (λ (x : Way). x .page) q ∙ at (meets a b e)
+  where
+    at : (t : Bool) → wayIf t h a b e es .page ≡ e .value
+    at true = refl
+    at false = refl

@@ -1,0 +1,133 @@
+// One entry and a stretch, the versions from a up to, not including, b.
+use model::Entry;
+ghost use mathlib.Core.Path.{_≡_};
+ghost use mathlib.Core.Bool.{_||_, _&&_, not};
+ghost use Prim.Native.Nat.{_-_, min, max};
+ghost use lib.Dec.{leb, ltb, eqb};
+ghost use Rattle.model.specs.Basic.{pick};
+ghost use Rattle.model.specs.Entry.{liveAt};
+ghost use Rattle.model.specs.Quick.{meets, past, apart};
+ghost use Rattle.model.proofs.QuickLaws.{throughout};
+
+pub(crate) fn larger(a: u32, b: u32) -> u32
+    ensures { λ r. ⌜ r ≡ max a b ⌝ }
+{
+    if a < b {
+        return b;
+    }
+    a
+}
+
+pub(crate) fn smaller(a: u32, b: u32) -> u32
+    ensures { λ r. ⌜ r ≡ min a b ⌝ }
+{
+    if a < b {
+        return a;
+    }
+    b
+}
+
+// How many versions there are from a up to, not including, b.
+pub(crate) fn span(a: u32, b: u32) -> u32
+    ensures { λ r. ⌜ r ≡ b - a ⌝ }
+{
+    if b < a {
+        return 0;
+    }
+    b - a
+}
+
+// Whether the entry is alive at a version of the stretch.
+pub(crate) fn meets(a: u32, b: u32, e: Entry) -> bool
+    ensures { λ r. ⌜ r ≡ meets a b e ⌝ }
+{
+    let c = larger(a, e.start);
+    let d = smaller(b, e.end);
+    c < d
+}
+
+// Where the entry is alive at a, its end: from there on others must stand.
+pub(crate) fn past(a: u32, e: Entry) -> u32
+    ensures { λ r. ⌜ r ≡ past a e ⌝ }
+{
+    if a < e.start {
+        return a;
+    }
+    larger(a, e.end)
+}
+
+// The same of an entry with key k; another leaves a as it is.
+pub(crate) fn past_key(k: u32, a: u32, e: Entry) -> u32
+    ensures { λ r. ⌜ r ≡ pick (eqb (e .key) k) (past a e) a ⌝ }
+{
+    if e.key == k {
+        return past(a, e);
+    }
+    a
+}
+
+// "No live key stands twice in a page": of two entries with one key the earlier ends before the other starts.
+pub(crate) fn apart(d: Entry, e: Entry) -> bool
+    ensures { λ r. ⌜ r ≡ apart d e ⌝ }
+{
+    if d.key != e.key {
+        return true;
+    }
+    d.end <= e.start
+}
+
+// The key is at least low, if the entry is alive in the stretch.
+pub(crate) fn low_fine(low: u32, a: u32, b: u32, e: Entry) -> bool
+    ensures { λ r. ⌜ r ≡ (not (meets a b e) || leb low (e .key)) ⌝ }
+{
+    if !meets(a, b, e) {
+        return true;
+    }
+    low <= e.key
+}
+
+// The key is under h, if the entry is alive in the stretch.
+pub(crate) fn high_fine(h: u32, a: u32, b: u32, e: Entry) -> bool
+    ensures { λ r. ⌜ r ≡ (not (meets a b e) || ltb (e .key) h) ⌝ }
+{
+    if !meets(a, b, e) {
+        return true;
+    }
+    e.key < h
+}
+
+// One, if the entry is alive at v.
+pub(crate) fn live_one(e: Entry, v: u32) -> usize
+    ensures { λ r. ⌜ r ≡ pick (liveAt v e) 1 0 ⌝ }
+{
+    if v < e.start {
+        return 0;
+    }
+    if v < e.end {
+        return 1;
+    }
+    0
+}
+
+// One, if the entry is alive throughout the stretch.
+pub(crate) fn through_one(e: Entry, a: u32, b: u32) -> usize
+    ensures { λ r. ⌜ r ≡ pick (throughout a b e) 1 0 ⌝ }
+{
+    if a < e.start {
+        return 0;
+    }
+    if e.end < b {
+        return 0;
+    }
+    1
+}
+
+// Whether the entry ends inside the stretch.
+pub(crate) fn ends_in(e: Entry, a: u32, b: u32) -> bool
+    ensures { λ r. ⌜ r ≡ (ltb a (e .end) && ltb (e .end) b) ⌝ }
+{
+    if e.end <= a {
+        return false;
+    }
+    e.end < b
+}

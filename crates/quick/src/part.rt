@@ -1,0 +1,193 @@
+// One page throughout a stretch, the versions from a up to, not including, b: its keys, and how many entries are alive.
+use model::Limits;
+ghost use mathlib.Core.Path.{_≡_};
+ghost use mathlib.Core.Bool.{true};
+ghost use Prim.Native.Nat.{_+_, _*_, _-_, _^_, _≤_};
+ghost use lib.ListN.{length};
+ghost use Rattle.model.specs.Basic.{all, those, inOrder};
+ghost use Rattle.model.specs.Entry.{before};
+ghost use Rattle.model.specs.Limits.{Edition};
+ghost use Rattle.model.specs.Layout.{readEntry, readEntries, decodePage};
+ghost use Rattle.model.specs.Quick.{apart, lowOver, keyOver, liveCount, manyOver, fineOver, pastAll};
+ghost use Rattle.model.proofs.QuickLaws.{throughout};
+ghost use Rattle.model.proofs.Rising.{firstOk};
+ghost use Rattle.page.specs.Head.{readHead};
+ghost use Rattle.quick.specs.Part.{Stands, endFine, highOver};
+
+// The live keys are at least low.
+fn low_over(page: &[u8], n: usize, low: u32, a: u32, b: u32) -> bool
+    requires { ⌜ Stands (now page) n ⌝ }
+    ensures { λ r. ⌜ r ≡ lowOver low a b (readEntries (now (page .entry)) 128 n) ⌝ }
+{
+    let mut i = 0;
+    while i < n {
+        let e = page::entry_at(page, i);
+        if !crate::entry::low_fine(low, a, b, e) {
+            return false;
+        }
+        i += 1;
+    }
+    true
+}
+
+// The live keys are under h.
+pub(crate) fn high_over(page: &[u8], n: usize, h: u32, a: u32, b: u32) -> bool
+    requires { ⌜ Stands (now page) n ⌝ }
+    ensures { λ r. ⌜ r ≡ highOver h a b (readEntries (now (page .entry)) 128 n) ⌝ }
+{
+    let mut i = 0;
+    while i < n {
+        let e = page::entry_at(page, i);
+        if !crate::entry::high_fine(h, a, b, e) {
+            return false;
+        }
+        i += 1;
+    }
+    true
+}
+
+// An entry with the key k is alive throughout.
+fn key_over(page: &[u8], n: usize, k: u32, a: u32, b: u32) -> bool
+    requires { ⌜ Stands (now page) n ⌝ }
+    ensures { λ r. ⌜ r ≡ keyOver k a b (readEntries (now (page .entry)) 128 n) ⌝ }
+{
+    let mut t = a;
+    let mut i = 0;
+    while i < n {
+        let e = page::entry_at(page, i);
+        t = crate::entry::past_key(k, t, e);
+        i += 1;
+    }
+    b <= t
+}
+
+// How far from a on the entries from place i on stand one after another.
+pub(crate) fn past_behind(page: &[u8], n: usize, i: usize, a: u32) -> u32
+    requires { ⌜ Stands (now page) n × (i ≤ n) ⌝ }
+    ensures { λ r. ⌜ r ≡ pastAll a (readEntries (now (page .entry)) (128 + 96 * i) (n - i)) ⌝ }
+{
+    let mut t = a;
+    let mut k = i;
+    while k < n {
+        let e = page::entry_at(page, k);
+        t = crate::entry::past(t, e);
+        k += 1;
+    }
+    t
+}
+
+fn live_count(page: &[u8], n: usize, v: u32) -> usize
+    requires { ⌜ Stands (now page) n ⌝ }
+    ensures { λ r. ⌜ r ≡ liveCount v (readEntries (now (page .entry)) 128 n) ⌝ }
+{
+    let mut c = 0;
+    let mut i = 0;
+    while i < n {
+        let e = page::entry_at(page, i);
+        c += crate::entry::live_one(e, v);
+        i += 1;
+    }
+    c
+}
+
+fn through_count(page: &[u8], n: usize, a: u32, b: u32) -> usize
+    requires { ⌜ Stands (now page) n ⌝ }
+    ensures { λ r. ⌜ r ≡ length (those (throughout a b) (readEntries (now (page .entry)) 128 n)) ⌝ }
+{
+    let mut c = 0;
+    let mut i = 0;
+    while i < n {
+        let e = page::entry_at(page, i);
+        c += crate::entry::through_one(e, a, b);
+        i += 1;
+    }
+    c
+}
+
+// Where entry i ends inside the stretch, m are alive.
+fn end_fine(page: &[u8], n: usize, i: usize, m: usize, a: u32, b: u32) -> bool
+    requires { ⌜ Stands (now page) n × (i + 1 ≤ n) ⌝ }
+    ensures { λ r. ⌜ r ≡ endFine m a b (readEntries (now (page .entry)) 128 n) (readEntry (now (page .entry)) (128 + 96 * i)) ⌝ }
+{
+    let e = page::entry_at(page, i);
+    if !crate::entry::ends_in(e, a, b) {
+        return true;
+    }
+    m <= live_count(page, n, e.end)
+}
+
+fn ends_over(page: &[u8], n: usize, m: usize, a: u32, b: u32) -> bool
+    requires { ⌜ Stands (now page) n ⌝ }
+    ensures { λ r. ⌜ r ≡ all (endFine m a b (readEntries (now (page .entry)) 128 n)) (readEntries (now (page .entry)) 128 n) ⌝ }
+{
+    let mut i = 0;
+    while i < n {
+        if !end_fine(page, n, i, m, a, b) {
+            return false;
+        }
+        i += 1;
+    }
+    true
+}
+
+// At least m entries are alive. Where so many are alive throughout no end needs a look.
+fn many_over(page: &[u8], n: usize, m: usize, a: u32, b: u32) -> bool
+    requires { ⌜ Stands (now page) n ⌝ }
+    ensures { λ r. ⌜ r ≡ manyOver m a b (readEntries (now (page .entry)) 128 n) ⌝ }
+{
+    if a < b {
+        if m <= through_count(page, n, a, b) {
+            return true;
+        }
+    }
+    if live_count(page, n, a) < m {
+        return false;
+    }
+    ends_over(page, n, m, a, b)
+}
+
+// A page to which a slot or a router leads throughout the stretch, with that low key.
+pub(crate) fn fine_over(page: &[u8], l: Limits, m: usize, low: u32, a: u32, b: u32) -> bool
+    requires { ⌜ Edition l × (length (now page) ≡ 64 * l .least) × (readHead (l .least) (now page) .count ≤ 5 * l .least) ⌝ }
+    ensures { λ r. ⌜ r ≡ fineOver m low a b (decodePage (l .least) (now (page .entry))) ⌝ }
+{
+    let h = page::head_of(page, l);
+    if !low_over(page, h.count, low, a, b) {
+        return false;
+    }
+    if h.level == 1 {
+        return many_over(page, h.count, m, a, b);
+    }
+    if !key_over(page, h.count, low, a, b) {
+        return false;
+    }
+    many_over(page, h.count, m, a, b)
+}
+
+// Entry i and the next one, if there is one, are apart.
+fn apart_next(page: &[u8], n: usize, i: usize) -> bool
+    requires { ⌜ Stands (now page) n × (i + 1 ≤ n) ⌝ }
+    ensures { λ r. ⌜ r ≡ firstOk apart (readEntry (now (page .entry)) (128 + 96 * i)) (readEntries (now (page .entry)) (128 + 96 * (i + 1)) (n - (i + 1))) ⌝ }
+{
+    if n <= i + 1 {
+        return true;
+    }
+    let d = page::entry_at(page, i);
+    let e = page::entry_at(page, i + 1);
+    crate::entry::apart(d, e)
+}
+
+// "No live key stands twice in a page". Entries stand in order, so that each to the next is enough.
+pub(crate) fn all_apart(page: &[u8], n: usize) -> bool
+    requires { ⌜ Stands (now page) n × (inOrder before (readEntries (now page) 128 n) ≡ true) ⌝ }
+    ensures { λ r. ⌜ r ≡ inOrder apart (readEntries (now (page .entry)) 128 n) ⌝ }
+{
+    let mut i = 0;
+    while i < n {
+        if !apart_next(page, n, i) {
+            return false;
+        }
+        i += 1;
+    }
+    true
+}

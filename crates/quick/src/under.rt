@@ -1,0 +1,73 @@
+// "A key lies from its page's low key up to, not including, the next one's": the pages that routers lead to, throughout their spans.
+use model::Limits;
+ghost use mathlib.Core.Path.{_≡_};
+ghost use Prim.Native.Nat.{ℕ, _+_, _*_, _-_, _≤_};
+ghost use Rattle.model.specs.Limits.{Edition};
+ghost use Rattle.model.specs.Layout.{readEntry, readEntries, decode};
+ghost use Rattle.model.specs.Quick.{under, nexts};
+ghost use Rattle.local.specs.Local.{IsPage, levelAt};
+ghost use Rattle.quick.specs.Good.{Good};
+ghost use Rattle.quick.specs.Part.{Stands};
+ghost use Rattle.quick.specs.Under.{wayOf};
+
+// Where an entry is the last one alive: whether its key is fine, and the stretch for which its page is asked.
+pub(crate) struct Way {
+    pub fine: bool,
+    pub from: u32,
+    pub upto: u32,
+    pub page: u32,
+}
+
+// The way at place i, for keys under h. An entry not alive in the stretch leads nowhere.
+fn way_at(page: &[u8], n: usize, i: usize, h: u32, a: u32, b: u32) -> Way
+    requires { ⌜ Stands (now page) n × (i + 1 ≤ n) ⌝ }
+    ensures { λ r. ⌜ r ≡ wayOf h a b (readEntry (now (page .entry)) (128 + 96 * i)) (readEntries (now (page .entry)) (128 + 96 * (i + 1)) (n - (i + 1))) ⌝ }
+{
+    let e = page::entry_at(page, i);
+    if !crate::entry::meets(a, b, e) {
+        return Way {
+            fine: true,
+            from: 0,
+            upto: 0,
+            page: e.value,
+        };
+    }
+    let c = crate::entry::larger(a, e.start);
+    let from = crate::part::past_behind(page, n, i + 1, c);
+    let upto = crate::entry::smaller(b, e.end);
+    Way {
+        fine: e.key < h,
+        from: from,
+        upto: upto,
+        page: e.value,
+    }
+}
+
+// Throughout the stretch the live keys under page n, `up` levels above the leaves, are under h.
+pub(crate) fn under(s: &[u8], l: Limits, up: usize, h: u32, a: u32, b: u32, n: usize) -> bool
+    requires { ⌜ Edition l × Good (l .least) (now s) × IsPage (l .least) (now s) n × (levelAt (l .least) (now s) n ≡ up + 1) ⌝ }
+    ensures { λ r. ⌜ r ≡ under up (decode (l .least) (now (s .entry)) .pages) h a b n ⌝ }
+{
+    if b <= a {
+        return true;
+    }
+    let p = store::part(s, l, n);
+    let f = page::head_of(p, l);
+    let count = f.count;
+    if up == 0 {
+        return crate::part::high_over(p, count, h, a, b);
+    }
+    let mut i = 0;
+    while i < count {
+        let w = way_at(p, count, i, h, a, b);
+        if !w.fine {
+            return false;
+        }
+        let m = crate::wide(w.page);
+        if !under(s, l, up - 1, h, w.from, w.upto, m) {
+            return false;
+        }
+        i += 1;
+    }
+    true
+}
