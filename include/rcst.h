@@ -4,10 +4,14 @@
  * One store keeps every committed version of a console's settings, in bytes
  * that the caller lends. The library allocates nothing, keeps nothing between
  * calls, and has no precondition: any bytes may be lent as a store, and any
- * numbers as arguments. Every call judges the whole store before it trusts it.
+ * numbers as arguments. Every call judges the whole store before it trusts it,
+ * so a call costs time in the size of the store (docs/CHECK-COST.md).
  *
  * A store is 6 to 4,096 pages of 256 bytes. Keys are 0 to 16,777,215, a value is
- * any 32 bits, versions are 0 to 1,048,574. Version 0 is empty.
+ * any 32 bits, versions are 0 to 1,048,574. Version 0 is empty. An update is
+ * opened on the version after the current one; it is readable while it is open,
+ * and it ends by a commit, which makes it the current version for ever, or by an
+ * abandon, after which every byte is what it was before the open.
  *
  * Every call gives a number, of several that apply the smallest:
  *
@@ -16,12 +20,20 @@
  *    2  first four bytes wrong
  *    3  edition not 1
  *    4  not sound
+ *    5  key too large, or range low above high
+ *    6  version above the last one that can be read
+ *    7  no update open (commit, abandon)
+ *    8  update already open (open)
+ *    9  current version is 1,048,574 (open)
+ *   14  list holds fewer numbers than twice the settings found (range)
  *
- * Every number but 0 leaves store and list untouched, byte for byte.
+ * Every number but 0 leaves store and list untouched, byte for byte. (Numbers
+ * 10 to 13 belong to insert and delete, which this library does not have yet.)
  *
  * The caller answers for what no library can see: that `store` points to
- * `length` bytes which nobody else reads or writes during the call. Where
- * `length` is 0 the pointer may be null.
+ * `length` bytes, and `list` to `room` numbers, which nobody else reads or
+ * writes during the call, and that store and list do not overlap. Where a length
+ * is 0 its pointer may be null. The pointers for results are never null.
  */
 #ifndef RCST_H
 #define RCST_H
@@ -48,6 +60,31 @@ uint32_t rcst_fresh(uint8_t *store, size_t length);
  * number of a rule of the format that the store breaks (1 to 6), else 0.
  */
 uint32_t rcst_check(const uint8_t *store, size_t length, uint32_t *rule);
+
+/* Opens an update. Gives 0, 1 to 4, 8 or 9. */
+uint32_t rcst_open(uint8_t *store, size_t length);
+
+/* Commits the open update, even if nothing changed. Gives 0, 1 to 4 or 7. */
+uint32_t rcst_commit(uint8_t *store, size_t length);
+
+/* Abandons the open update. Gives 0, 1 to 4 or 7. */
+uint32_t rcst_abandon(uint8_t *store, size_t length);
+
+/*
+ * Looks a key up at a version. Gives 0 or 1 to 6. With 0, *found is 1 and *value
+ * the key's value, or both are 0: an absent key is an answer. With any other
+ * number both are 0.
+ */
+uint32_t rcst_lookup(const uint8_t *store, size_t length, uint32_t key, uint32_t version, uint32_t *found, uint32_t *value);
+
+/*
+ * Finds the settings from low to high, both included, at a version. Gives 0, 1 to
+ * 6 or 14. With 0 they stand in the list as key, value, key, value, in key order,
+ * and nothing behind them is touched. *count is the number of settings found with
+ * 0 and with 14, else 0.
+ */
+uint32_t rcst_range(const uint8_t *store, size_t length, uint32_t low, uint32_t high, uint32_t version, uint32_t *list, size_t room,
+                    size_t *count);
 
 #ifdef __cplusplus
 }

@@ -33,7 +33,31 @@ static void fresh_and_check(void) {
     expect(rcst_check(store, 0, &rule) == 1, "no bytes give 1");
 }
 
+static void releases(void) {
+    static uint8_t store[16 * RCST_PAGE_BYTES], before[16 * RCST_PAGE_BYTES];
+    uint32_t found = 9, value = 9, list[3] = {1, 2, 3};
+    size_t count = 9;
+
+    expect(rcst_open(store, sizeof store) == 2, "bytes that are no store give 2");
+    expect(rcst_fresh(store, sizeof store) == 0, "a fresh store of 16 pages");
+    expect(rcst_commit(store, sizeof store) == 7, "no update is open");
+    memcpy(before, store, sizeof store);
+    expect(rcst_open(store, sizeof store) == 0, "an update opens");
+    expect(rcst_open(store, sizeof store) == 8, "and opens once");
+    expect(memcmp(before, store, sizeof store) != 0, "the store tells that it is open");
+    expect(rcst_abandon(store, sizeof store) == 0, "it is abandoned");
+    expect(memcmp(before, store, sizeof store) == 0, "every byte is what it was");
+    expect(rcst_open(store, sizeof store) == 0 && rcst_commit(store, sizeof store) == 0, "a release");
+    expect(rcst_lookup(store, sizeof store, 40, 1, &found, &value) == 0 && found == 0 && value == 0, "an absent key");
+    expect(rcst_lookup(store, sizeof store, RCST_HIGHEST_KEY + 1, 1, &found, &value) == 5, "a key too large");
+    expect(rcst_lookup(store, sizeof store, 40, 2, &found, &value) == 6, "a version above last");
+    expect(rcst_range(store, sizeof store, 0, RCST_HIGHEST_KEY, 1, list, 3, &count) == 0 && count == 0, "no settings");
+    expect(list[0] == 1 && list[1] == 2 && list[2] == 3, "and nothing written");
+    expect(rcst_range(store, sizeof store, 2, 1, 1, list, 3, &count) == 5 && count == 0, "low above high");
+}
+
 int main(void) {
     fresh_and_check();
+    releases();
     return failures != 0;
 }
