@@ -1,5 +1,5 @@
-// Open, commit and abandon on a sound store: the header is changed as one value and written back. (Here open is called begin:
-// its own name is a word of the prover's.)
+// Open, commit and abandon on a sound store: the header is changed as one value and written back. Open is called begin here, as in
+// the definitions, where its own name is a reserved word.
 use model::Limits;
 use model::Slot;
 ghost use mathlib.Core.Path.{_≡_};
