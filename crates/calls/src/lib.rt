@@ -30,8 +30,9 @@ fn bad_range(low: u32, high: u32) -> bool
     high < low
 }
 
-// The guard of lookup and range: judging, then 5 where the keys are wrong, then 6.
-fn guard_reading(s: &[u8], l: Limits, bad: bool, v: u32) -> u32
+// The guard of lookup and range: judging, then 5 where the keys are wrong, then 6. Offered to callers that read many times from a
+// store that nobody writes in between.
+pub fn guard_reading(s: &[u8], l: Limits, bad: bool, v: u32) -> u32
     requires { ⌜ Edition l ⌝ }
     ensures { λ r. ⌜ r ≡ guarded (l .least) (now (s .entry)) (reading bad v) ⌝ }
 {
