@@ -20,6 +20,7 @@ fn main() {
     byte_layer();
     check_of_histories();
     empty_commits();
+    hostile_stores();
     worst_stores();
 }
 
@@ -104,10 +105,10 @@ fn write_pages() -> Times {
     in_turn(&mut [&mut proved, &mut same, &mut plain])
 }
 
-/// Judged by both, with the same answer.
-fn judged(store: &[u8]) -> Times {
-    assert_eq!(calls::check(store), (0, 0));
-    assert_eq!(proved::check(store), (0, 0));
+/// Judged by both, with this answer.
+fn judged(store: &[u8], verdict: (u32, u32)) -> Times {
+    assert_eq!(calls::check(store), verdict);
+    assert_eq!(proved::check(store), verdict);
     in_turn(&mut [
         &mut || proved::check(black_box(store)).0.into(),
         &mut || calls::check(black_box(store)).0.into(),
@@ -137,7 +138,7 @@ fn check_of_histories() {
     ] {
         let store = stores::grown(pages, versions);
         let (used, turning) = shape(&store);
-        let taken = judged(&store);
+        let taken = judged(&store, (0, 0));
         println!(
             "| {pages} | {used} | {turning} | {} | {} | {} | {} |",
             times(taken.ratio(0, 1)),
@@ -169,6 +170,34 @@ fn empty_commits() {
     );
 }
 
+fn hostile_stores() {
+    println!("## Routers that share children\n");
+    println!("| | pages | broken rule | ratio | proved | reference |");
+    println!("|---|---|---|---|---|---|");
+    for (name, rule, store) in [
+        (
+            "a page a level, twenty routers each to the next",
+            4,
+            stores::shared_children(),
+        ),
+        (
+            "60,000 routers to one empty leaf",
+            5,
+            stores::one_empty_leaf(3000),
+        ),
+    ] {
+        let taken = judged(&store, (4, rule));
+        println!(
+            "| {name} | {} | {rule} | {} | {} | {} |",
+            store.len() / PAGE_BYTES,
+            times(taken.ratio(0, 1)),
+            told(taken.of(0)),
+            told(taken.of(1))
+        );
+    }
+    println!();
+}
+
 /// No larger store is judged after one that took the proved check so long, in
 /// seconds.
 const LONG: f64 = 4.0;
@@ -183,7 +212,7 @@ fn worst_stores() {
     for leaves in [10, 20, 40, 80, 160, 320, 640, 1280, 2560, 3870] {
         let store = stores::flickering(leaves);
         let (_, turning) = shape(&store);
-        let taken = judged(&store);
+        let taken = judged(&store, (0, 0));
         let growth = before.map_or(String::new(), |before| times(taken.of(0) / before));
         println!(
             "| {} | {turning} | {} | {} | {} | {growth} |",

@@ -4,7 +4,8 @@ use std::collections::BTreeSet;
 
 use reference::image::Image;
 use reference::layout::{
-    Entry, Header, Page, Slot, Span, ALIVE, FIRST_PAGE, HIGHEST_KEY, LEAF, MOST_ENTRIES, PAGE_BYTES,
+    Entry, Header, Page, Slot, Span, ALIVE, FIRST_PAGE, HIGHEST_KEY, HIGHEST_LEVEL, LEAF,
+    MOST_ENTRIES, PAGE_BYTES,
 };
 use reference::rng::Rng;
 use reference::{calls, number, unjudged};
@@ -50,7 +51,7 @@ fn update(store: &mut [u8], alive: &mut BTreeSet<u32>, rng: &mut Rng) {
 /// start and end is a version of its own: 32 versions a leaf at which
 /// something starts or ends, and at each of them every leaf is reached.
 pub fn flickering(leaves: u32) -> Vec<u8> {
-    let mut pages = vec![Page::new(LEAF, Span { start: 0, end: 1 }, Vec::new())];
+    let mut pages = vec![empty_root()];
     let mut routers = Vec::new();
     for leaf in 0..leaves {
         routers.push((32 * leaf, FIRST_PAGE + pages.len() as u32));
@@ -62,24 +63,56 @@ pub fn flickering(leaves: u32) -> Vec<u8> {
         }
         routers = above(&mut pages, level, &routers);
     }
-    let root = routers[0].1;
+    with_root(pages, 2 + 32 * leaves, routers[0].1)
+}
+
+/// These pages, the first of them the empty root of version 0; `root` from
+/// version 1 on.
+fn with_root(pages: Vec<Page>, current: u32, root: u32) -> Vec<u8> {
+    let slot = |version, root| Slot { version, root };
     Image {
         header: Header {
             page_count: 0,
-            current: 2 + 32 * leaves,
+            current,
             open: false,
             roots: 0,
         },
-        slots: vec![
-            Slot {
-                version: 0,
-                root: FIRST_PAGE,
-            },
-            Slot { version: 1, root },
-        ],
+        slots: vec![slot(0, FIRST_PAGE), slot(1, root)],
         pages,
     }
     .write()
+}
+
+fn empty_root() -> Page {
+    Page::new(LEAF, Span { start: 0, end: 1 }, Vec::new())
+}
+
+/// A page a level, each with twenty routers to the next: twenty to the sixth
+/// ways down. Breaks rule 4.
+pub fn shared_children() -> Vec<u8> {
+    let mut pages = vec![empty_root(), flickering_leaf(0)];
+    for level in LEAF + 1..=HIGHEST_LEVEL {
+        let below = FIRST_PAGE + pages.len() as u32 - 1;
+        let routers: Vec<(u32, u32)> = (0..20).map(|low| (low, below)).collect();
+        above(&mut pages, level, &routers);
+    }
+    let root = FIRST_PAGE + pages.len() as u32 - 1;
+    with_root(pages, 40, root)
+}
+
+/// As many as `lowest` index pages of the lowest level and those above them;
+/// all routers of the lowest to one leaf without a live entry. Breaks rule 5.
+pub fn one_empty_leaf(lowest: u32) -> Vec<u8> {
+    let empty = Page::new(LEAF, Span::alive_from(1), Vec::new());
+    let mut pages = vec![empty_root(), empty];
+    let mut routers: Vec<(u32, u32)> = (0..20 * lowest).map(|low| (low, FIRST_PAGE + 1)).collect();
+    for level in LEAF + 1.. {
+        if routers.len() == 1 {
+            break;
+        }
+        routers = above(&mut pages, level, &routers);
+    }
+    with_root(pages, 1, routers[0].1)
 }
 
 fn flickering_leaf(leaf: u32) -> Page {
