@@ -1,6 +1,7 @@
 //! The proved library beside the same work in Rust, as ratios of one run.
 //! `bench/run` builds and runs it; docs/BENCH.md tells what follows.
 
+mod lookups;
 mod measure;
 mod plain;
 mod proved;
@@ -16,12 +17,22 @@ use reference::layout::{HIGHEST_VERSION, PAGE_BYTES};
 use reference::rng::Rng;
 use reference::{calls, store};
 
+/// All tables, or the one that the first argument names.
 fn main() {
-    byte_layer();
-    check_of_histories();
-    empty_commits();
-    hostile_stores();
-    worst_stores();
+    let tables: [(&str, fn()); 6] = [
+        ("bytes", byte_layer),
+        ("check", check_of_histories),
+        ("empty", empty_commits),
+        ("lookups", lookups::lookups),
+        ("hostile", hostile_stores),
+        ("worst", worst_stores),
+    ];
+    let wanted = std::env::args().nth(1);
+    for (name, print) in tables {
+        if wanted.as_deref().is_none_or(|wanted| wanted == name) {
+            print();
+        }
+    }
 }
 
 /// Entries in the bytes from which fields are read.

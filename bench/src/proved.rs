@@ -1,7 +1,7 @@
 //! The proved code, as safe functions over its C interface.
 //!
 //! Neither library has a precondition. What this file answers for is that the
-//! declarations are those of `crates/gauge` and `include/rcst.h`, and that a
+//! declarations are those of `crates/gauge`, `crates/morning` and `include/rcst.h`, and that a
 //! slice is passed as its own pointer and length.
 
 mod c {
@@ -22,6 +22,14 @@ mod c {
             value: u32,
             count: usize,
         ) -> u32;
+        pub fn morning_lookups(
+            store: *const u8,
+            length: usize,
+            from: u32,
+            step: u32,
+            count: u32,
+            version: u32,
+        ) -> u64;
         pub fn rcst_check(store: *const u8, length: usize, rule: *mut u32) -> u32;
     }
 }
@@ -48,4 +56,10 @@ pub fn check(store: &[u8]) -> (u32, u32) {
     let mut rule = 0;
     let number = unsafe { c::rcst_check(store.as_ptr(), store.len(), &mut rule) };
     (number, rule)
+}
+
+/// The sum, modulo 2^32, of what `count` lookups find, after one judging: of the
+/// key `from` and of every `step`th behind it.
+pub fn lookups(store: &[u8], from: u32, step: u32, count: u32, version: u32) -> u64 {
+    unsafe { c::morning_lookups(store.as_ptr(), store.len(), from, step, count, version) }
 }
