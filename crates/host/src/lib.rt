@@ -83,7 +83,13 @@ fn value_of(r: Looked) -> u32
 
 // Looks a key up at a version: whether it is alive goes to `found`, its value to `value`.
 #[no_mangle]
-pub extern "C" fn rcst_lookup(store: &[u8], key: u32, version: u32, found: &mut u32, value: &mut u32) -> u32
+pub extern "C" fn rcst_lookup(
+    store: &[u8],
+    key: u32,
+    version: u32,
+    found: &mut u32,
+    value: &mut u32,
+) -> u32
     ensures number { λ r. ⌜ r ≡ lookedNumber (lookupLent 4 (now (store .entry)) key version) ⌝ }
     ensures alive { λ _. ⌜ now (found .exit) ≡ bit (lookedFound (lookupLent 4 (now (store .entry)) key version)) ⌝ }
     ensures setting { λ _. ⌜ now (value .exit) ≡ lookedValue (lookupLent 4 (now (store .entry)) key version) ⌝ }
@@ -96,7 +102,14 @@ pub extern "C" fn rcst_lookup(store: &[u8], key: u32, version: u32, found: &mut 
 
 // The settings from low to high at a version go to `list`, their number to `count`.
 #[no_mangle]
-pub extern "C" fn rcst_range(store: &[u8], low: u32, high: u32, version: u32, list: &mut [u32], count: &mut u32) -> u32
+pub extern "C" fn rcst_range(
+    store: &[u8],
+    low: u32,
+    high: u32,
+    version: u32,
+    list: &mut [u32],
+    count: &mut u32,
+) -> u32
     ensures number { λ r. ⌜ r ≡ rangeLent 4 (now (store .entry)) low high version (now (list .entry)) .number ⌝ }
     ensures settings { λ _. ⌜ now (count .exit) ≡ rangeLent 4 (now (store .entry)) low high version (now (list .entry)) .count ⌝ }
     ensures written { λ _. ⌜ now (list .exit) ≡ rangeLent 4 (now (store .entry)) low high version (now (list .entry)) .list ⌝ }
