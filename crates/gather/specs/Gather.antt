@@ -5,7 +5,7 @@ use mathlib.Core.Bool.{Bool, true, false}
 use mathlib.Core.List.{List, [], _∷_, _++_, append-nil}
 use mathlib.Core.Logic.{_⊎_, inl, inr, ⊎-elim, _≢_}
 use lib.ListN.{length, getD, take, drop, set, replicate, length-append, length-drop, length-set, length-replicate}
-use lib.Seq.{take-suc, take-suc-set, getD-set-same, getD-set-other, getD-drop, length-take-le, take-take}
+use lib.Seq.{take-suc, take-suc-set, getD-set-same, getD-set-other, getD-drop, getD-take, length-take-le, take-take}
 use native.Mathlib.Numerals.{add-one}
 use native.Mathlib.Omega.{arith}
 use Rattle.bits.specs.Put.{less}
@@ -32,6 +32,10 @@ pub record Lists (g : Gather) (xs : List Pair) : Type 0 where
 pub length-pairs : (g : Gather) → Good g → length (pairsIn g) ≡ g .n
 unfolding pairsIn
 length-pairs g z = length-take-le (g .n) (g .list) (omega (arith, z .size, z .room))
+
+pub pair-at : (g : Gather) (k : ℕ) → k < g .n → getD (pairsIn g) k nil ≡ getD (g .list) k nil
+unfolding pairsIn
+pair-at g k lt = getD-take (g .n) (g .list) k nil lt
 
 -- how many there are
 pub listed : {g : Gather} {xs : List Pair} → Lists g xs → g .n ≡ length xs

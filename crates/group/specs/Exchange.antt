@@ -5,7 +5,6 @@ use mathlib.Core.Bool.{Bool, true, false, _&&_, _||_, not}
 use mathlib.Core.List.{List, [], _∷_, map}
 use lib.Dec.{leb}
 use lib.ListN.{length, getD, take, drop}
-use lib.Seq.{getD-take}
 use native.Mathlib.Omega.{arith}
 use borrow.Author.Tests.{le-leb, lt-leb}
 use Rattle.model.specs.declared.Pair.{Pair}
@@ -18,7 +17,7 @@ use Rattle.edit.specs.Same.{firstOf}
 use Rattle.edit.specs.Change.{one, firstPairs, changeOf}
 use Rattle.edit.specs.Fill.{nil, Fitting}
 use Rattle.gather.specs.declared.Gather.{Gather}
-use Rattle.gather.specs.Gather.{Good, pairsIn, length-pairs}
+use Rattle.gather.specs.Gather.{Good, pairsIn, length-pairs, pair-at}
 use Rattle.group.specs.declared.Routers.{Routers}
 use Rattle.group.specs.declared.Group.{Group}
 use Rattle.group.specs.Group.{oneOrTwo, routersOf}
@@ -35,10 +34,6 @@ low-drop [] (suc k) = refl
 low-drop (x ∷ l) zero = refl
 low-drop (x ∷ l) (suc k) = low-drop l k
 
-key-at : (g : Gather) (k : ℕ) → k < g .n → getD (pairsIn g) k nil .key ≡ getD (g .list) k nil .key
-unfolding pairsIn
-key-at g k lt = ap (λ (x : Pair). x .key) (getD-take (g .n) (g .list) k nil lt)
-
 module _ (least : ℕ) (rs : Routers) (g : Gather) (z : Good g) (n m : ℕ) where
   pub to-one : g .n ≤ 4 * least → pair (rs .first .key) n ∷ [] ≡ routersTo (routersOf rs) (parts least (pairsIn g)) n m
   unfolding routersOf routersTo parts partsBy
@@ -51,7 +46,7 @@ module _ (least : ℕ) (rs : Routers) (g : Gather) (z : Good g) (n m : ℕ) wher
       let k : ℕ = (g .n + 1) / 2 in
       let lt : (g .n + 1) / 2 < g .n = omega arith in
       let c : length (pairsIn g) ≡ g .n = length-pairs g z in
-      let e : lowKey (drop ((length (pairsIn g) + 1) / 2) (pairsIn g)) ≡ getD (g .list) ((g .n + 1) / 2) nil .key = rw c (low-drop (pairsIn g) k ∙ key-at g k lt) in
+      let e : lowKey (drop ((length (pairsIn g) + 1) / 2) (pairsIn g)) ≡ getD (g .list) ((g .n + 1) / 2) nil .key = rw c (low-drop (pairsIn g) k ∙ ap (λ (x : Pair). x .key) (pair-at g k lt)) in
       sym (rw (lt-leb (length (pairsIn g)) (4 * least) (omega arith), low-first (rs .two) (rs .first) (rs .second), e))
 
 -- ---- what is exchanged

@@ -1,5 +1,6 @@
 -- Bytes that are a store's, with nothing beside it: what holds before and after every step of an update. Assumes nothing.
-use Prim.Native.Nat.{ℕ, _+_, _*_, _^_, _<_, _≤_}
+use Prim.Native.Nat.{ℕ, suc, _+_, _*_, _^_, _<_, _≤_}
+use mathlib.Core.Bool.{true, false}
 use mathlib.Core.Path.{_≡_, ap, sym, _∙_}
 use mathlib.Core.List.{List}
 use native.Mathlib.Nat.{mul-le-mul-right}
@@ -8,12 +9,17 @@ use lib.ListN.{length}
 use Rattle.model.specs.declared.Limits.{Limits}
 use Rattle.model.specs.declared.Header.{Header}
 use Rattle.model.specs.Limits.{Edition}
-use Rattle.model.specs.Page.{Page, pairsAt, wanted}
+use Rattle.model.specs.Field.{Bytes}
+use Rattle.model.specs.Judged.{isSound}
+use Rattle.model.specs.Page.{Page, isFree, pairsAt, wanted}
 use Rattle.model.specs.Store.{Store, page}
 use Rattle.model.specs.Layout.{pageOf, countOf, encodePage, decodePage, encode, decode, readHeader, headerOf}
 use Rattle.page.specs.Exact.{Valid, Exact, encode-exact, decode-encode}
 use Rattle.store.specs.Parts.{page-fits}
 use Rattle.store.specs.Holds.{Holds, encoded-length, page-encoded, header-encoded}
+use Rattle.store.specs.Sure.{sure, held, same-bytes}
+use Rattle.model.proofs.Given.{used-in, high-used}
+use Rattle.model.proofs.Fits.{level-used}
 use Rattle.model.proofs.PlanSizes.{pairs-few, wanted-few}
 use Rattle.edit.specs.declared.Change as code
 use Rattle.edit.specs.Change.{changeOf}
@@ -33,6 +39,17 @@ pub record Kept (l : Limits) (b : List ℕ) : Type 0 where
 pub record Inside (l : Limits) (b : List ℕ) (n : ℕ) : Type 0 where
   pub low : 5 ≤ n
   pub high : n < length (pagesOf l b)
+
+-- a sound store's bytes
+module _ {l : Limits} (d : Edition l) (b : List ℕ) (h : isSound (l .least) b ≡ true) where
+  pub kept-sound : Bytes b → Kept l b
+  kept-sound z = record { edition = d; holds = held d b h z; same = same-bytes d b h z; most = sure d b h .short }
+
+  -- a page that is not free is one of them
+  pub inside-used : (n up : ℕ) → page (pagesOf l b) n .level ≡ suc up → Inside l b n
+  inside-used n up e =
+      let used : isFree (page (pagesOf l b) n) ≡ false = level-used (page (pagesOf l b) n) up e in
+      record { low = high-used (decode (l .least) b) n (sure d b h .front) used; high = used-in (pagesOf l b) n used }
 
 module _ {l : Limits} {b : List ℕ} (k : Kept l b) where
   abbrev s : Store

@@ -1,5 +1,8 @@
 // The plan of an update: the number that it will come to, known before the first write. It reads the pages as they stand, from the leaf
 // up, and carries the change that the next page has to take and how many pages are free by then.
+mod down;
+
+pub use down::way_to;
 use edit::Change;
 use group::Around;
 use group::Group;
@@ -45,7 +48,7 @@ pub struct Way {
     pub n: usize,
 }
 
-fn wide(x: u32) -> usize
+pub(crate) fn wide(x: u32) -> usize
     ensures { λ r. ⌜ r ≡ x ⌝ }
 {
     x as usize

@@ -1,0 +1,53 @@
+use Rattle.plan.specs.Way.{taken-is, taken-among}
+use Rattle.model.specs.declared.Pair.{Pair}
+use lib.ListN.{length, getD}
+use mathlib.Core.List.{List}
+use mathlib.Core.Path.{_≡_, sym, ap, _∙_}
+use native.Mathlib.Omega.{arith}
+use Prim.Native.Nat.{ℕ, _+_, _-_, _≤_, _<_}
+use borrow.Author.Needs.{needs}
+use Rattle.plan.proofs.down.at_place.Statement.{statement}
+use Rattle.plan.proofs.down.at_place.Tie as tie
+
+less-two-requires : tie.Need-less-two-requires
+less-two-requires c κs = search needs
+
+mul-left : tie.Need-mul-left
+mul-left c = search needs
+
+array-copy-out-left : tie.Need-array-copy-out-left
+array-copy-out-left c = omega (arith, c .less-two .ensures, c .before .before .pre .0 .size, c .before .before .pre .3)
+
+sub-own : tie.Need-sub-own
+sub-own c = search needs
+
+mul-own : tie.Need-mul-own
+mul-own c = search needs
+
+array-copy-out-own : tie.Need-array-copy-out-own
+array-copy-out-own c = omega (arith, c .before .before .before .pre .0 .size, c .before .before .before .pre .3)
+
+mul-right : tie.Need-mul-right
+mul-right c = search needs
+
+array-copy-out-right : tie.Need-array-copy-out-right
+array-copy-out-right c = omega (arith, c .before .before .before .before .pre .0 .size, c .before .before .before .before .pre .3)
+
+returns : tie.Need-returns
+returns c =
+    let p = c .before .before .before .before .less-two .result in
+    (taken-is (c .before .before .before .before .before .before .args .g) (c .before .before .before .before .before .before .pre .0) (c .before .before .before .before .before .before .args .i) (c .before .before .before .before .before .before .pre .2) (c .before .before .before .before .before .before .pre .3) p (c .before .before .before .before .less-two .ensures), taken-among (c .before .before .before .before .before .before .args .g) (c .before .before .before .before .before .before .pre .0) (c .before .before .before .before .before .before .args .i) (c .before .before .before .before .before .before .pre .2) (c .before .before .before .before .before .before .pre .3) p (c .before .before .before .before .less-two .ensures))
+
+pub at-place-spec : {M : Type 1} → statement M
+at-place-spec =
+    tie.close
+    (tie.spec
+    less-two-requires
+    mul-left
+    array-copy-out-left
+    sub-own
+    mul-own
+    array-copy-out-own
+    mul-right
+    array-copy-out-right
+    returns)
