@@ -71,7 +71,7 @@ parts-two : (least : ℕ) (xs : List Pair) (n : ℕ) → length xs ≡ n → 4 *
 unfolding rules.parts rules.partsBy
 parts-two least xs n e h = rw (lt-leb (length xs) (4 * least) (omega arith)) (ap (λ (k : ℕ). rules.two (take ((k + 1) / 2) xs) (drop ((k + 1) / 2) xs)) e)
 
-module _ (least w level : ℕ) (ps : List Page) (g : Group) (z : Good (g .all)) (u : Numbers) (v : Numbered u (take 2 (rules.usable w ps (routersOf (g .routers))))) where
+module _ (least w level : ℕ) (ps : List Page) (g : Group) (u : Numbers) (v : Numbered u (take 2 (rules.usable w ps (routersOf (g .routers))))) where
   abbrev rs : List Pair
   rs = routersOf (g .routers)
 
@@ -82,20 +82,31 @@ module _ (least w level : ℕ) (ps : List Page) (g : Group) (z : Good (g .all)) 
   unfolding rules.rebuild groupOf
   start = rebuild-take w level ps rs (rules.parts least xs) (rules.usable w ps rs)
 
-  pub rebuilt-one : g .all .n ≤ 4 * least → 1 ≤ u .n
+  pub rebuilt-short : u .n < fills least (pairsIn (g .all)) → rules.rebuild least w level ps (groupOf g) ≡ rules.short
+  unfolding rules.rebuildWith rules.parts rules.partsBy
+  rebuilt-short h = start ∙ by (leb (length xs) (4 * least)) (take 2 (rules.usable w ps rs)) v h
+    where
+      by : (b : Bool) (us : List ℕ) → Numbered u us → u .n < pick b 1 2 → rules.rebuildWith w level ps rs (rules.partsBy b xs) us ≡ rules.short
+      by true [] v h = refl
+      by true (k ∷ us) v h = absurd (omega (arith, v .count))
+      by false [] v h = refl
+      by false (k ∷ []) v h = refl
+      by false (k ∷ m ∷ us) v h = absurd (omega (arith, v .count))
+
+  pub rebuilt-one : Good (g .all) → g .all .n ≤ 4 * least → 1 ≤ u .n
       → rules.rebuild least w level ps (groupOf g) ≡ rules.rebuilt (set (rules.retire w ps (routersOf (g .routers))) (u .first) (filled w level (pairsIn (g .all)))) (routersTo (routersOf (g .routers)) (rules.parts least (pairsIn (g .all))) (u .first) (u .second))
   unfolding rules.rebuildWith routersTo
-  rebuilt-one h n = start ∙ rw (parts-one least xs (omega (arith, length-pairs (g .all) z))) (by (take 2 (rules.usable w ps rs)) v)
+  rebuilt-one z h n = start ∙ rw (parts-one least xs (omega (arith, length-pairs (g .all) z))) (by (take 2 (rules.usable w ps rs)) v)
     where
       by : (us : List ℕ) → Numbered u us → rules.rebuildWith w level ps rs (rules.one xs) us ≡ rules.rebuilt (set (rules.retire w ps rs) (u .first) (filled w level xs)) (routersTo rs (rules.one xs) (u .first) (u .second))
       by [] v = absurd (omega (arith, v .count))
       by (k ∷ us) v = rw (v .first)
 
-  pub rebuilt-two : 4 * least < g .all .n → 2 ≤ u .n
+  pub rebuilt-two : Good (g .all) → 4 * least < g .all .n → 2 ≤ u .n
       → rules.rebuild least w level ps (groupOf g)
       ≡ rules.rebuilt (set (set (rules.retire w ps (routersOf (g .routers))) (u .first) (filled w level (take ((g .all .n + 1) / 2) (pairsIn (g .all))))) (u .second) (filled w level (drop ((g .all .n + 1) / 2) (pairsIn (g .all))))) (routersTo (routersOf (g .routers)) (rules.parts least (pairsIn (g .all))) (u .first) (u .second))
   unfolding rules.rebuildWith routersTo
-  rebuilt-two h n = start ∙ rw (parts-two least xs (g .all .n) (length-pairs (g .all) z) h) (by (take 2 (rules.usable w ps rs)) v (take ((g .all .n + 1) / 2) xs) (drop ((g .all .n + 1) / 2) xs))
+  rebuilt-two z h n = start ∙ rw (parts-two least xs (g .all .n) (length-pairs (g .all) z) h) (by (take 2 (rules.usable w ps rs)) v (take ((g .all .n + 1) / 2) xs) (drop ((g .all .n + 1) / 2) xs))
     where
       by : (us : List ℕ) → Numbered u us → (x y : List Pair) → rules.rebuildWith w level ps rs (rules.two x y) us ≡ rules.rebuilt (set (set (rules.retire w ps rs) (u .first) (filled w level x)) (u .second) (filled w level y)) (routersTo rs (rules.two x y) (u .first) (u .second))
       by [] v x y = absurd (omega (arith, v .count))

@@ -24,7 +24,7 @@ same-length c = search needs
 returns : tie.Need-returns
 returns c =
     let ps = pagesOf (c .before .before .before .before .before .before .before .before .before .args .l) (c .before .before .before .before .before .before .before .before .before .args .s .now) in
-    let e = rebuilt-one (c .before .before .before .before .before .before .before .before .before .args .l .least) (c .before .before .before .before .before .before .before .before .before .args .w) (c .before .before .before .before .before .before .before .before .before .args .level) ps (c .before .before .before .before .before .before .before .before .before .args .g) (c .before .before .before .before .before .before .before .before .before .pre .1 .good) (c .before .before .before .before .before .before .before .before .before .args .u) (c .before .before .before .before .before .before .before .before .before .pre .4) (omega (arith, full-is (c .before .before .before .before .before .before .before .before .before .pre .0 .edition), c .before .before .before .before .if1 .taken)) (omega (arith, fills-one (c .before .before .before .before .before .before .before .before .before .args .l .least) (pairsIn (c .before .before .before .before .before .before .before .before .before .args .g .all)), c .before .before .before .before .before .before .before .before .before .pre .5)) in
+    let e = rebuilt-one (c .before .before .before .before .before .before .before .before .before .args .l .least) (c .before .before .before .before .before .before .before .before .before .args .w) (c .before .before .before .before .before .before .before .before .before .args .level) ps (c .before .before .before .before .before .before .before .before .before .args .g) (c .before .before .before .before .before .before .before .before .before .args .u) (c .before .before .before .before .before .before .before .before .before .pre .4) (c .before .before .before .before .before .before .before .before .before .pre .1 .good) (omega (arith, full-is (c .before .before .before .before .before .before .before .before .before .pre .0 .edition), c .before .before .before .before .if1 .taken)) (omega (arith, fills-one (c .before .before .before .before .before .before .before .before .before .args .l .least) (pairsIn (c .before .before .before .before .before .before .before .before .before .args .g .all)), c .before .before .before .before .before .before .before .before .before .pre .5)) in
     (rw (pages-are (c .before .before .before .before .before .before .before .before .before .pre .0) (c .before .before .one-page .ensures)) e, itself (c .before .before .before .before .before .before .before .before .before .pre .0) (c .before .before .one-page .ensures))
 
 two-pages-requires : tie.Need-two-pages-requires
@@ -43,7 +43,7 @@ returns-2 c =
     let ps = pagesOf (c .before .before .before .before .before .before .before .before .before .args .l) (c .before .before .before .before .before .before .before .before .before .args .s .now) in
     let many : 4 * c .before .before .before .before .before .before .before .before .before .args .l .least < c .before .before .before .before .before .before .before .before .before .args .g .all .n = omega (arith, full-is (c .before .before .before .before .before .before .before .before .before .pre .0 .edition), c .before .before .before .before .if1 .left) in
     let two = fills-two (c .before .before .before .before .before .before .before .before .before .args .l .least) (pairsIn (c .before .before .before .before .before .before .before .before .before .args .g .all)) (omega (arith, length-pairs (c .before .before .before .before .before .before .before .before .before .args .g .all) (c .before .before .before .before .before .before .before .before .before .pre .1 .good))) in
-    let e = rebuilt-two (c .before .before .before .before .before .before .before .before .before .args .l .least) (c .before .before .before .before .before .before .before .before .before .args .w) (c .before .before .before .before .before .before .before .before .before .args .level) ps (c .before .before .before .before .before .before .before .before .before .args .g) (c .before .before .before .before .before .before .before .before .before .pre .1 .good) (c .before .before .before .before .before .before .before .before .before .args .u) (c .before .before .before .before .before .before .before .before .before .pre .4) many (omega (arith, two, c .before .before .before .before .before .before .before .before .before .pre .5)) in
+    let e = rebuilt-two (c .before .before .before .before .before .before .before .before .before .args .l .least) (c .before .before .before .before .before .before .before .before .before .args .w) (c .before .before .before .before .before .before .before .before .before .args .level) ps (c .before .before .before .before .before .before .before .before .before .args .g) (c .before .before .before .before .before .before .before .before .before .args .u) (c .before .before .before .before .before .before .before .before .before .pre .4) (c .before .before .before .before .before .before .before .before .before .pre .1 .good) many (omega (arith, two, c .before .before .before .before .before .before .before .before .before .pre .5)) in
     (rw (pages-are (c .before .before .before .before .before .before .before .before .before .pre .0) (c .before .before .two-pages .ensures)) e, itself (c .before .before .before .before .before .before .before .before .before .pre .0) (c .before .before .two-pages .ensures))
 
 pub rebuild-spec : {M : Type 1} → statement M
