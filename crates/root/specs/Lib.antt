@@ -1,1 +1,2 @@
 pub mod Slotted
+pub mod Root

@@ -17,7 +17,7 @@ wide-requires : tie.Need-wide-requires
 wide-requires c κs = search needs
 
 add-with-roots : tie.Need-add-with-roots
-add-with-roots c = let k = c .before .before .before .before .before .before .pre .0 in omega (arith, ap (λ (h : Header). h .current) (c .before .before .before .header .ensures), c .before .before .before .before .before .before .pre .1 .low, next-is k)
+add-with-roots c = let k = c .before .before .before .before .before .before .pre .0 in omega (arith, ap (λ (h : Header). h .current) (c .before .before .before .header .ensures), c .before .before .before .before .before .before .pre .2 .low, next-is k)
 
 cast-t12 : tie.Need-cast-t12
 cast-t12 c = search needs
@@ -26,7 +26,7 @@ put-slot-requires : tie.Need-put-slot-requires
 put-slot-requires c κs =
     let k = c .before .before .before .before .before .before .pre .0 in (
       k .edition,
-      record { version = omega (arith, ap (λ (h : Header). h .current) (c .before .before .before .header .ensures), c .before .before .before .before .before .before .pre .1 .low, next-is k); root = omega (arith, c .before .before .before .before .before .before .pre .2 .high, k .most) },
+      record { version = omega (arith, ap (λ (h : Header). h .current) (c .before .before .before .header .ensures), c .before .before .before .before .before .before .pre .2 .low, next-is k); root = omega (arith, c .before .before .before .before .before .before .pre .1 .high, k .most) },
       front k,
       omega (arith, c .before .wide .ensures, ap (λ (h : Header). h .roots) (c .before .before .before .header .ensures), roots-are k, c .before .before .before .before .before .before .pre .4),
       short k,
@@ -57,7 +57,7 @@ returns c =
     let k = c .before .before .before .before .before .before .before .before .before .before .before .before .before .before .before .pre .0 in
     let r = ap (λ (h : Header). h .roots) (c .before .before .before .before .before .before .before .before .before .before .before .before .header .ensures) ∙ roots-are k in
     let n = ap (λ (h : Header). h .current) (c .before .before .before .before .before .before .before .before .before .before .before .before .header .ensures) in
-    rw (c .before .before .before .with-roots .ensures, r, c .before .before .before .before .before .before .before .before .before .before .before .before .header .ensures, c .before .before .before .before .before .before .before .before .put-slot .ensures, c .before .before .before .before .before .before .before .before .before .before .wide .ensures, r, n, next-is k) at (c .before .before .put-header .ensures) ∙ added k (c .before .before .before .before .before .before .before .before .before .before .before .before .before .before .before .pre .1) (c .before .before .before .before .before .before .before .before .before .before .before .before .before .before .before .args .n) (c .before .before .before .before .before .before .before .before .before .before .before .before .before .before .before .pre .2) (c .before .before .before .before .before .before .before .before .before .before .before .before .before .before .before .pre .3) (c .before .before .before .before .before .before .before .before .before .before .before .before .before .before .before .pre .4)
+    rw (c .before .before .before .with-roots .ensures, r, c .before .before .before .before .before .before .before .before .before .before .before .before .header .ensures, c .before .before .before .before .before .before .before .before .put-slot .ensures, c .before .before .before .before .before .before .before .before .before .before .wide .ensures, r, n, next-is k) at (c .before .before .put-header .ensures) ∙ added k (c .before .before .before .before .before .before .before .before .before .before .before .before .before .before .before .pre .2) (c .before .before .before .before .before .before .before .before .before .before .before .before .before .before .before .args .n) (c .before .before .before .before .before .before .before .before .before .before .before .before .before .before .before .pre .1) (c .before .before .before .before .before .before .before .before .before .before .before .before .before .before .before .pre .3) (c .before .before .before .before .before .before .before .before .before .before .before .before .before .before .before .pre .4)
 
 pub add-slot-spec : {M : Type 1} → statement M
 add-slot-spec =
