@@ -25,6 +25,7 @@ mod parent;
 mod used;
 
 pub use parent::parent_change;
+pub use parent::routers_to;
 pub use used::active_ones;
 pub use used::usable;
 

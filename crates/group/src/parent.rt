@@ -19,7 +19,7 @@ ghost use Rattle.gather.specs.Kept.{Fits};
 ghost use Rattle.group.specs.Group.{routersOf};
 
 // The routers that lead to the pages now used. "The first new low key is the lowest old one; the second is the second page's first key."
-fn routers_to(g: Group, l: Limits, first: usize, second: usize) -> Routers
+pub fn routers_to(g: Group, l: Limits, first: usize, second: usize) -> Routers
     requires { ⌜ Edition l × Good (g .all) × Fitting (g .routers .first) × (first < 2 ^ 32) × (second < 2 ^ 32) ⌝ }
     ensures { λ r. ⌜ (routersOf r ≡ routersTo (routersOf (g .routers)) (parts (l .least) (pairsIn (g .all))) first second) × Fitting (r .first) × Fitting (r .second) ⌝ }
 {

@@ -1,0 +1,3 @@
+pub mod Rebuild
+pub mod Work
+pub mod Climb

@@ -1,0 +1,82 @@
+-- `crown` meets its contract. Assumes nothing.
+use borrow.Author.Tests.{not-true, not-false}
+use native.Mathlib.Omega.{arith}
+use mathlib.Core.Path.{_∙_}
+use Prim.Native.Nat.{_+_}
+use Rattle.parts.specs.Kept.{pagesOf}
+use Rattle.parts.specs.Free.{freePast, free-all}
+use Rattle.parts.specs.Becomes.{stays, pages-are}
+use Rattle.gather.specs.Gather.{listed}
+use Rattle.climb.specs.Rebuild.{itself}
+use Rattle.root.specs.Root.{rootedOf}
+use Rattle.root.specs.Renew.{crown-one, crown-none, crown-two}
+use borrow.Author.Needs.{needs}
+use Rattle.root.proofs.renew.crown.Statement.{statement}
+use Rattle.root.proofs.renew.crown.Tie as tie
+
+wide-requires : tie.Need-wide-requires
+wide-requires c κs = search needs
+
+returns : tie.Need-returns
+unfolding rootedOf
+returns c =
+    (rw (c .wide .ensures) (crown-one (c .before .before .before .before .before .args .w) (c .before .before .before .before .before .args .level) (pagesOf (c .before .before .before .before .before .args .l) (c .before .before .before .before .before .args .s .now)) (c .before .before .before .before .before .args .rs) (not-true (c .before .before .before .before .before .args .rs .two) (c .before .if1 .taken))), stays (c .before .before .before .before .before .pre .0))
+
+first-free-requires : tie.Need-first-free-requires
+first-free-requires c κs = (c .before .before .before .before .before .pre .0, omega arith, omega (arith, c .before .before .before .before .before .pre .5, c .before .before .before .before .before .pre .0 .holds .five), c .before .before .before .before .before .pre .5)
+
+same-length : tie.Need-same-length
+same-length c = search needs
+
+returns-2 : tie.Need-returns-2
+unfolding rootedOf
+returns-2 c =
+    let ps = pagesOf (c .before .before .before .before .before .before .before .args .l) (c .before .before .before .before .before .before .before .args .s .now) in
+    let two = not-false (c .before .before .before .before .before .before .before .args .rs .two) (c .before .before .before .if1 .left) in
+    (crown-none (c .before .before .before .before .before .before .before .args .w) (c .before .before .before .before .before .before .before .args .level) ps (c .before .before .before .before .before .before .before .args .rs) two (free-all ps ∙ c .before .first-free .ensures .none (omega (arith, c .if2 .taken))), stays (c .before .before .before .before .before .before .before .pre .0))
+
+add-fill-in : tie.Need-add-fill-in
+add-fill-in c = omega (arith, c .before .before .before .before .before .before .before .before .pre .2)
+
+both-requires : tie.Need-both-requires
+both-requires c κs = (c .before .before .before .before .before .before .before .before .pre .3, c .before .before .before .before .before .before .before .before .pre .4)
+
+fill-in-requires : tie.Need-fill-in-requires
+fill-in-requires c κs = (
+  c .before .before .before .before .before .before .before .before .before .pre .0,
+  record { low = c .before .before .before .first-free .ensures .low; high = omega (arith, c .before .before .before .first-free .ensures .high, c .before .before .if2 .left, c .before .before .before .before .before .before .before .before .before .pre .5) },
+  omega (arith, c .before .before .before .before .before .before .before .before .before .pre .2),
+  c .before .before .before .before .before .before .before .before .before .pre .1,
+  c .both .ensures .good,
+  omega arith,
+  omega (arith, listed (c .both .ensures)),
+  omega (arith, c .before .before .before .before .before .before .before .before .before .pre .0 .edition .four),
+)
+
+same-length-2 : tie.Need-same-length-2
+same-length-2 c = search needs
+
+returns-3 : tie.Need-returns-3
+unfolding rootedOf
+returns-3 c =
+    let ps = pagesOf (c .before .before .before .before .before .before .before .before .before .before .before .before .args .l) (c .before .before .before .before .before .before .before .before .before .before .before .before .args .s .now) in
+    let two = not-false (c .before .before .before .before .before .before .before .before .before .before .before .before .args .rs .two) (c .before .before .before .before .before .before .before .before .if1 .left) in
+    let d = rw (c .before .before .before .both .ensures .is) at (c .before .before .fill-in .ensures) in (
+      rw (pages-are (c .before .before .before .before .before .before .before .before .before .before .before .before .pre .0) d) (crown-two (c .before .before .before .before .before .before .before .before .before .before .before .before .args .w) (c .before .before .before .before .before .before .before .before .before .before .before .before .args .level) ps (c .before .before .before .before .before .before .before .before .before .before .before .before .args .rs) two (c .before .before .before .before .before .before .first-free .result) (freePast ps (c .before .before .before .before .before .before .first-free .result + 1)) (free-all ps ∙ c .before .before .before .before .before .before .first-free .ensures .some (omega (arith, c .before .before .before .before .before .before .first-free .ensures .high, c .before .before .before .before .before .if2 .left)))),
+      itself (c .before .before .before .before .before .before .before .before .before .before .before .before .pre .0) d,
+    )
+
+pub crown-spec : {M : Type 1} → statement M
+crown-spec =
+    tie.close
+    (tie.spec
+    wide-requires
+    returns
+    first-free-requires
+    same-length
+    returns-2
+    add-fill-in
+    both-requires
+    fill-in-requires
+    same-length-2
+    returns-3)

@@ -1,0 +1,39 @@
+-- `has_slot` meets its contract. Assumes nothing.
+use Prim.Native.Nat.{ℕ, _+_}
+use mathlib.Core.Path.{_≡_, ap, _∙_}
+use lib.Dec.{eqb}
+use Rattle.model.specs.Store.{next}
+use Rattle.model.specs.Layout.{decode}
+use native.Mathlib.Omega.{arith}
+use Rattle.model.specs.declared.Header.{Header}
+use Rattle.parts.specs.Kept.{front, short}
+use Rattle.root.specs.Slotted.{roots-are, next-is, has-slot-is}
+use borrow.Author.Needs.{needs}
+use Rattle.root.proofs.slots.has_slot.Statement.{statement}
+use Rattle.root.proofs.slots.has_slot.Tie as tie
+
+header-requires : tie.Need-header-requires
+header-requires c κs = let k = c .before .pre .0 in (k .edition, omega (arith, front k), short k)
+
+sub-wide : tie.Need-sub-wide
+sub-wide c = let k = c .before .before .before .pre .0 in omega (arith, ap (λ (h : Header). h .roots) (c .before .header .ensures), roots-are k, c .before .before .before .pre .1 .some)
+
+wide-requires : tie.Need-wide-requires
+wide-requires c κs = search needs
+
+slot-requires : tie.Need-slot-requires
+slot-requires c κs = let k = c .before .before .before .before .pre .0 in (k .edition, front k, omega (arith, c .wide .ensures, ap (λ (h : Header). h .roots) (c .before .before .header .ensures), roots-are k, c .before .before .before .before .pre .1 .some, k .holds .few), short k)
+
+add-result : tie.Need-add-result
+add-result c = let k = c .before .before .before .before .before .before .pre .0 in omega (arith, ap (λ (h : Header). h .current) (c .before .before .before .before .header .ensures), k .holds .current, next-is k)
+
+returns : tie.Need-returns
+returns c =
+    let k = c .before .before .before .before .before .before .before .pre .0 in
+    let r = ap (λ (h : Header). h .roots) (c .before .before .before .before .before .header .ensures) ∙ roots-are k in
+    let v : c .before .before .before .before .before .header .result .current + 1 ≡ next (decode (c .before .before .before .before .before .before .before .args .l .least) (c .before .before .before .before .before .before .before .args .s .now)) = omega (arith, ap (λ (h : Header). h .current) (c .before .before .before .before .before .header .ensures), next-is k) in
+    ap (λ (m : ℕ). eqb (c .before .before .slot .result .version) m) v ∙ rw (c .before .before .slot .ensures, c .before .before .before .wide .ensures, r) (has-slot-is k (c .before .before .before .before .before .before .before .pre .1))
+
+pub has-slot-spec : {M : Type 1} → statement M
+has-slot-spec =
+    tie.close (tie.spec header-requires sub-wide wide-requires slot-requires add-result returns)
