@@ -2,6 +2,7 @@
 //
 // The tests are those of model/specs/Quick, which are rules 4 to 6 where rules 1 to 3 hold (model/proofs/Quick, `quick-rules`).
 mod entry;
+mod pages;
 mod part;
 mod routers;
 mod under;
