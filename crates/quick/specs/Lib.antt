@@ -4,3 +4,4 @@ pub mod Here
 pub mod Under
 pub mod Routers
 pub mod Pages
+pub mod Given
