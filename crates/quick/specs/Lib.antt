@@ -2,3 +2,4 @@ pub mod Good
 pub mod Part
 pub mod Here
 pub mod Under
+pub mod Slots

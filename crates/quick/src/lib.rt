@@ -3,6 +3,7 @@
 // The tests are those of model/specs/Quick, which are rules 4 to 6 where rules 1 to 3 hold (model/proofs/Quick, `quick-rules`).
 mod entry;
 mod part;
+mod slots;
 mod under;
 
 ghost use mathlib.Core.Path.{_≡_};
