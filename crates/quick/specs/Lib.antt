@@ -5,3 +5,4 @@ pub mod Under
 pub mod Routers
 pub mod Pages
 pub mod Given
+pub mod Slots

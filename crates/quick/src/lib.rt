@@ -5,6 +5,7 @@ mod entry;
 mod pages;
 mod part;
 mod routers;
+mod slots;
 mod under;
 
 ghost use mathlib.Core.Path.{_≡_};
