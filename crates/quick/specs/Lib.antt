@@ -3,3 +3,4 @@ pub mod Part
 pub mod Here
 pub mod Under
 pub mod Slots
+pub mod Sums

@@ -4,6 +4,7 @@
 mod entry;
 mod part;
 mod slots;
+mod sums;
 mod under;
 
 ghost use mathlib.Core.Path.{_≡_};
