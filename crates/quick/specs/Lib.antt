@@ -6,3 +6,4 @@ pub mod Routers
 pub mod Pages
 pub mod Given
 pub mod Slots
+pub mod Sums

@@ -6,6 +6,7 @@ mod pages;
 mod part;
 mod routers;
 mod slots;
+mod sums;
 mod under;
 
 ghost use mathlib.Core.Path.{_≡_};
