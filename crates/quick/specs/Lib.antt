@@ -7,3 +7,4 @@ pub mod Pages
 pub mod Given
 pub mod Slots
 pub mod Sums
+pub mod Number
