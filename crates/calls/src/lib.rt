@@ -36,9 +36,9 @@ pub fn guard_reading(s: &[u8], l: Limits, bad: bool, v: u32) -> u32
     requires { ⌜ Edition l ⌝ }
     ensures { λ r. ⌜ r ≡ guarded (l .least) (now (s .entry)) (reading bad v) ⌝ }
 {
-    let j = judge::judge_in(s, l);
-    if j.number != 0 {
-        return j.number;
+    let n = quick::number(s, l);
+    if n != 0 {
+        return n;
     }
     if bad {
         return 5;
@@ -55,9 +55,9 @@ fn guard_opening(s: &[u8], l: Limits) -> u32
     requires { ⌜ Edition l ⌝ }
     ensures { λ r. ⌜ r ≡ guarded (l .least) (now (s .entry)) opening ⌝ }
 {
-    let j = judge::judge_in(s, l);
-    if j.number != 0 {
-        return j.number;
+    let n = quick::number(s, l);
+    if n != 0 {
+        return n;
     }
     let h = store::header(s, l);
     if h.opened {
@@ -74,9 +74,9 @@ fn guard_closing(s: &[u8], l: Limits) -> u32
     requires { ⌜ Edition l ⌝ }
     ensures { λ r. ⌜ r ≡ guarded (l .least) (now (s .entry)) closing ⌝ }
 {
-    let j = judge::judge_in(s, l);
-    if j.number != 0 {
-        return j.number;
+    let n = quick::number(s, l);
+    if n != 0 {
+        return n;
     }
     let h = store::header(s, l);
     if !h.opened {

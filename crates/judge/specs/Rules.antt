@@ -1,6 +1,6 @@
 -- What rules 1 to 3 give, and rules 4 to 6 said by the walk's tests. Assumes nothing.
-use Prim.Native.Nat.{ℕ, zero, suc, _+_, _*_, _-_, _<_, _≤_}
-use mathlib.Core.Bool.{Bool, true, false, _&&_, _||_, not}
+use Prim.Native.Nat.{ℕ, suc, _+_, _<_}
+use mathlib.Core.Bool.{Bool, true, false, _&&_, _||_}
 use mathlib.Core.Path.{_≡_, refl, ap, sym, _∙_}
 use mathlib.Core.List.{List, [], _∷_}
 use native.Mathlib.Omega.{arith}
@@ -8,7 +8,6 @@ use native.Mathlib.Numerals.{add-one}
 use lib.Dec.{leb, ltb, eqb}
 use lib.ListN.{drop}
 use borrow.Author.Tests.{ne-eqb}
-use Rattle.model.specs.declared.Entry.{Entry}
 use Rattle.model.specs.declared.Header.{Header}
 use Rattle.model.specs.declared.Pair.{Pair}
 use Rattle.model.specs.Basic.{all, count, inOrder, pick}
@@ -16,48 +15,23 @@ use Rattle.model.specs.Entry.{within}
 use Rattle.model.specs.Store.{lastOf}
 use Rattle.model.specs.Walk.{Seen, seen}
 use Rattle.model.specs.Sound.{startsAt, keysOk, reachedWell, versions, rule2, rule3, rule4, rule5, rule6}
-use Rattle.model.specs.Layout.{pageOf, decodePage, readHeader, readSlots, readPages, decode, sizeOf}
-use Rattle.model.specs.Clean.{clean}
-use Rattle.model.proofs.Lists.{both-true}
-use Rattle.model.proofs.Members.{not-both}
+use Rattle.model.specs.Layout.{readHeader, decode}
 use Rattle.model.proofs.Given.{enough, numbers}
 use Rattle.model.proofs.Rising.{in-order-step, lower, lower-carries}
-use Rattle.local.specs.Local.{Sized, Ruled, Held, IsPage, headAt, levelAt, countAt, entryAt, slotAt, linkOk, linksOk, rootUsed}
-use Rattle.local.specs.Loops.{and-true, and-assoc, page-of-all, entry-of-all, slot-of-all}
+use Rattle.local.specs.Local.{Held, IsPage, slotAt}
+use Rattle.local.specs.Loops.{and-true, and-assoc}
 use Rattle.local.specs.First.{last-is}
-use Rattle.local.specs.Ruled.{ruled, last-low}
+use Rattle.local.specs.Linked.{child-lower, root-used}
 use Rattle.local.specs.Second.{some-root, root-zero}
-use Rattle.local.specs.Third.{link-is, by-lower, links-used, root-used-is, rule3-is}
 use Rattle.judge.specs.Pending.{openOk, stepOk, chainOk, passes}
 use Rattle.judge.specs.Versions.{versionOk, Ready}
 use Rattle.judge.specs.Tests.{all-ext, all-true}
 
 -- ---- rules 1 to 3
 
-pub held : (least : ℕ) (s : List ℕ) (size : ℕ) (h : Header) → Sized least s size → h ≡ readHeader least s → clean least s ≡ true → Held least s h
-held least s size h z e one =
-    let r : Ruled least s = ruled least s size z one in
-    let n : h .pages ≡ size = ap (λ (x : Header). x .pages) e ∙ r .pages ∙ z .is in
-    record { header = e; sized = rw n z; ruled = r; last = rw (e, ← last-is least s) (last-low least s size z one) }
-
-not-zero : (n : ℕ) → not (eqb n 0) ≡ true → 1 ≤ n
-not-zero zero e = absurd (not-both false e refl)
-not-zero (suc n) e = omega arith
-
 module _ (least : ℕ) (s : List ℕ) (h : Header) (d : Held least s h) (two : rule2 (decode least s) ≡ true) (three : rule3 (decode least s) ≡ true) where
   roots-are : h .roots ≡ readHeader least s .roots
   roots-are = ap (λ (x : Header). x .roots) (d .header)
-
-  linked-all : (all (linksOk (decode least s)) (readPages least s 5 (sizeOf least s - 5)) ≡ true) × (all (rootUsed (decode least s)) (readSlots s (512 * least) (readHeader least s .roots)) ≡ true)
-  linked-all = both-true _ _ (sym (rule3-is least s) ∙ three)
-
-  lowers : (n i : ℕ) → IsPage least s n → 2 ≤ levelAt least s n → i < countAt least s n → levelAt least s (entryAt least s n i .value) + 1 ≡ levelAt least s n
-  lowers n i k deep lt =
-      let e : Entry = entryAt least s n i in
-      let p : linksOk (decode least s) (decodePage least (pageOf least s n)) ≡ true = page-of-all least s (linksOk (decode least s)) 5 (sizeOf least s - 5) n (linked-all .0) (k .0) (omega (arith, k .1)) in
-      let q : linkOk (decode least s) (decodePage least (pageOf least s n)) e ≡ true
-      = entry-of-all (linkOk (decode least s) (decodePage least (pageOf least s n))) (pageOf least s n) (countAt least s n) i (sym (links-used least s n (λ a. omega arith)) ∙ p) lt in
-      by-lower (headAt least s n) (headAt least s (e .value)) e (λ a. omega arith) (sym (link-is least s n e (d .ruled .child n i k (λ a. omega arith) lt)) ∙ q)
 
   pub ready : Ready least s h
   ready =
@@ -69,7 +43,7 @@ module _ (least : ℕ) (s : List ℕ) (h : Header) (d : Held least s h) (two : r
           most = omega (arith, d .sized .is, d .sized .most);
           room = d .ruled .room;
           child = λ n i k a lt. d .ruled .child n i k (λ q. omega arith) lt;
-          lower = lowers;
+          lower = child-lower least s (d .ruled) three;
         };
         roots = rw roots-are (d .ruled .roots);
         some = rw roots-are (some-root least s two);
@@ -79,7 +53,7 @@ module _ (least : ℕ) (s : List ℕ) (h : Header) (d : Held least s h) (two : r
             let g : IsPage least s (slotAt least s i .root) = d .ruled .root i j in
             record {
               isPage = g;
-              used = not-zero (levelAt least s (slotAt least s i .root)) (sym (root-used-is least s (slotAt least s i) g) ∙ slot-of-all (rootUsed (decode least s)) s (512 * least) (readHeader least s .roots) i (linked-all .1) j);
+              used = root-used least s (d .ruled) three i j;
               low = d .ruled .level (slotAt least s i .root) g;
             };
         last = d .last;

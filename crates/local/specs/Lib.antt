@@ -6,3 +6,4 @@ pub mod First
 pub mod Ruled
 pub mod Second
 pub mod Third
+pub mod Linked

@@ -84,6 +84,9 @@ module _ (least : ℕ) (s : List ℕ) (size : ℕ) (z : Sized least s size) (r :
     used : (levelAt least s n ≡ 0 → ⊥) → ((lv && ct && sp) ≡ true) × (entriesOk l size (levelAt least s n) es ≡ true)
     used a = both-true (lv && ct && sp) (entriesOk l size (levelAt least s n) es) (sym (fine-used least l size p a) ∙ fine)
 
+    pub order : (levelAt least s n ≡ 0 → ⊥) → inOrder before es ≡ true
+    order a = both-true (inOrder before es) (all (entryOk l size (levelAt least s n)) es) (used a .1) .0
+
     empty : levelAt least s n ≡ 0 → countAt least s n ≡ 0
     empty a =
         eqb-true (countAt least s n) 0 (both-true (eqb (headAt least s n .start) 0 && eqb (headAt least s n .end) 0) (eqb (countAt least s n) 0) (sym (fine-free least l size p a) ∙ fine) .1)

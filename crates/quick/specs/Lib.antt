@@ -2,3 +2,9 @@ pub mod Good
 pub mod Part
 pub mod Here
 pub mod Under
+pub mod Routers
+pub mod Pages
+pub mod Given
+pub mod Slots
+pub mod Sums
+pub mod Number

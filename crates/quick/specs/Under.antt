@@ -26,6 +26,10 @@ wayIf false h a b e es = record { fine = true; from = 0; upto = 0; page = e .val
 abbrev pub wayOf : ℕ → ℕ → ℕ → Entry → List Entry → Way
 wayOf h a b e es = wayIf (meets a b e) h a b e es
 
+-- what is asked of page m, `up` levels above the leaves, by a key and a stretch
+abbrev pub underPage : ℕ → List Page → ℕ → ℕ → ℕ → ℕ → Bool
+underPage up ps m h a b = under up ps h a b m
+
 -- ---- an empty stretch
 
 meets-empty : (a b : ℕ) (e : Entry) → b ≤ a → meets a b e ≡ false
@@ -109,18 +113,15 @@ module _ (ps : List Page) (up : ℕ) (p : List ℕ) (i n : ℕ) where
   pub lasts-end : (h a b : ℕ) → n ≤ i → lasts (under up ps h) h a b here ≡ true
   lasts-end h a b l = ap (lasts (under up ps h) h a b) (entries-end p (128 + 96 * i) i n l)
 
-  abbrev pub of : ℕ → ℕ → ℕ → ℕ → Bool
-  of m h a b = under up ps h a b m
-
-  pub nexts-step : (m a b : ℕ) (d : Entry) → d ≡ e → i < n → nexts (of m) a b here ≡ (under up ps (d .key) (max a (d .start)) (min b (d .end)) m && nexts (of m) (past a d) b rest)
+  pub nexts-step : (m a b : ℕ) (d : Entry) → d ≡ e → i < n → nexts (underPage up ps m) a b here ≡ (under up ps (d .key) (max a (d .start)) (min b (d .end)) m && nexts (underPage up ps m) (past a d) b rest)
   nexts-step m a b d q l =
-      ap (nexts (of m) a b) (entries-step p i n l) ∙ ap (λ (x : Bool). x && nexts (of m) (past a e) b rest) (next-is (of m) (λ h c g k. under-empty up ps h c g m k) a b e)
-      ∙ ap (λ (x : Entry). under up ps (x .key) (max a (x .start)) (min b (x .end)) m && nexts (of m) (past a x) b rest) (sym q)
+      ap (nexts (underPage up ps m) a b) (entries-step p i n l) ∙ ap (λ (x : Bool). x && nexts (underPage up ps m) (past a e) b rest) (next-is (underPage up ps m) (λ h c g k. under-empty up ps h c g m k) a b e)
+      ∙ ap (λ (x : Entry). under up ps (x .key) (max a (x .start)) (min b (x .end)) m && nexts (underPage up ps m) (past a x) b rest) (sym q)
 
-  pub nexts-end : (m a b : ℕ) → n ≤ i → nexts (of m) a b here ≡ true
-  nexts-end m a b l = ap (nexts (of m) a b) (entries-end p (128 + 96 * i) i n l)
+  pub nexts-end : (m a b : ℕ) → n ≤ i → nexts (underPage up ps m) a b here ≡ true
+  nexts-end m a b l = ap (nexts (underPage up ps m) a b) (entries-end p (128 + 96 * i) i n l)
 
-  pub routers-step : (least : ℕ) → i < n → routersFine least up ps here ≡ ((fineOver least (e .key) (e .start) (e .end) (page ps (e .value)) && nexts (of (e .value)) (e .start) (e .end) rest) && routersFine least up ps rest)
+  pub routers-step : (least : ℕ) → i < n → routersFine least up ps here ≡ ((fineOver least (e .key) (e .start) (e .end) (page ps (e .value)) && nexts (underPage up ps (e .value)) (e .start) (e .end) rest) && routersFine least up ps rest)
   routers-step least l = ap (routersFine least up ps) (entries-step p i n l)
 
   pub routers-end : (least : ℕ) → n ≤ i → routersFine least up ps here ≡ true

@@ -1,14 +1,97 @@
 // Sound or not, found quickly: no walk, and no version by version, so that a million commits cost no more than none.
 //
-// The tests are those of model/specs/Quick, which are rules 4 to 6 where rules 1 to 3 hold (model/proofs/Quick, `quick-rules`).
+// The tests are those of model/specs/Quick, which are rules 4 to 6 where rules 1 to 3 hold (model/proofs/Quick, `quick-rules`). Which
+// rule is broken is for `judge`: here the number of check is given, and no more.
 mod entry;
+mod pages;
 mod part;
+mod routers;
+mod slots;
+mod sums;
 mod under;
 
+use model::Limits;
 ghost use mathlib.Core.Path.{_≡_};
+ghost use Prim.Native.Nat.{_≤_, _^_};
+ghost use lib.ListN.{length};
+ghost use Rattle.model.specs.Limits.{Edition};
+ghost use Rattle.model.specs.Layout.{decode};
+ghost use Rattle.model.specs.Judged.{editionOk, judged, isSound};
+ghost use Rattle.model.specs.Quick.{quick, quickIn};
+ghost use Rattle.local.specs.Local.{Sized};
+ghost use Rattle.quick.specs.Good.{Good};
+ghost use Rattle.quick.specs.Slots.{GoodSlots};
 
 pub(crate) fn wide(x: u32) -> usize
     ensures { λ r. ⌜ r ≡ x ⌝ }
 {
     x as usize
+}
+
+// Rules 4 to 6, where rules 1 to 3 hold.
+fn quick(s: &[u8], l: Limits) -> bool
+    requires { ⌜ Edition l × Good (l .least) (now s) × GoodSlots (l .least) (now s) ⌝ }
+    ensures { λ r. ⌜ r ≡ quick (l .least) (decode (l .least) (now (s .entry))) ⌝ }
+{
+    if !pages::pages_fine(s, l) {
+        return false;
+    }
+    if !slots::slots_fine(s, l) {
+        return false;
+    }
+    sums::spans_met(s, l)
+}
+
+// Rules 1 to 6 of lent bytes, which make `size` pages.
+fn rules_hold(s: &[u8], l: Limits, size: usize) -> bool
+    requires { ⌜ Edition l × Sized (l .least) (now s) size ⌝ }
+    ensures { λ r. ⌜ r ≡ quickIn (l .least) (now (s .entry)) ⌝ }
+{
+    if !local::first_rule(s, l, size) {
+        return false;
+    }
+    let h = store::header(s, l);
+    if !local::second_rule(s, l, h) {
+        return false;
+    }
+    if !local::third_rule(s, l, h) {
+        return false;
+    }
+    quick(s, l)
+}
+
+fn of_edition(s: &[u8], l: Limits) -> bool
+    requires { ⌜ Edition l × (5 ≤ length (now s)) × (length (now s) ≤ 2 ^ 40) ⌝ }
+    ensures { λ r. ⌜ r ≡ editionOk (l .least) (now (s .entry)) ⌝ }
+{
+    bits::field(s, 32, 8) == model::edition_of(l)
+}
+
+// The number of check for any bytes that are lent, without the rule that 4 comes with.
+pub fn number(s: &[u8], l: Limits) -> u32
+    requires { ⌜ Edition l ⌝ }
+    ensures { λ r. ⌜ r ≡ judged (l .least) (now (s .entry)) .number ⌝ }
+{
+    if !store::whole(s, l) {
+        return 1;
+    }
+    if !store::named(s) {
+        return 2;
+    }
+    if !of_edition(s, l) {
+        return 3;
+    }
+    let size = store::size(s, l);
+    if !rules_hold(s, l, size) {
+        return 4;
+    }
+    0
+}
+
+// Whether any bytes that are lent are a sound store's.
+pub fn sound(s: &[u8], l: Limits) -> bool
+    requires { ⌜ Edition l ⌝ }
+    ensures { λ r. ⌜ r ≡ isSound (l .least) (now (s .entry)) ⌝ }
+{
+    number(s, l) == 0
 }

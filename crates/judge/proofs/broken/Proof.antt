@@ -3,7 +3,8 @@ use mathlib.Core.Path.{_≡_, sym, _∙_}
 use mathlib.Core.Bool.{true}
 use native.Mathlib.Omega.{arith}
 use borrow.Author.Tests.{not-true, not-false}
-use Rattle.judge.specs.Rules.{held, ready, four-is, five-is, six-is, told-false, told-true}
+use Rattle.local.specs.Linked.{held}
+use Rattle.judge.specs.Rules.{ready, four-is, five-is, six-is, told-false, told-true}
 use Rattle.judge.specs.Versions.{Ready}
 use Rattle.local.specs.Local.{Held}
 use Rattle.model.proofs.Judging.{broken-one, broken-two, broken-three, broken-four, broken-five, broken-six, broken-none}

@@ -1,0 +1,63 @@
+use Rattle.model.specs.declared.Slot.{Slot}
+use Rattle.quick.specs.Here.{part-asks, room-here}
+use Rattle.store.specs.Read.{page-at}
+use Rattle.local.specs.Local.{IsPage, slotAt}
+use mathlib.Core.Path.{_≡_, ap, _∙_}
+use native.Mathlib.Omega.{arith}
+use borrow.Author.Needs.{needs}
+use Rattle.quick.proofs.slots.slot_fine.Statement.{statement}
+use Rattle.quick.proofs.slots.slot_fine.Tie as tie
+use Rattle.quick.proofs.slots.slot_fine.Reads as reads
+use Rattle.quick.proofs.slots.slot_fine.Lts as lts
+use Rattle.quick.proofs.slots.root_fine.Reads as root-fine-reads
+use Rattle.quick.proofs.slots.upto_at.Reads as upto-at-reads
+use Rattle.quick.proofs.wide.Reads as wide-reads
+use Rattle.store.proofs.part.Reads as part-reads
+use Rattle.store.proofs.slot.Reads as slot-reads
+
+-- src/slots.rt:59:9
+slot-requires : tie.Need-slot-requires
+slot-requires c κs = (c .before .pre .0, omega (arith, c .before .pre .2 .front), omega (arith, c .before .pre .2 .roots, c .before .pre .3, c .before .pre .4), omega (arith, c .before .pre .1 .long))
+
+-- src/slots.rt:60:27
+add-upto-at : tie.Need-add-upto-at
+add-upto-at c = omega (arith, c .before .before .pre .2 .roots, c .before .before .pre .3, c .before .before .pre .4, c .before .before .pre .0 .eight)
+
+-- src/slots.rt:60:9
+upto-at-requires : tie.Need-upto-at-requires
+upto-at-requires c κs = (c .before .before .pre .0, c .before .before .pre .1, c .before .before .pre .2, omega (arith, c .before .before .pre .2 .roots, c .before .before .pre .3))
+
+-- src/slots.rt:61:9
+wide-requires : tie.Need-wide-requires
+wide-requires c κs = search needs
+
+-- the slot's root is a page
+root-is : (c : tie.After-wide) → let a = c .before .before .before .before .args in c .wide .result ≡ slotAt (a .l .least) (a .s .now) (a .i) .root
+root-is c = c .wide .ensures ∙ ap (λ (x : Slot). x .root) (c .before .before .slot .ensures)
+
+rooted : (c : tie.After-wide) → let a = c .before .before .before .before .args in IsPage (a .l .least) (a .s .now) (c .wide .result)
+rooted c = let r = c .before .before .before .before .pre in rw (root-is c) (r .2 .root (c .before .before .before .before .args .i) (omega (arith, r .3, r .4)))
+
+-- src/slots.rt:62:15
+part-requires : tie.Need-part-requires
+part-requires c κs = let k = part-asks (c .before .before .before .before .pre .0) (c .before .before .before .before .args .s .now) (c .before .before .before .before .pre .1) (c .wide .result) (rooted ((c))) in (c .before .before .before .before .pre .0, k .0, k .1)
+
+-- src/slots.rt:62:5
+root-fine-requires : tie.Need-root-fine-requires
+root-fine-requires c κs = (c .before .before .before .before .before .pre .0, c .part .ensures .1, room-here (c .before .before .before .before .before .pre .0) (c .before .before .before .before .before .args .s .now) (c .before .before .before .before .before .pre .1) (c .before .wide .result) (rooted ((c .before))) (c .part .result .now) (c .part .ensures))
+
+-- src/slots.rt:55:1
+returns : tie.Need-returns
+returns c = let a = c .before .before .before .before .before .before .args in let k = c .before .before .before .before .before .before .pre .2 .root (a .i) (omega (arith, c .before .before .before .before .before .before .pre .3, c .before .before .before .before .before .before .pre .4)) in c .root-fine .ensures ∙ rw (c .before .part .ensures .0, root-is ((c .before .before)), c .before .before .before .before .slot .ensures, c .before .before .before .upto-at .ensures, page-at (a .l .least) (a .s .now) (slotAt (a .l .least) (a .s .now) (a .i) .root) (k .0) (k .1))
+
+pub slot-fine-spec : {M : Type 1} → statement M
+slot-fine-spec =
+    tie.close
+    (tie.spec
+    slot-requires
+    add-upto-at
+    upto-at-requires
+    wide-requires
+    part-requires
+    root-fine-requires
+    returns)

@@ -1,0 +1,79 @@
+-- Quick judging, one test after the other. Assumes nothing.
+use Prim.Native.Nat.{ℕ}
+use mathlib.Core.Bool.{Bool, true, false, _&&_}
+use mathlib.Core.Path.{_≡_, refl, sym, _∙_}
+use mathlib.Core.List.{List}
+use lib.Dec.{eqb}
+use lib.ListN.{drop}
+use Rattle.model.specs.Basic.{inOrder}
+use Rattle.model.specs.Limits.{editionOf}
+use Rattle.model.specs.Field.{field}
+use Rattle.model.specs.Page.{Page}
+use Rattle.model.specs.Store.{Store}
+use Rattle.model.specs.Sound.{rule2, rule3, pagesPass}
+use Rattle.model.specs.Layout.{decode}
+use Rattle.model.specs.Clean.{clean}
+use Rattle.model.specs.Judged.{editionOk, judged, isSound}
+use Rattle.model.specs.Quick.{apart, childrenFine, slotsFine, spansMet, quick, quickIn}
+use Rattle.local.specs.Loops.{and-false}
+
+-- ---- rules 4 to 6
+
+module _ (least : ℕ) (s : Store) where
+  abbrev pages : Bool
+  pages = pagesPass (λ (p : Page). inOrder apart (p .entries) && childrenFine least (s .pages) (p .level) (p .entries)) s
+
+  abbrev slots : Bool
+  slots = slotsFine least (s .pages) (s .slots)
+
+  pub quick-pages : pages ≡ false → quick least s ≡ false
+  unfolding quick
+  quick-pages a = rw a (and-false (spansMet s 5 (drop 5 (s .pages)) && slots))
+
+  module _ (a : pages ≡ true) where
+    pub quick-slots : slots ≡ false → quick least s ≡ false
+    unfolding quick
+    quick-slots b = at (spansMet s 5 (drop 5 (s .pages)))
+      where
+        at : (t : Bool) → ((t && slots) && pages) ≡ false
+        at true = rw b
+        at false = refl
+
+    pub quick-spans : slots ≡ true → quick least s ≡ spansMet s 5 (drop 5 (s .pages))
+    unfolding quick
+    quick-spans b = at (spansMet s 5 (drop 5 (s .pages)))
+      where
+        at : (t : Bool) → ((t && slots) && pages) ≡ t
+        at true = rw (b, a)
+        at false = refl
+
+-- ---- rules 1 to 6
+
+module _ (least : ℕ) (b : List ℕ) where
+  pub in-first : clean least b ≡ false → quickIn least b ≡ false
+  unfolding quickIn
+  in-first x = rw x
+
+  module _ (x : clean least b ≡ true) where
+    pub in-second : rule2 (decode least b) ≡ false → quickIn least b ≡ false
+    unfolding quickIn
+    in-second y = rw (x, y)
+
+    module _ (y : rule2 (decode least b) ≡ true) where
+      pub in-third : rule3 (decode least b) ≡ false → quickIn least b ≡ false
+      unfolding quickIn
+      in-third z = rw (x, y, z)
+
+      pub in-rest : rule3 (decode least b) ≡ true → quickIn least b ≡ quick least (decode least b)
+      unfolding quickIn
+      in-rest z = rw (x, y, z)
+
+  -- ---- the number
+
+  pub edition-by : editionOk least b ≡ eqb (field b 32 8) (editionOf least)
+  unfolding editionOk
+  edition-by = refl
+
+  pub sound-by : (n : ℕ) → n ≡ judged least b .number → eqb n 0 ≡ isSound least b
+  unfolding isSound
+  sound-by n e = rw e
