@@ -3,9 +3,8 @@ use Prim.Native.Nat.{ℕ, zero, suc, _+_, _*_, _-_, _/_, _%_, _^_, _≤_, _<_}
 use mathlib.Core.Path.{_≡_, refl, _∙_}
 use mathlib.Core.List.{List}
 use lib.ListN.{getD}
-use lib.Pow.{pow-mono, shr-shr}
+use lib.Pow.{pow-mono, shr-shr, high, low}
 use native.Mathlib.Nat.{two-pow-succ, add-suc, add-zero, mul-add, mul-one, add-assoc}
-use native.Mathlib.Numerals.{add-one}
 use native.Mathlib.Omega.{arith}
 use Rattle.model.specs.Field.{field, bitAt, bitOf}
 
@@ -37,11 +36,6 @@ field-ext s t a b (suc n) h =
 pub field-fits : (s : List ℕ) (at n : ℕ) → n ≤ 32 → field s at n < 2 ^ 32
 field-fits s at n h = omega (arith, field-lt s at n, pow-mono h)
 
--- a field with one bit more
-pub field-more : (s : List ℕ) (at n : ℕ) → field s at n * 2 + bitAt s (at + n) ≡ field s at (n + 1)
-unfolding field
-field-more s at n = rw add-one
-
 -- bit j of byte k
 pub bit-in : (s : List ℕ) (k j : ℕ) → j < 8 → bitAt s (8 * k + j) ≡ bitOf (getD s k 0) j
 unfolding bitAt
@@ -62,3 +56,24 @@ field-first s k (suc n) h b =
 -- a byte is the field of its eight bits
 pub field-byte : (s : List ℕ) (k : ℕ) → getD s k 0 < 256 → field s (8 * k) 8 ≡ getD s k 0
 field-byte s k b = field-first s k 8 (omega arith) b ∙ omega arith
+
+-- the middle of a longer field
+pub field-trim : (s : List ℕ) (at j w t : ℕ) → field s at (j + w + t) / 2 ^ t % 2 ^ w ≡ field s (at + j) w
+field-trim s at j w t =
+    rw (field-split s at (j + w) t, high (field s at (j + w)) t (field-lt s (at + (j + w)) t), field-split s at j w)
+    (low (field s at j) w (field-lt s (at + j) w))
+
+-- a field with one byte more
+pub field-more-byte : (s : List ℕ) (k i : ℕ) → getD s (k + i) 0 < 256
+    → field s (8 * k) (8 * i) * 256 + getD s (k + i) 0 ≡ field s (8 * k) (8 * (i + 1))
+field-more-byte s k i b =
+    let e : 8 * (i + 1) ≡ 8 * i + 8 = omega arith in
+    let f : 8 * k + 8 * i ≡ 8 * (k + i) = omega arith in
+    rw (e, field-split s (8 * k) (8 * i) 8, f, field-byte s (k + i) b)
+
+-- a field is the middle of the whole bytes that it touches
+pub field-whole : (s : List ℕ) (at w n spare : ℕ) → 8 * n ≡ at % 8 + w + spare
+    → field s (8 * (at / 8)) (8 * n) / 2 ^ spare % 2 ^ w ≡ field s at w
+field-whole s at w n spare e =
+    let f : 8 * (at / 8) + at % 8 ≡ at = omega arith in
+    rw (e, field-trim s (8 * (at / 8)) (at % 8) w spare, f)

@@ -2,31 +2,7 @@
 ghost use mathlib.Core.Path.{_≡_};
 ghost use Prim.Native.Nat.{_+_, _*_, _-_, _/_, _%_, _^_, _≤_, _<_};
 ghost use lib.ListN.{length};
-ghost use Rattle.model.specs.Field.{field, bitOf, putBit, putField};
-
-// The bit at place j of a byte, of which place 0 is the most significant.
-fn bit(b: u8, j: usize) -> u32
-    requires { ⌜ j < 8 ⌝ }
-    ensures { λ r. ⌜ r ≡ bitOf b j ⌝ }
-{
-    ((b >> (7 - j)) % 2) as u32
-}
-
-// The number of the `width` bits from bit `at` on. Every reader of the store reads through this one function.
-pub fn field(s: &[u8], at: usize, width: usize) -> u32
-    requires { ⌜ (at + width ≤ 8 * length (now s)) × (width ≤ 32) × (length (now s) ≤ 2 ^ 40) ⌝ }
-    ensures { λ r. ⌜ r ≡ field (now (s .entry)) at width ⌝ }
-{
-    let mut r: u32 = 0;
-    let mut i = 0;
-    while i < width {
-        let k = at + i;
-        let b = s[k / 8];
-        r = r * 2 + bit(b, k % 8);
-        i += 1;
-    }
-    r
-}
+ghost use Rattle.model.specs.Field.{field, putBit, putField};
 
 fn wide(x: u8) -> u64
     ensures { λ r. ⌜ r ≡ x ⌝ }
@@ -40,6 +16,25 @@ fn power(k: usize) -> u64
     ensures { λ r. ⌜ r ≡ 2 ^ k ⌝ }
 {
     1 << k
+}
+
+// The number of the `width` bits from bit `at` on. Every reader of the store reads through this one function, by whole bytes: those that
+// the field touches, five at most, make one word, whose ends are trimmed.
+pub fn field(s: &[u8], at: usize, width: usize) -> u32
+    requires { ⌜ (at + width ≤ 8 * length (now s)) × (width ≤ 32) × (length (now s) ≤ 2 ^ 40) ⌝ }
+    ensures { λ r. ⌜ r ≡ field (now (s .entry)) at width ⌝ }
+{
+    let first = at / 8;
+    let skip = at % 8;
+    let n = (skip + width + 7) / 8;
+    let mut word: u64 = 0;
+    let mut i = 0;
+    while i < n {
+        word = word * 256 + wide(s[first + i]);
+        i += 1;
+    }
+    let spare = 8 * n - skip - width;
+    ((word >> spare) % power(width)) as u32
 }
 
 // The byte with its bit at place j made v.

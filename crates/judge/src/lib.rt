@@ -5,6 +5,7 @@
 mod live;
 mod versions;
 mod walk;
+mod window;
 
 use model::Limits;
 use model::Verdict;
