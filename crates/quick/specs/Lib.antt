@@ -4,3 +4,4 @@ pub mod Here
 pub mod Under
 pub mod Slots
 pub mod Sums
+pub mod Led
