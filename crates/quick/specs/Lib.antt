@@ -8,3 +8,4 @@ pub mod Given
 pub mod Slots
 pub mod Sums
 pub mod Number
+pub mod Led
