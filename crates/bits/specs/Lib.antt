@@ -4,3 +4,4 @@ pub mod Append
 pub mod Lay
 pub mod Over
 pub mod Rows
+pub mod Whole

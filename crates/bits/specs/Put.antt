@@ -7,7 +7,7 @@ use lib.ListN.{length, getD, set, length-set}
 use lib.Seq.{getD-set-same, getD-set-other, ext-getD}
 use lib.Pow.{pow-pos, pow-add, shr-shr, shr-lt}
 use lib.Arith.{digits-div, digits-lt}
-use native.Mathlib.Nat.{mod-lt, two-pow-succ, mul-assoc, mul-add-div-right, div-add-mod', div-one}
+use native.Mathlib.Nat.{mod-lt, two-pow-succ, mul-assoc, mul-add-div-right, div-add-mod'}
 use native.Mathlib.Numerals.{add-one}
 use native.Mathlib.Decide.{decLt, ℕ-discrete}
 use native.Mathlib.Omega.{arith}
@@ -158,16 +158,3 @@ put-byte-whole s k v b h hv =
     there i n =
         field-put-other s (8 * k) 8 v (8 * i) 8 (omega arith) (⊎-elim (λ l. inl (omega arith)) (λ l. inr (omega (arith, n))) (less i k))
         ∙ field-byte s i (b i) ∙ sym (getD-set-other s k i v 0 n)
-
--- ---- a field that is written bit by bit, from its first bit on
-
-pub put-more : (s : List ℕ) (at i w v : ℕ) → i < w
-    → setBit (putField s at i (v / 2 ^ (w - i))) (at + i) (v / 2 ^ (w - 1 - i) % 2) ≡ putField s at (i + 1) (v / 2 ^ (w - (i + 1)))
-unfolding putField
-put-more s at i w v h =
-    let e : w - i ≡ w - 1 - i + 1 = omega arith in
-    let f : w - suc i ≡ w - 1 - i = omega arith in
-    rw (add-one, f, e, ← shr-shr v (w - 1 - i) 1)
-
-pub put-all : (s : List ℕ) (at w v : ℕ) → putField s at w (v / 2 ^ (w - w)) ≡ putField s at w v
-put-all s at w v = let e : w - w ≡ 0 = omega arith in rw (e, div-one)
