@@ -6,7 +6,6 @@ pub mod Taking
 pub mod Steps
 pub mod Versions
 pub mod Quiet
-pub mod Window
 pub mod Runs
 pub mod Rules
 pub mod Judge

@@ -1,6 +1,6 @@
 -- A run over the versions, and the verdict at one: what the code's loops make of the rules. Assumes nothing.
-use Prim.Native.Nat.{ℕ, zero, suc, _+_, _*_, _-_, _<_, _≤_}
-use mathlib.Core.Bool.{Bool, true, false, _&&_, _||_, not, and-assoc}
+use Prim.Native.Nat.{ℕ, suc, _+_, _*_, _-_, _<_, _≤_}
+use mathlib.Core.Bool.{Bool, true, false, _&&_, _||_, not}
 use mathlib.Core.Path.{_≡_, refl, ap, sym, _∙_}
 use mathlib.Core.List.{List, [], _∷_, map}
 use native.Mathlib.Omega.{arith}
@@ -16,7 +16,6 @@ use Rattle.model.specs.Page.{Page}
 use Rattle.model.specs.Walk.{Seen, seen, rootAt, rootFrom, heightOf}
 use Rattle.model.specs.Sound.{same, reachedWell}
 use Rattle.model.specs.Layout.{pageOf, readSlots, readPages, decode, sizeOf}
-use Rattle.model.proofs.Lists.{both-true}
 use Rattle.model.proofs.Quiet.{count-run}
 use Rattle.page.specs.Read.{level-of, start-of, end-of}
 use Rattle.store.specs.Read.{slots-step, slots-end, slots-of, pages-step, pages-end, behind, page-at}
@@ -38,47 +37,8 @@ run-step least s rule v q end five lt le quiet ok =
 pub run-fails : (f : ℕ → Bool) (v end : ℕ) → v < end → f v ≡ false → all f (count v (end - v)) ≡ false
 run-fails f v end lt e = let a : end - v ≡ suc (end - v - 1) = omega arith in rw (a, e)
 
-pub run-more : (f : ℕ → Bool) (v end : ℕ) → v < end → f v ≡ true → all f (count v (end - v)) ≡ all f (count (v + 1) (end - (v + 1)))
-run-more f v end lt e = let a : end - v ≡ suc (end - (v + 1)) = omega arith in rw (a, add-one v, e)
-
 pub run-ends : (f : ℕ → Bool) (v end : ℕ) → end ≤ v → all f (count v (end - v)) ≡ true
 run-ends f v end le = let a : end - v ≡ 0 = omega arith in rw a
-
--- all versions of two stretches
-run-two : (f : ℕ → Bool) (v a b : ℕ) → all f (count v (a + b)) ≡ (all f (count v a) && all f (count (v + a) b))
-run-two f v zero b = let e : v + 0 ≡ v = omega arith in let z : 0 + b ≡ b = omega arith in rw (e, z)
-run-two f v (suc a) b =
-    let e : v + suc a ≡ suc v + a = omega arith in let z : suc a + b ≡ suc (a + b) = omega arith in
-    rw (e, z, run-two f (suc v) a b) (sym (and-assoc (f v) (all f (count (suc v) a)) (all f (count (suc v + a) b))))
-
--- a stretch from v to t, and what is left up to end
-pub run-parts : (f : ℕ → Bool) (v t end : ℕ) → v ≤ t → t ≤ end → all f (count v (end - v)) ≡ (all f (count v (t - v)) && all f (count t (end - t)))
-run-parts f v t end low high =
-    let e : end - v ≡ (t - v) + (end - t) = omega arith in let z : v + (t - v) ≡ t = omega arith in
-    rw e (rw z at (run-two f v (t - v) (end - t)))
-
--- the last version of a stretch, and those before it
-run-last : (f : ℕ → Bool) (v t : ℕ) → v ≤ t → all f (count v (t + 1 - v)) ≡ true → (all f (count v (t - v)) ≡ true) × (f t ≡ true)
-run-last f v t low h =
-    let e : t + 1 - t ≡ 1 = omega arith in
-    let p : (all f (count v (t - v)) && all f (count t 1)) ≡ true = sym (rw e at (run-parts f v t (t + 1) low (omega arith))) ∙ h in
-    let (a, b) = both-true (all f (count v (t - v))) (all f (count t 1)) p in
-    (a, both-true (f t) true b .0)
-
-pub window-step : (least : ℕ) (s : List ℕ) (rule v top q end : ℕ) → 5 ≤ sizeOf least s → v < top → top ≤ end → top - 1 < q → q ≤ end → QuietBytes least s (top - 1) q
-    → all (versionOk least rule s) (count v (top - v)) ≡ true → all (versionOk least rule s) (count v (end - v)) ≡ all (versionOk least rule s) (count q (end - q))
-window-step least s rule v top q end five lt le above below quiet h =
-    let f : ℕ → Bool = versionOk least rule s in
-    let e : top - 1 + 1 ≡ top = omega arith in
-    let l : (all f (count v (top - 1 - v)) ≡ true) × (f (top - 1) ≡ true) = run-last f v (top - 1) (omega arith) (rw e h) in
-    run-parts f v (top - 1) end (omega arith) (omega arith) ∙ rw (l .0) (run-step least s rule (top - 1) q end five above below quiet (l .1))
-
-pub window-fails : (f : ℕ → Bool) (v top end : ℕ) → v ≤ top → top ≤ end → all f (count v (top - v)) ≡ false → all f (count v (end - v)) ≡ false
-window-fails f v top end low high h = run-parts f v top end low high ∙ rw h
-
--- the version behind one at which a rule holds, where nothing starts or ends
-pub window-still : (least : ℕ) (s : List ℕ) (rule v : ℕ) → 5 ≤ sizeOf least s → QuietBytes least s v (v + 2) → versionOk least rule s v ≡ true → versionOk least rule s (v + 1) ≡ true
-window-still least s rule v five q h = sym (version-still least s v (v + 1) (v + 2) five (omega arith) (omega arith) q rule) ∙ h
 
 -- ---- the root of a version
 

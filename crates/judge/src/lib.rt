@@ -5,7 +5,6 @@
 mod live;
 mod versions;
 mod walk;
-mod window;
 
 use model::Limits;
 use model::Verdict;

@@ -4,7 +4,7 @@ use model::Header;
 use model::Limits;
 use page::Head;
 ghost use mathlib.Core.Path.{_≡_};
-ghost use mathlib.Core.Bool.{true, false, _&&_, not};
+ghost use mathlib.Core.Bool.{_&&_, not};
 ghost use Prim.Native.Nat.{ℕ, _+_, _*_, _-_, _≤_, _<_};
 ghost use lib.ListN.{length};
 ghost use lib.Dec.{eqb};
@@ -19,7 +19,6 @@ ghost use Rattle.model.proofs.Quiet.{Out};
 ghost use Rattle.page.specs.Head.{readHead};
 ghost use Rattle.local.specs.Local.{slotAt};
 ghost use Rattle.judge.specs.Versions.{versionOk, markedWell, QuietPart, QuietBytes, Sooner, RootFine, Ready};
-ghost use Rattle.judge.specs.Window.{Window, Silent};
 
 // "The root of v is the last slot at or below v."
 fn root_at(s: &[u8], l: Limits, h: Header, v: u32) -> usize
@@ -160,57 +159,7 @@ fn version_ok(s: &[u8], l: Limits, h: Header, v: u32, rule: u32) -> bool
     reached(s, l, h, marks, v)
 }
 
-// The same at a version that comes behind one at which the rule holds: without a mark nothing starts or ends there, and it holds on.
-fn still_ok(s: &[u8], l: Limits, h: Header, v: u32, rule: u32, marked: bool) -> bool
-    requires { ⌜ Edition l × Ready (l .least) (now s) h × (0 < rule) × (marked ≡ false → versionOk (l .least) rule (now s) v ≡ true) ⌝ }
-    ensures { λ r. ⌜ r ≡ versionOk (l .least) rule (now (s .entry)) v ⌝ }
-{
-    if marked {
-        return version_ok(s, l, h, v, rule);
-    }
-    true
-}
-
-// The same at the versions from `base` up to, not including, `top`.
-fn marked_ok(s: &[u8], l: Limits, h: Header, rule: u32, marks: &[bool], base: u32, top: u32) -> bool
-    requires { ⌜ Edition l × Ready (l .least) (now s) h × (0 < rule) × Window base top × (length (now marks) ≡ 4096) × Silent base (now marks) (QuietBytes (l .least) (now s)) ⌝ }
-    ensures { λ r. ⌜ r ≡ all (versionOk (l .least) rule (now (s .entry))) (count base (top - base)) ⌝ }
-{
-    if !version_ok(s, l, h, base, rule) {
-        return false;
-    }
-    let mut v = base + 1;
-    while v < top {
-        let d = crate::wide(v - base);
-        if !still_ok(s, l, h, v, rule, marks[d]) {
-            return false;
-        }
-        v += 1;
-    }
-    true
-}
-
-fn window_ok(s: &[u8], l: Limits, h: Header, rule: u32, base: u32, top: u32) -> bool
-    requires { ⌜ Edition l × Ready (l .least) (now s) h × (0 < rule) × Window base top ⌝ }
-    ensures { λ r. ⌜ r ≡ all (versionOk (l .least) rule (now (s .entry))) (count base (top - base)) ⌝ }
-{
-    let mut marks = [false; 4096];
-    crate::window::mark_store(s, l, h, &mut marks, base);
-    marked_ok(s, l, h, rule, &marks, base, top)
-}
-
-// The end of the window that begins at v: 4,096 versions, or what is left of them.
-fn window_end(v: u32, end: u32) -> u32
-    requires { ⌜ v < end ⌝ }
-    ensures { λ r. ⌜ Window v r × (r ≤ end) ⌝ }
-{
-    if end - v <= 4096 {
-        return end;
-    }
-    v + 4096
-}
-
-// Rule 4, 5 or 6 at every version: `rule` if it is broken, else 0. A window begins where something starts or ends.
+// Rule 4, 5 or 6 at every version: `rule` if it is broken, else 0.
 pub(crate) fn versions(s: &[u8], l: Limits, h: Header, rule: u32) -> u32
     requires { ⌜ Edition l × Ready (l .least) (now s) h × (0 < rule) ⌝ }
     ensures { λ r. ⌜ r ≡ pick (all (versionOk (l .least) rule (now (s .entry))) (count 0 (lastOf (h .opened) (h .current) + 1))) 0 rule ⌝ }
@@ -218,11 +167,10 @@ pub(crate) fn versions(s: &[u8], l: Limits, h: Header, rule: u32) -> u32
     let end = h.last() + 1;
     let mut v = 0;
     while v < end {
-        let top = window_end(v, end);
-        if !window_ok(s, l, h, rule, v, top) {
+        if !version_ok(s, l, h, v, rule) {
             return rule;
         }
-        v = next_change(s, l, h, top - 1, end);
+        v = next_change(s, l, h, v, end);
     }
     0
 }

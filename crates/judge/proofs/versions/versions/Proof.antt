@@ -1,10 +1,10 @@
--- `judge::versions::versions` meets its contract: the versions from v on answer as all, window by window, and what is between two of them answers as the end of the first. Assumes nothing.
+-- `judge::versions::versions` meets its contract: the versions from v on answer as all, since each stretch answers as its first. Assumes nothing.
 use Prim.Native.Nat.{ℕ, _≤_, _-_, _+_}
 use mathlib.Core.Path.{_≡_, ap, sym, _∙_}
 use mathlib.Core.Bool.{Bool}
 use native.Mathlib.Omega.{arith}
 use borrow.Author.Tests.{not-true, not-false}
-use Rattle.judge.specs.Runs.{run-ends, window-step, window-fails}
+use Rattle.judge.specs.Runs.{run-step, run-fails, run-ends}
 use Rattle.judge.specs.Versions.{versionOk}
 use Rattle.model.specs.Store.{lastOf}
 use Rattle.model.specs.Basic.{all, count, pick}
@@ -30,32 +30,26 @@ loop-holds c =
     let e : lastOf (a .h .opened) (a .h .current) + 1 ≡ c .last .result + 1 - 0 = omega (arith, c .last .ensures) in
     (omega arith, ap (λ (n : ℕ). all (versionOk (a .l .least) (a .rule) (a .s .now)) (count 0 n)) e)
 
-window-end-requires : tie.Need-window-end-requires Inv-loop μ-loop
-window-end-requires c κs = c .loop-test .taken
-
-window-ok-requires : tie.Need-window-ok-requires Inv-loop μ-loop
-window-ok-requires c κs = (c .before .before .before .before .before .pre .0, c .before .before .before .before .before .pre .1, c .before .before .before .before .before .pre .2, c .window-end .ensures .0)
+version-ok-requires : tie.Need-version-ok-requires Inv-loop μ-loop
+version-ok-requires c κs = (c .before .before .before .before .pre .0, c .before .before .before .before .pre .1, c .before .before .before .before .pre .2)
 
 returns : tie.Need-returns Inv-loop μ-loop
 returns c =
-    let a = c .before .before .before .before .before .before .before .args in let k = c .before .before .before .before .loop in let w = c .before .before .window-end .ensures in
-    sym (ap (λ (b : Bool). pick b 0 (a .rule)) (k .inv .1 ∙ window-fails (versionOk (a .l .least) (a .rule) (a .s .now)) (k .v) (c .before .before .window-end .result) (c .before .before .before .before .before .last .result + 1) (omega (arith, w .0 .some)) (w .1) (sym (c .before .window-ok .ensures) ∙ not-true (c .before .window-ok .result) (c .if1 .taken))))
-
-sub-next-change : tie.Need-sub-next-change Inv-loop μ-loop
-sub-next-change c = omega (arith, c .before .before .window-end .ensures .0 .some)
+    let a = c .before .before .before .before .before .before .args in let k = c .before .before .before .loop in
+    sym (ap (λ (b : Bool). pick b 0 (a .rule)) (k .inv .1 ∙ run-fails (versionOk (a .l .least) (a .rule) (a .s .now)) (k .v) (c .before .before .before .before .last .result + 1) (c .before .before .loop-test .taken) (sym (c .before .version-ok .ensures) ∙ not-true (c .before .version-ok .result) (c .if1 .taken))))
 
 next-change-requires : tie.Need-next-change-requires Inv-loop μ-loop
-next-change-requires c κs = (c .before .before .before .before .before .before .before .pre .0, c .before .before .before .before .before .before .before .pre .1, omega (arith, c .before .before .window-end .ensures .0 .some, c .before .before .window-end .ensures .1))
+next-change-requires c κs = (c .before .before .before .before .before .before .pre .0, c .before .before .before .before .before .before .pre .1, c .before .before .loop-test .taken)
 
 loop-less : tie.Need-loop-less Inv-loop μ-loop
-loop-less c = omega (arith, c .next-change .ensures .0 .above, c .next-change .ensures .0 .below, c .before .before .before .window-end .ensures .0 .some)
+loop-less c = omega (arith, c .next-change .ensures .0 .above, c .next-change .ensures .0 .below)
 
 loop-again : tie.Need-loop-again Inv-loop μ-loop
 loop-again c =
-    let a = c .before .before .before .before .before .before .before .before .args in let k = c .before .before .before .before .before .loop in let w = c .before .before .before .window-end .ensures in let x = c .next-change .ensures in (
+    let a = c .before .before .before .before .before .before .before .args in let k = c .before .before .before .before .loop in let x = c .next-change .ensures in (
       x .0 .below,
       k .inv .1
-          ∙ window-step (a .l .least) (a .s .now) (a .rule) (k .v) (c .before .before .before .window-end .result) (c .next-change .result) (c .before .before .before .before .before .before .last .result + 1) (omega (arith, c .before .before .before .before .before .before .before .before .pre .1 .sized .is, c .before .before .before .before .before .before .before .before .pre .1 .sized .low)) (w .0 .some) (w .1) (x .0 .above) (x .0 .below) (x .1) (sym (c .before .before .window-ok .ensures) ∙ not-false (c .before .before .window-ok .result) (c .before .if1 .left)),
+          ∙ run-step (a .l .least) (a .s .now) (a .rule) (k .v) (c .next-change .result) (c .before .before .before .before .before .last .result + 1) (omega (arith, c .before .before .before .before .before .before .before .pre .1 .sized .is, c .before .before .before .before .before .before .before .pre .1 .sized .low)) (x .0 .above) (x .0 .below) (x .1) (sym (c .before .before .version-ok .ensures) ∙ not-false (c .before .before .version-ok .result) (c .before .if1 .left)),
     )
 
 returns-2 : tie.Need-returns-2 Inv-loop μ-loop
@@ -70,10 +64,8 @@ versions-spec =
     last-requires
     add-end
     loop-holds
-    window-end-requires
-    window-ok-requires
+    version-ok-requires
     returns
-    sub-next-change
     next-change-requires
     loop-less
     loop-again
