@@ -2,6 +2,7 @@
 //
 // Of lent bytes nothing is trusted before it is tested: the length, then the first four bytes, the edition, and rules 1 to 7, each "on
 // its own, once all lower ones hold". What it costs is told in docs/CHECK-COST.md.
+mod changes;
 mod live;
 mod versions;
 mod walk;
@@ -52,13 +53,13 @@ fn broken(s: &[u8], l: Limits, size: usize) -> u32
     if !local::third_rule(s, l, h) {
         return 3;
     }
-    if versions::versions(s, l, h, 4) != 0 {
+    if versions::stretches(s, l, h, 4) != 0 {
         return 4;
     }
-    if versions::versions(s, l, h, 5) != 0 {
+    if versions::stretches(s, l, h, 5) != 0 {
         return 5;
     }
-    if versions::versions(s, l, h, 6) != 0 {
+    if versions::versions(s, l, h) != 0 {
         return 6;
     }
     0
