@@ -1,5 +1,6 @@
 pub mod Pending
 pub mod Tests
+pub mod Stretch
 pub mod Live
 pub mod Walking
 pub mod Taking

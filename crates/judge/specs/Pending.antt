@@ -1,4 +1,4 @@
--- The walk at one version with a list of pages that wait: what it tests, what it has seen, and what it tells. Assumes nothing.
+-- The walk over a stretch of versions with a list of pages that wait: what it tests, what it has seen, and what it tells. Assumes nothing.
 use Prim.Native.Nat.{ℕ, zero, suc, _+_, _*_, _-_, _^_, _<_, _≤_}
 use mathlib.Core.Bool.{Bool, true, false, _&&_, _||_, not}
 use mathlib.Core.Path.{_≡_}
@@ -6,7 +6,7 @@ use mathlib.Core.List.{List, [], _∷_, _++_, map}
 use lib.Dec.{leb, ltb, eqb}
 use lib.ListN.{length, getD}
 use Rattle.model.specs.declared.Pair.{Pair}
-use Rattle.model.specs.Basic.{those, pick, all, any}
+use Rattle.model.specs.Basic.{those, pick, all, any, flatMap, count}
 use Rattle.model.specs.Entry.{pairOf, liveAt, within}
 use Rattle.model.specs.Page.{Page}
 use Rattle.model.specs.Store.{page}
@@ -49,27 +49,44 @@ unfoldable pub kids : ℕ → List Page → ℕ → List Pair → ℕ → List S
 kids zero ps v xs high = []
 kids (suc u) ps v xs high = spread (seenBelow u ps v false) xs high
 
+-- at each version from a up to, not including, b
+abbrev pub over : (ℕ → List Seen) → ℕ → ℕ → List Seen
+over f a b = flatMap f (count a (b - a))
+
+unfoldable pub spanOf : List Page → Item → List Seen
+spanOf ps it = over (λ (v : ℕ). seenOf ps v it) (it .from) (it .upto)
+
+unfoldable pub kidsIn : ℕ → List Page → ℕ → ℕ → List Pair → ℕ → List Seen
+kidsIn u ps a b xs high = over (λ (v : ℕ). kids u ps v xs high) a b
+
 abbrev pub none : Item
-none = record { page = 0; up = 0; root = false; low = 0; high = 0 }
+none = record { page = 0; up = 0; root = false; low = 0; high = 0; from = 0; upto = 0 }
+
+-- the same page from version c on
+abbrev pub restOf : Item → ℕ → Item
+restOf it c = record { page = it .page; up = it .up; root = it .root; low = it .low; high = it .high; from = c; upto = it .upto }
 
 -- of the first k items
-unfoldable pub pend : List Page → ℕ → List Item → ℕ → List Seen
-pend ps v items zero = []
-pend ps v items (suc k) = seenOf ps v (getD items k none) ++ pend ps v items k
+unfoldable pub pend : List Page → List Item → ℕ → List Seen
+pend ps items zero = []
+pend ps items (suc k) = spanOf ps (getD items k none) ++ pend ps items k
 
 -- the same elements: each test finds one in both or in none
 abbrev pub Same : List Seen → List Seen → Type 0
 Same a b = (g : Seen → Bool) → any g a ≡ any g b
 
--- ---- a bound for the steps that are left: a page has at most 40 entries
+-- ---- a bound for the steps that are left: a page has at most 40 entries, and waits at so many versions
 
 unfoldable pub weight : ℕ → ℕ
 weight zero = 1
 weight (suc u) = 1 + 40 * weight u
 
+unfoldable pub heft : Item → ℕ
+heft it = (it .upto - it .from) * weight (it .up)
+
 unfoldable pub weigh : List Item → ℕ → ℕ
 weigh items zero = 0
-weigh items (suc k) = weight (getD items k none .up) + weigh items k
+weigh items (suc k) = heft (getD items k none) + weigh items k
 
 -- ---- what holds of the bytes, once rules 1 and 3 hold
 
@@ -84,7 +101,8 @@ pub record Linked (least : ℕ) (s : List ℕ) : Type 0 where
 pub record Fine (least : ℕ) (s : List ℕ) (U k : ℕ) (it : Item) : Type 0 where
   pub isPage : IsPage least s (it .page)
   pub level : levelAt least s (it .page) ≡ it .up + 1
-  pub place : k + 40 * it .up ≤ 40 * U
+  pub place : k + 41 * it .up ≤ 41 * U
+  pub some : it .from < it .upto
 
 -- ---- the live pairs of a page from place i on
 
@@ -103,9 +121,13 @@ pub record Next (p : List ℕ) (v i n r : ℕ) : Type 0 where
 unfoldable pub whole : ℕ → List ℕ → ℕ → ℕ → ℕ → List Seen
 whole least s up v r = seenBelow up (decode least s .pages) v true 0 keyLimit r
 
+unfoldable pub wholeIn : ℕ → List ℕ → ℕ → ℕ → ℕ → ℕ → List Seen
+wholeIn least s up a b r = over (λ (v : ℕ). whole least s up v r) a b
+
 abbrev pub isNumber : ℕ → Seen → Bool
 isNumber n x = eqb n (x .number)
 
-pub record Tells (least : ℕ) (s : List ℕ) (r up v rule : ℕ) (w : Walked) : Type 0 where
-  pub verdict : w .broken ≡ pick (all (passes least rule) (whole least s up v r)) 0 rule
-  pub marked : all (passes least rule) (whole least s up v r) ≡ true → (m : ℕ) → getD (w .marks) m false ≡ any (isNumber m) (whole least s up v r)
+-- at each version from a up to, not including, b
+pub record Tells (least : ℕ) (s : List ℕ) (r up a b rule : ℕ) (w : Walked) : Type 0 where
+  pub verdict : w .broken ≡ pick (all (passes least rule) (wholeIn least s up a b r)) 0 rule
+  pub marked : all (passes least rule) (wholeIn least s up a b r) ≡ true → (m : ℕ) → getD (w .marks) m false ≡ any (isNumber m) (wholeIn least s up a b r)

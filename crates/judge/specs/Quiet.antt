@@ -10,15 +10,16 @@ use Rattle.bits.specs.Put.{less}
 use Rattle.model.specs.declared.Entry.{Entry}
 use Rattle.model.specs.declared.Slot.{Slot}
 use Rattle.model.specs.Basic.{all}
-use Rattle.model.specs.Page.{free}
+use Rattle.model.specs.Page.{free, pairsAt}
 use Rattle.model.specs.Store.{page}
 use Rattle.model.specs.Walk.{Seen}
-use Rattle.model.specs.Layout.{readEntry, readEntries, readSlot, readSlots, pageOf, decodePage, decode, sizeOf}
+use Rattle.model.specs.Layout.{readEntry, readEntries, readSlot, readSlots, readHeader, pageOf, decodePage, decode, sizeOf}
 use Rattle.model.proofs.Members.{In}
-use Rattle.model.proofs.Quiet.{Out, QuietPage, Quiet, seen-still, reached-still}
+use Rattle.model.proofs.Quiet.{Out, QuietPage, Quiet, pairs-still, seen-still, reached-still}
 use Rattle.page.specs.Head.{readHead}
 use Rattle.page.specs.Read.{start-of, end-of, entries-of}
 use Rattle.store.specs.Read.{slots-of, count-pages, page-at}
+use Rattle.local.specs.Local.{IsPage, slotAt}
 use Rattle.judge.specs.Pending.{passes}
 use Rattle.judge.specs.Versions.{QuietEntries, QuietPart, QuietBytes, versionOk}
 
@@ -88,13 +89,20 @@ page-low least s (suc (suc (suc (suc (suc n))))) h = absurd (omega arith)
 quiet-free : (v r : ℕ) → QuietPage v r free
 quiet-free v r = record { start = inl (omega arith); end = inl (omega arith); starts = λ e i. absurd i; ends = λ e i. absurd i }
 
+pub quiet-slots : (least : ℕ) (s : List ℕ) (v r : ℕ) → ((i : ℕ) → i < readHeader least s .roots → Out v r (slotAt least s i .version)) → (x : Slot) → In x (decode least s .slots) → Out v r (x .version)
+quiet-slots least s v r q x i = slot-in s (512 * least) _ (λ (y : Slot). Out v r (y .version)) q x (rw (slots-of least s) at i)
+
 pub quiet-store : (least : ℕ) (s : List ℕ) (v r : ℕ) → 5 ≤ sizeOf least s → QuietBytes least s v r → Quiet v r (decode least s)
 quiet-store least s v r five q =
     record {
-      slots = λ x i. slot-in s (512 * least) _ (λ (y : Slot). Out v r (y .version)) (q .slots) x (rw (slots-of least s) at i);
+      slots = quiet-slots least s v r (q .slots);
       pages = λ n l. ⊎-elim (λ h. rw (page-low least s n h) (quiet-free v r))
           (λ h. let k : n < sizeOf least s = omega (arith, count-pages least s five) in rw (page-at least s n h k) (quiet-page least (pageOf least s n) v r (q .pages n (h, k)))) (less n 5);
     }
+
+-- a page shows the same
+pub pairs-quiet : (least : ℕ) (s : List ℕ) (n v u r : ℕ) → IsPage least s n → v ≤ u → u < r → QuietPart least (pageOf least s n) v r → pairsAt v (page (decode least s .pages) n) ≡ pairsAt u (page (decode least s .pages) n)
+pairs-quiet least s n v u r h low high q = rw (page-at least s n (h .0) (h .1)) (pairs-still v u r low high (decodePage least (pageOf least s n)) (quiet-page least (pageOf least s n) v r q))
 
 -- the rules ask the same at every version of the stretch
 pub version-still : (least : ℕ) (s : List ℕ) (v u r : ℕ) → 5 ≤ sizeOf least s → v ≤ u → u < r → QuietBytes least s v r → (rule : ℕ) → versionOk least rule s v ≡ versionOk least rule s u

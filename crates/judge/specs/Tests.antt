@@ -6,9 +6,10 @@ use mathlib.Core.List.{List, [], _∷_, _++_, append-nil}
 use Rattle.model.specs.declared.Pair.{Pair}
 use Rattle.model.specs.Basic.{all, any}
 use Rattle.model.specs.Walk.{Seen, spread}
+use Rattle.local.specs.Loops.{and-assoc}
 use Rattle.judge.specs.Pending.{Same, firstKey}
 
-or-assoc : (a b c : Bool) → ((a || b) || c) ≡ (a || (b || c))
+pub or-assoc : (a b c : Bool) → ((a || b) || c) ≡ (a || (b || c))
 or-assoc true b c = refl
 or-assoc false b c = refl
 
@@ -16,6 +17,10 @@ module _ {A : Type 0} where
   pub any-append : (g : A → Bool) (a b : List A) → any g (a ++ b) ≡ (any g a || any g b)
   any-append g [] b = refl
   any-append g (x ∷ a) b = rw (any-append g a b) (sym (or-assoc (g x) (any g a) (any g b)))
+
+  pub all-both : (g : A → Bool) (a b : List A) → all g (a ++ b) ≡ (all g a && all g b)
+  all-both g [] b = refl
+  all-both g (x ∷ a) b = rw (all-both g a b) (sym (and-assoc (g x) (all g a) (all g b)))
 
   pub all-any : (g : A → Bool) (a : List A) → all g a ≡ not (any (λ (x : A). not (g x)) a)
   all-any g [] = refl

@@ -43,6 +43,10 @@ pub record QuietPart (least : ℕ) (p : List ℕ) (v r : ℕ) : Type 0 where
   pub end : Out v r (readHead least p .end)
   pub entries : QuietEntries p (readHead least p .count) v r
 
+-- in the root directory
+abbrev pub QuietSlots : ℕ → List ℕ → Header → ℕ → ℕ → Type 0
+QuietSlots least s h v r = (i : ℕ) → i < h .roots → Out v r (slotAt least s i .version)
+
 -- in the store
 pub record QuietBytes (least : ℕ) (s : List ℕ) (v r : ℕ) : Type 0 where
   pub slots : (i : ℕ) → i < readHeader least s .roots → Out v r (slotAt least s i .version)

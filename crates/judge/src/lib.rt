@@ -2,6 +2,7 @@
 //
 // `quick` gives the number; a store that is not sound is gone through again here, by rules 1 to 7, each "on its own, once all lower ones
 // hold", to tell the lowest broken one. What it costs is told in docs/CHECK-COST.md.
+mod changes;
 mod live;
 mod versions;
 mod walk;
@@ -34,13 +35,13 @@ fn broken(s: &[u8], l: Limits, size: usize) -> u32
     if !local::third_rule(s, l, h) {
         return 3;
     }
-    if versions::versions(s, l, h, 4) != 0 {
+    if versions::stretches(s, l, h, 4) != 0 {
         return 4;
     }
-    if versions::versions(s, l, h, 5) != 0 {
+    if versions::stretches(s, l, h, 5) != 0 {
         return 5;
     }
-    if versions::versions(s, l, h, 6) != 0 {
+    if versions::versions(s, l, h) != 0 {
         return 6;
     }
     0

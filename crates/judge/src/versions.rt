@@ -1,5 +1,5 @@
-// Rules 4 to 6 at every version up to last. Only those at which something starts or ends are walked: at every other one each test
-// answers as at the one before.
+// Rules 4 to 6 at every version up to last: rules 4 and 5 over the stretches that have one root, rule 6 at each version at which something
+// starts or ends, since at every other one each test answers as at the one before.
 use model::Header;
 use model::Limits;
 use page::Head;
@@ -15,10 +15,7 @@ ghost use Rattle.model.specs.Store.{lastOf};
 ghost use Rattle.model.specs.Sound.{same};
 ghost use Rattle.model.specs.Walk.{rootAt};
 ghost use Rattle.model.specs.Layout.{readPages, sizeOf, decode};
-ghost use Rattle.model.proofs.Quiet.{Out};
-ghost use Rattle.page.specs.Head.{readHead};
-ghost use Rattle.local.specs.Local.{slotAt};
-ghost use Rattle.judge.specs.Versions.{versionOk, markedWell, QuietPart, QuietBytes, Sooner, RootFine, Ready};
+ghost use Rattle.judge.specs.Versions.{versionOk, markedWell, QuietSlots, RootFine, Ready};
 
 // "The root of v is the last slot at or below v."
 fn root_at(s: &[u8], l: Limits, h: Header, v: u32) -> usize
@@ -78,99 +75,63 @@ fn reached(s: &[u8], l: Limits, h: Header, marks: [bool; 4096], v: u32) -> bool
     true
 }
 
-// r, or x if it stands between v and r.
-fn sooner(v: u32, r: u32, x: u32) -> u32
-    requires { ⌜ v < r ⌝ }
-    ensures { λ q. ⌜ Sooner v r q × Out v q x ⌝ }
-{
-    if x <= v {
-        return r;
-    }
-    if r <= x {
-        return r;
-    }
-    x
-}
-
-// A version up to r such that nothing of the page starts or ends before it and behind v.
-fn page_change(page: &[u8], l: Limits, v: u32, r: u32) -> u32
-    requires { ⌜ Edition l × (length (now page) ≡ 64 * l .least) × (readHead (l .least) (now page) .count ≤ 5 * l .least) × (v < r) ⌝ }
-    ensures { λ q. ⌜ Sooner v r q × QuietPart (l .least) (now (page .entry)) v q ⌝ }
-{
-    let h = page::head_of(page, l);
-    let count = h.count;
-    let mut q = sooner(v, sooner(v, r, h.start), h.end);
-    let mut i = 0;
-    while i < count {
-        let e = page::entry_at(page, i);
-        q = sooner(v, sooner(v, q, e.start), e.end);
-        i += 1;
-    }
-    q
-}
-
-// The same of the root directory.
-fn slot_change(s: &[u8], l: Limits, h: Header, v: u32, r: u32) -> u32
-    requires { ⌜ Edition l × Ready (l .least) (now s) h × (v < r) ⌝ }
-    ensures { λ q. ⌜ Sooner v r q × ((i : ℕ) → i < h .roots → Out v q (slotAt (l .least) (now (s .entry)) i .version)) ⌝ }
-{
-    let roots = crate::wide(h.roots);
-    let mut q = r;
-    let mut i = 0;
-    while i < roots {
-        let x = store::slot(s, l, i);
-        q = sooner(v, q, x.version);
-        i += 1;
-    }
-    q
-}
-
-// The next version behind v, up to r, at which something starts or ends.
-fn next_change(s: &[u8], l: Limits, h: Header, v: u32, r: u32) -> u32
-    requires { ⌜ Edition l × Ready (l .least) (now s) h × (v < r) ⌝ }
-    ensures { λ q. ⌜ Sooner v r q × QuietBytes (l .least) (now (s .entry)) v q ⌝ }
-{
-    let pages = crate::wide(h.pages);
-    let mut q = slot_change(s, l, h, v, r);
-    let mut n = 5;
-    while n < pages {
-        q = page_change(store::part(s, l, n), l, v, q);
-        n += 1;
-    }
-    q
-}
-
-// Rule 4, 5 or 6 at one version.
-fn version_ok(s: &[u8], l: Limits, h: Header, v: u32, rule: u32) -> bool
-    requires { ⌜ Edition l × Ready (l .least) (now s) h × (0 < rule) ⌝ }
-    ensures { λ r. ⌜ r ≡ versionOk (l .least) rule (now (s .entry)) v ⌝ }
+// Rule 4 or 5 at each version from v up to, not including, c, which have one root.
+fn stretch_ok(s: &[u8], l: Limits, h: Header, v: u32, c: u32, rule: u32) -> bool
+    requires { ⌜ Edition l × Ready (l .least) (now s) h × (0 < rule) × (rule < 6) × (v < c) × QuietSlots (l .least) (now s) h v c ⌝ }
+    ensures { λ r. ⌜ r ≡ all (versionOk (l .least) rule (now (s .entry))) (count v (c - v)) ⌝ }
 {
     let root = root_at(s, l, h, v);
     let f = page::head_of(store::part(s, l, root), l);
     let up = crate::wide(f.level) - 1;
-    let w = crate::walk::walk(s, l, root, up, v, rule);
-    if w.broken != 0 {
-        return false;
-    }
-    if rule != 6 {
-        return true;
-    }
-    let marks = w.marks;
-    reached(s, l, h, marks, v)
+    let w = crate::walk::walk(s, l, root, up, v, c, rule);
+    w.broken == 0
 }
 
-// Rule 4, 5 or 6 at every version: `rule` if it is broken, else 0.
-pub(crate) fn versions(s: &[u8], l: Limits, h: Header, rule: u32) -> u32
-    requires { ⌜ Edition l × Ready (l .least) (now s) h × (0 < rule) ⌝ }
+// Rule 4 or 5 at every version: `rule` if it is broken, else 0.
+pub(crate) fn stretches(s: &[u8], l: Limits, h: Header, rule: u32) -> u32
+    requires { ⌜ Edition l × Ready (l .least) (now s) h × (0 < rule) × (rule < 6) ⌝ }
     ensures { λ r. ⌜ r ≡ pick (all (versionOk (l .least) rule (now (s .entry))) (count 0 (lastOf (h .opened) (h .current) + 1))) 0 rule ⌝ }
 {
     let end = h.last() + 1;
     let mut v = 0;
     while v < end {
-        if !version_ok(s, l, h, v, rule) {
+        let c = crate::changes::slot_change(s, l, h, v, end);
+        if !stretch_ok(s, l, h, v, c, rule) {
             return rule;
         }
-        v = next_change(s, l, h, v, end);
+        v = c;
+    }
+    0
+}
+
+// Rule 6 at one version.
+fn version_ok(s: &[u8], l: Limits, h: Header, v: u32) -> bool
+    requires { ⌜ Edition l × Ready (l .least) (now s) h × (v ≤ 1048574) ⌝ }
+    ensures { λ r. ⌜ r ≡ versionOk (l .least) 6 (now (s .entry)) v ⌝ }
+{
+    let root = root_at(s, l, h, v);
+    let f = page::head_of(store::part(s, l, root), l);
+    let up = crate::wide(f.level) - 1;
+    let w = crate::walk::walk(s, l, root, up, v, v + 1, 6);
+    if w.broken != 0 {
+        return false;
+    }
+    let marks = w.marks;
+    reached(s, l, h, marks, v)
+}
+
+// Rule 6 at every version: 6 if it is broken, else 0.
+pub(crate) fn versions(s: &[u8], l: Limits, h: Header) -> u32
+    requires { ⌜ Edition l × Ready (l .least) (now s) h ⌝ }
+    ensures { λ r. ⌜ r ≡ pick (all (versionOk (l .least) 6 (now (s .entry))) (count 0 (lastOf (h .opened) (h .current) + 1))) 0 6 ⌝ }
+{
+    let end = h.last() + 1;
+    let mut v = 0;
+    while v < end {
+        if !version_ok(s, l, h, v) {
+            return 6;
+        }
+        v = crate::changes::next_change(s, l, h, v, end);
     }
     0
 }

@@ -1,20 +1,23 @@
-// "walk from its root over entries alive then": one walk, for one rule at one version.
+// "walk from its root over entries alive then": one walk, for one rule, over a stretch of versions.
 use model::Limits;
 ghost use mathlib.Core.Path.{_≡_};
-ghost use mathlib.Core.Bool.{_&&_};
-ghost use lib.Dec.{leb, eqb};
-ghost use Prim.Native.Nat.{_+_, _≤_};
+ghost use lib.Dec.{ltb};
+ghost use Prim.Native.Nat.{_+_, _≤_, _<_};
+ghost use Rattle.model.specs.Basic.{pick};
 ghost use Rattle.model.specs.Limits.{Edition};
 ghost use Rattle.local.specs.Local.{IsPage, levelAt};
-ghost use Rattle.judge.specs.Pending.{Linked, Tells};
+ghost use Rattle.judge.specs.Pending.{Linked, Tells, restOf};
 
-// A page that waits for the walk: how far above the leaves, whether it is the root, and the keys that it may hold.
+// A page that waits for the walk, at each version from `from` up to, not including, `upto`: how far above the leaves, whether it is the
+// root, and the keys that it may hold.
 pub(crate) struct Item {
     pub page: usize,
     pub up: usize,
     pub root: bool,
     pub low: u32,
     pub high: u32,
+    pub from: u32,
+    pub upto: u32,
 }
 
 // What a walk gives: the rule that is broken, or 0, and "a mark for each of up to 4,096 page numbers", set for those it reached.
@@ -23,33 +26,49 @@ pub(crate) struct Walked {
     pub marks: [bool; 4096],
 }
 
-// Whether a page is to be passed over when it is met again: it shows nothing at this version, and rule 4 asks nothing of it.
-fn passed_over(rule: u32, j: usize, count: usize) -> bool
-    ensures { λ r. ⌜ r ≡ (eqb rule 4 && leb count j) ⌝ }
+// The same page from version c on.
+fn rest(it: Item, c: u32) -> Item
+    ensures { λ r. ⌜ r ≡ restOf it c ⌝ }
 {
-    if rule != 4 {
-        return false;
+    Item {
+        page: it.page,
+        up: it.up,
+        root: it.root,
+        low: it.low,
+        high: it.high,
+        from: c,
+        upto: it.upto,
     }
-    count <= j
 }
 
-// The walk for one rule. "the walk down stops at the first page that breaks a rule".
-// The pages that wait are at most 40 for each of the 7 levels, and the root. Each page is tested before its routers are followed, and under
-// rule 4 a page that shows something passes under one of the routers that lead to it: so no page is read again and again (docs/CHECK-COST.md).
-pub(crate) fn walk(s: &[u8], l: Limits, root: usize, up: usize, v: u32, rule: u32) -> Walked
-    requires { ⌜ Edition l × Linked (l .least) (now s) × IsPage (l .least) (now s) root × (levelAt (l .least) (now s) root ≡ up + 1) × (up ≤ 6) ⌝ }
-    ensures { λ r. ⌜ Tells (l .least) (now (s .entry)) root up v rule r ⌝ }
+// 1 if something is left of a stretch from c on, else 0.
+fn more(c: u32, upto: u32) -> usize
+    ensures { λ r. ⌜ r ≡ pick (ltb c upto) 1 0 ⌝ }
+{
+    if c < upto {
+        return 1;
+    }
+    0
+}
+
+// The walk for one rule, at each version from a up to, not including, b. "the walk down stops at the first page that breaks a rule".
+// A page is tested once for each stretch in which nothing of it starts or ends; what is left of its versions waits below its routers.
+// So the pages that wait are at most 41 for each of the 7 levels, and the root.
+pub(crate) fn walk(s: &[u8], l: Limits, root: usize, up: usize, a: u32, b: u32, rule: u32) -> Walked
+    requires { ⌜ Edition l × Linked (l .least) (now s) × IsPage (l .least) (now s) root × (levelAt (l .least) (now s) root ≡ up + 1) × (up ≤ 6) × (a < b) ⌝ }
+    ensures { λ r. ⌜ Tells (l .least) (now (s .entry)) root up a b rule r ⌝ }
 {
     let mut marks = [false; 4096];
-    let mut empty = [false; 4096];
     let first = Item {
         page: root,
         up: up,
         root: true,
         low: 0,
         high: 16777216,
+        from: a,
+        upto: b,
     };
-    let mut items = [first; 281];
+    let mut items = [first; 288];
     let mut top: usize = 1;
     let broken = 'walk: loop {
         if top == 0 {
@@ -58,21 +77,20 @@ pub(crate) fn walk(s: &[u8], l: Limits, root: usize, up: usize, v: u32, rule: u3
         top -= 1;
         let it = items[top];
         let n = it.page;
-        if empty[n] {
-            continue 'walk;
-        }
         let p = store::part(s, l, n);
         let h = page::head_of(p, l);
         let count = h.count;
-        if !crate::live::opens(p, l, v, count, rule, it) {
+        let c = crate::changes::page_change(p, l, it.from, it.upto);
+        items[top] = rest(it, c);
+        top += more(c, it.upto);
+        if !crate::live::opens(p, l, it.from, count, rule, it) {
             break 'walk rule;
         }
         marks[n] = true;
-        let mut j = crate::live::next_live(p, v, 0, count);
-        empty[n] = passed_over(rule, j, count);
+        let mut j = crate::live::next_live(p, it.from, 0, count);
         while j < count {
             let e = page::entry_at(p, j);
-            let k = crate::live::next_live(p, v, j + 1, count);
+            let k = crate::live::next_live(p, it.from, j + 1, count);
             let next = crate::live::upper(p, k, count, it.high);
             if !crate::live::steps(rule, it.low, it.high, next, e.key) {
                 break 'walk rule;
@@ -84,6 +102,8 @@ pub(crate) fn walk(s: &[u8], l: Limits, root: usize, up: usize, v: u32, rule: u3
                     root: false,
                     low: e.key,
                     high: next,
+                    from: it.from,
+                    upto: c,
                 };
                 top += 1;
             }

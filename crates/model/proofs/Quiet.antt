@@ -57,7 +57,7 @@ module _ (v u r : ℕ) (low : v ≤ u) (high : u < r) where
   pub pairs-still : (p : Page) → QuietPage v r p → pairsAt v p ≡ pairsAt u p
   pairs-still p q = ap (map pairOf) (those-still (p .entries) (q .starts) (q .ends))
 
-  root-still : (xs : List Slot) → ((x : Slot) → In x xs → Out v r (x .version)) → (n : ℕ) → rootFrom n xs v ≡ rootFrom n xs u
+  pub root-still : (xs : List Slot) → ((x : Slot) → In x xs → Out v r (x .version)) → (n : ℕ) → rootFrom n xs v ≡ rootFrom n xs u
   root-still [] a n = refl
   root-still (x ∷ xs) a n =
       ap (λ (b : Bool). rootFrom (pick b (x .root) n) xs v) (leb-still (x .version) (a x (inl refl))) ∙ root-still xs (λ y i. a y (inr i)) (pick (leb (x .version) u) (x .root) n)
@@ -81,6 +81,12 @@ module _ (v u r : ℕ) (low : v ≤ u) (high : u < r) where
     below-still : (up : ℕ) (b : Bool) (lo hi n : ℕ) → seenBelow up ps v b lo hi n ≡ seenBelow up ps u b lo hi n
     below-still up b lo hi n = ap₂ _∷_ (as-still up b lo hi n) (under-still up hi n)
 
+  -- the same pages are used
+  pub lives-still : (ns : List ℕ) (n : ℕ) (ps : List Page) → ((i : ℕ) → i < length ps → QuietPage v r (page ps i)) → reachedWell v ns n ps ≡ reachedWell u ns n ps
+  lives-still ns n [] h = refl
+  lives-still ns n (p ∷ ps) h =
+      ap₂ (λ (a b : Bool). same (not (isFree p) && a) (has n ns) && b) (within-still (p .start) (p .end) (h 0 (omega arith) .start) (h 0 (omega arith) .end)) (lives-still ns (suc n) ps (λ i l. h (suc i) (omega arith)))
+
   module _ (s : Store) (q : Quiet v r s) where
     page-still : (n : ℕ) → pairsAt v (page (s .pages) n) ≡ pairsAt u (page (s .pages) n)
     page-still n = at (bool-cases (ltb n (length (s .pages))))
@@ -98,11 +104,6 @@ module _ (v u r : ℕ) (low : v ≤ u) (high : u < r) where
         let n : ℕ = rootAt (s .slots) u in
         ap (λ (x : ℕ). seenBelow (heightOf (s .pages) x) (s .pages) v true 0 keyLimit x) (root-still (s .slots) (q .slots) 0)
         ∙ below-still (s .pages) page-still (heightOf (s .pages) n) true 0 keyLimit n
-
-    lives-still : (ns : List ℕ) (n : ℕ) (ps : List Page) → ((i : ℕ) → i < length ps → QuietPage v r (page ps i)) → reachedWell v ns n ps ≡ reachedWell u ns n ps
-    lives-still ns n [] h = refl
-    lives-still ns n (p ∷ ps) h =
-        ap₂ (λ (a b : Bool). same (not (isFree p) && a) (has n ns) && b) (within-still (p .start) (p .end) (h 0 (omega arith) .start) (h 0 (omega arith) .end)) (lives-still ns (suc n) ps (λ i l. h (suc i) (omega arith)))
 
     -- the same answer to what rule 6 asks
     pub reached-still : reachedWell v (numbers s v) 5 (drop 5 (s .pages)) ≡ reachedWell u (numbers s u) 5 (drop 5 (s .pages))

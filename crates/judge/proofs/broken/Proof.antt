@@ -53,26 +53,26 @@ third-rule-requires c κs = (c .before .before .before .before .before .before .
 returns-3 : tie.Need-returns-3
 returns-3 c = let a = c .before .before .before .before .before .before .before .before .args in sym (broken-three (a .l .least) (a .s .now) (one ((c .before .before .before .before .before))) (two ((c .before .before))) (sym (c .before .third-rule .ensures) ∙ not-true (c .before .third-rule .result) (c .if3 .taken)))
 
-versions-requires : tie.Need-versions-requires
-versions-requires c κs = (c .before .before .before .before .before .before .before .before .pre .0, is-ready ((c)), omega arith)
+stretches-requires : tie.Need-stretches-requires
+stretches-requires c κs = (c .before .before .before .before .before .before .before .before .pre .0, is-ready ((c)), omega arith, omega arith)
 
 returns-4 : tie.Need-returns-4
-returns-4 c = let a = c .before .before .before .before .before .before .before .before .before .before .args in sym (broken-four (a .l .least) (a .s .now) (one ((c .before .before .before .before .before .before .before))) (two ((c .before .before .before .before))) (three ((c .before .before))) (told-false _ _ (c .before .versions .result) 4 (four-is (a .l .least) (a .s .now) (c .before .before .before .before .before .before .header .result) (c .before .before .before .before .before .before .header .ensures)) (c .before .versions .ensures) (c .if4 .taken)))
+returns-4 c = let a = c .before .before .before .before .before .before .before .before .before .before .args in sym (broken-four (a .l .least) (a .s .now) (one ((c .before .before .before .before .before .before .before))) (two ((c .before .before .before .before))) (three ((c .before .before))) (told-false _ _ (c .before .stretches .result) 4 (four-is (a .l .least) (a .s .now) (c .before .before .before .before .before .before .header .result) (c .before .before .before .before .before .before .header .ensures)) (c .before .stretches .ensures) (c .if4 .taken)))
 
-versions-requires-2 : tie.Need-versions-requires-2
-versions-requires-2 c κs = (c .before .before .before .before .before .before .before .before .before .before .pre .0, is-ready ((c .before .before)), omega arith)
+stretches-requires-2 : tie.Need-stretches-requires-2
+stretches-requires-2 c κs = (c .before .before .before .before .before .before .before .before .before .before .pre .0, is-ready ((c .before .before)), omega arith, omega arith)
 
 returns-5 : tie.Need-returns-5
-returns-5 c = let a = c .before .before .before .before .before .before .before .before .before .before .before .before .args in sym (broken-five (a .l .least) (a .s .now) (one ((c .before .before .before .before .before .before .before .before .before))) (two ((c .before .before .before .before .before .before))) (three ((c .before .before .before .before))) (told-true _ _ (c .before .before .before .versions .result) 4 (four-is (a .l .least) (a .s .now) (c .before .before .before .before .before .before .before .before .header .result) (c .before .before .before .before .before .before .before .before .header .ensures)) (c .before .before .before .versions .ensures) (omega arith) (c .before .before .if4 .left)) (told-false _ _ (c .before .versions2 .result) 5 (five-is (a .l .least) (a .s .now) (c .before .before .before .before .before .before .before .before .header .result) (c .before .before .before .before .before .before .before .before .header .ensures)) (c .before .versions2 .ensures) (c .if5 .taken)))
+returns-5 c = let a = c .before .before .before .before .before .before .before .before .before .before .before .before .args in sym (broken-five (a .l .least) (a .s .now) (one ((c .before .before .before .before .before .before .before .before .before))) (two ((c .before .before .before .before .before .before))) (three ((c .before .before .before .before))) (told-true _ _ (c .before .before .before .stretches .result) 4 (four-is (a .l .least) (a .s .now) (c .before .before .before .before .before .before .before .before .header .result) (c .before .before .before .before .before .before .before .before .header .ensures)) (c .before .before .before .stretches .ensures) (omega arith) (c .before .before .if4 .left)) (told-false _ _ (c .before .stretches2 .result) 5 (five-is (a .l .least) (a .s .now) (c .before .before .before .before .before .before .before .before .header .result) (c .before .before .before .before .before .before .before .before .header .ensures)) (c .before .stretches2 .ensures) (c .if5 .taken)))
 
-versions-requires-3 : tie.Need-versions-requires-3
-versions-requires-3 c κs = (c .before .before .before .before .before .before .before .before .before .before .before .before .pre .0, is-ready ((c .before .before .before .before)), omega arith)
+versions-requires : tie.Need-versions-requires
+versions-requires c κs = (c .before .before .before .before .before .before .before .before .before .before .before .before .pre .0, is-ready ((c .before .before .before .before)))
 
 returns-6 : tie.Need-returns-6
-returns-6 c = let a = c .before .before .before .before .before .before .before .before .before .before .before .before .before .before .args in sym (broken-six (a .l .least) (a .s .now) (one ((c .before .before .before .before .before .before .before .before .before .before .before))) (two ((c .before .before .before .before .before .before .before .before))) (three ((c .before .before .before .before .before .before))) (told-true _ _ (c .before .before .before .before .before .versions .result) 4 (four-is (a .l .least) (a .s .now) (c .before .before .before .before .before .before .before .before .before .before .header .result) (c .before .before .before .before .before .before .before .before .before .before .header .ensures)) (c .before .before .before .before .before .versions .ensures) (omega arith) (c .before .before .before .before .if4 .left)) (told-true _ _ (c .before .before .before .versions2 .result) 5 (five-is (a .l .least) (a .s .now) (c .before .before .before .before .before .before .before .before .before .before .header .result) (c .before .before .before .before .before .before .before .before .before .before .header .ensures)) (c .before .before .before .versions2 .ensures) (omega arith) (c .before .before .if5 .left)) (told-false _ _ (c .before .versions3 .result) 6 (six-is (a .l .least) (a .s .now) (c .before .before .before .before .before .before .before .before .before .before .header .result) (c .before .before .before .before .before .before .before .before .before .before .header .ensures)) (c .before .versions3 .ensures) (c .if6 .taken)))
+returns-6 c = let a = c .before .before .before .before .before .before .before .before .before .before .before .before .before .before .args in sym (broken-six (a .l .least) (a .s .now) (one ((c .before .before .before .before .before .before .before .before .before .before .before))) (two ((c .before .before .before .before .before .before .before .before))) (three ((c .before .before .before .before .before .before))) (told-true _ _ (c .before .before .before .before .before .stretches .result) 4 (four-is (a .l .least) (a .s .now) (c .before .before .before .before .before .before .before .before .before .before .header .result) (c .before .before .before .before .before .before .before .before .before .before .header .ensures)) (c .before .before .before .before .before .stretches .ensures) (omega arith) (c .before .before .before .before .if4 .left)) (told-true _ _ (c .before .before .before .stretches2 .result) 5 (five-is (a .l .least) (a .s .now) (c .before .before .before .before .before .before .before .before .before .before .header .result) (c .before .before .before .before .before .before .before .before .before .before .header .ensures)) (c .before .before .before .stretches2 .ensures) (omega arith) (c .before .before .if5 .left)) (told-false _ _ (c .before .versions .result) 6 (six-is (a .l .least) (a .s .now) (c .before .before .before .before .before .before .before .before .before .before .header .result) (c .before .before .before .before .before .before .before .before .before .before .header .ensures)) (c .before .versions .ensures) (c .if6 .taken)))
 
 returns-7 : tie.Need-returns-7
-returns-7 c = let a = c .before .before .before .before .before .before .before .before .before .before .before .before .before .before .args in sym (broken-none (a .l .least) (a .s .now) (one ((c .before .before .before .before .before .before .before .before .before .before .before))) (two ((c .before .before .before .before .before .before .before .before))) (three ((c .before .before .before .before .before .before))) (told-true _ _ (c .before .before .before .before .before .versions .result) 4 (four-is (a .l .least) (a .s .now) (c .before .before .before .before .before .before .before .before .before .before .header .result) (c .before .before .before .before .before .before .before .before .before .before .header .ensures)) (c .before .before .before .before .before .versions .ensures) (omega arith) (c .before .before .before .before .if4 .left)) (told-true _ _ (c .before .before .before .versions2 .result) 5 (five-is (a .l .least) (a .s .now) (c .before .before .before .before .before .before .before .before .before .before .header .result) (c .before .before .before .before .before .before .before .before .before .before .header .ensures)) (c .before .before .before .versions2 .ensures) (omega arith) (c .before .before .if5 .left)) (told-true _ _ (c .before .versions3 .result) 6 (six-is (a .l .least) (a .s .now) (c .before .before .before .before .before .before .before .before .before .before .header .result) (c .before .before .before .before .before .before .before .before .before .before .header .ensures)) (c .before .versions3 .ensures) (omega arith) (c .if6 .left)))
+returns-7 c = let a = c .before .before .before .before .before .before .before .before .before .before .before .before .before .before .args in sym (broken-none (a .l .least) (a .s .now) (one ((c .before .before .before .before .before .before .before .before .before .before .before))) (two ((c .before .before .before .before .before .before .before .before))) (three ((c .before .before .before .before .before .before))) (told-true _ _ (c .before .before .before .before .before .stretches .result) 4 (four-is (a .l .least) (a .s .now) (c .before .before .before .before .before .before .before .before .before .before .header .result) (c .before .before .before .before .before .before .before .before .before .before .header .ensures)) (c .before .before .before .before .before .stretches .ensures) (omega arith) (c .before .before .before .before .if4 .left)) (told-true _ _ (c .before .before .before .stretches2 .result) 5 (five-is (a .l .least) (a .s .now) (c .before .before .before .before .before .before .before .before .before .before .header .result) (c .before .before .before .before .before .before .before .before .before .before .header .ensures)) (c .before .before .before .stretches2 .ensures) (omega arith) (c .before .before .if5 .left)) (told-true _ _ (c .before .versions .result) 6 (six-is (a .l .least) (a .s .now) (c .before .before .before .before .before .before .before .before .before .before .header .result) (c .before .before .before .before .before .before .before .before .before .before .header .ensures)) (c .before .versions .ensures) (omega arith) (c .if6 .left)))
 
 pub broken-spec : {M : Type 1} → statement M
 broken-spec =
@@ -85,10 +85,10 @@ broken-spec =
     returns-2
     third-rule-requires
     returns-3
-    versions-requires
+    stretches-requires
     returns-4
-    versions-requires-2
+    stretches-requires-2
     returns-5
-    versions-requires-3
+    versions-requires
     returns-6
     returns-7)

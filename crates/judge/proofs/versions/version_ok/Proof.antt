@@ -1,9 +1,9 @@
--- `judge::versions::version_ok` meets its contract: what the walk tells, and for rule 6 the marks. Assumes nothing.
+-- `judge::versions::version_ok` meets its contract: what the walk tells, and the marks. Assumes nothing.
 use Prim.Native.Nat.{ℕ, _-_}
 use mathlib.Core.Path.{_≡_, ap, sym, _∙_}
 use mathlib.Core.List.{List}
 use native.Mathlib.Omega.{arith}
-use Rattle.judge.specs.Runs.{fails, passes-one, passes-six}
+use Rattle.judge.specs.Runs.{fails, passes-six}
 use Rattle.local.specs.Sizes.{part-fits}
 use Rattle.local.specs.Local.{levelAt}
 use Rattle.page.specs.Head.{readHead}
@@ -31,28 +31,27 @@ level c =
     c .wide .ensures ∙ ap (λ (h : Head). h .level) (c .before .head-of .ensures) ∙ ap (λ (p : List ℕ). readHead (a .l .least) p .level) (c .before .before .part .ensures .0)
 
 sub-up : tie.Need-sub-up
-sub-up c = omega (arith, level ((c)), c .before .before .before .root-at .ensures .1 .used)
+sub-up c = omega (arith, level (c), c .before .before .before .root-at .ensures .1 .used)
+
+add-walk : tie.Need-add-walk
+add-walk c = omega (arith, c .before .before .before .before .before .pre .2)
 
 walk-requires : tie.Need-walk-requires
-walk-requires c κs =
-    (c .before .before .before .before .before .pre .0, c .before .before .before .before .before .pre .1 .linked, c .before .before .before .root-at .ensures .1 .isPage, omega (arith, level ((c)), c .before .before .before .root-at .ensures .1 .used), omega (arith, level ((c)), c .before .before .before .root-at .ensures .1 .low))
+walk-requires c κs = (c .before .before .before .before .before .pre .0, c .before .before .before .before .before .pre .1 .linked, c .before .before .before .root-at .ensures .1 .isPage, omega (arith, level (c), c .before .before .before .root-at .ensures .1 .used), omega (arith, level (c), c .before .before .before .root-at .ensures .1 .low), omega arith)
 
 returns : tie.Need-returns
-returns c = let a = c .before .before .before .before .before .before .before .before .args in sym (fails (a .l .least) (a .s .now) (a .v) (c .before .before .before .before .before .before .root-at .result) (c .before .before .before .wide .result - 1) (a .rule) (c .before .before .before .before .before .before .root-at .ensures .0) (c .before .before .before .before .before .before .root-at .ensures .1) (omega (arith, level ((c .before .before .before)))) (c .before .before .walk .result) (c .before .before .walk .ensures) (c .if1 .taken))
+returns c =
+    let a = c .before .before .before .before .before .before .before .before .args in let r = c .before .before .before .before .before .before .root-at in
+    sym (fails (a .l .least) (a .s .now) (r .result) (c .before .before .before .wide .result - 1) (r .ensures .1) (omega (arith, level ((c .before .before .before)))) (a .v) (r .ensures .0) (c .before .before .walk .result) (c .before .before .walk .ensures) (c .if1 .taken))
+
+reached-requires : tie.Need-reached-requires
+reached-requires c κs = (c .before .before .before .before .before .before .before .before .before .pre .0, c .before .before .before .before .before .before .before .before .before .pre .1)
 
 returns-2 : tie.Need-returns-2
 returns-2 c =
-    let a = c .before .before .before .before .before .before .before .before .before .args in
-    sym (passes-one (a .l .least) (a .s .now) (a .v) (c .before .before .before .before .before .before .before .root-at .result) (c .before .before .before .before .wide .result - 1) (a .rule) (c .before .before .before .before .before .before .before .root-at .ensures .0) (c .before .before .before .before .before .before .before .root-at .ensures .1) (omega (arith, level ((c .before .before .before .before)))) (c .before .before .before .walk .result) (c .before .before .before .walk .ensures) (c .before .before .before .before .before .before .before .before .before .pre .2) (c .before .if1 .left) (c .if2 .taken))
-
-reached-requires : tie.Need-reached-requires
-reached-requires c κs = (c .before .before .before .before .before .before .before .before .before .before .pre .0, c .before .before .before .before .before .before .before .before .before .before .pre .1)
-
-returns-3 : tie.Need-returns-3
-returns-3 c =
-    let a = c .before .before .before .before .before .before .before .before .before .before .before .args in
+    let a = c .before .before .before .before .before .before .before .before .before .before .args in let r = c .before .before .before .before .before .before .before .before .root-at in
     c .reached .ensures
-    ∙ sym (passes-six (a .l .least) (a .s .now) (a .v) (c .before .before .before .before .before .before .before .before .before .root-at .result) (c .before .before .before .before .before .before .wide .result - 1) (a .rule) (c .before .before .before .before .before .before .before .before .before .root-at .ensures .0) (c .before .before .before .before .before .before .before .before .before .root-at .ensures .1) (omega (arith, level ((c .before .before .before .before .before .before)))) (c .before .before .before .before .before .walk .result) (c .before .before .before .before .before .walk .ensures) (c .before .before .before .before .before .before .before .before .before .before .before .pre .2) (c .before .before .before .if1 .left) (c .before .before .if2 .left))
+    ∙ sym (passes-six (a .l .least) (a .s .now) (r .result) (c .before .before .before .before .before .wide .result - 1) (r .ensures .1) (omega (arith, level ((c .before .before .before .before .before)))) (a .v) (r .ensures .0) (c .before .before .before .before .walk .result) (c .before .before .before .before .walk .ensures) (c .before .before .if1 .left))
 
 pub version-ok-spec : {M : Type 1} → statement M
 version-ok-spec =
@@ -63,8 +62,8 @@ version-ok-spec =
     head-of-requires
     wide-requires
     sub-up
+    add-walk
     walk-requires
     returns
-    returns-2
     reached-requires
-    returns-3)
+    returns-2)

@@ -1,4 +1,4 @@
--- `judge::versions::page_change` meets its contract: nothing of the first i entries starts or ends behind v and before q. Assumes nothing.
+-- `judge::changes::page_change` meets its contract: nothing of the first i entries starts or ends behind v and before q. Assumes nothing.
 use Prim.Native.Nat.{_≤_, _<_, _-_, _*_}
 use mathlib.Core.Path.{_≡_, ap}
 use native.Mathlib.Omega.{arith}
@@ -6,8 +6,8 @@ use Rattle.judge.specs.Quiet.{out-less, quiet-none, quiet-more}
 use Rattle.judge.specs.Versions.{QuietEntries}
 use Rattle.page.specs.Head.{readHead}
 use Rattle.page.specs.declared.Head.{Head}
-use Rattle.judge.proofs.versions.page_change.Statement.{statement}
-use Rattle.judge.proofs.versions.page_change.Tie as tie
+use Rattle.judge.proofs.changes.page_change.Statement.{statement}
+use Rattle.judge.proofs.changes.page_change.Tie as tie
 
 abbrev Inv-loop : tie.InvT-loop
 Inv-loop page v r count q₀ i₀ q i = (i ≤ count) × (q ≤ q₀) × (v < q) × QuietEntries page i v q

@@ -1,8 +1,8 @@
--- `judge::versions::sooner` meets its contract: each way out by the tests taken. Assumes nothing.
+-- `judge::changes::sooner` meets its contract: each way out by the tests taken. Assumes nothing.
 use mathlib.Core.Logic.{inl, inr}
 use native.Mathlib.Omega.{arith}
-use Rattle.judge.proofs.versions.sooner.Statement.{statement}
-use Rattle.judge.proofs.versions.sooner.Tie as tie
+use Rattle.judge.proofs.changes.sooner.Statement.{statement}
+use Rattle.judge.proofs.changes.sooner.Tie as tie
 
 returns : tie.Need-returns
 returns c = (record { below = omega arith; above = omega arith }, inl (c .if1 .taken))

@@ -1,4 +1,4 @@
--- `judge::versions::slot_change` meets its contract: no slot before i has its version behind v and before q. Assumes nothing.
+-- `judge::changes::slot_change` meets its contract: no slot before i has its version behind v and before q. Assumes nothing.
 use Prim.Native.Nat.{ℕ, _≤_, _<_, _-_}
 use native.Mathlib.Omega.{arith}
 use Rattle.judge.specs.Quiet.{outs-more}
@@ -6,8 +6,8 @@ use Rattle.judge.specs.Versions.{Sooner}
 use Rattle.local.specs.Local.{slotAt}
 use Rattle.model.proofs.Quiet.{Out}
 use borrow.Author.Needs.{needs}
-use Rattle.judge.proofs.versions.slot_change.Statement.{statement}
-use Rattle.judge.proofs.versions.slot_change.Tie as tie
+use Rattle.judge.proofs.changes.slot_change.Statement.{statement}
+use Rattle.judge.proofs.changes.slot_change.Tie as tie
 
 abbrev Inv-loop : tie.InvT-loop
 Inv-loop s l v r roots q₀ i₀ q i = (i ≤ roots) × Sooner v r q × ((k : ℕ) → k < i → Out v q (slotAt (l .least) s k .version))

@@ -1,4 +1,4 @@
--- `judge::versions::next_change` meets its contract: nothing of the pages before n starts or ends behind v and before q. Assumes nothing.
+-- `judge::changes::next_change` meets its contract: nothing of the pages before n starts or ends behind v and before q. Assumes nothing.
 use Prim.Native.Nat.{ℕ, _≤_, _<_, _-_}
 use native.Mathlib.Omega.{arith}
 use Rattle.judge.specs.Quiet.{out-less, pages-more}
@@ -6,8 +6,8 @@ use Rattle.judge.specs.Versions.{QuietPart}
 use Rattle.local.specs.Sizes.{part-fits}
 use Rattle.model.specs.Layout.{pageOf}
 use borrow.Author.Needs.{needs}
-use Rattle.judge.proofs.versions.next_change.Statement.{statement}
-use Rattle.judge.proofs.versions.next_change.Tie as tie
+use Rattle.judge.proofs.changes.next_change.Statement.{statement}
+use Rattle.judge.proofs.changes.next_change.Tie as tie
 
 abbrev Inv-loop : tie.InvT-loop
 Inv-loop s l v r pages q₀ n₀ q n = (5 ≤ n) × (n ≤ pages) × (q ≤ q₀) × (v < q) × ((m : ℕ) → 5 ≤ m → m < n → QuietPart (l .least) (pageOf (l .least) s m) v q)

@@ -1,0 +1,60 @@
+-- `judge::versions::stretch_ok` meets its contract: what the walk tells, from the root that all these versions have. Assumes nothing.
+use Prim.Native.Nat.{ℕ, _-_}
+use mathlib.Core.Path.{_≡_, ap, sym, _∙_}
+use mathlib.Core.Bool.{Bool}
+use mathlib.Core.List.{List}
+use native.Mathlib.Omega.{arith}
+use Rattle.judge.specs.Runs.{root-quiet, stretch-is, unbroken}
+use Rattle.judge.specs.Versions.{versionOk}
+use Rattle.model.specs.Basic.{all, count, pick}
+use Rattle.local.specs.Sizes.{part-fits}
+use Rattle.local.specs.Local.{levelAt}
+use Rattle.page.specs.Head.{readHead}
+use Rattle.page.specs.declared.Head.{Head}
+use borrow.Author.Needs.{needs}
+use Rattle.judge.proofs.versions.stretch_ok.Statement.{statement}
+use Rattle.judge.proofs.versions.stretch_ok.Tie as tie
+
+root-at-requires : tie.Need-root-at-requires
+root-at-requires c κs = search needs
+
+part-requires : tie.Need-part-requires
+part-requires c κs = let a = c .before .before .args in (c .before .before .pre .0, part-fits (a .l .least) (c .before .before .pre .0 .four) (a .s .now) (c .root-at .result) (c .root-at .ensures .1 .isPage .1), omega (arith, c .before .before .pre .1 .sized .long))
+
+head-of-requires : tie.Need-head-of-requires
+head-of-requires c κs = (c .before .before .before .pre .0, omega (arith, c .part .ensures .1, c .before .before .before .pre .0 .four), omega (arith, c .part .ensures .1, c .before .before .before .pre .0 .eight))
+
+wide-requires : tie.Need-wide-requires
+wide-requires c κs = search needs
+
+-- the level of the root
+level : (c : tie.After-wide) → let a = c .before .before .before .before .before .args in c .wide .result ≡ levelAt (a .l .least) (a .s .now) (c .before .before .before .root-at .result)
+level c =
+    let a = c .before .before .before .before .before .args in
+    c .wide .ensures ∙ ap (λ (h : Head). h .level) (c .before .head-of .ensures) ∙ ap (λ (p : List ℕ). readHead (a .l .least) p .level) (c .before .before .part .ensures .0)
+
+sub-up : tie.Need-sub-up
+sub-up c = omega (arith, level (c), c .before .before .before .root-at .ensures .1 .used)
+
+walk-requires : tie.Need-walk-requires
+walk-requires c κs = (c .before .before .before .before .before .pre .0, c .before .before .before .before .before .pre .1 .linked, c .before .before .before .root-at .ensures .1 .isPage, omega (arith, level (c), c .before .before .before .root-at .ensures .1 .used), omega (arith, level (c), c .before .before .before .root-at .ensures .1 .low), c .before .before .before .before .before .pre .4)
+
+returns : tie.Need-returns
+returns c =
+    let a = c .before .before .before .before .before .before .before .args in let r = c .before .before .before .before .before .root-at in let up = c .before .before .wide .result - 1 in
+    unbroken (all (versionOk (a .l .least) (a .rule) (a .s .now)) (count (a .v) (a .c - a .v))) (c .before .walk .result .broken) (a .rule) (c .before .before .before .before .before .before .before .pre .2)
+    (c .before .walk .ensures .verdict
+    ∙ ap (λ (b : Bool). pick b 0 (a .rule)) (sym (stretch-is (a .l .least) (a .s .now) (r .result) up (r .ensures .1) (omega (arith, level ((c .before .before)))) (a .v) (a .c) (a .rule) (c .before .before .before .before .before .before .before .pre .3)
+    (λ x low high. r .ensures .0 ∙ root-quiet (a .l .least) (a .s .now) (a .h) (a .v) x (a .c) (c .before .before .before .before .before .before .before .pre .1) low high (c .before .before .before .before .before .before .before .pre .5)))))
+
+pub stretch-ok-spec : {M : Type 1} → statement M
+stretch-ok-spec =
+    tie.close
+    (tie.spec
+    root-at-requires
+    part-requires
+    head-of-requires
+    wide-requires
+    sub-up
+    walk-requires
+    returns)

@@ -1,0 +1,72 @@
+// The versions at which something starts or ends: a slot, a page, an entry. Between two of them each test answers the same.
+use model::Header;
+use model::Limits;
+ghost use mathlib.Core.Path.{_≡_};
+ghost use Prim.Native.Nat.{_*_, _≤_, _<_};
+ghost use lib.ListN.{length};
+ghost use Rattle.model.specs.Limits.{Edition};
+ghost use Rattle.model.proofs.Quiet.{Out};
+ghost use Rattle.page.specs.Head.{readHead};
+ghost use Rattle.judge.specs.Versions.{QuietPart, QuietSlots, QuietBytes, Sooner, Ready};
+
+// r, or x if it stands between v and r.
+fn sooner(v: u32, r: u32, x: u32) -> u32
+    requires { ⌜ v < r ⌝ }
+    ensures { λ q. ⌜ Sooner v r q × Out v q x ⌝ }
+{
+    if x <= v {
+        return r;
+    }
+    if r <= x {
+        return r;
+    }
+    x
+}
+
+// A version up to r such that nothing of the page starts or ends before it and behind v.
+pub(crate) fn page_change(page: &[u8], l: Limits, v: u32, r: u32) -> u32
+    requires { ⌜ Edition l × (length (now page) ≡ 64 * l .least) × (readHead (l .least) (now page) .count ≤ 5 * l .least) × (v < r) ⌝ }
+    ensures { λ q. ⌜ Sooner v r q × QuietPart (l .least) (now (page .entry)) v q ⌝ }
+{
+    let h = page::head_of(page, l);
+    let count = h.count;
+    let mut q = sooner(v, sooner(v, r, h.start), h.end);
+    let mut i = 0;
+    while i < count {
+        let e = page::entry_at(page, i);
+        q = sooner(v, sooner(v, q, e.start), e.end);
+        i += 1;
+    }
+    q
+}
+
+// The same of the root directory.
+pub(crate) fn slot_change(s: &[u8], l: Limits, h: Header, v: u32, r: u32) -> u32
+    requires { ⌜ Edition l × Ready (l .least) (now s) h × (v < r) ⌝ }
+    ensures { λ q. ⌜ Sooner v r q × QuietSlots (l .least) (now (s .entry)) h v q ⌝ }
+{
+    let roots = crate::wide(h.roots);
+    let mut q = r;
+    let mut i = 0;
+    while i < roots {
+        let x = store::slot(s, l, i);
+        q = sooner(v, q, x.version);
+        i += 1;
+    }
+    q
+}
+
+// The next version behind v, up to r, at which something starts or ends.
+pub(crate) fn next_change(s: &[u8], l: Limits, h: Header, v: u32, r: u32) -> u32
+    requires { ⌜ Edition l × Ready (l .least) (now s) h × (v < r) ⌝ }
+    ensures { λ q. ⌜ Sooner v r q × QuietBytes (l .least) (now (s .entry)) v q ⌝ }
+{
+    let pages = crate::wide(h.pages);
+    let mut q = slot_change(s, l, h, v, r);
+    let mut n = 5;
+    while n < pages {
+        q = page_change(store::part(s, l, n), l, v, q);
+        n += 1;
+    }
+    q
+}
