@@ -7,4 +7,5 @@ pub mod Pages
 pub mod Given
 pub mod Slots
 pub mod Sums
+pub mod Led
 pub mod Number

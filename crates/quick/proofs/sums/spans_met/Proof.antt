@@ -1,4 +1,5 @@
-use Rattle.quick.specs.Sums.{none, slots-in, sums-long, met-all}
+use Rattle.quick.specs.Sums.{none}
+use Rattle.quick.specs.Led.{slots-in, sums-long, met-all}
 use mathlib.Core.Path.{_∙_}
 use native.Mathlib.Omega.{arith}
 use borrow.Author.Needs.{needs}
