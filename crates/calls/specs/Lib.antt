@@ -1,3 +1,4 @@
 pub mod Guard
 pub mod Reading
 pub mod Turning
+pub mod Updating

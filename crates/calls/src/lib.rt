@@ -1,7 +1,11 @@
 // The calls, for any bytes and any numbers lent: each is its guard, which judges the store and then goes through the call's
 // refusals in order, and a core that rests on a sound store.
+mod updating;
+
 use model::Limits;
 use model::Looked;
+pub use updating::delete;
+pub use updating::insert;
 use walk::Counted;
 ghost use mathlib.Core.Path.{_≡_};
 ghost use Rattle.model.specs.Limits.{Edition};

@@ -4,7 +4,7 @@ ghost use mathlib.Core.Path.{_≡_};
 ghost use Rattle.model.specs.Layout.{bit};
 ghost use Rattle.model.specs.Judged.{judged};
 ghost use Rattle.model.specs.Calls.{lookedNumber, lookedFound, lookedValue};
-ghost use Rattle.model.specs.Lent.{freshLent, openLent, commitLent, abandonLent, lookupLent, rangeLent};
+ghost use Rattle.model.specs.Lent.{freshLent, openLent, insertLent, deleteLent, commitLent, abandonLent, lookupLent, rangeLent};
 ghost use Rattle.calls.specs.Turning.{ended};
 
 // Makes a fresh store.
@@ -33,6 +33,22 @@ pub extern "C" fn rcst_open(store: &mut [u8]) -> u32
     ensures { λ r. ⌜ ended r (now (store .exit)) ≡ openLent 4 (now (store .entry)) ⌝ }
 {
     calls::open(store)
+}
+
+// Inserts a setting in the open update.
+#[no_mangle]
+pub extern "C" fn rcst_insert(store: &mut [u8], key: u32, value: u32) -> u32
+    ensures { λ r. ⌜ ended r (now (store .exit)) ≡ insertLent 4 (now (store .entry)) key value ⌝ }
+{
+    calls::insert(store, key, value)
+}
+
+// Deletes a setting in the open update.
+#[no_mangle]
+pub extern "C" fn rcst_delete(store: &mut [u8], key: u32) -> u32
+    ensures { λ r. ⌜ ended r (now (store .exit)) ≡ deleteLent 4 (now (store .entry)) key ⌝ }
+{
+    calls::delete(store, key)
 }
 
 // Commits the open update.

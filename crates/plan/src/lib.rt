@@ -115,7 +115,7 @@ fn plan_root(s: &[u8], l: Limits, w: u32, n: usize, c: Change, left: usize) -> O
 }
 
 // "Work goes from the leaf up."
-fn plan_up(s: &[u8], l: Limits, w: u32, way: Way, c: Change, left: usize) -> Outlook
+pub fn plan_up(s: &[u8], l: Limits, w: u32, way: Way, c: Change, left: usize) -> Outlook
     requires { ⌜ Kept l (now s) × Led l (now s) way × Fits c × (left ≤ 4096) ⌝ }
     ensures { λ r. ⌜ outlookOf r ≡ planUp (l .least) w (pagesOf l (now (s .entry))) (way .root) (upsOf (way .list) (way .n)) (changeOf c) left ⌝ }
 {

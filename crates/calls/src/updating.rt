@@ -1,0 +1,120 @@
+// Insert and delete: their guard, and the one change that each makes.
+use edit::Change;
+use model::Limits;
+use model::Looked;
+use model::Pair;
+ghost use mathlib.Core.Path.{_≡_};
+ghost use Prim.Native.Nat.{_<_};
+ghost use Rattle.model.specs.Limits.{Edition};
+ghost use Rattle.model.specs.Walk.{keyLimit, lookup};
+ghost use Rattle.model.specs.Layout.{decode};
+ghost use Rattle.model.specs.Calls.{isSome};
+ghost use Rattle.model.specs.Needs.{inserting, deleting};
+ghost use Rattle.model.specs.Lent.{insertLent, deleteLent};
+ghost use Rattle.edit.specs.Change.{changeOf};
+ghost use Rattle.gather.specs.Kept.{Fits};
+ghost use Rattle.walk.specs.Sure.{Readable};
+ghost use Rattle.calls.specs.Guard.{guarded};
+ghost use Rattle.calls.specs.Turning.{ended};
+ghost use Rattle.calls.specs.Updating.{updating, against};
+
+// Whether a key is alive at version w.
+fn is_alive(s: &[u8], l: Limits, key: u32, w: u32) -> bool
+    requires { ⌜ Readable l (now s) w × (key < keyLimit) ⌝ }
+    ensures { λ r. ⌜ r ≡ isSome (lookup (decode (l .least) (now (s .entry))) key w) ⌝ }
+{
+    match walk::lookup(s, l, key, w) {
+        Looked::Value(_) => true,
+        Looked::Absent => false,
+        Looked::Refused(_) => false,
+    }
+}
+
+// 10 "key alive (insert)", 11 "key not alive (delete)", else 0.
+fn against(insert: bool, alive: bool) -> u32
+    ensures { λ r. ⌜ r ≡ against insert alive ⌝ }
+{
+    if insert {
+        if alive {
+            return 10;
+        }
+        return 0;
+    }
+    if alive {
+        return 0;
+    }
+    11
+}
+
+// The guard of insert and delete: judging, then 5, 7, and 10 or 11.
+fn guard_updating(s: &[u8], l: Limits, key: u32, insert: bool) -> u32
+    requires { ⌜ Edition l ⌝ }
+    ensures { λ r. ⌜ r ≡ guarded (l .least) (now (s .entry)) (updating insert key) ⌝ }
+{
+    let n = quick::number(s, l);
+    if n != 0 {
+        return n;
+    }
+    if crate::KEYS <= key {
+        return 5;
+    }
+    let h = store::header(s, l);
+    if !h.opened {
+        return 7;
+    }
+    against(insert, is_alive(s, l, key, h.current + 1))
+}
+
+// A setting comes in.
+fn inserting(key: u32, value: u32) -> Change
+    requires { ⌜ key < keyLimit ⌝ }
+    ensures { λ r. ⌜ (changeOf r ≡ inserting key value) × Fits r ⌝ }
+{
+    Change {
+        drops: 0,
+        drop1: 0,
+        drop2: 0,
+        takes: 1,
+        take1: Pair { key, value },
+        take2: Pair { key: 0, value: 0 },
+    }
+}
+
+// A setting ends.
+fn deleting(key: u32) -> Change
+    ensures { λ r. ⌜ (changeOf r ≡ deleting key) × Fits r ⌝ }
+{
+    let no = Pair { key: 0, value: 0 };
+    Change {
+        drops: 1,
+        drop1: key,
+        drop2: 0,
+        takes: 0,
+        take1: no,
+        take2: no,
+    }
+}
+
+// Inserts a setting in the open update.
+pub fn insert(s: &mut [u8], key: u32, value: u32) -> u32
+    ensures { λ r. ⌜ ended r (now (s .exit)) ≡ insertLent 4 (now (s .entry)) key value ⌝ }
+{
+    let l = model::edition_one();
+    let n = guard_updating(s, l, key, true);
+    if n != 0 {
+        return n;
+    }
+    update::update(s, l, key, inserting(key, value))
+}
+
+// Deletes a setting in the open update.
+pub fn delete(s: &mut [u8], key: u32) -> u32
+    ensures { λ r. ⌜ ended r (now (s .exit)) ≡ deleteLent 4 (now (s .entry)) key ⌝ }
+{
+    let l = model::edition_one();
+    let n = guard_updating(s, l, key, false);
+    if n != 0 {
+        return n;
+    }
+    update::update(s, l, key, deleting(key))
+}

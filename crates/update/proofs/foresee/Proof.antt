@@ -1,0 +1,58 @@
+-- `foresee` meets its contract. Assumes nothing.
+use native.Mathlib.Omega.{arith}
+use mathlib.Core.Bool.{true, false}
+use mathlib.Core.Path.{sym, _∙_}
+use Rattle.parts.specs.Kept.{pagesOf}
+use Rattle.update.specs.Foreseen.{free-few, keeps-number, lacks-number, moves-number}
+use borrow.Author.Needs.{needs}
+use Rattle.update.proofs.foresee.Statement.{statement}
+use Rattle.update.proofs.foresee.Tie as tie
+
+count-free-requires : tie.Need-count-free-requires
+count-free-requires c κs = search needs
+
+plan-up-requires : tie.Need-plan-up-requires
+plan-up-requires c κs =
+    let p = c .before .before .pre in
+    (p .0, p .1, p .2, omega (arith, c .count-free .ensures, free-few (pagesOf (c .before .before .args .l) (c .before .before .args .s .now)), p .0 .most))
+
+enum-told : tie.Need-enum-told
+enum-told c = search needs
+
+returns : tie.Need-returns
+returns c = keeps-number _ _ _ (rw (c .before .before .before .count-free .ensures) at (c .before .before .plan-up .ensures)) (c .enum-told .given .1)
+
+enum-told-2 : tie.Need-enum-told-2
+enum-told-2 c = search needs
+
+returns-2 : tie.Need-returns-2
+returns-2 c = lacks-number _ _ _ (rw (c .before .before .before .count-free .ensures) at (c .before .before .plan-up .ensures)) (c .enum-told2 .given .1)
+
+enum-told-3 : tie.Need-enum-told-3
+enum-told-3 c = search needs
+
+slot-left-requires : tie.Need-slot-left-requires
+slot-left-requires c κs = search needs
+
+returns-3 : tie.Need-returns-3
+returns-3 c =
+    moves-number _ _ _ (rw (c .before .before .before .before .before .count-free .ensures) at (c .before .before .before .before .plan-up .ensures)) (c .before .before .enum-told3 .given .1) true (sym (c .before .slot-left .ensures) ∙ c .if1 .taken)
+
+returns-4 : tie.Need-returns-4
+returns-4 c =
+    moves-number _ _ _ (rw (c .before .before .before .before .before .count-free .ensures) at (c .before .before .before .before .plan-up .ensures)) (c .before .before .enum-told3 .given .1) false (sym (c .before .slot-left .ensures) ∙ c .if1 .left)
+
+pub foresee-spec : {M : Type 1} → statement M
+foresee-spec =
+    tie.close
+    (tie.spec
+    count-free-requires
+    plan-up-requires
+    enum-told
+    returns
+    enum-told-2
+    returns-2
+    enum-told-3
+    slot-left-requires
+    returns-3
+    returns-4)

@@ -1,0 +1,4 @@
+pub mod Foreseen
+pub mod Level
+pub mod Applied
+pub mod Whole

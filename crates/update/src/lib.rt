@@ -1,0 +1,103 @@
+// One change at the leaf for a key, at the open version, on a sound store. The number that it comes to is foreseen before the first
+// byte is written, so that a refusal leaves the store untouched.
+use climb::Worked;
+use edit::Change;
+use model::Limits;
+use plan::Outlook;
+use plan::Way;
+use root::Rooted;
+ghost use mathlib.Core.Path.{_≡_};
+ghost use mathlib.Core.Bool.{true};
+ghost use Prim.Native.Nat.{_<_};
+ghost use lib.ListN.{length};
+ghost use Rattle.model.specs.Limits.{Edition};
+ghost use Rattle.model.specs.Store.{freeOnes};
+ghost use Rattle.model.specs.Walk.{keyLimit};
+ghost use Rattle.model.specs.Layout.{decode};
+ghost use Rattle.model.specs.Judged.{isSound};
+ghost use Rattle.model.specs.Climb.{climb, workRoot, rooted, update};
+ghost use Rattle.model.specs.Plan.{planUp, slotLeft, outlookNumber};
+ghost use Rattle.model.specs.Lent.{left};
+ghost use Rattle.edit.specs.Change.{changeOf};
+ghost use Rattle.gather.specs.Kept.{Fits};
+ghost use Rattle.parts.specs.Kept.{Kept, pagesOf};
+ghost use Rattle.plan.specs.Plan.{upsOf, Led};
+ghost use Rattle.update.specs.Applied.{ToRoot, ToApply};
+ghost use Rattle.update.specs.Whole.{LeavesSound};
+ghost use Rattle.root.specs.Slotted.{Slotted};
+
+// The number that a change will come to: 12 "the rules need a page and none is free", 13 "the rules need a 257th slot", else 0.
+fn foresee(s: &[u8], l: Limits, w: u32, way: Way, c: Change, size: usize) -> u32
+    requires { ⌜ Kept l (now s) × Led l (now s) way × Fits c × (size ≡ length (pagesOf l (now s))) × Slotted l (now s) ⌝ }
+    ensures { λ r. ⌜ r ≡ outlookNumber (slotLeft (l .least) (decode (l .least) (now (s .entry)))) (planUp (l .least) w (pagesOf l (now (s .entry))) (way .root) (upsOf (way .list) (way .n)) (changeOf c) (length (freeOnes (pagesOf l (now (s .entry)))))) ⌝ }
+{
+    match plan::plan_up(s, l, w, way, c, parts::count_free(s, l, size)) {
+        Outlook::Keeps => {
+            return 0;
+        }
+        Outlook::Lacks => {
+            return 12;
+        }
+        Outlook::Moves => {}
+    }
+    if root::slot_left(s, l) {
+        return 0;
+    }
+    13
+}
+
+// The root's work, and "the directory slot of the open version" where another page becomes the root.
+fn apply_root(s: &mut [u8], l: Limits, w: u32, n: usize, c: Change, size: usize)
+    requires { ⌜ ToRoot l (now s) w n c size ⌝ }
+    ensures { λ _. ⌜ now (s .exit) ≡ left (l .least) (now (s .entry)) (rooted (l .least) (decode (l .least) (now (s .entry))) (workRoot (l .least) w (pagesOf l (now (s .entry))) n (changeOf c))) .store ⌝ }
+{
+    match root::work_root(s, l, w, n, c, size) {
+        Rooted::Stays => {
+            return;
+        }
+        // foreseen, so never met
+        Rooted::Lacks => {
+            return;
+        }
+        Rooted::Moves(m) => {
+            root::take_slot(s, l, m);
+        }
+    }
+}
+
+// "Work goes from the leaf up."
+fn apply(s: &mut [u8], l: Limits, w: u32, way: Way, c: Change, size: usize)
+    requires { ⌜ ToApply l (now s) w way c size ⌝ }
+    ensures { λ _. ⌜ now (s .exit) ≡ left (l .least) (now (s .entry)) (rooted (l .least) (decode (l .least) (now (s .entry))) (climb (l .least) w (way .root) (upsOf (way .list) (way .n)) (changeOf c) (pagesOf l (now (s .entry))))) .store ⌝ }
+{
+    match climb::climb_up(s, l, w, way, c, size) {
+        Worked::Settled => {
+            return;
+        }
+        // foreseen, so never met
+        Worked::Lacking => {
+            return;
+        }
+        Worked::Upward(d) => {
+            apply_root(s, l, w, way.root, d, size);
+        }
+    }
+}
+
+// The change made at the leaf for a key, or the number that speaks against it.
+pub fn update(s: &mut [u8], l: Limits, key: u32, c: Change) -> u32
+    requires { ⌜ Edition l × (isSound (l .least) (now s) ≡ true) × (decode (l .least) (now s) .opened ≡ true) × (key < keyLimit) × Fits c × LeavesSound (l .least) (update (l .least) (decode (l .least) (now s)) key (changeOf c)) ⌝ }
+    ensures number { λ r. ⌜ r ≡ left (l .least) (now (s .entry)) (update (l .least) (decode (l .least) (now (s .entry))) key (changeOf c)) .number ⌝ }
+    ensures bytes { λ _. ⌜ now (s .exit) ≡ left (l .least) (now (s .entry)) (update (l .least) (decode (l .least) (now (s .entry))) key (changeOf c)) .store ⌝ }
+{
+    let h = store::header(s, l);
+    let w = h.current + 1;
+    let way = plan::way_to(s, l, w, key);
+    let size = parts::size_of(s, l);
+    let n = foresee(s, l, w, way, c, size);
+    if n != 0 {
+        return n;
+    }
+    apply(s, l, w, way, c, size);
+    0
+}
