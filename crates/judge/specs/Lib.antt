@@ -7,6 +7,8 @@ pub mod Taking
 pub mod Steps
 pub mod Versions
 pub mod Quiet
+pub mod Roots
+pub mod Reached
 pub mod Runs
 pub mod Rules
 pub mod Judge

@@ -21,7 +21,7 @@ use Rattle.page.specs.Read.{start-of, end-of, entries-of}
 use Rattle.store.specs.Read.{slots-of, count-pages, page-at}
 use Rattle.local.specs.Local.{IsPage, slotAt}
 use Rattle.judge.specs.Pending.{passes}
-use Rattle.judge.specs.Versions.{QuietEntries, QuietPart, QuietBytes, versionOk}
+use Rattle.judge.specs.Versions.{QuietEntries, QuietPart, QuietReach}
 
 -- ---- one more
 
@@ -38,31 +38,31 @@ quiet-more p k v r q x le a b =
       ends = λ i l. ⊎-elim (λ h. out-less v r q _ (x .ends i h) le) (λ h. let e : i ≡ k = omega arith in rw e b) (less i k);
     }
 
-part-less : (least : ℕ) (p : List ℕ) (v r q : ℕ) → QuietPart least p v r → q ≤ r → QuietPart least p v q
-part-less least p v r q x h =
+reach-less : (least : ℕ) (p : List ℕ) (v r q : ℕ) → QuietReach least p v r → q ≤ r → QuietReach least p v q
+reach-less least p v r q x h =
     record {
       start = out-less v r q _ (x .start) h;
       end = out-less v r q _ (x .end) h;
-      entries = record { starts = λ i l. out-less v r q _ (x .entries .starts i l) h; ends = λ i l. out-less v r q _ (x .entries .ends i l) h };
+      entries = λ deep. record { starts = λ i l. out-less v r q _ (x .entries deep .starts i l) h; ends = λ i l. out-less v r q _ (x .entries deep .ends i l) h };
     }
 
 pub outs-more : (f : ℕ → ℕ) (i v r q : ℕ) → ((k : ℕ) → k < i → Out v r (f k)) → q ≤ r → Out v q (f i) → (k : ℕ) → k < i + 1 → Out v q (f k)
 outs-more f i v r q h le o k l = ⊎-elim (λ a. out-less v r q (f k) (h k a) le) (λ a. let e : k ≡ i = omega arith in rw e o) (less k i)
 
-pub pages-more : (least : ℕ) (s : List ℕ) (n v r q : ℕ) → ((m : ℕ) → 5 ≤ m → m < n → QuietPart least (pageOf least s m) v r) → q ≤ r → QuietPart least (pageOf least s n) v q
-    → (m : ℕ) → 5 ≤ m → m < n + 1 → QuietPart least (pageOf least s m) v q
+pub pages-more : (least : ℕ) (s : List ℕ) (n v r q : ℕ) → ((m : ℕ) → 5 ≤ m → m < n → QuietReach least (pageOf least s m) v r) → q ≤ r → QuietReach least (pageOf least s n) v q
+    → (m : ℕ) → 5 ≤ m → m < n + 1 → QuietReach least (pageOf least s m) v q
 pages-more least s n v r q h le o m five l =
-    ⊎-elim (λ a. part-less least (pageOf least s m) v r q (h m five a) le) (λ a. let e : m ≡ n = omega arith in rw e o) (less m n)
+    ⊎-elim (λ a. reach-less least (pageOf least s m) v r q (h m five a) le) (λ a. let e : m ≡ n = omega arith in rw e o) (less m n)
 
 -- ---- of bytes, of the store that they hold
 
-entry-in : (p : List ℕ) (o n : ℕ) (P : Entry → Type 0) → ((i : ℕ) → i < n → P (readEntry p (o + 96 * i))) → (e : Entry) → In e (readEntries p o n) → P e
+pub entry-in : (p : List ℕ) (o n : ℕ) (P : Entry → Type 0) → ((i : ℕ) → i < n → P (readEntry p (o + 96 * i))) → (e : Entry) → In e (readEntries p o n) → P e
 unfolding readEntries
 entry-in p o zero P h e i = absurd i
 entry-in p o (suc n) P h e (inl q) = let z : o + 96 * 0 ≡ o = omega arith in subst P (sym q) (rw z at (h 0 (omega arith)))
 entry-in p o (suc n) P h e (inr i) = entry-in p (o + 96) n P (λ k l. let z : o + 96 * suc k ≡ o + 96 + 96 * k = omega arith in rw z at (h (suc k) (omega arith))) e i
 
-slot-in : (s : List ℕ) (o n : ℕ) (P : Slot → Type 0) → ((i : ℕ) → i < n → P (readSlot s (o + 32 * i))) → (x : Slot) → In x (readSlots s o n) → P x
+pub slot-in : (s : List ℕ) (o n : ℕ) (P : Slot → Type 0) → ((i : ℕ) → i < n → P (readSlot s (o + 32 * i))) → (x : Slot) → In x (readSlots s o n) → P x
 unfolding readSlots
 slot-in s o zero P h x i = absurd i
 slot-in s o (suc n) P h x (inl q) = let z : o + 32 * 0 ≡ o = omega arith in subst P (sym q) (rw z at (h 0 (omega arith)))
@@ -77,36 +77,9 @@ quiet-page least p v r x =
       ends = λ e i. entry-in p 128 (readHead least p .count) (λ (y : Entry). Out v r (y .end)) (x .entries .ends) e (rw (entries-of least p) at i);
     }
 
-page-low : (least : ℕ) (s : List ℕ) (n : ℕ) → n < 5 → page (decode least s .pages) n ≡ free
-unfolding decode
-page-low least s zero h = refl
-page-low least s (suc zero) h = refl
-page-low least s (suc (suc zero)) h = refl
-page-low least s (suc (suc (suc zero))) h = refl
-page-low least s (suc (suc (suc (suc zero)))) h = refl
-page-low least s (suc (suc (suc (suc (suc n))))) h = absurd (omega arith)
-
-quiet-free : (v r : ℕ) → QuietPage v r free
-quiet-free v r = record { start = inl (omega arith); end = inl (omega arith); starts = λ e i. absurd i; ends = λ e i. absurd i }
-
 pub quiet-slots : (least : ℕ) (s : List ℕ) (v r : ℕ) → ((i : ℕ) → i < readHeader least s .roots → Out v r (slotAt least s i .version)) → (x : Slot) → In x (decode least s .slots) → Out v r (x .version)
 quiet-slots least s v r q x i = slot-in s (512 * least) _ (λ (y : Slot). Out v r (y .version)) q x (rw (slots-of least s) at i)
-
-pub quiet-store : (least : ℕ) (s : List ℕ) (v r : ℕ) → 5 ≤ sizeOf least s → QuietBytes least s v r → Quiet v r (decode least s)
-quiet-store least s v r five q =
-    record {
-      slots = quiet-slots least s v r (q .slots);
-      pages = λ n l. ⊎-elim (λ h. rw (page-low least s n h) (quiet-free v r))
-          (λ h. let k : n < sizeOf least s = omega (arith, count-pages least s five) in rw (page-at least s n h k) (quiet-page least (pageOf least s n) v r (q .pages n (h, k)))) (less n 5);
-    }
 
 -- a page shows the same
 pub pairs-quiet : (least : ℕ) (s : List ℕ) (n v u r : ℕ) → IsPage least s n → v ≤ u → u < r → QuietPart least (pageOf least s n) v r → pairsAt v (page (decode least s .pages) n) ≡ pairsAt u (page (decode least s .pages) n)
 pairs-quiet least s n v u r h low high q = rw (page-at least s n (h .0) (h .1)) (pairs-still v u r low high (decodePage least (pageOf least s n)) (quiet-page least (pageOf least s n) v r q))
-
--- the rules ask the same at every version of the stretch
-pub version-still : (least : ℕ) (s : List ℕ) (v u r : ℕ) → 5 ≤ sizeOf least s → v ≤ u → u < r → QuietBytes least s v r → (rule : ℕ) → versionOk least rule s v ≡ versionOk least rule s u
-unfolding versionOk
-version-still least s v u r five low high q rule =
-    let still : Quiet v r (decode least s) = quiet-store least s v r five q in
-    ap₂ (λ (xs : List Seen) (b : Bool). all (passes least rule) xs && (not (eqb rule 6) || b)) (seen-still v u r low high (decode least s) still) (reached-still v u r low high (decode least s) still)

@@ -100,7 +100,7 @@ module _ (least : ℕ) where
   unfolding passes openOk
   passes-five x = rw (chain-other 5 (x .low) (x .high) (x .pairs) (λ e. omega arith)) (and-true (enough least x))
 
-  passes-six : (x : Seen) → passes least 6 x ≡ true
+  pub passes-six : (x : Seen) → passes least 6 x ≡ true
   unfolding passes openOk
   passes-six x = rw (chain-other 6 (x .low) (x .high) (x .pairs) (λ e. omega arith))
 

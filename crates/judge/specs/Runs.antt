@@ -25,7 +25,8 @@ use Rattle.judge.specs.declared.walk.Walked.{Walked}
 use Rattle.judge.specs.Pending.{passes, whole, wholeIn, isNumber, Tells}
 use Rattle.judge.specs.Stretch.{over-one, all-flat}
 use Rattle.judge.specs.Versions.{QuietSlots, QuietBytes, RootFine, Ready, markedWell, versionOk}
-use Rattle.judge.specs.Quiet.{quiet-slots, version-still}
+use Rattle.judge.specs.Quiet.{quiet-slots}
+use Rattle.judge.specs.Reached.{six-still}
 
 -- ---- all versions from v on
 
@@ -40,12 +41,12 @@ count-ext : (f g : ℕ → Bool) (v k : ℕ) → ((x : ℕ) → v ≤ x → x < 
 count-ext f g v zero e = refl
 count-ext f g v (suc k) e = ap₂ _&&_ (e v (omega arith) (omega arith)) (count-ext f g (suc v) k (λ x a b. e x (omega arith) (omega arith)))
 
-pub run-step : (least : ℕ) (s : List ℕ) (rule v q end : ℕ) → 5 ≤ sizeOf least s → v < q → q ≤ end → QuietBytes least s v q → versionOk least rule s v ≡ true
-    → all (versionOk least rule s) (count v (end - v)) ≡ all (versionOk least rule s) (count q (end - q))
-run-step least s rule v q end five lt le quiet ok =
+pub run-step : (least : ℕ) (s : List ℕ) (h : Header) (v q end : ℕ) → Ready least s h → v < q → q ≤ end → QuietBytes least s v q → versionOk least 6 s v ≡ true
+    → all (versionOk least 6 s) (count v (end - v)) ≡ all (versionOk least 6 s) (count q (end - q))
+run-step least s h v q end y lt le quiet ok =
     let a : end - v ≡ (q - v) + (end - q) = omega arith in
     let b : v + (q - v) ≡ q = omega arith in
-    rw a (rw b at (count-run (versionOk least rule s) v (q - v) (end - q) (λ i l g. sym (version-still least s v i q five l (omega arith) quiet rule) ∙ ok)))
+    rw a (rw b at (count-run (versionOk least 6 s) v (q - v) (end - q) (λ i l g. sym (six-still least s h y v i q l (omega arith) quiet) ∙ ok)))
 
 pub run-fails : (f : ℕ → Bool) (v end : ℕ) → v < end → f v ≡ false → all f (count v (end - v)) ≡ false
 run-fails f v end lt e = let a : end - v ≡ suc (end - v - 1) = omega arith in rw (a, e)
@@ -59,28 +60,6 @@ run-stretch f v q end low high =
     let a : end - v ≡ (q - v) + (end - q) = omega arith in
     let b : v + (q - v) ≡ q = omega arith in
     rw a (rw b at (count-split f v (q - v) (end - q)))
-
--- ---- the root of a version
-
-module _ (least : ℕ) (s : List ℕ) (v : ℕ) where
-  pub root-start : (h : Header) → Ready least s h → rootAt (decode least s .slots) v ≡ rootFrom (slotAt least s 0 .root) (readSlots s (512 * least + 32 * 1) (h .roots - 1)) v
-  root-start h y =
-      let n : ℕ = h .roots in
-      let o : ℕ = 512 * least in
-      let a : o + 32 * 0 ≡ o = omega arith in
-      let b : n - 0 ≡ n = omega arith in
-      let c : readSlots s (o + 32 * 0) n ≡ slotAt least s 0 ∷ readSlots s (o + 32 * (0 + 1)) (n - (0 + 1)) = rw b at (slots-step s o 0 n (y .some)) in
-      let d : readSlots s o n ≡ slotAt least s 0 ∷ readSlots s (o + 32 * 1) (n - 1) = ap (λ (k : ℕ). readSlots s k n) (sym a) ∙ c in
-      ap (λ (xs : List Slot). rootAt xs v) (slots-of least s ∙ ap (λ (x : Header). readSlots s o (x .roots)) (sym (y .header)) ∙ d)
-      ∙ ap (λ (x : ℕ). rootFrom (pick (leb x v) (slotAt least s 0 .root) 0) (readSlots s (o + 32 * 1) (n - 1)) v) (y .first)
-      ∙ ap (λ (t : Bool). rootFrom (pick t (slotAt least s 0 .root) 0) (readSlots s (o + 32 * 1) (n - 1)) v) (leb·zero v)
-
-  pub root-step : (r i n : ℕ) → i < n
-      → rootFrom r (readSlots s (512 * least + 32 * i) (n - i)) v ≡ rootFrom (pick (leb (slotAt least s i .version) v) (slotAt least s i .root) r) (readSlots s (512 * least + 32 * (i + 1)) (n - (i + 1))) v
-  root-step r i n h = rw (slots-step s (512 * least) i n h)
-
-  pub root-end : (r i n : ℕ) → n ≤ i → rootFrom r (readSlots s (512 * least + 32 * i) (n - i)) v ≡ r
-  root-end r i n h = rw (slots-end s (512 * least + 32 * i) i n h)
 
 -- ---- marks
 

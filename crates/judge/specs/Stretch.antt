@@ -62,6 +62,18 @@ module _ (g : Seen → Bool) where
   pub over-both : (f h k : ℕ → List Seen) (a b : ℕ) → ((v : ℕ) → f v ≡ h v ++ k v) → any g (over f a b) ≡ (any g (over h a b) || any g (over k a b))
   over-both f h k a b e = flat-both f h k e (count a (b - a))
 
+  flat-const : (f : ℕ → List Seen) (x : Bool) → ((v : ℕ) → any g (f v) ≡ x) → (a n : ℕ) → any g (flatMap f (count a (suc n))) ≡ x
+  flat-const f x e a zero = ap (any g) (append-nil (f a)) ∙ e a
+  flat-const f x e a (suc n) = any-append g (f a) (flatMap f (count (suc a) (suc n))) ∙ rw (e a, flat-const f x e (suc a) n) (same-twice x)
+    where
+      same-twice : (b : Bool) → (b || b) ≡ b
+      same-twice true = refl
+      same-twice false = refl
+
+  -- the same answer at each version
+  pub over-const : (f : ℕ → List Seen) (x : Bool) (a b : ℕ) → a < b → ((v : ℕ) → any g (f v) ≡ x) → any g (over f a b) ≡ x
+  over-const f x a b lt e = let z : b - a ≡ suc (b - a - 1) = omega arith in rw z (flat-const f x e a (b - a - 1))
+
 pub over-none : (f : ℕ → List Seen) (a b : ℕ) → b ≤ a → over f a b ≡ []
 over-none f a b h = let e : b - a ≡ 0 = omega arith in rw e
 

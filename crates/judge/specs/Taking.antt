@@ -9,6 +9,7 @@ use lib.ListN.{length, getD, set, replicate, length-set, length-replicate}
 use lib.Seq.{getD-set-same, getD-set-other}
 use borrow.Author.Tests.{eq-eqb, ne-eqb, lt-ltb, le-ltb}
 use native.Mathlib.Omega.{arith}
+use native.Mathlib.Nat.{suc-mul}
 use Rattle.bits.specs.Put.{same?, less}
 use Rattle.model.specs.declared.Pair.{Pair}
 use Rattle.model.specs.Basic.{all, any, pick}
@@ -18,12 +19,13 @@ use Rattle.model.specs.Walk.{Seen}
 use Rattle.model.specs.Layout.{pageOf, decode}
 use Rattle.local.specs.Local.{IsPage, countAt, levelAt}
 use Rattle.judge.specs.declared.walk.Item.{Item}
-use Rattle.judge.specs.Pending.{openOk, chainOk, passes, here, seenOf, kids, spanOf, kidsIn, none, restOf, pend, Same, Linked, Fine, pairsFrom, Next, whole, wholeIn, isNumber, Tells}
+use Rattle.judge.specs.Pending.{openOk, chainOk, passes, here, seenOf, kids, spanOf, kidsIn, none, restOf, pend, Same, weight, heft, weigh, Linked, Fine, pairsFrom, Next, whole, wholeIn, isNumber, Tells}
 use Rattle.judge.specs.Versions.{Sooner, QuietPart}
 use Rattle.judge.specs.Quiet.{pairs-quiet}
-use Rattle.judge.specs.Tests.{any-append, same-all}
+use Rattle.judge.specs.Tests.{any-append, same-all, all-true}
+use Rattle.judge.specs.Rules.{passes-six}
 use Rattle.judge.specs.Stretch.{over-split, over-here}
-use Rattle.judge.specs.Walking.{Walking, Entering, pend-top, pend-put, seen-item, pairs-here}
+use Rattle.judge.specs.Walking.{Walking, Entering, weight-kids, weigh-top, pend-top, pend-put, seen-item, leaf-number, pairs-here}
 
 all-same : {A : Type 0} (n i : ℕ) (a : A) → getD (replicate n a) i a ≡ a
 all-same zero i a = refl
@@ -72,6 +74,46 @@ module _ (least : ℕ) (four : 4 ≤ least) (eight : least ≤ 8) (s : List ℕ)
 
     is-page : IsPage least s n
     is-page = rw number (own .isPage)
+
+    -- what is left weighs less
+    pub fewer : weigh items (top - 1) < weigh items top
+    unfolding heft
+    fewer =
+        omega (arith, weigh-top items top pos, ap heft (sym is), some-weight (it .upto - it .from) (weight (it .up)) (omega (arith, own .some)) (omega (arith, weight-kids (it .up))))
+      where
+        some-weight : (d w : ℕ) → 0 < d → 0 < w → 0 < d * w
+        some-weight zero w h k = absurd (omega arith)
+        some-weight (suc d) w h k = omega (arith, suc-mul d w)
+
+    -- under rule 6 a leaf is marked, and that is all
+    module _ (sixth : rule ≡ 6) (leaf : it .up ≡ 0) where
+      all-six : (xs : List Seen) → all (passes least rule) xs ≡ true
+      all-six xs = rw sixth (all-true (passes least 6) (passes-six least) xs)
+
+      lift : (d i p : Bool) → (d || (i || p)) ≡ ((i || d) || p)
+      lift true true p = refl
+      lift true false p = refl
+      lift false true p = refl
+      lift false false p = refl
+
+      pub leaf-marked : Walking least s root up a b rule (set marks n true) items (top - 1)
+      leaf-marked =
+          record {
+            slots = w .slots;
+            size = length-set marks n true ∙ w .size;
+            fine = λ k lt. w .fine k (omega arith);
+            done = spanOf ps it ++ w .done;
+            same = λ g.
+                let q : List Seen = pend ps items (top - 1) in
+                let x : List Seen = spanOf ps it in
+                let t : pend ps items top ≡ x ++ q = pend-top ps items top pos ∙ rw (← is) in
+                w .same g ∙ rw (t, any-append g (w .done) (x ++ q), any-append g x q, any-append g (x ++ w .done) q, any-append g x (w .done)) (lift (any g (w .done)) (any g x) (any g q));
+            good = all-six (spanOf ps it ++ w .done);
+            mark = λ i. ⊎-elim
+                (λ e. rw (e, getD-set-same marks n true false (omega (arith, w .size, is-page .1, linked .most)), any-append (isNumber n) (spanOf ps it) (w .done), leaf-number ps it n leaf (own .some), eq-eqb n (it .page) number))
+                (λ e. rw (getD-set-other marks n i true false e, w .mark i, any-append (isNumber i) (spanOf ps it) (w .done), leaf-number ps it i leaf (own .some), ne-eqb i (it .page) (λ f. e (f ∙ sym number))))
+                (same? i n);
+          }
 
     module _ (p : List ℕ) (bytes : p ≡ pageOf least s n) (count : ℕ) (counted : count ≡ countAt least s n) (c : ℕ) (sooner : Sooner (it .from) (it .upto) c) (quiet : QuietPart least p (it .from) c) (z : Item) (zr : z ≡ restOf it c) (m : ℕ) (me : m ≡ pick (ltb c (it .upto)) 1 0) where
       room : count ≤ 5 * least

@@ -43,14 +43,20 @@ pub record QuietPart (least : ℕ) (p : List ℕ) (v r : ℕ) : Type 0 where
   pub end : Out v r (readHead least p .end)
   pub entries : QuietEntries p (readHead least p .count) v r
 
+-- in a page, as far as it decides which pages are reached
+pub record QuietReach (least : ℕ) (p : List ℕ) (v r : ℕ) : Type 0 where
+  pub start : Out v r (readHead least p .start)
+  pub end : Out v r (readHead least p .end)
+  pub entries : 2 ≤ readHead least p .level → QuietEntries p (readHead least p .count) v r
+
 -- in the root directory
 abbrev pub QuietSlots : ℕ → List ℕ → Header → ℕ → ℕ → Type 0
 QuietSlots least s h v r = (i : ℕ) → i < h .roots → Out v r (slotAt least s i .version)
 
--- in the store
+-- in the store, as far as it decides which pages are used and reached
 pub record QuietBytes (least : ℕ) (s : List ℕ) (v r : ℕ) : Type 0 where
   pub slots : (i : ℕ) → i < readHeader least s .roots → Out v r (slotAt least s i .version)
-  pub pages : (n : ℕ) → IsPage least s n → QuietPart least (pageOf least s n) v r
+  pub pages : (n : ℕ) → IsPage least s n → QuietReach least (pageOf least s n) v r
 
 -- q is behind v, and r at most
 pub record Sooner (v r q : ℕ) : Type 0 where

@@ -4,7 +4,7 @@ use mathlib.Core.Path.{_≡_, refl, ap, ap₂, sym, _∙_}
 use mathlib.Core.Bool.{Bool, true, false, _||_}
 use mathlib.Core.List.{List, [], _∷_, _++_}
 use mathlib.Core.Logic.{⊎-elim}
-use lib.Dec.{ltb}
+use lib.Dec.{ltb, eqb}
 use lib.ListN.{length, getD, set}
 use lib.Seq.{getD-set-same, getD-set-other}
 use native.Mathlib.Omega.{arith}
@@ -25,7 +25,7 @@ use Rattle.local.specs.Local.{IsPage, countAt}
 use Rattle.judge.specs.declared.walk.Item.{Item}
 use Rattle.judge.specs.Pending.{firstKey, openOk, chainOk, passes, here, seenOf, kids, over, spanOf, kidsIn, none, pend, Same, weight, heft, weigh, Fine, pairsFrom, wholeIn, isNumber}
 use Rattle.judge.specs.Tests.{spread-cons}
-use Rattle.judge.specs.Stretch.{over-none, over-nil, over-both}
+use Rattle.judge.specs.Stretch.{over-none, over-nil, over-both, over-const}
 
 abbrev pub kidWeight : ℕ → ℕ
 kidWeight zero = 0
@@ -132,6 +132,14 @@ seen-item ps v it = at (it .up)
     at zero = refl
     at (suc u) = refl
 
+kids-zero : (ps : List Page) (v : ℕ) (xs : List Pair) (high : ℕ) → kids 0 ps v xs high ≡ []
+unfolding kids
+kids-zero ps v xs high = refl
+
+number-here : (ps : List Page) (v : ℕ) (it : Item) (m : ℕ) → isNumber m (here ps v it) ≡ eqb m (it .page)
+unfolding here
+number-here ps v it m = refl
+
 module _ (u : ℕ) (ps : List Page) (a b : ℕ) where
   pub kids-none : (high : ℕ) → kidsIn u ps a b [] high ≡ []
   unfolding kidsIn kids
@@ -158,6 +166,21 @@ unfolding kidsIn spanOf
 kids-next g u ps a b x xs high y h up root low hi page from upto =
     over-both g (λ (v : ℕ). kids u ps v (x ∷ xs) high) (λ (v : ℕ). seenOf ps v y) (λ (v : ℕ). kids u ps v xs high) a b (λ v. kids-cons u ps v x xs high y h up root low hi page)
     ∙ ap (λ (l : List Seen). any g l || any g (over (λ (v : ℕ). kids u ps v xs high) a b)) (sym (ap₂ (over (λ (v : ℕ). seenOf ps v y)) from upto))
+
+-- of a leaf nothing but itself is seen
+pub leaf-number : (ps : List Page) (it : Item) (m : ℕ) → it .up ≡ 0 → it .from < it .upto → any (isNumber m) (spanOf ps it) ≡ eqb m (it .page)
+unfolding spanOf
+leaf-number ps it m e lt = over-const (isNumber m) (λ (v : ℕ). seenOf ps v it) (eqb m (it .page)) (it .from) (it .upto) lt at
+  where
+    alone : (v : ℕ) (xs : List Pair) → kids (it .up) ps v xs (it .high) ≡ []
+    alone v xs = ap (λ (u : ℕ). kids u ps v xs (it .high)) e ∙ kids-zero ps v xs (it .high)
+
+    or-false : (b : Bool) → (b || false) ≡ b
+    or-false true = refl
+    or-false false = refl
+
+    at : (v : ℕ) → any (isNumber m) (seenOf ps v it) ≡ eqb m (it .page)
+    at v = ap (any (isNumber m)) (seen-item ps v it ∙ ap (λ (xs : List Seen). here ps v it ∷ xs) (alone v (pairsAt v (page ps (it .page))))) ∙ ap (λ (b : Bool). b || false) (number-here ps v it m) ∙ or-false (eqb m (it .page))
 
 -- the live pairs of a page of the store
 pub pairs-here : (least : ℕ) (s : List ℕ) (v n : ℕ) → IsPage least s n → pairsAt v (page (decode least s .pages) n) ≡ pairsFrom (pageOf least s n) v 0 (countAt least s n)

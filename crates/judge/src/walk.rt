@@ -1,7 +1,8 @@
 // "walk from its root over entries alive then": one walk, for one rule, over a stretch of versions.
 use model::Limits;
 ghost use mathlib.Core.Path.{_≡_};
-ghost use lib.Dec.{ltb};
+ghost use mathlib.Core.Bool.{_&&_};
+ghost use lib.Dec.{ltb, eqb};
 ghost use Prim.Native.Nat.{_+_, _≤_, _<_};
 ghost use Rattle.model.specs.Basic.{pick};
 ghost use Rattle.model.specs.Limits.{Edition};
@@ -51,6 +52,16 @@ fn more(c: u32, upto: u32) -> usize
     0
 }
 
+// Whether a page is marked and nothing more: rule 6 asks only which pages are reached, and below a leaf there is none.
+fn only_marked(rule: u32, up: usize) -> bool
+    ensures { λ r. ⌜ r ≡ (eqb rule 6 && eqb up 0) ⌝ }
+{
+    if rule != 6 {
+        return false;
+    }
+    up == 0
+}
+
 // The walk for one rule, at each version from a up to, not including, b. "the walk down stops at the first page that breaks a rule".
 // A page is tested once for each stretch in which nothing of it starts or ends; what is left of its versions waits below its routers.
 // So the pages that wait are at most 41 for each of the 7 levels, and the root.
@@ -77,6 +88,10 @@ pub(crate) fn walk(s: &[u8], l: Limits, root: usize, up: usize, a: u32, b: u32, 
         top -= 1;
         let it = items[top];
         let n = it.page;
+        if only_marked(rule, it.up) {
+            marks[n] = true;
+            continue 'walk;
+        }
         let p = store::part(s, l, n);
         let h = page::head_of(p, l);
         let count = h.count;

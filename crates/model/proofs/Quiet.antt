@@ -82,10 +82,10 @@ module _ (v u r : ℕ) (low : v ≤ u) (high : u < r) where
     below-still up b lo hi n = ap₂ _∷_ (as-still up b lo hi n) (under-still up hi n)
 
   -- the same pages are used
-  pub lives-still : (ns : List ℕ) (n : ℕ) (ps : List Page) → ((i : ℕ) → i < length ps → QuietPage v r (page ps i)) → reachedWell v ns n ps ≡ reachedWell u ns n ps
+  pub lives-still : (ns : List ℕ) (n : ℕ) (ps : List Page) → ((i : ℕ) → i < length ps → (Out v r (page ps i .start)) × (Out v r (page ps i .end))) → reachedWell v ns n ps ≡ reachedWell u ns n ps
   lives-still ns n [] h = refl
   lives-still ns n (p ∷ ps) h =
-      ap₂ (λ (a b : Bool). same (not (isFree p) && a) (has n ns) && b) (within-still (p .start) (p .end) (h 0 (omega arith) .start) (h 0 (omega arith) .end)) (lives-still ns (suc n) ps (λ i l. h (suc i) (omega arith)))
+      ap₂ (λ (a b : Bool). same (not (isFree p) && a) (has n ns) && b) (within-still (p .start) (p .end) (h 0 (omega arith) .0) (h 0 (omega arith) .1)) (lives-still ns (suc n) ps (λ i l. h (suc i) (omega arith)))
 
   module _ (s : Store) (q : Quiet v r s) where
     page-still : (n : ℕ) → pairsAt v (page (s .pages) n) ≡ pairsAt u (page (s .pages) n)
@@ -109,7 +109,7 @@ module _ (v u r : ℕ) (low : v ≤ u) (high : u < r) where
     pub reached-still : reachedWell v (numbers s v) 5 (drop 5 (s .pages)) ≡ reachedWell u (numbers s u) 5 (drop 5 (s .pages))
     reached-still =
         ap (λ (xs : List Seen). reachedWell v (map (λ (x : Seen). x .number) xs) 5 (drop 5 (s .pages))) seen-still
-        ∙ lives-still (numbers s u) 5 (drop 5 (s .pages)) (λ i l. rw (getD-drop 5 (s .pages) i free) (q .pages (5 + i) (omega (arith, length-drop 5 (s .pages)))))
+        ∙ lives-still (numbers s u) 5 (drop 5 (s .pages)) (λ i l. let z = q .pages (5 + i) (omega (arith, length-drop 5 (s .pages))) in rw (getD-drop 5 (s .pages) i free) (z .start, z .end))
 
 -- all versions from v on, where those of a stretch pass
 pub count-run : (f : ℕ → Bool) (v k m : ℕ) → ((i : ℕ) → v ≤ i → i < v + k → f i ≡ true) → all f (count v (k + m)) ≡ all f (count (v + k) m)

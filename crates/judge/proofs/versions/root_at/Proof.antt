@@ -4,7 +4,7 @@ use mathlib.Core.Path.{_≡_, ap, sym, _∙_}
 use mathlib.Core.Logic.{⊎-elim}
 use native.Mathlib.Omega.{arith}
 use borrow.Author.Tests.{lt-leb, le-leb}
-use Rattle.judge.specs.Runs.{root-start, root-step, root-end}
+use Rattle.judge.specs.Roots.{root-start, root-step, root-end}
 use Rattle.judge.specs.Versions.{RootFine}
 use Rattle.local.specs.Local.{slotAt}
 use Rattle.model.specs.Layout.{readSlots, decode}

@@ -49,7 +49,7 @@ loop-again c =
     let a = c .before .before .before .before .before .before .before .args in let k = c .before .before .before .before .loop in let x = c .next-change .ensures in (
       x .0 .below,
       k .inv .1
-          ∙ run-step (a .l .least) (a .s .now) 6 (k .v) (c .next-change .result) (c .before .before .before .before .before .last .result + 1) (omega (arith, c .before .before .before .before .before .before .before .pre .1 .sized .is, c .before .before .before .before .before .before .before .pre .1 .sized .low)) (x .0 .above) (x .0 .below) (x .1) (sym (c .before .before .version-ok .ensures) ∙ not-false (c .before .before .version-ok .result) (c .before .if1 .left)),
+          ∙ run-step (a .l .least) (a .s .now) (a .h) (k .v) (c .next-change .result) (c .before .before .before .before .before .last .result + 1) (c .before .before .before .before .before .before .before .pre .1) (x .0 .above) (x .0 .below) (x .1) (sym (c .before .before .version-ok .ensures) ∙ not-false (c .before .before .version-ok .result) (c .before .if1 .left)),
     )
 
 returns-2 : tie.Need-returns-2 Inv-loop μ-loop
