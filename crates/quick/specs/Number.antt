@@ -1,7 +1,7 @@
 -- Quick judging, one test after the other. Assumes nothing.
 use Prim.Native.Nat.{ℕ}
-use mathlib.Core.Bool.{Bool, true, false, _&&_}
-use mathlib.Core.Path.{_≡_, refl, sym, _∙_}
+use mathlib.Core.Bool.{true, false, _&&_}
+use mathlib.Core.Path.{_≡_, refl}
 use mathlib.Core.List.{List}
 use lib.Dec.{eqb}
 use lib.ListN.{drop}
@@ -15,37 +15,22 @@ use Rattle.model.specs.Layout.{decode}
 use Rattle.model.specs.Clean.{clean}
 use Rattle.model.specs.Judged.{editionOk, judged, isSound}
 use Rattle.model.specs.Quick.{apart, childrenFine, slotsFine, spansMet, quick, quickIn}
-use Rattle.local.specs.Loops.{and-false}
 
 -- ---- rules 4 to 6
 
 module _ (least : ℕ) (s : Store) where
-  abbrev pages : Bool
-  pages = pagesPass (λ (p : Page). inOrder apart (p .entries) && childrenFine least (s .pages) (p .level) (p .entries)) s
-
-  abbrev slots : Bool
-  slots = slotsFine least (s .pages) (s .slots)
-
-  pub quick-pages : pages ≡ false → quick least s ≡ false
+  pub quick-spans : spansMet s 5 (drop 5 (s .pages)) ≡ false → quick least s ≡ false
   unfolding quick
-  quick-pages a = rw a (and-false (spansMet s 5 (drop 5 (s .pages)) && slots))
+  quick-spans a = rw a
 
-  module _ (a : pages ≡ true) where
-    pub quick-slots : slots ≡ false → quick least s ≡ false
+  module _ (a : spansMet s 5 (drop 5 (s .pages)) ≡ true) where
+    pub quick-slots : slotsFine least (s .pages) (s .slots) ≡ false → quick least s ≡ false
     unfolding quick
-    quick-slots b = at (spansMet s 5 (drop 5 (s .pages)))
-      where
-        at : (t : Bool) → ((t && slots) && pages) ≡ false
-        at true = rw b
-        at false = refl
+    quick-slots b = rw (a, b)
 
-    pub quick-spans : slots ≡ true → quick least s ≡ spansMet s 5 (drop 5 (s .pages))
+    pub quick-pages : slotsFine least (s .pages) (s .slots) ≡ true → quick least s ≡ pagesPass (λ (p : Page). inOrder apart (p .entries) && childrenFine least (s .pages) (p .level) (p .entries)) s
     unfolding quick
-    quick-spans b = at (spansMet s 5 (drop 5 (s .pages)))
-      where
-        at : (t : Bool) → ((t && slots) && pages) ≡ t
-        at true = rw (b, a)
-        at false = refl
+    quick-pages b = rw (a, b)
 
 -- ---- rules 1 to 6
 

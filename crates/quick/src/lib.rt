@@ -28,18 +28,18 @@ pub(crate) fn wide(x: u32) -> usize
     x as usize
 }
 
-// Rules 4 to 6, where rules 1 to 3 hold.
+// Rules 4 to 6, where rules 1 to 3 hold. The tests that are one pass over the store come first.
 fn quick(s: &[u8], l: Limits) -> bool
     requires { ⌜ Edition l × Good (l .least) (now s) × GoodSlots (l .least) (now s) ⌝ }
     ensures { λ r. ⌜ r ≡ quick (l .least) (decode (l .least) (now (s .entry))) ⌝ }
 {
-    if !pages::pages_fine(s, l) {
+    if !sums::spans_met(s, l) {
         return false;
     }
     if !slots::slots_fine(s, l) {
         return false;
     }
-    sums::spans_met(s, l)
+    pages::pages_fine(s, l)
 }
 
 // Rules 1 to 6 of lent bytes, which make `size` pages.
