@@ -1,5 +1,5 @@
 // Rules 4 to 6 at every version up to last. Only those at which something starts or ends are walked: at every other one each test
-// answers as at the one before.
+// answers as at the one before. They are found window by window.
 use model::Header;
 use model::Limits;
 use page::Head;
@@ -171,7 +171,7 @@ fn still_ok(s: &[u8], l: Limits, h: Header, v: u32, rule: u32, marked: bool) -> 
     true
 }
 
-// The same at the versions from `base` up to, not including, `top`.
+// The same at the versions from `base` up to, not including, `top`: the first is walked, and those that have a mark.
 fn marked_ok(s: &[u8], l: Limits, h: Header, rule: u32, marks: &[bool], base: u32, top: u32) -> bool
     requires { ⌜ Edition l × Ready (l .least) (now s) h × (0 < rule) × Window base top × (length (now marks) ≡ 4096) × Silent base (now marks) (QuietBytes (l .least) (now s)) ⌝ }
     ensures { λ r. ⌜ r ≡ all (versionOk (l .least) rule (now (s .entry))) (count base (top - base)) ⌝ }
@@ -190,6 +190,7 @@ fn marked_ok(s: &[u8], l: Limits, h: Header, rule: u32, marks: &[bool], base: u3
     true
 }
 
+// The same, with the marks made for it.
 fn window_ok(s: &[u8], l: Limits, h: Header, rule: u32, base: u32, top: u32) -> bool
     requires { ⌜ Edition l × Ready (l .least) (now s) h × (0 < rule) × Window base top ⌝ }
     ensures { λ r. ⌜ r ≡ all (versionOk (l .least) rule (now (s .entry))) (count base (top - base)) ⌝ }
