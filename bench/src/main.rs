@@ -1,11 +1,11 @@
 //! The proved library beside the same work in Rust, as ratios of one run.
 //! `bench/run` builds and runs it; docs/BENCH.md tells what follows.
 
+mod bitwise;
 mod lookups;
 mod measure;
 mod plain;
 mod proved;
-mod same;
 mod stores;
 
 use std::hint::black_box;
@@ -79,11 +79,11 @@ fn row(name: &str, count: usize, taken: Times) {
 fn read_fields(bytes: &[u8], at: usize, width: usize) -> Times {
     let sum = plain::fields(bytes, at, width, ENTRIES);
     assert_eq!(proved::fields(bytes, at, width, ENTRIES), sum);
-    assert_eq!(same::fields(bytes, at, width, ENTRIES), sum);
+    assert_eq!(bitwise::fields(bytes, at, width, ENTRIES), sum);
     let (at, width) = (black_box(at), black_box(width));
     in_turn(&mut [
         &mut || proved::fields(black_box(bytes), at, width, ENTRIES),
-        &mut || same::fields(black_box(bytes), at, width, ENTRIES),
+        &mut || bitwise::fields(black_box(bytes), at, width, ENTRIES),
         &mut || plain::fields(black_box(bytes), at, width, ENTRIES),
     ])
 }
@@ -91,17 +91,17 @@ fn read_fields(bytes: &[u8], at: usize, width: usize) -> Times {
 fn read_entries(bytes: &[u8]) -> Times {
     let sum = plain::entries(bytes, ENTRIES);
     assert_eq!(proved::entries(bytes, ENTRIES), sum);
-    assert_eq!(same::entries(bytes, ENTRIES), sum);
+    assert_eq!(bitwise::entries(bytes, ENTRIES), sum);
     in_turn(&mut [
         &mut || proved::entries(black_box(bytes), ENTRIES),
-        &mut || same::entries(black_box(bytes), ENTRIES),
+        &mut || bitwise::entries(black_box(bytes), ENTRIES),
         &mut || plain::entries(black_box(bytes), ENTRIES),
     ])
 }
 
 fn write_pages() -> Times {
     type Fill = fn(&mut [u8], u32, u32, u32, usize) -> bool;
-    let ways: [Fill; 3] = [proved::fill, same::fill, plain::fill];
+    let ways: [Fill; 3] = [proved::fill, bitwise::fill, plain::fill];
     let page = |fill: Fill| {
         let mut page = [0xA5; PAGE_BYTES];
         assert!(fill(&mut page, 0xABCDE, 0x123456, 0x89AB_CDEF, 20));
@@ -112,8 +112,8 @@ fn write_pages() -> Times {
         let mut page = [0; PAGE_BYTES];
         move || fill(black_box(&mut page), black_box(0xABCDE), 0x123456, 7, 20).into()
     };
-    let [mut proved, mut same, mut plain] = ways.map(timed);
-    in_turn(&mut [&mut proved, &mut same, &mut plain])
+    let [mut proved, mut bitwise, mut plain] = ways.map(timed);
+    in_turn(&mut [&mut proved, &mut bitwise, &mut plain])
 }
 
 /// Judged by both, with this answer.

@@ -1,9 +1,9 @@
-//! The byte layer in Rust the way the proved code goes: bit by bit, the same
-//! steps, nothing taken together.
+//! The byte layer in Rust bit by bit, as a field is defined: what request
+//! 2026-02 set out from.
 
 use std::hint::black_box;
 
-/// `bits::field`.
+/// What `bits::field` gives.
 fn field(bytes: &[u8], at: usize, width: usize) -> u32 {
     let mut number: u32 = 0;
     let mut step = 0;
@@ -16,14 +16,14 @@ fn field(bytes: &[u8], at: usize, width: usize) -> u32 {
     number
 }
 
-/// `bits::put_bit`.
+/// The byte with one bit made `bit`.
 fn with_bit(byte: u8, place: usize, bit: u64) -> u8 {
     let power = 1u64 << (7 - place);
     let byte = u64::from(byte);
     ((byte / power / 2 * 2 + bit) * power + byte % power) as u8
 }
 
-/// `bits::put_field`.
+/// What `bits::put_field` does.
 fn put_field(bytes: &mut [u8], at: usize, width: usize, number: u64) {
     let mut step = 0;
     while step < width {
@@ -55,7 +55,7 @@ pub fn entries(page: &[u8], count: usize) -> u64 {
     sum
 }
 
-/// `edit::fill`, from a list of pairs.
+/// What `edit::fill` does, from a list of pairs.
 #[inline(never)]
 pub fn fill(page: &mut [u8], version: u32, key: u32, value: u32, count: usize) -> bool {
     let list = black_box([(key, value); 56]);
