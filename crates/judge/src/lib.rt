@@ -4,6 +4,7 @@
 // its own, once all lower ones hold". What it costs is told in docs/CHECK-COST.md.
 mod changes;
 mod live;
+mod reach;
 mod versions;
 mod walk;
 
@@ -59,7 +60,7 @@ fn broken(s: &[u8], l: Limits, size: usize) -> u32
     if versions::stretches(s, l, h, 5) != 0 {
         return 5;
     }
-    if versions::versions(s, l, h) != 0 {
+    if reach::versions(s, l, h) != 0 {
         return 6;
     }
     0
