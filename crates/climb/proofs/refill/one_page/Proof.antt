@@ -1,4 +1,3 @@
-use Prim.Native.Nat.{_+_, _*_, _-_, _≤_, _<_}
 use native.Mathlib.Omega.{arith}
 use Rattle.parts.specs.Becomes.{kept-after, inside-after, pages-are, then}
 use Rattle.climb.specs.Rebuild.{upper}
