@@ -1,2 +1,4 @@
 pub mod Slotted
 pub mod Root
+pub mod Renew
+pub mod Moved

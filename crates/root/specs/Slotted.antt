@@ -1,11 +1,11 @@
 -- The slots of a store whose update is open, and what a new root makes of them in the bytes. Assumes nothing.
-use Prim.Native.Nat.{ℕ, suc, _+_, _*_, _-_, _^_, _<_, _≤_}
+use Prim.Native.Nat.{ℕ, suc, _+_, _*_, _-_, _^_, _<_}
 use mathlib.Core.Path.{_≡_, ap, sym, _∙_, subst}
-use mathlib.Core.Bool.{Bool, true, false}
+use mathlib.Core.Bool.{true, false}
 use mathlib.Core.List.{List, [], _∷_, _++_}
 use native.Mathlib.Omega.{arith}
 use lib.Dec.{leb, ltb, eqb}
-use lib.ListN.{length, getD, set, length-append}
+use lib.ListN.{length, getD, length-append}
 use Rattle.model.specs.declared.Limits.{Limits}
 use Rattle.model.specs.declared.Slot.{Slot}
 use Rattle.model.specs.declared.Header.{Header}

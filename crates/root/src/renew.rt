@@ -16,7 +16,8 @@ ghost use Rattle.gather.specs.Gather.{Lists};
 ghost use Rattle.parts.specs.Kept.{Kept, pagesOf};
 ghost use Rattle.parts.specs.Becomes.{Becomes};
 ghost use Rattle.group.specs.Group.{routersOf, groupOf, Grouped};
-ghost use Rattle.root.specs.Root.{rootedOf, aloneWith};
+ghost use Rattle.root.specs.Root.{rootedOf};
+ghost use Rattle.root.specs.Renew.{aloneWith};
 
 // The root's group: no neighbour is gathered, and its low key is 0.
 pub(crate) fn alone(n: usize, want: Gather) -> Group

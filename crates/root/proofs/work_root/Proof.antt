@@ -12,7 +12,8 @@ use Rattle.parts.specs.Kept.{pagesOf, wanted-room}
 use Rattle.parts.specs.Becomes.{pages-are}
 use Rattle.gather.specs.Gather.{listed}
 use Rattle.climb.specs.Rebuild.{itself}
-use Rattle.root.specs.Root.{rootedOf, goes-some, root-goes, root-stays, root-renews, alone-is, alone-grouped}
+use Rattle.root.specs.Root.{rootedOf, goes-some, root-goes, root-stays, root-renews}
+use Rattle.root.specs.Renew.{alone-is, alone-grouped}
 use borrow.Author.Needs.{needs}
 use Rattle.root.proofs.work_root.Statement.{statement}
 use Rattle.root.proofs.work_root.Tie as tie

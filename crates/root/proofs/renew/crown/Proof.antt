@@ -8,7 +8,8 @@ use Rattle.parts.specs.Free.{freePast, free-all}
 use Rattle.parts.specs.Becomes.{stays, pages-are}
 use Rattle.gather.specs.Gather.{listed}
 use Rattle.climb.specs.Rebuild.{itself}
-use Rattle.root.specs.Root.{rootedOf, crown-one, crown-none, crown-two}
+use Rattle.root.specs.Root.{rootedOf}
+use Rattle.root.specs.Renew.{crown-one, crown-none, crown-two}
 use borrow.Author.Needs.{needs}
 use Rattle.root.proofs.renew.crown.Statement.{statement}
 use Rattle.root.proofs.renew.crown.Tie as tie

@@ -9,7 +9,8 @@ use Rattle.parts.specs.Becomes.{stays, then, kept-after}
 use Rattle.gather.specs.Gather.{pairsIn, length-pairs}
 use Rattle.climb.specs.Work.{usable-small}
 use Rattle.climb.specs.Rebuild.{rebuilt-short}
-use Rattle.root.specs.Root.{rootedOf, renew-lacks}
+use Rattle.root.specs.Root.{rootedOf}
+use Rattle.root.specs.Renew.{renew-lacks}
 use borrow.Author.Needs.{needs}
 use Rattle.root.proofs.renew.new_root.Statement.{statement}
 use Rattle.root.proofs.renew.new_root.Tie as tie

@@ -1,6 +1,10 @@
 -- `has_slot` meets its contract. Assumes nothing.
+use Prim.Native.Nat.{ℕ, _+_}
+use mathlib.Core.Path.{_≡_, ap, _∙_}
+use lib.Dec.{eqb}
+use Rattle.model.specs.Store.{next}
+use Rattle.model.specs.Layout.{decode}
 use native.Mathlib.Omega.{arith}
-use mathlib.Core.Path.{ap, _∙_}
 use Rattle.model.specs.declared.Header.{Header}
 use Rattle.parts.specs.Kept.{front, short}
 use Rattle.root.specs.Slotted.{roots-are, next-is, has-slot-is}
@@ -27,8 +31,8 @@ returns : tie.Need-returns
 returns c =
     let k = c .before .before .before .before .before .before .before .pre .0 in
     let r = ap (λ (h : Header). h .roots) (c .before .before .before .before .before .header .ensures) ∙ roots-are k in
-    let n = ap (λ (h : Header). h .current) (c .before .before .before .before .before .header .ensures) in
-    rw (c .before .before .slot .ensures, c .before .before .before .wide .ensures, r, n, next-is k) (has-slot-is k (c .before .before .before .before .before .before .before .pre .1))
+    let v : c .before .before .before .before .before .header .result .current + 1 ≡ next (decode (c .before .before .before .before .before .before .before .args .l .least) (c .before .before .before .before .before .before .before .args .s .now)) = omega (arith, ap (λ (h : Header). h .current) (c .before .before .before .before .before .header .ensures), next-is k) in
+    ap (λ (m : ℕ). eqb (c .before .before .slot .result .version) m) v ∙ rw (c .before .before .slot .ensures, c .before .before .before .wide .ensures, r) (has-slot-is k (c .before .before .before .before .before .before .before .pre .1))
 
 pub has-slot-spec : {M : Type 1} → statement M
 has-slot-spec =
