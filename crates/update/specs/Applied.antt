@@ -1,20 +1,18 @@
 -- An update carried out: the way up, the root, its slot. Assumes nothing.
-use Prim.Native.Nat.{ℕ, zero, suc, _+_, _*_, _^_, _<_, _≤_}
-use native.Mathlib.Omega.{arith}
+use Prim.Native.Nat.{ℕ, _*_, _^_, _<_}
 use mathlib.Core.Bool.{Bool, true, false}
 use mathlib.Core.Path.{_≡_, refl, ap, sym, _∙_}
-use mathlib.Core.List.{List, [], _∷_}
+use mathlib.Core.List.{List}
 use lib.Dec.{leb}
 use lib.ListN.{length}
 use Rattle.model.specs.declared.Limits.{Limits}
-use Rattle.model.specs.declared.Slot.{Slot}
 use Rattle.model.specs.Page.{Page}
 use Rattle.model.specs.Page as changes
 use Rattle.model.specs.Store.{Store, page, next}
 use Rattle.model.specs.Layout.{encode, decode}
 use Rattle.model.specs.Walk.{Around}
 use Rattle.model.specs.Rules.{settled, upward, lacking}
-use Rattle.model.specs.Climb.{Rooted, stays, moves, lacks, workRoot, climb, goOn, putSlot, Result, done, refused, slotted, rooted, update}
+use Rattle.model.specs.Climb.{Rooted, stays, moves, lacks, workRoot, climb, putSlot, Result, done, refused, slotted, rooted, update}
 use Rattle.model.specs.Plan.{slotLeft}
 use Rattle.model.specs.Lent.{left}
 use Rattle.model.proofs.Given.{Sound}
@@ -29,7 +27,7 @@ use Rattle.plan.specs.declared.Way.{Way}
 use Rattle.plan.specs.Plan.{upsOf, Led}
 use Rattle.climb.specs.Climb.{climbUp, climb-by}
 use Rattle.root.specs.Slotted.{Slotted, slotted-after}
-use Rattle.root.specs.Root.{moved-in}
+use Rattle.root.specs.Moved.{moved-inside}
 
 -- it is done, with no number, and what it leaves is sound
 pub record Done (least : ℕ) (r : Result) : Type 0 where
@@ -121,9 +119,7 @@ module _ {l : Limits} {b b′ : List ℕ} (k : Kept l b) (become : Becomes l b b
 
       -- and it is a page of the store
       pub done-inside : Inside l b′ n
-      done-inside =
-          let (low, high) = moved-in (l .least) (decode (l .least) b) n (pagesOf l b′) (d .store) (ap (rooted (l .least) (decode (l .least) b)) e ∙ d .is) (d .sound) in
-          record { low = low; high = high }
+      done-inside = moved-inside l b′ (decode (l .least) b) n (d .store) (ap (rooted (l .least) (decode (l .least) b)) e ∙ d .is) (d .sound)
 
       pub done-moves : (b″ : List ℕ) → b″ ≡ encode (l .least) (withSlots (decode (l .least) b′) (putSlot (next (decode (l .least) b′)) n (decode (l .least) b′ .slots)))
           → b″ ≡ left (l .least) b (rooted (l .least) (decode (l .least) b) x) .store
