@@ -25,8 +25,8 @@ fn the_example_word_for_word() {
 
 #[test]
 fn histories() {
-    for seed in 0..rounds(1500) {
-        let count = 20 + (seed % 12) as usize * 25;
+    for seed in 0..rounds(2000) {
+        let count = 10 + (seed % 31) as usize;
         same(&lines(seed, count), &format!("history {seed} {count}"));
     }
 }
@@ -34,7 +34,7 @@ fn histories() {
 #[test]
 fn longer_histories() {
     for seed in 0..rounds(6) {
-        same(&lines(seed, 4000), &format!("history {seed} 4000"));
+        same(&lines(seed, 2500), &format!("history {seed} 2500"));
     }
 }
 
