@@ -10,7 +10,7 @@ mod stores;
 
 use std::hint::black_box;
 
-use measure::{in_turn, times, told, Times};
+use measure::{in_turn, once, times, told, Times};
 use reference::foreign::raise_current;
 use reference::image::Image;
 use reference::layout::{HIGHEST_VERSION, PAGE_BYTES};
@@ -144,6 +144,7 @@ fn check_of_histories() {
         (16, 32),
         (256, 4),
         (256, 256),
+        (256, 1700),
         (4096, 4),
         (4096, 32),
     ] {
@@ -209,38 +210,63 @@ fn hostile_stores() {
     println!();
 }
 
-/// No larger store is judged after one that took the proved check so long, in
-/// seconds.
+/// No larger store of a shape is judged after one that took the proved check
+/// so long, in seconds.
 const LONG: f64 = 4.0;
 
 fn worst_stores() {
     println!("## The worst stores\n");
-    println!(
-        "| pages | versions walked | ratio | proved | reference | proved, times the one above |"
-    );
+    println!("| shape | pages | versions | broken rule | proved | reference |");
     println!("|---|---|---|---|---|---|");
-    let mut before: Option<f64> = None;
-    for leaves in [10, 20, 40, 80, 160, 320, 640, 1280, 2560, 3870] {
-        let store = stores::flickering(leaves);
-        let (_, turning) = shape(&store);
-        let taken = judged(&store, (0, 0));
-        let growth = before.map_or(String::new(), |before| times(taken.of(0) / before));
-        println!(
-            "| {} | {turning} | {} | {} | {} | {growth} |",
-            store.len() / PAGE_BYTES,
-            times(taken.ratio(0, 1)),
-            told(taken.of(0)),
-            told(taken.of(1))
-        );
-        before = Some(taken.of(0));
-        if taken.of(0) > LONG {
+    let largest = 3870;
+    for leaves in [10, 40, 160, 640, largest] {
+        worst("flickering leaves", 0, &stores::flickering(leaves));
+    }
+    for rule in [4, 5, 6] {
+        let name = format!("the same, rule {rule} broken at the last version");
+        worst(&name, rule, &stores::broken_at_last(largest, rule));
+    }
+    for leaves in [64, 256, 1024, 3200] {
+        if worst("moving routers", 0, &stores::moving(leaves)) > LONG {
             break;
         }
     }
-    let largest = stores::flickering(3870);
+    for size in [25, 50, 100, 200, 400, 800, 1900] {
+        if worst(
+            "pages that follow each other",
+            5,
+            &stores::following(size, size),
+        ) > LONG
+        {
+            break;
+        }
+    }
+    println!();
+}
+
+/// One line of the table; the time of the proved check. The reference program,
+/// which goes version by version, judges the small ones only.
+fn worst(name: &str, rule: u32, store: &[u8]) -> f64 {
+    let (_, turning) = shape(store);
+    let number = if rule == 0 { 0 } else { 4 };
+    let pages = store.len() / PAGE_BYTES;
+    let small = pages < 500;
+    let mut check = || {
+        let verdict = proved::check(black_box(store));
+        assert_eq!(verdict, (number, rule));
+        verdict.0.into()
+    };
+    let mut taken = once(&mut check);
+    if taken < 1.0 {
+        taken = in_turn(&mut [&mut check]).of(0);
+    }
+    let reference = match small {
+        true => told(judged(store, (number, rule)).of(1)),
+        false => "not run".to_string(),
+    };
     println!(
-        "\nThe largest of this kind has {} pages and {} such versions.",
-        largest.len() / PAGE_BYTES,
-        shape(&largest).1
+        "| {name} | {pages} | {turning} | {rule} | {} | {reference} |",
+        told(taken)
     );
+    taken
 }

@@ -51,6 +51,11 @@ pub fn in_turn(ways: &mut [&mut Way]) -> Times {
     Times { rounds }
 }
 
+/// The seconds of one call, for what takes too long to be done again.
+pub fn once(way: &mut Way) -> f64 {
+    seconds(way, 1)
+}
+
 /// Seconds a call, over some calls.
 fn seconds(way: &mut Way, times: u32) -> f64 {
     let begun = processor_time();
