@@ -2,11 +2,18 @@
 //! `bench/run` builds and runs it; docs/BENCH.md tells what follows.
 
 mod bitwise;
+mod chart;
+mod hostile;
+mod judging;
 mod lookups;
 mod measure;
 mod plain;
+mod plot;
+mod program;
 mod proved;
+mod quick;
 mod stores;
+mod updates;
 
 use std::hint::black_box;
 
@@ -19,13 +26,17 @@ use reference::{calls, store};
 
 /// All tables, or the one that the first argument names.
 fn main() {
-    let tables: [(&str, fn()); 6] = [
+    let tables: [(&str, fn()); 10] = [
         ("bytes", byte_layer),
+        ("quick", judging::judging),
         ("check", check_of_histories),
         ("empty", empty_commits),
         ("lookups", lookups::lookups),
         ("hostile", hostile_stores),
         ("worst", worst_stores),
+        ("updates", updates::updates),
+        ("program", program::program),
+        ("plot", plot::plot),
     ];
     let wanted = std::env::args().nth(1);
     for (name, print) in tables {
@@ -127,14 +138,14 @@ fn judged(store: &[u8], verdict: (u32, u32)) -> Times {
 }
 
 /// Pages in use, and versions at which something starts or ends.
-fn shape(bytes: &[u8]) -> (usize, usize) {
+pub fn shape(bytes: &[u8]) -> (usize, usize) {
     let image = Image::read(bytes);
     (image.used().count(), image.turning_points().len())
 }
 
 fn check_of_histories() {
-    println!("## Check\n");
-    println!("Times as long as the reference program's check.\n");
+    println!("## Check, rule by rule\n");
+    println!("Times as long as the reference program's check, on stores that break rule 6 at the last version.\n");
     println!(
         "| pages | in use | versions walked | ratio | proved | reference | proved, a used page and version |"
     );
@@ -147,9 +158,9 @@ fn check_of_histories() {
         (4096, 4),
         (4096, 32),
     ] {
-        let store = stores::grown(pages, versions);
+        let store = stores::with_stray(&stores::grown(pages - 1, versions));
         let (used, turning) = shape(&store);
-        let taken = judged(&store, (0, 0));
+        let taken = judged(&store, (4, 6));
         println!(
             "| {pages} | {used} | {turning} | {} | {} | {} | {} |",
             times(taken.ratio(0, 1)),
@@ -162,11 +173,12 @@ fn check_of_histories() {
 }
 
 fn empty_commits() {
-    let store = stores::grown(256, 16);
+    let store = stores::grown(255, 16);
     let mut later = store.clone();
     raise_current(&mut later, HIGHEST_VERSION - 1);
     let more = store::header(&later).current - store::header(&store).current;
-    assert_eq!(proved::check(&later), (0, 0));
+    let (store, later) = (stores::with_stray(&store), stores::with_stray(&later));
+    assert_eq!(proved::check(&later), (4, 6));
     let taken = in_turn(&mut [
         &mut || proved::check(black_box(&later)).0.into(),
         &mut || proved::check(black_box(&store)).0.into(),
@@ -221,9 +233,9 @@ fn worst_stores() {
     println!("|---|---|---|---|---|---|");
     let mut before: Option<f64> = None;
     for leaves in [10, 20, 40, 80, 160, 320, 640, 1280, 2560, 3870] {
-        let store = stores::flickering(leaves);
+        let store = stores::with_stray(&stores::flickering(leaves));
         let (_, turning) = shape(&store);
-        let taken = judged(&store, (0, 0));
+        let taken = judged(&store, (4, 6));
         let growth = before.map_or(String::new(), |before| times(taken.of(0) / before));
         println!(
             "| {} | {turning} | {} | {} | {} | {growth} |",
@@ -237,7 +249,7 @@ fn worst_stores() {
             break;
         }
     }
-    let largest = stores::flickering(3870);
+    let largest = stores::with_stray(&stores::flickering(3870));
     println!(
         "\nThe largest of this kind has {} pages and {} such versions.",
         largest.len() / PAGE_BYTES,
