@@ -5,6 +5,8 @@ use crate::measure::told;
 
 pub struct Chart {
     pub title: String,
+    /// What stands below all panels.
+    pub note: String,
     pub panels: Vec<Panel>,
 }
 
@@ -111,6 +113,7 @@ impl Chart {
             self.title
         );
         svg += &text(WIDTH / 2.0, 26.0, "middle", 17, &self.title);
+        svg += &text(WIDTH / 2.0, HEIGHT - 8.0, "middle", 11, &self.note);
         svg += &self.legend();
         let times = Times::of(&self.panels);
         for (panel, left) in self.panels.iter().zip([80.0, 80.0 + ACROSS + 110.0]) {

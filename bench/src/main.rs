@@ -3,6 +3,7 @@
 
 mod bitwise;
 mod chart;
+mod crowd;
 mod hostile;
 mod judging;
 mod lookups;
@@ -223,7 +224,7 @@ fn hostile_stores() {
 
 /// No larger store is judged after one that took the proved check so long, in
 /// seconds.
-const LONG: f64 = 4.0;
+const LONG: f64 = 1.0;
 
 fn worst_stores() {
     println!("## The worst stores\n");
