@@ -111,8 +111,8 @@ fn hostile_rows() {
     ] {
         row(name, &hostile::in_turn(shape));
     }
-    let name = "300 pages over the same twenty at the same versions (unsound)";
-    row(name, &crowd(300));
+    let name = "100 pages over the same twenty at the same versions (unsound)";
+    row(name, &crowd(100));
 }
 
 /// Two stores judged in turn.
