@@ -22,13 +22,17 @@
  *    4  not sound
  *    5  key too large, or range low above high
  *    6  version above the last one that can be read
- *    7  no update open (commit, abandon)
+ *    7  no update open (insert, delete, commit, abandon)
  *    8  update already open (open)
  *    9  current version is 1,048,574 (open)
+ *   10  key alive (insert)
+ *   11  key not alive (delete)
+ *   12  the page rules need a page and none is free (insert, delete)
+ *   13  the page rules need a 257th slot of the root directory (insert, delete)
  *   14  list holds fewer numbers than twice the settings found (range)
  *
- * Every number but 0 leaves store and list untouched, byte for byte. (Numbers
- * 10 to 13 belong to insert and delete, which this library does not have yet.)
+ * Every number but 0 leaves store and list untouched, byte for byte. After 12 or
+ * 13 the update is still open: it may be committed as it is, or abandoned.
  *
  * The caller answers for what no library can see: that `store` points to
  * `length` bytes, and `list` to `room` numbers, which nobody else reads or
@@ -63,6 +67,18 @@ uint32_t rcst_check(const uint8_t *store, size_t length, uint32_t *rule);
 
 /* Opens an update. Gives 0, 1 to 4, 8 or 9. */
 uint32_t rcst_open(uint8_t *store, size_t length);
+
+/*
+ * Inserts a setting in the open update: a key that is not alive, and its value,
+ * any 32 bits. Gives 0, 1 to 5, 7, 10, 12 or 13.
+ */
+uint32_t rcst_insert(uint8_t *store, size_t length, uint32_t key, uint32_t value);
+
+/*
+ * Deletes a setting in the open update: a key that is alive. A delete can need a
+ * page or a slot too. Gives 0, 1 to 5, 7, 11, 12 or 13.
+ */
+uint32_t rcst_delete(uint8_t *store, size_t length, uint32_t key);
 
 /* Commits the open update, even if nothing changed. Gives 0, 1 to 4 or 7. */
 uint32_t rcst_commit(uint8_t *store, size_t length);

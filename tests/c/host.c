@@ -56,8 +56,41 @@ static void releases(void) {
     expect(rcst_range(store, sizeof store, 2, 1, 1, list, 3, &count) == 5 && count == 0, "low above high");
 }
 
+static void settings(void) {
+    static uint8_t store[8 * RCST_PAGE_BYTES], before[8 * RCST_PAGE_BYTES];
+    uint32_t found = 9, value = 9, list[4] = {1, 2, 3, 4}, key;
+    size_t count = 9;
+
+    expect(rcst_fresh(store, sizeof store) == 0, "a fresh store of 8 pages");
+    expect(rcst_insert(store, sizeof store, 40, 7) == 7, "no update is open");
+    expect(rcst_insert(store, sizeof store, RCST_HIGHEST_KEY + 1, 7) == 5, "a key too large comes first");
+    expect(rcst_open(store, sizeof store) == 0, "an update opens");
+    expect(rcst_insert(store, sizeof store, 40, 7) == 0, "an insert");
+    expect(rcst_insert(store, sizeof store, 40, 8) == 10, "the key is alive");
+    expect(rcst_delete(store, sizeof store, 41) == 11, "the key is not alive");
+    expect(rcst_lookup(store, sizeof store, 40, 1, &found, &value) == 0 && found == 1 && value == 7, "the open version is readable");
+    expect(rcst_commit(store, sizeof store) == 0, "a release");
+    memcpy(before, store, sizeof store);
+    expect(rcst_open(store, sizeof store) == 0, "the next update");
+    expect(rcst_delete(store, sizeof store, 40) == 0, "a delete");
+    expect(rcst_lookup(store, sizeof store, 40, 2, &found, &value) == 0 && found == 0, "the key is gone");
+    expect(rcst_lookup(store, sizeof store, 40, 1, &found, &value) == 0 && value == 7, "and stays in the version before");
+    for (key = 1; key <= 20; key++) {
+        if (rcst_insert(store, sizeof store, key, key) != 0) {
+            break;
+        }
+    }
+    expect(key == 20, "a dead entry takes room too");
+    expect(rcst_insert(store, sizeof store, key, key) == 12, "pages run out");
+    expect(rcst_range(store, sizeof store, 3, 4, 2, list, 4, &count) == 0 && count == 2, "two settings");
+    expect(list[0] == 3 && list[1] == 3 && list[2] == 4 && list[3] == 4, "key, value, key, value");
+    expect(rcst_abandon(store, sizeof store) == 0, "the update is abandoned");
+    expect(memcmp(before, store, sizeof store) == 0, "every byte is what it was");
+}
+
 int main(void) {
     fresh_and_check();
     releases();
+    settings();
     return failures != 0;
 }

@@ -4,6 +4,7 @@
 // hold", to tell the lowest broken one. What it costs is told in docs/CHECK-COST.md.
 mod changes;
 mod live;
+mod reach;
 mod versions;
 mod walk;
 
@@ -41,7 +42,7 @@ fn broken(s: &[u8], l: Limits, size: usize) -> u32
     if versions::stretches(s, l, h, 5) != 0 {
         return 5;
     }
-    if versions::versions(s, l, h) != 0 {
+    if reach::versions(s, l, h) != 0 {
         return 6;
     }
     0

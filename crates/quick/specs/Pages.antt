@@ -1,7 +1,7 @@
 -- A page in itself, by its part p and its front h. Assumes nothing.
 use Prim.Native.Nat.{ℕ, suc, _+_, _*_, _-_}
 use mathlib.Core.Bool.{Bool, true, _&&_, _||_}
-use mathlib.Core.Path.{_≡_, refl, ap, sym, _∙_}
+use mathlib.Core.Path.{_≡_, ap, _∙_}
 use mathlib.Core.List.{List}
 use native.Mathlib.Omega.{arith}
 use lib.Dec.{eqb}
@@ -19,7 +19,7 @@ use Rattle.page.specs.declared.Head.{Head}
 use Rattle.page.specs.Head.{readHead}
 use Rattle.page.specs.Read.{level-of, entries-of}
 use Rattle.store.specs.Read.{behind}
-use Rattle.local.specs.Local.{IsPage, levelAt}
+use Rattle.local.specs.Local.{IsPage}
 use Rattle.quick.specs.Good.{Good}
 use Rattle.quick.specs.Here.{level-is, entries-are}
 use Rattle.quick.specs.Routers.{entriesAt}

@@ -1,18 +1,17 @@
 -- One page's tests, one entry at a time for a loop. Assumes nothing.
-use Prim.Native.Nat.{ℕ, zero, suc, _+_, _*_, _-_, _^_, _<_, _≤_, min, max}
+use Prim.Native.Nat.{ℕ, _+_, _*_, _-_, _^_, _<_, _≤_}
 use mathlib.Core.Bool.{Bool, true, false, _&&_, _||_, not}
-use mathlib.Core.Path.{_≡_, refl, ap, sym, _∙_}
-use mathlib.Core.List.{List, [], _∷_}
+use mathlib.Core.Path.{_≡_, refl, ap, _∙_}
+use mathlib.Core.List.{List}
 use native.Mathlib.Omega.{arith}
 use lib.Dec.{leb, ltb, eqb}
 use lib.ListN.{length}
 use Rattle.model.specs.declared.Entry.{Entry}
-use Rattle.model.specs.Basic.{all, those, keep, pick, inOrder}
-use Rattle.model.specs.Entry.{before, liveAt}
+use Rattle.model.specs.Basic.{all, those, keep, pick}
 use Rattle.model.specs.Layout.{readEntry, readEntries, decodePage}
 use Rattle.model.specs.Quick.{meets, past, pastAll, apart, lowOver, keyOver, liveCount, manyOver, fineOver}
 use Rattle.model.proofs.Rising.{firstOk, rising}
-use Rattle.model.proofs.QuickLaws.{throughout, apart-neighbours}
+use Rattle.model.proofs.QuickLaws.{throughout}
 use Rattle.page.specs.declared.Head.{Head}
 use Rattle.page.specs.Head.{readHead}
 use Rattle.page.specs.Read.{level-of, entries-of, entries-step, entries-end}

@@ -2,7 +2,7 @@
 use model::Limits;
 ghost use mathlib.Core.Path.{_≡_};
 ghost use mathlib.Core.Bool.{true};
-ghost use Prim.Native.Nat.{_+_, _*_, _-_, _^_, _≤_};
+ghost use Prim.Native.Nat.{_+_, _*_, _-_, _≤_};
 ghost use lib.ListN.{length};
 ghost use Rattle.model.specs.Basic.{all, those, inOrder};
 ghost use Rattle.model.specs.Entry.{before};

@@ -2,8 +2,7 @@
 use model::Entry;
 use model::Limits;
 ghost use mathlib.Core.Path.{_≡_};
-ghost use mathlib.Core.Bool.{_&&_};
-ghost use Prim.Native.Nat.{ℕ, _+_, _*_, _-_, _≤_, min, max};
+ghost use Prim.Native.Nat.{_+_, _*_, _-_, _≤_, min, max};
 ghost use Rattle.model.specs.Limits.{Edition};
 ghost use Rattle.model.specs.Layout.{readEntry, readEntries, decode};
 ghost use Rattle.model.specs.Quick.{under, nexts, routersFine};

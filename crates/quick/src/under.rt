@@ -1,10 +1,10 @@
 // "A key lies from its page's low key up to, not including, the next one's": the pages that routers lead to, throughout their spans.
 use model::Limits;
 ghost use mathlib.Core.Path.{_≡_};
-ghost use Prim.Native.Nat.{ℕ, _+_, _*_, _-_, _≤_};
+ghost use Prim.Native.Nat.{_+_, _*_, _-_, _≤_};
 ghost use Rattle.model.specs.Limits.{Edition};
 ghost use Rattle.model.specs.Layout.{readEntry, readEntries, decode};
-ghost use Rattle.model.specs.Quick.{under, nexts};
+ghost use Rattle.model.specs.Quick.{under};
 ghost use Rattle.local.specs.Local.{IsPage, levelAt};
 ghost use Rattle.quick.specs.Good.{Good};
 ghost use Rattle.quick.specs.Part.{Stands};

@@ -29,7 +29,7 @@ use Rattle.plan.specs.declared.Way.{Way}
 use Rattle.plan.specs.Plan.{upsOf, Led}
 use Rattle.climb.specs.Climb.{climbUp, climb-by}
 use Rattle.root.specs.Slotted.{Slotted, slotted-after}
-use Rattle.root.specs.Root.{moved-in}
+use Rattle.root.specs.Moved.{moved-inside}
 
 -- it is done, with no number, and what it leaves is sound
 pub record Done (least : ℕ) (r : Result) : Type 0 where
@@ -121,9 +121,7 @@ module _ {l : Limits} {b b′ : List ℕ} (k : Kept l b) (become : Becomes l b b
 
       -- and it is a page of the store
       pub done-inside : Inside l b′ n
-      done-inside =
-          let (low, high) = moved-in (l .least) (decode (l .least) b) n (pagesOf l b′) (d .store) (ap (rooted (l .least) (decode (l .least) b)) e ∙ d .is) (d .sound) in
-          record { low = low; high = high }
+      done-inside = moved-inside l b′ (decode (l .least) b) n (d .store) (ap (rooted (l .least) (decode (l .least) b)) e ∙ d .is) (d .sound)
 
       pub done-moves : (b″ : List ℕ) → b″ ≡ encode (l .least) (withSlots (decode (l .least) b′) (putSlot (next (decode (l .least) b′)) n (decode (l .least) b′ .slots)))
           → b″ ≡ left (l .least) b (rooted (l .least) (decode (l .least) b) x) .store

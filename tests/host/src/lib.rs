@@ -5,13 +5,15 @@
 //! answers for is that the declarations are those of the header, and that a
 //! slice is passed as its own pointer and length.
 
-use reference::engine::{apply, Answer, Call, Engine};
+use reference::engine::{Answer, Call, Engine};
 
 mod c {
     extern "C" {
         pub fn rcst_fresh(store: *mut u8, length: usize) -> u32;
         pub fn rcst_check(store: *const u8, length: usize, rule: *mut u32) -> u32;
         pub fn rcst_open(store: *mut u8, length: usize) -> u32;
+        pub fn rcst_insert(store: *mut u8, length: usize, key: u32, value: u32) -> u32;
+        pub fn rcst_delete(store: *mut u8, length: usize, key: u32) -> u32;
         pub fn rcst_commit(store: *mut u8, length: usize) -> u32;
         pub fn rcst_abandon(store: *mut u8, length: usize) -> u32;
         pub fn rcst_lookup(
@@ -50,6 +52,16 @@ pub fn check(store: &[u8]) -> (u32, u32) {
 /// Opens an update.
 pub fn open(store: &mut [u8]) -> u32 {
     unsafe { c::rcst_open(store.as_mut_ptr(), store.len()) }
+}
+
+/// Inserts a setting in the open update.
+pub fn insert(store: &mut [u8], key: u32, value: u32) -> u32 {
+    unsafe { c::rcst_insert(store.as_mut_ptr(), store.len(), key, value) }
+}
+
+/// Deletes a setting in the open update.
+pub fn delete(store: &mut [u8], key: u32) -> u32 {
+    unsafe { c::rcst_delete(store.as_mut_ptr(), store.len(), key) }
 }
 
 /// Commits the open update.
@@ -96,8 +108,7 @@ pub fn range(store: &[u8], low: u32, high: u32, version: u32, list: &mut [u32]) 
     (number, count)
 }
 
-/// The proved library. It has no insert and no delete yet: the reference makes
-/// these, on the library's copy of the store.
+/// The proved library.
 pub struct Proved;
 
 impl Engine for Proved {
@@ -107,7 +118,8 @@ impl Engine for Proved {
             Call::Open => Answer::of(open(store)),
             Call::Commit => Answer::of(commit(store)),
             Call::Abandon => Answer::of(abandon(store)),
-            Call::Insert(..) | Call::Delete(..) => apply(call, store, list),
+            Call::Insert(key, value) => Answer::of(insert(store, key, value)),
+            Call::Delete(key) => Answer::of(delete(store, key)),
             Call::Check => {
                 let (number, rule) = check(store);
                 Answer {

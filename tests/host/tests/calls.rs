@@ -124,15 +124,15 @@ fn going_back_is_also_a_release() {
         if key == 5 {
             assert_eq!(host::open(&mut store), 0);
         }
-        assert_eq!(reference::calls::insert(&mut store, key, value), 0);
+        assert_eq!(host::insert(&mut store, key, value), 0);
     }
     assert_eq!(host::commit(&mut store), 0);
     assert_eq!(host::open(&mut store), 0);
-    assert_eq!(reference::calls::delete(&mut store, 5), 0);
+    assert_eq!(host::delete(&mut store, 5), 0);
     assert_eq!(host::commit(&mut store), 0);
     let released = store.clone();
     assert_eq!(host::open(&mut store), 0);
-    assert_eq!(reference::calls::insert(&mut store, 7, 70), 0);
+    assert_eq!(host::insert(&mut store, 7, 70), 0);
     assert_eq!(host::abandon(&mut store), 0);
     assert_eq!(store, released);
     assert_eq!(host::lookup(&store, 5, 1), (0, true, 50));

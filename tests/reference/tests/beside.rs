@@ -5,6 +5,7 @@ mod common;
 
 use common::rounds;
 use reference::beside::{compare, run};
+use reference::calls;
 use reference::engine::{apply, Answer, Call, Engine, Reference};
 use reference::history::{calls, History, KINDS};
 

@@ -5,6 +5,7 @@ mod common;
 use std::io::{self, BufRead, BufReader, Read, Write};
 
 use common::rounds;
+use reference::calls;
 use reference::console::{answers, parse, run, Command};
 use reference::lines::{bad_lines, lines};
 

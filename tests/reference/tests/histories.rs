@@ -5,6 +5,7 @@ mod common;
 use common::follow::{follow, Followed};
 use common::rounds;
 use reference::beside::Tally;
+use reference::calls;
 use reference::history::{History, Kind, KINDS};
 
 fn followed(seed: u64, kind: Kind, pages: usize, count: usize) -> Followed {

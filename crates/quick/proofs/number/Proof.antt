@@ -5,8 +5,7 @@ use Rattle.model.proofs.QuickLent.{number-quickly}
 use Rattle.model.specs.Layout.{sizeOf}
 use borrow.Author.Tests.{not-true, not-false}
 use native.Mathlib.Omega.{arith}
-use mathlib.Core.Bool.{true}
-use mathlib.Core.Path.{_≡_, sym, _∙_}
+use mathlib.Core.Path.{sym, _∙_}
 use borrow.Author.Needs.{needs}
 use Rattle.quick.proofs.number.Statement.{statement}
 use Rattle.quick.proofs.number.Tie as tie

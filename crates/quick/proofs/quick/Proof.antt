@@ -1,7 +1,7 @@
 use Rattle.quick.specs.Number.{quick-pages, quick-slots, quick-spans}
 use Rattle.model.specs.Layout.{decode}
 use borrow.Author.Tests.{not-true, not-false}
-use mathlib.Core.Path.{_≡_, sym, _∙_}
+use mathlib.Core.Path.{sym, _∙_}
 use borrow.Author.Needs.{needs}
 use Rattle.quick.proofs.quick.Statement.{statement}
 use Rattle.quick.proofs.quick.Tie as tie

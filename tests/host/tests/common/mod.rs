@@ -1,5 +1,10 @@
 //! What the test files share.
 
+#![allow(dead_code)]
+
+pub mod calls;
+pub mod met;
+
 use host::Proved;
 use reference::beside::compare;
 use reference::engine::{Answer, Call, Reference};

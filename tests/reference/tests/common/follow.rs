@@ -1,8 +1,8 @@
 //! A history on this program, beside one ordered map for each version.
 
 use super::roomier;
+use crate::calls;
 use reference::beside::Tally;
-use reference::calls;
 use reference::engine::{apply, Answer, Call};
 use reference::history::History;
 use reference::layout::HIGHEST_KEY;

@@ -6,7 +6,7 @@ pub mod build;
 pub mod follow;
 pub mod literal;
 
-use reference::calls;
+use crate::calls;
 use reference::image::Image;
 use reference::layout::{Entry, Header, Page, Slot, Span};
 use reference::store;

@@ -8,7 +8,7 @@ use Rattle.model.specs.Quick.{apart, childrenFine}
 use Rattle.model.specs.Layout.{decode, decodePage, pageOf, readEntries}
 use borrow.Author.Tests.{not-true, not-false}
 use native.Mathlib.Omega.{arith}
-use mathlib.Core.Path.{_≡_, ap, sym, _∙_}
+use mathlib.Core.Path.{_≡_, sym, _∙_}
 use borrow.Author.Needs.{needs}
 use Rattle.quick.proofs.pages.page_fine.Statement.{statement}
 use Rattle.quick.proofs.pages.page_fine.Tie as tie

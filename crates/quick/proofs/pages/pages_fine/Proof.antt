@@ -4,10 +4,8 @@ use Rattle.model.specs.Layout.{readPages, decode, sizeOf}
 use Rattle.model.specs.Basic.{all}
 use borrow.Author.Tests.{not-true, not-false}
 use native.Mathlib.Omega.{arith}
-use mathlib.Core.Bool.{_&&_}
 use mathlib.Core.Path.{_≡_, sym, _∙_}
 use Prim.Native.Nat.{_≤_, _-_}
-use borrow.Author.Needs.{needs}
 use Rattle.quick.proofs.pages.pages_fine.Statement.{statement}
 use Rattle.quick.proofs.pages.pages_fine.Tie as tie
 use Rattle.quick.proofs.pages.pages_fine.Reads as reads

@@ -1,4 +1,4 @@
-use Rattle.quick.specs.Under.{underPage, nexts-step, nexts-end, nexts-empty, under-empty}
+use Rattle.quick.specs.Under.{underPage, nexts-step, nexts-end, nexts-empty}
 use Rattle.model.specs.Quick.{nexts}
 use Rattle.model.specs.Layout.{decode, readEntries}
 use borrow.Author.Tests.{not-true, not-false}

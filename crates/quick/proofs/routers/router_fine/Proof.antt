@@ -5,7 +5,7 @@ use Rattle.model.specs.Layout.{readEntry, readEntries}
 use borrow.Author.Tests.{not-true, not-false}
 use native.Mathlib.Omega.{arith}
 use mathlib.Core.Path.{_≡_, sym, _∙_}
-use Prim.Native.Nat.{_≤_, _-_, _+_, _*_}
+use Prim.Native.Nat.{_-_, _+_, _*_}
 use borrow.Author.Needs.{needs}
 use Rattle.quick.proofs.routers.router_fine.Statement.{statement}
 use Rattle.quick.proofs.routers.router_fine.Tie as tie

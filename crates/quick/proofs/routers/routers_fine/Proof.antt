@@ -7,7 +7,6 @@ use borrow.Author.Tests.{not-true, not-false}
 use native.Mathlib.Omega.{arith}
 use mathlib.Core.Path.{_≡_, refl, ap, sym, _∙_}
 use Prim.Native.Nat.{_≤_, _-_, _+_, _*_}
-use borrow.Author.Needs.{needs}
 use Rattle.quick.proofs.routers.routers_fine.Statement.{statement}
 use Rattle.quick.proofs.routers.routers_fine.Tie as tie
 use Rattle.quick.proofs.routers.routers_fine.Reads as reads

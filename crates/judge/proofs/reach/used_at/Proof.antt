@@ -1,7 +1,7 @@
--- `judge::versions::used_at` meets its contract: each way out by the tests taken. Assumes nothing.
+-- `judge::reach::used_at` meets its contract: each way out by the tests taken. Assumes nothing.
 use borrow.Author.Tests.{eq-eqb, ne-eqb, lt-leb, le-leb}
-use Rattle.judge.proofs.versions.used_at.Statement.{statement}
-use Rattle.judge.proofs.versions.used_at.Tie as tie
+use Rattle.judge.proofs.reach.used_at.Statement.{statement}
+use Rattle.judge.proofs.reach.used_at.Tie as tie
 
 returns : tie.Need-returns
 returns c = simp (eq-eqb _ _ (c .if1 .taken))

@@ -1,4 +1,4 @@
--- `judge::versions::versions` meets its contract: the versions from v on answer as all, since each stretch answers as its first. Assumes nothing.
+-- `judge::reach::versions` meets its contract: the versions from v on answer as all, since each stretch answers as its first. Assumes nothing.
 use Prim.Native.Nat.{ℕ, _≤_, _-_, _+_}
 use mathlib.Core.Path.{_≡_, ap, sym, _∙_}
 use mathlib.Core.Bool.{Bool}
@@ -9,8 +9,8 @@ use Rattle.judge.specs.Versions.{versionOk}
 use Rattle.model.specs.Store.{lastOf}
 use Rattle.model.specs.Basic.{all, count, pick}
 use Rattle.store.specs.Read.{current-lt}
-use Rattle.judge.proofs.versions.versions.Statement.{statement}
-use Rattle.judge.proofs.versions.versions.Tie as tie
+use Rattle.judge.proofs.reach.versions.Statement.{statement}
+use Rattle.judge.proofs.reach.versions.Tie as tie
 
 abbrev Inv-loop : tie.InvT-loop
 Inv-loop s l h end v₀ v = (v ≤ end) × (all (versionOk (l .least) 6 s) (count 0 (lastOf (h .opened) (h .current) + 1)) ≡ all (versionOk (l .least) 6 s) (count v (end - v)))

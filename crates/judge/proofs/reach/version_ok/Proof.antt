@@ -1,4 +1,4 @@
--- `judge::versions::version_ok` meets its contract: what the walk tells, and the marks. Assumes nothing.
+-- `judge::reach::version_ok` meets its contract: what the walk tells, and the marks. Assumes nothing.
 use Prim.Native.Nat.{ℕ, _-_}
 use mathlib.Core.Path.{_≡_, ap, sym, _∙_}
 use mathlib.Core.List.{List}
@@ -9,8 +9,8 @@ use Rattle.local.specs.Local.{levelAt}
 use Rattle.page.specs.Head.{readHead}
 use Rattle.page.specs.declared.Head.{Head}
 use borrow.Author.Needs.{needs}
-use Rattle.judge.proofs.versions.version_ok.Statement.{statement}
-use Rattle.judge.proofs.versions.version_ok.Tie as tie
+use Rattle.judge.proofs.reach.version_ok.Statement.{statement}
+use Rattle.judge.proofs.reach.version_ok.Tie as tie
 
 root-at-requires : tie.Need-root-at-requires
 root-at-requires c κs = search needs

@@ -1,0 +1,56 @@
+//! The calls as `reference::calls` has them, each made by both programs and
+//! compared. Cases that call these hold the library to the reference, call by
+//! call and byte by byte.
+
+use host::Proved;
+use reference::beside::compare;
+use reference::engine::{Answer, Call, Reference};
+
+/// One call on both programs; `bytes` is the store after it.
+fn call(call: Call, bytes: &mut [u8]) -> Answer {
+    let mut right = bytes.to_vec();
+    compare(&mut Reference, &mut Proved, call, bytes, &mut right)
+        .unwrap_or_else(|difference| panic!("{difference:?}"))
+}
+
+pub fn fresh(bytes: &mut [u8]) -> u32 {
+    call(Call::Fresh, bytes).number
+}
+
+pub fn check(bytes: &[u8]) -> (u32, u32) {
+    let answer = call(Call::Check, &mut bytes.to_vec());
+    (answer.number, answer.rule)
+}
+
+pub fn open(bytes: &mut [u8]) -> u32 {
+    call(Call::Open, bytes).number
+}
+
+pub fn insert(bytes: &mut [u8], key: u32, value: u32) -> u32 {
+    call(Call::Insert(key, value), bytes).number
+}
+
+pub fn delete(bytes: &mut [u8], key: u32) -> u32 {
+    call(Call::Delete(key), bytes).number
+}
+
+pub fn commit(bytes: &mut [u8]) -> u32 {
+    call(Call::Commit, bytes).number
+}
+
+pub fn abandon(bytes: &mut [u8]) -> u32 {
+    call(Call::Abandon, bytes).number
+}
+
+pub fn lookup(bytes: &[u8], key: u32, version: u32) -> (u32, bool, u32) {
+    let answer = call(Call::Lookup(key, version), &mut bytes.to_vec());
+    (answer.number, answer.found, answer.value)
+}
+
+/// The list is lent to the reference once more, to be read by the case.
+pub fn range(bytes: &[u8], low: u32, high: u32, version: u32, list: &mut [u32]) -> (u32, u32) {
+    let range = Call::Range(low, high, version, list.len());
+    let answer = call(range, &mut bytes.to_vec());
+    reference::calls::range(bytes, low, high, version, list);
+    (answer.number, answer.count)
+}

@@ -1,0 +1,88 @@
+//! A history run on both programs, and what the page rules had to do in it.
+
+use std::collections::BTreeMap;
+
+use host::Proved;
+use reference::beside::{compare, Tally};
+use reference::engine::{Call, Reference};
+use reference::history::History;
+use reference::layout::ALIVE;
+use reference::{store, walk};
+
+/// How often each number was given, and how often an accepted insert or delete
+/// did what each name says.
+#[derive(Debug, Default)]
+pub struct Met {
+    pub numbers: Tally,
+    pub works: BTreeMap<&'static str, u64>,
+    pub highest_level: u32,
+}
+
+impl Met {
+    pub fn given(&self, number: u32) -> u64 {
+        self.numbers.get(&number).copied().unwrap_or(0)
+    }
+
+    pub fn did(&self, work: &str) -> u64 {
+        self.works.get(work).copied().unwrap_or(0)
+    }
+
+    /// Runs `count` calls of `history` from `bytes` on; the store at the end.
+    pub fn run(&mut self, history: &mut History, bytes: Vec<u8>, count: usize) -> Vec<u8> {
+        let (mut left, mut right) = (bytes.clone(), bytes);
+        for at in 0..count {
+            let call = history.next_call();
+            let before = left.clone();
+            let answer = compare(&mut Reference, &mut Proved, call, &mut left, &mut right)
+                .unwrap_or_else(|difference| panic!("call {at}: {difference:?}"));
+            history.observe(call, &answer);
+            *self.numbers.entry(answer.number).or_default() += 1;
+            assert!(answer.number == 0 || left == before, "call {at}: {call:?}");
+            if answer.number == 0 && matches!(call, Call::Insert(..) | Call::Delete(_)) {
+                self.observe(&before, &left);
+            }
+        }
+        left
+    }
+
+    fn observe(&mut self, before: &[u8], after: &[u8]) {
+        let version = store::header(after).last();
+        let (old, new) = (walk::root(before, version), walk::root(after, version));
+        let (from, to) = (store::level(before, old), store::level(after, new));
+        self.highest_level = self.highest_level.max(to);
+        let root = match to.cmp(&from) {
+            std::cmp::Ordering::Greater => "root grown",
+            std::cmp::Ordering::Less => "root gone",
+            _ if new != old => "root copied",
+            _ => "root stays",
+        };
+        *self.works.entry(root).or_default() += 1;
+        let mut levels: BTreeMap<u32, (u32, u32)> = BTreeMap::new();
+        for number in store::page_numbers(before) {
+            let (one, other) = (store::page(before, number), store::page(after, number));
+            let freed = !one.is_free() && other.is_free();
+            let killed = one.span.end == ALIVE && !one.is_free() && other.span.end == version;
+            let taken = one.is_free() && !other.is_free();
+            for (name, met) in [("freed", freed), ("killed", killed), ("taken", taken)] {
+                *self.works.entry(name).or_default() += u64::from(met);
+            }
+            let level = one.level.max(other.level);
+            let (gone, come) = levels.entry(level).or_default();
+            *gone += u32::from(freed || killed);
+            *come += u32::from(taken);
+        }
+        for (gone, come) in levels.into_values() {
+            let name = match (gone, come) {
+                (0, 0) => continue,
+                (0, 1) => "active page split",
+                (1, 0) => "page gone",
+                (1, 1) => "page for page",
+                (1, 2) => "page split",
+                (2, 1) => "pages merged",
+                (2, 2) => "pages merged and split",
+                _ => "other",
+            };
+            *self.works.entry(name).or_default() += 1;
+        }
+    }
+}
