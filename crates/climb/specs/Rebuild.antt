@@ -1,10 +1,10 @@
 -- A group rebuilt into the pages that a value names. Assumes nothing.
-use Prim.Native.Nat.{ℕ, zero, suc, _+_, _*_, _-_, _/_, _<_, _≤_}
-use mathlib.Core.Path.{_≡_, refl, ap, sym, _∙_}
+use Prim.Native.Nat.{ℕ, _+_, _*_, _-_, _/_, _<_, _≤_}
+use mathlib.Core.Path.{_≡_, refl, ap, _∙_}
 use mathlib.Core.Bool.{Bool, true, false}
 use mathlib.Core.List.{List, [], _∷_}
 use lib.Dec.{leb}
-use lib.ListN.{length, getD, set, take, drop, length-drop}
+use lib.ListN.{length, set, take, drop, length-drop}
 use lib.Seq.{take-all}
 use native.Mathlib.Omega.{arith}
 use borrow.Author.Tests.{le-leb, lt-leb}
@@ -44,11 +44,24 @@ module _ {l : Limits} {b b′ : List ℕ} (k : Kept l b) (w : ℕ) (rs : Routers
 
 -- ---- the pairs from a place on, and up to one
 
-pub upper : (g : Gather) → Good g → (h : ℕ) → take (g .n - h) (drop h (pairsIn g)) ≡ drop h (pairsIn g)
+upper : (g : Gather) → Good g → (h : ℕ) → take (g .n - h) (drop h (pairsIn g)) ≡ drop h (pairsIn g)
 upper g z h = take-all (g .n - h) (drop h (pairsIn g)) (omega (arith, length-drop h (pairsIn g), length-pairs g z))
 
-pub lower : (g : Gather) (h : ℕ) → take (h - 0) (drop 0 (pairsIn g)) ≡ take h (pairsIn g)
+lower : (g : Gather) (h : ℕ) → take (h - 0) (drop 0 (pairsIn g)) ≡ take h (pairsIn g)
 lower g h = let e : h - 0 ≡ h = omega arith in rw e
+
+-- ---- the pages now used filled
+
+module _ {l : Limits} {b b₁ : List ℕ} (k : Kept l b) (w level : ℕ) (rs : List Pair) (d : Becomes l b b₁ (rules.retire w (pagesOf l b) rs)) (g : Gather) (z : Good g) (n : ℕ) where
+  pub one-filled : {b₂ : List ℕ} → Becomes l b₁ b₂ (set (pagesOf l b₁) n (filled w level (take (g .n - 0) (drop 0 (pairsIn g))))) → Becomes l b b₂ (set (rules.retire w (pagesOf l b) rs) n (filled w level (pairsIn g)))
+  one-filled e = rw (pages-are k d, upper g z 0) at (then k d e)
+
+  pub both-filled : (h m : ℕ) {b₂ b₃ : List ℕ} → Becomes l b₁ b₂ (set (pagesOf l b₁) n (filled w level (take (h - 0) (drop 0 (pairsIn g)))))
+      → Becomes l b₂ b₃ (set (pagesOf l b₂) m (filled w level (take (g .n - h) (drop h (pairsIn g)))))
+      → Becomes l b b₃ (set (set (rules.retire w (pagesOf l b) rs) n (filled w level (take h (pairsIn g)))) m (filled w level (drop h (pairsIn g))))
+  both-filled h m e f =
+      let d₂ = rw (pages-are k d, lower g h) at (then k d e) in
+      rw (pages-are k d₂, upper g z h) at (then k d₂ f)
 
 -- ---- into which pages
 

@@ -33,7 +33,7 @@ pub(crate) fn wide(x: u32) -> usize
     x as usize
 }
 
-// A group is rebuilt, and its parent has the routers to exchange; nothing is written if a page is lacking.
+// A group is rebuilt, and its parent has the routers to exchange; or a page is lacking.
 fn regroup(s: &mut [u8], l: Limits, w: u32, level: u32, g: Group, size: usize) -> Worked
     requires { ⌜ Kept l (now s) × Grouped l (now s) g × (w < 2 ^ 20) × (level < 2 ^ 4) × (size ≡ length (pagesOf l (now s))) ⌝ }
     ensures { λ r. ⌜ (workedOf r (pagesOf l (now (s .exit))) ≡ regroup (l .least) w level (pagesOf l (now (s .entry))) (groupOf g)) × Becomes l (now (s .entry)) (now (s .exit)) (pagesOf l (now (s .exit))) × UpFits r ⌝ }

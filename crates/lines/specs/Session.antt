@@ -74,6 +74,11 @@ unfoldable pub writes : ℕ → List ℕ → List Line → List ℕ
 writes least b [] = []
 writes least b (l ∷ ls) = let s = said least b (l .command) in flatMap textOf (s .answers) ++ writes least (s .store) ls
 
+-- the store's bytes after them
+unfoldable pub after : ℕ → List ℕ → List Line → List ℕ
+after least b [] = b
+after least b (l ∷ ls) = after least (said least b (l .command) .store) ls
+
 -- the program: what it writes for an input
 abbrev pub written : List ℕ → List ℕ
 written input = writes 4 [] (recordsOf input)

@@ -1,20 +1,18 @@
 -- An update carried out: the way up, the root, its slot. Assumes nothing.
-use Prim.Native.Nat.{ℕ, zero, suc, _+_, _*_, _^_, _<_, _≤_}
-use native.Mathlib.Omega.{arith}
+use Prim.Native.Nat.{ℕ, _*_, _^_, _<_}
 use mathlib.Core.Bool.{Bool, true, false}
 use mathlib.Core.Path.{_≡_, refl, ap, sym, _∙_}
-use mathlib.Core.List.{List, [], _∷_}
+use mathlib.Core.List.{List}
 use lib.Dec.{leb}
 use lib.ListN.{length}
 use Rattle.model.specs.declared.Limits.{Limits}
-use Rattle.model.specs.declared.Slot.{Slot}
 use Rattle.model.specs.Page.{Page}
 use Rattle.model.specs.Page as changes
 use Rattle.model.specs.Store.{Store, page, next}
 use Rattle.model.specs.Layout.{encode, decode}
 use Rattle.model.specs.Walk.{Around}
 use Rattle.model.specs.Rules.{settled, upward, lacking}
-use Rattle.model.specs.Climb.{Rooted, stays, moves, lacks, workRoot, climb, goOn, putSlot, Result, done, refused, slotted, rooted, update}
+use Rattle.model.specs.Climb.{Rooted, stays, moves, lacks, workRoot, climb, putSlot, Result, done, refused, slotted, rooted, update}
 use Rattle.model.specs.Plan.{slotLeft}
 use Rattle.model.specs.Lent.{left}
 use Rattle.model.proofs.Given.{Sound}

@@ -1,21 +1,17 @@
 -- The whole update of a sound store: what is foreseen is what it comes to, and with 0 nothing stands in its way. Assumes nothing.
-use Prim.Native.Nat.{ℕ, zero, suc, _+_, _^_, _<_, _≤_}
+use Prim.Native.Nat.{ℕ, zero, suc, _^_, _<_, _≤_}
 use native.Mathlib.Omega.{arith}
-use mathlib.Core.Bool.{Bool, true, false}
+use mathlib.Core.Bool.{Bool, true}
 use mathlib.Core.Path.{_≡_, refl, ap, sym, _∙_}
 use mathlib.Core.List.{List}
 use lib.ListN.{length}
 use Rattle.model.specs.declared.Limits.{Limits}
-use Rattle.model.specs.declared.Header.{Header}
 use Rattle.model.specs.Limits.{Edition}
 use Rattle.model.specs.Field.{Bytes}
-use Rattle.model.specs.Page.{Page}
-use Rattle.model.specs.Page as changes
-use Rattle.model.specs.Store.{Store, page, next, last, lastOf, freeOnes}
-use Rattle.model.specs.Walk.{Around, rootAt, way, keyLimit}
-use Rattle.model.specs.Layout.{decode, readHeader}
+use Rattle.model.specs.Store.{Store, next, last, lastOf, freeOnes}
+use Rattle.model.specs.Walk.{Around, way, keyLimit}
+use Rattle.model.specs.Layout.{decode}
 use Rattle.model.specs.Judged.{isSound}
-use Rattle.model.specs.Rules.{upward}
 use Rattle.model.specs.Climb.{climb, Result, done, refused, rooted, update}
 use Rattle.model.specs.Plan.{planUp, slotLeft, outlookNumber, outlook, plan}
 use Rattle.model.specs.Lent.{left}
@@ -31,10 +27,9 @@ use Rattle.parts.specs.Kept.{Kept, pagesOf, kept-sound}
 use Rattle.plan.specs.declared.Way as plan-code
 use Rattle.plan.specs.Plan.{upsOf}
 use Rattle.plan.specs.Way.{Leads}
-use Rattle.climb.specs.Climb.{climbUp}
-use Rattle.root.specs.Slotted.{Slotted, slotted-sound, next-is}
+use Rattle.root.specs.Slotted.{Slotted, slotted-sound}
 use Rattle.update.specs.Level.{root-level, length-ups}
-use Rattle.update.specs.Applied.{Done, ToApply}
+use Rattle.update.specs.Applied.{ToApply}
 
 -- a change that leaves the store sound
 abbrev pub LeavesSound : ℕ → Result → Type 0

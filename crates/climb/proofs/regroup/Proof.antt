@@ -1,11 +1,8 @@
-use Prim.Native.Nat.{ℕ, _+_, _*_, _≤_, _<_}
-use native.Mathlib.Omega.{arith}
 use mathlib.Core.Path.{_≡_, _∙_}
 use Rattle.model.specs.Needs.{fills}
 use Rattle.gather.specs.Gather.{pairsIn, length-pairs}
 use Rattle.parts.specs.Becomes.{stays}
 use Rattle.parts.specs.Kept.{pagesOf}
-use Rattle.group.specs.Numbers.{usable-in, numbers-small}
 use Rattle.climb.specs.Work.{workedOf, regroup-lacks, regroup-rises, usable-small}
 use borrow.Author.Needs.{needs}
 use Rattle.climb.proofs.regroup.Statement.{statement}

@@ -1,6 +1,5 @@
 use native.Mathlib.Omega.{arith}
 use mathlib.Core.Path.{_≡_, sym, _∙_}
-use mathlib.Core.Bool.{true, false}
 use Rattle.model.specs.Needs.{takesInPlace}
 use Rattle.model.specs.Store.{page}
 use Rattle.edit.specs.Change.{changeOf}

@@ -1,5 +1,5 @@
 -- `apply` meets its contract. Assumes nothing.
-use mathlib.Core.Path.{sym, _∙_}
+use mathlib.Core.Path.{_∙_}
 use Rattle.climb.specs.Work.{workedOf}
 use Rattle.update.specs.Applied.{done-settled, done-lacking, to-root, applied}
 use borrow.Author.Needs.{needs}

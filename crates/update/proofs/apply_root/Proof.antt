@@ -1,7 +1,6 @@
 use Rattle.parts.specs.Becomes.{kept-after}
 use Rattle.root.specs.Slotted.{slotted-after}
 -- `apply_root` meets its contract. Assumes nothing.
-use mathlib.Core.Path.{sym, _∙_}
 use Rattle.root.specs.Root.{rootedOf}
 use Rattle.update.specs.Applied.{bytes-stay, done-lacks, done-slot, done-inside, done-moves}
 use borrow.Author.Needs.{needs}

@@ -57,22 +57,25 @@ impl Met {
             _ => "root stays",
         };
         *self.works.entry(root).or_default() += 1;
-        let mut levels: BTreeMap<u32, (u32, u32)> = BTreeMap::new();
+        // For each level, how many pages were freed, killed and taken.
+        let mut levels: BTreeMap<u32, [u32; 3]> = BTreeMap::new();
         for number in store::page_numbers(before) {
             let (one, other) = (store::page(before, number), store::page(after, number));
             let freed = !one.is_free() && other.is_free();
             let killed = one.span.end == ALIVE && !one.is_free() && other.span.end == version;
             let taken = one.is_free() && !other.is_free();
-            for (name, met) in [("freed", freed), ("killed", killed), ("taken", taken)] {
-                *self.works.entry(name).or_default() += u64::from(met);
+            let level = levels.entry(one.level.max(other.level)).or_default();
+            for (count, met) in level.iter_mut().zip([freed, killed, taken]) {
+                *count += u32::from(met);
             }
-            let level = one.level.max(other.level);
-            let (gone, come) = levels.entry(level).or_default();
-            *gone += u32::from(freed || killed);
-            *come += u32::from(taken);
         }
-        for (gone, come) in levels.into_values() {
-            let name = match (gone, come) {
+        for [freed, killed, taken] in levels.into_values() {
+            for (name, count) in [("freed", freed), ("killed", killed), ("taken", taken)] {
+                *self.works.entry(name).or_default() += u64::from(count);
+            }
+            // Reading 19.
+            assert!(freed == 0 || taken == 0, "a level both frees and takes");
+            let name = match (freed + killed, taken) {
                 (0, 0) => continue,
                 (0, 1) => "active page split",
                 (1, 0) => "page gone",

@@ -1,5 +1,5 @@
 -- `delete` meets its contract. Assumes nothing.
-use mathlib.Core.Bool.{true, false}
+use mathlib.Core.Bool.{false}
 use mathlib.Core.Path.{sym, _∙_}
 use Rattle.calls.specs.Guard.{four-is, edition, guard-sound}
 use Rattle.calls.specs.Updating.{updating, passed, delete-refused, delete-done, delete-leaves}

@@ -1,7 +1,7 @@
-use Prim.Native.Nat.{_+_, _*_, _-_, _≤_, _<_}
+use Rattle.group.specs.Group.{routersOf}
 use native.Mathlib.Omega.{arith}
-use Rattle.parts.specs.Becomes.{kept-after, inside-after, pages-are, then}
-use Rattle.climb.specs.Rebuild.{upper}
+use Rattle.parts.specs.Becomes.{kept-after, inside-after}
+use Rattle.climb.specs.Rebuild.{one-filled}
 use borrow.Author.Needs.{needs}
 use Rattle.climb.proofs.refill.one_page.Statement.{statement}
 use Rattle.climb.proofs.refill.one_page.Tie as tie
@@ -16,7 +16,7 @@ same-length : tie.Need-same-length
 same-length c = search needs
 
 returns : tie.Need-returns
-returns c = rw (pages-are (c .before .before .before .before .before .before .before .before .before .before .pre .0) (c .before .before .before .before .before .before .before .retire .ensures), upper (c .before .before .before .before .before .before .before .before .before .before .args .g .all) (c .before .before .before .before .before .before .before .before .before .before .pre .1 .good) 0) at (then (c .before .before .before .before .before .before .before .before .before .before .pre .0) (c .before .before .before .before .before .before .before .retire .ensures) (c .before .before .fill-in .ensures))
+returns c = one-filled (c .before .before .before .before .before .before .before .before .before .before .pre .0) (c .before .before .before .before .before .before .before .before .before .before .args .w) (c .before .before .before .before .before .before .before .before .before .before .args .level) (routersOf (c .before .before .before .before .before .before .before .before .before .before .args .g .routers)) (c .before .before .before .before .before .before .before .retire .ensures) (c .before .before .before .before .before .before .before .before .before .before .args .g .all) (c .before .before .before .before .before .before .before .before .before .before .pre .1 .good) (c .before .before .before .before .before .before .before .before .before .before .args .to) (c .before .before .fill-in .ensures)
 
 pub one-page-spec : {M : Type 1} → statement M
 one-page-spec = tie.close (tie.spec retire-requires fill-in-requires same-length returns)

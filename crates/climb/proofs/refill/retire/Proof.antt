@@ -14,7 +14,7 @@ wide-requires-2 : tie.Need-wide-requires-2
 wide-requires-2 c κs = search needs
 
 go-in-requires-2 : tie.Need-go-in-requires-2
-go-in-requires-2 c κs = rw (c .wide2 .ensures) (kept-after (c .before .before .before .before .before .before .before .before .before .pre .0) (c .before .before .before .before .before .go-in .ensures), inside-after (c .before .before .before .before .before .before .before .before .before .pre .0) (c .before .before .before .before .before .go-in .ensures) (c .before .before .before .before .before .before .before .before .before .pre .1 .second .inside), c .before .before .before .before .before .before .before .before .before .pre .2)
+go-in-requires-2 c κs = rw (c .wide2 .ensures) (kept-after (c .before .before .before .before .before .before .before .before .before .pre .0) (c .before .before .before .before .before .go-in .ensures), inside-after (c .before .before .before .before .before .before .before .before .before .pre .0) (c .before .before .before .before .before .go-in .ensures) (search (c .before .before .before .before .before .before .before .before .before .pre .1 .first .inside, c .before .before .before .before .before .before .before .before .before .pre .1 .second .inside)), c .before .before .before .before .before .before .before .before .before .pre .2)
 
 same-length : tie.Need-same-length
 same-length c = search needs

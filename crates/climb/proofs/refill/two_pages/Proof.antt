@@ -1,7 +1,8 @@
-use Prim.Native.Nat.{ℕ, _+_, _*_, _-_, _/_, _≤_, _<_}
+use Rattle.group.specs.Group.{routersOf}
+use Prim.Native.Nat.{_+_, _/_}
 use native.Mathlib.Omega.{arith}
-use Rattle.parts.specs.Becomes.{kept-after, inside-after, pages-are, then}
-use Rattle.climb.specs.Rebuild.{upper, lower}
+use Rattle.parts.specs.Becomes.{kept-after, inside-after, then}
+use Rattle.climb.specs.Rebuild.{both-filled}
 use borrow.Author.Needs.{needs}
 use Rattle.climb.proofs.refill.two_pages.Statement.{statement}
 use Rattle.climb.proofs.refill.two_pages.Tie as tie
@@ -24,9 +25,7 @@ same-length : tie.Need-same-length
 same-length c = search needs
 
 returns : tie.Need-returns
-returns c =
-    let d = rw (pages-are (c .before .before .before .before .before .before .before .before .before .before .before .before .before .before .pre .0) (c .before .before .before .before .before .before .before .before .before .before .before .retire .ensures), lower (c .before .before .before .before .before .before .before .before .before .before .before .before .before .before .args .g .all) ((c .before .before .before .before .before .before .before .before .before .before .before .before .before .before .args .g .all .n + 1) / 2)) at (then (c .before .before .before .before .before .before .before .before .before .before .before .before .before .before .pre .0) (c .before .before .before .before .before .before .before .before .before .before .before .retire .ensures) (c .before .before .before .before .before .before .fill-in .ensures)) in
-    rw (pages-are (c .before .before .before .before .before .before .before .before .before .before .before .before .before .before .pre .0) d, upper (c .before .before .before .before .before .before .before .before .before .before .before .before .before .before .args .g .all) (c .before .before .before .before .before .before .before .before .before .before .before .before .before .before .pre .1 .good) ((c .before .before .before .before .before .before .before .before .before .before .before .before .before .before .args .g .all .n + 1) / 2)) at (then (c .before .before .before .before .before .before .before .before .before .before .before .before .before .before .pre .0) d (c .before .before .fill-in2 .ensures))
+returns c = both-filled (c .before .before .before .before .before .before .before .before .before .before .before .before .before .before .pre .0) (c .before .before .before .before .before .before .before .before .before .before .before .before .before .before .args .w) (c .before .before .before .before .before .before .before .before .before .before .before .before .before .before .args .level) (routersOf (c .before .before .before .before .before .before .before .before .before .before .before .before .before .before .args .g .routers)) (c .before .before .before .before .before .before .before .before .before .before .before .retire .ensures) (c .before .before .before .before .before .before .before .before .before .before .before .before .before .before .args .g .all) (c .before .before .before .before .before .before .before .before .before .before .before .before .before .before .pre .1 .good) (c .before .before .before .before .before .before .before .before .before .before .before .before .before .before .args .to) ((c .before .before .before .before .before .before .before .before .before .before .before .before .before .before .args .g .all .n + 1) / 2) (c .before .before .before .before .before .before .before .before .before .before .before .before .before .before .args .next) (c .before .before .before .before .before .before .fill-in .ensures) (c .before .before .fill-in2 .ensures)
 
 pub two-pages-spec : {M : Type 1} → statement M
 two-pages-spec =

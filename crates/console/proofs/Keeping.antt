@@ -1,0 +1,94 @@
+-- The store in the front of the program's bytes, lent to a call and given back. Assumes nothing.
+use Prim.Native.Nat.{ℕ, _*_, _/_, _%_, _<_, _≤_}
+use mathlib.Core.Path.{_≡_, refl, ap, sym, subst, _∙_}
+use mathlib.Core.Bool.{Bool, true, false, _&&_}
+use mathlib.Core.List.{List, [], _∷_, _++_}
+use lib.Dec.{leb}
+use lib.ListN.{length, take, drop}
+use lib.Seq.{take-at, length-take-le}
+use native.Mathlib.Omega.{arith}
+use borrow.Author.Tests.{le-leb, lt-leb}
+use Rattle.model.specs.Store.{fresh}
+use Rattle.model.specs.Layout.{sizeOf, encode}
+use Rattle.model.specs.Judged.{lengthOk}
+use Rattle.model.specs.Lent.{Outcome, freshLent}
+use Rattle.store.specs.Answers.{length-rest, done-store}
+use Rattle.lines.specs.declared.Answer.{Answer}
+use Rattle.lines.specs.declared.Answer.the-variants.{Done, Refused}
+use Rattle.lines.specs.Session.{Said, answered, outcome, stored, settings}
+use Rattle.calls.specs.Turning.{ended}
+use Rattle.console.specs.declared.Reply.{Reply}
+use Rattle.console.specs.Obeys.{storeIn, Single, Replies}
+
+-- the part that is lent
+pub front : (bytes : List ℕ) (pages : ℕ) → pages ≤ 256 → length bytes ≡ 65536 → pages * 256 ≡ length (storeIn bytes pages)
+front bytes pages h e = sym (length-take-le (pages * 256) bytes (omega arith))
+
+-- the part that came back
+pub back : (q z : List ℕ) (pages : ℕ) → pages * 256 ≡ length q → storeIn (q ++ z) pages ≡ q
+back q z pages e = take-at q z (pages * 256) (sym e)
+
+-- a call that changes the store
+pub updated : (o : Outcome) (n pages : ℕ) (q z : List ℕ) (a : Answer) → ended n q ≡ o → a ≡ answered n → pages * 256 ≡ length q → pages ≤ 256
+    → Single (outcome o) (q ++ z) (record { pages = pages; answer = a; count = 0 })
+updated o n pages q z a e f g h =
+    subst
+    (λ (x : Outcome). Single (outcome x) (q ++ z) (record { pages = pages; answer = a; count = 0 }))
+    e
+    (record { store = back q z pages g; answers = ap (λ (x : Answer). x ∷ []) (sym f); alone = refl; pages = h })
+
+-- ---- making a store
+
+-- n whole pages, 6 to 256, made fresh
+fresh-made : (p : List ℕ) (n : ℕ) → n * 256 ≡ length p → 6 ≤ n → n ≤ 256 → freshLent 4 p .store ≡ encode 4 (fresh n)
+fresh-made p n e few many =
+    let size : sizeOf 4 p ≡ n = omega arith in
+    let whole : length p % 256 ≡ 0 = omega arith in
+    let yes : lengthOk 4 p ≡ true = length-rest 4 p whole (omega arith) ∙ le-leb (sizeOf 4 p) 4096 (omega arith) in
+    sym (done-store p yes) ∙ ap (λ (m : ℕ). encode 4 (fresh m)) size
+
+module _ (b : List ℕ) (n : ℕ) where
+  abbrev stays : Said
+  stays = record { store = b; answers = Refused 1 ∷ [] }
+
+  too-few : n < 6 → stays ≡ stored 4 b n
+  too-few l = rw (lt-leb 6 n l)
+
+  too-many : 256 < n → stays ≡ stored 4 b n
+  too-many l = rw (le-leb 6 n (omega arith), lt-leb n 256 l)
+
+  pub made : 6 ≤ n → n ≤ 256 → record { store = encode 4 (fresh n); answers = Done ∷ [] } ≡ stored 4 b n
+  made few many = rw (le-leb 6 n few, le-leb n 256 many)
+
+module _ (bytes : List ℕ) (n pages : ℕ) (h : pages ≤ 256) where
+  kept : stays (storeIn bytes pages) n ≡ stored 4 (storeIn bytes pages) n
+      → Single (stored 4 (storeIn bytes pages) n) bytes (record { pages = pages; answer = Refused 1; count = 0 })
+  kept e =
+      subst
+      (λ (x : Said). Single x bytes (record { pages = pages; answer = Refused 1; count = 0 }))
+      e
+      (record { store = refl; answers = refl; alone = refl; pages = h })
+
+  pub few-kept : n < 6 → Single (stored 4 (storeIn bytes pages) n) bytes (record { pages = pages; answer = Refused 1; count = 0 })
+  few-kept l = kept (too-few (storeIn bytes pages) n l)
+
+  pub many-kept : 256 < n → Single (stored 4 (storeIn bytes pages) n) bytes (record { pages = pages; answer = Refused 1; count = 0 })
+  many-kept l = kept (too-many (storeIn bytes pages) n l)
+
+-- p was lent, q came back; b is the store before
+pub made-new : (b p q z : List ℕ) (n : ℕ) → n * 256 ≡ length p → n * 256 ≡ length q → q ≡ freshLent 4 p .store → 6 ≤ n → n ≤ 256
+    → Single (stored 4 b n) (q ++ z) (record { pages = n; answer = Done; count = 0 })
+made-new b p q z n ep eq e few many =
+    subst
+    (λ (x : Said). Single x (q ++ z) (record { pages = n; answer = Done; count = 0 }))
+    (made b n few many)
+    (record { store = back q z n eq ∙ e ∙ fresh-made p n ep few many; answers = refl; alone = refl; pages = many })
+
+-- one answer is a reply with no setting behind it
+pub alone : {s : Said} {bytes : List ℕ} {r : Reply} (list : List ℕ) → Single s bytes r → Replies s bytes list r
+alone {s} {bytes} {r} list k = record {
+  store = k .store;
+  answers = k .answers ∙ ap (λ (c : ℕ). r .answer ∷ settings (take (2 * c) list)) (sym (k .alone));
+  listed = omega (arith, k .alone);
+  pages = k .pages;
+}

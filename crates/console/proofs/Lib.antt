@@ -1,0 +1,8 @@
+-- Laws that belong to no one function.
+pub mod Keeping
+pub mod Ranging
+pub mod Settings
+pub mod Telling
+pub mod Passing
+pub mod Replying
+pub mod Whole

@@ -1,0 +1,158 @@
+-- Every piece has the lengths that `pass` asks, and there are no more lines than bytes. Assumes nothing.
+use Prim.Native.Nat.{ℕ, _+_, _*_, _-_, _<_, _≤_}
+use mathlib.Core.Path.{_≡_, refl, ap, sym, _∙_}
+use mathlib.Core.List.{List}
+use mathlib.Core.Logic.{⊎-elim}
+use lib.ListN.{length, take}
+use lib.Seq.{length-take-le}
+use Rattle.lines.specs.Reading.{Reading}
+use Rattle.console.proofs.Passing.{part-most}
+use native.Mathlib.Omega.{arith}
+use borrow.Author.Needs.{needs}
+use Rattle.console.proofs.serving.serve.Statement.{statement}
+use Rattle.console.proofs.serving.serve.Tie as tie
+use Rattle.console.proofs.serving.serve.Reads as reads
+use Rattle.console.proofs.serving.serve.Lts as lts
+use Rattle.console.proofs.filling.end.Reads as end-reads
+use Rattle.console.proofs.serving.pass.Reads as pass-reads
+use Rattle.io.proofs.count.Reads as count-reads
+use Rattle.io.proofs.write_all.Reads as write-all-reads
+use Rattle.libc.proofs.read.Reads as read-reads
+use Rattle.lines.proofs.start.Reads as start-reads
+
+abbrev Inv-loop : tie.InvT-loop
+Inv-loop bytes₀ list₀ piece₀ out₀ h₀ p₀ reads₀ bytes list piece out h p reads =
+    (length bytes ≡ length bytes₀) × (length list ≡ length list₀) × (length piece ≡ length piece₀) × (length out ≡ length out₀) × (h .len ≤ 81) × (h .before ≤ 65536 * reads) × (p ≤ 256) × (reads ≤ 1099511627776)
+
+abbrev μ-loop : tie.MeasureT-loop
+μ-loop bytes₀ list₀ piece₀ out₀ h₀ p₀ reads₀ bytes list piece out h p reads = 1099511627776 - reads
+
+-- src/serving.rt:48:9
+start-requires : tie.Need-start-requires Inv-loop μ-loop
+start-requires c κs = search needs
+
+-- src/serving.rt:51:5
+loop-holds : tie.Need-loop-holds Inv-loop μ-loop
+loop-holds c = (refl, refl, refl, refl, c .start .ensures .1, omega (arith, ap (λ (r : Reading). r .before) (c .start .ensures .0)), omega arith, omega arith)
+
+-- src/serving.rt:52:27
+read-requires : tie.Need-read-requires Inv-loop μ-loop
+read-requires c κs = search needs
+
+-- src/serving.rt:52:13
+count-requires : tie.Need-count-requires Inv-loop μ-loop
+count-requires c κs = search needs
+
+-- src/serving.rt:56:41
+slice-reshare-prefix-pass : tie.Need-slice-reshare-prefix-pass Inv-loop μ-loop
+slice-reshare-prefix-pass c = search needs
+
+-- src/serving.rt:56:41
+slice-aggregate-pass : tie.Need-slice-aggregate-pass Inv-loop μ-loop
+slice-aggregate-pass c = search needs
+
+-- src/serving.rt:56:13
+pass-requires : tie.Need-pass-requires Inv-loop μ-loop
+pass-requires c κs =
+    let q = c .before .before .before .before .before .before .before .before .before .before .before .before .before .before .before .before .before .before .pre in
+    let l = c .before .before .before .before .before .before .before .before .before .before .before .before .loop in
+    let test : l .reads < 1099511627776 = omega arith in
+    let piece : length (c .before .before .before .before .before .before .before .before .before .read .last .1 .0) ≡ 65536 = c .before .before .before .before .before .before .before .before .piece .given ∙ l .inv .2 ∙ q .2 in
+    let part = part-most (c .before .before .before .before .before .count .result) (c .before .before .before .before .before .before .before .before .before .read .last .1 .0) in
+    let few : l .h .before + length (take (c .before .before .before .before .before .count .result) (c .before .before .before .before .before .before .before .before .before .read .last .1 .0)) + 1 < 18446744073709551616 = omega (arith, part, piece, test, l .inv .5) in
+    let room : 110462 ≤ length (l .out) = omega (arith, l .inv .3, q .3) in
+    ((l .inv .6, l .inv .0 ∙ q .0, l .inv .1 ∙ q .1), ((l .inv .4, few), room))
+
+-- src/serving.rt:59:9
+add-reads : tie.Need-add-reads Inv-loop μ-loop
+add-reads c =
+    let small : c .before .before .before .before .before .before .before .before .before .before .before .before .before .before .before .before .before .before .before .before .loop .reads + 1 < 18446744073709551616 = omega (arith, c .before .before .before .before .before .before .before .before .before .before .before .before .before .before .before .before .before .before .before .before .loop .inv .7) in
+    record { fits = small }
+
+-- src/serving.rt:51:5
+loop-less : tie.Need-loop-less Inv-loop μ-loop
+loop-less c =
+    let test : c .before .before .before .before .before .before .before .before .before .before .before .before .before .before .before .before .before .before .before .before .loop .reads < 1099511627776 = omega arith in
+    omega (arith, test)
+
+-- src/serving.rt:51:5
+loop-again : tie.Need-loop-again Inv-loop μ-loop
+loop-again c =
+    let l = c .before .before .before .before .before .before .before .before .before .before .before .before .before .before .before .before .before .before .before .before .loop in
+    let k = c .before .before .before .before .before .before .before .pass .ensures in
+    let test : l .reads < 1099511627776 = omega arith in
+    let piece : length (c .before .before .before .before .before .before .before .before .before .before .before .before .before .before .before .before .before .read .last .1 .0) ≡ 65536 = c .before .before .before .before .before .before .before .before .before .before .before .before .before .before .before .before .piece .given ∙ l .inv .2 ∙ c .before .before .before .before .before .before .before .before .before .before .before .before .before .before .before .before .before .before .before .before .before .before .before .before .before .before .pre .2 in
+    let part = part-most (c .before .before .before .before .before .before .before .before .before .before .before .before .before .count .result) (c .before .before .before .before .before .before .before .before .before .before .before .before .before .before .before .before .before .read .last .1 .0) in
+    (c .before .before .before .before .before .before .bytes .given ∙ l .inv .0, c .before .before .before .before .list .given ∙ l .inv .1, c .before .before .before .before .before .before .before .before .before .before .before .before .before .before .before .before .piece .given ∙ l .inv .2, c .before .before .out .given ∙ l .inv .3, k .room, omega (arith, k .few, part, piece, l .inv .5), k .pages, omega (arith, test))
+
+-- src/serving.rt:61:9
+end-requires : tie.Need-end-requires Inv-loop μ-loop
+end-requires c κs =
+    let q = c .before .before .before .before .before .before .before .before .before .before .pre in
+    let l = c .before .before .before .before .loop in
+    let few : l .h .before + 1 < 18446744073709551616 = omega (arith, l .inv .5, l .inv .7) in
+    let room : 110462 ≤ length (l .out) = omega (arith, l .inv .3, q .3) in
+    ((l .inv .6, l .inv .0 ∙ q .0, l .inv .1 ∙ q .1), ((l .inv .4, few), room))
+
+-- src/serving.rt:62:34
+slice-reshare-prefix-write-all : tie.Need-slice-reshare-prefix-write-all Inv-loop μ-loop
+slice-reshare-prefix-write-all c = c .before .before .before .before .before .before .end .ensures .room
+
+-- src/serving.rt:62:34
+slice-aggregate-write-all : tie.Need-slice-aggregate-write-all Inv-loop μ-loop
+slice-aggregate-write-all c = sym (length-take-le (c .before .before .before .before .before .before .before .end .result) (c .before .before .before .before .before .before .before .end .last .1 .1 .1 .1 .0) (c .before .before .before .before .before .before .before .end .ensures .room))
+
+-- src/serving.rt:62:5
+write-all-requires : tie.Need-write-all-requires Inv-loop μ-loop
+write-all-requires c κs = search needs
+
+-- src/serving.rt:45:1
+same-length : tie.Need-same-length Inv-loop μ-loop
+same-length c = c .before .before .before .before .before .before .before .bytes2 .given ∙ c .before .before .before .before .before .before .before .before .before .before .before .before .before .loop .inv .0
+
+-- src/serving.rt:45:1
+same-length-2 : tie.Need-same-length-2 Inv-loop μ-loop
+same-length-2 c = c .before .before .before .before .before .list2 .given ∙ c .before .before .before .before .before .before .before .before .before .before .before .before .before .loop .inv .1
+
+-- src/serving.rt:45:1
+same-length-3 : tie.Need-same-length-3 Inv-loop μ-loop
+same-length-3 c =
+    let l = c .before .before .before .before .before .before .before .before .before .before .before .before .before .loop in
+    ⊎-elim
+    (λ w. ap (λ (x : List ℕ). length x) (w .1) ∙ l .inv .2)
+    (λ w. ap (λ (x : List ℕ). length x) (w .8) ∙ w .3 .given ∙ l .inv .2)
+    (c .before .before .before .before .before .before .before .before .before .before .before .before .loop-test .came)
+
+-- src/serving.rt:45:1
+same-length-4 : tie.Need-same-length-4 Inv-loop μ-loop
+same-length-4 c = c .before .before .before .out2 .given ∙ c .before .before .before .before .before .before .before .before .before .before .before .before .before .loop .inv .3
+
+-- src/serving.rt:45:1
+returns : tie.Need-returns Inv-loop μ-loop
+returns c = tt
+
+pub serve-spec : {M : Type 1} → statement M
+serve-spec =
+    tie.close
+    (tie.spec
+    Inv-loop
+    μ-loop
+    start-requires
+    loop-holds
+    read-requires
+    count-requires
+    slice-reshare-prefix-pass
+    slice-aggregate-pass
+    pass-requires
+    add-reads
+    loop-less
+    loop-again
+    end-requires
+    slice-reshare-prefix-write-all
+    slice-aggregate-write-all
+    write-all-requires
+    same-length
+    same-length-2
+    same-length-3
+    same-length-4
+    returns)

@@ -1,0 +1,39 @@
+// Making a store.
+ghost use mathlib.Core.Path.{_≡_};
+ghost use Prim.Native.Nat.{_≤_};
+ghost use lib.ListN.{length};
+ghost use Rattle.lines.specs.Session.{stored};
+ghost use Rattle.console.specs.Obeys.{storeIn, Single};
+use crate::Reply;
+use lines::Answer;
+
+fn refused(pages: usize) -> Reply
+    ensures { λ r. ⌜ r ≡ record { pages = pages; answer = Answer.Refused 1; count = 0 } ⌝ }
+{
+    Reply {
+        pages,
+        answer: Answer::Refused(1),
+        count: 0,
+    }
+}
+
+// "for N outside 6 to 256 (an earlier store stays), the answer is `refused 1`"
+pub(crate) fn make(n: u32, pages: usize, bytes: &mut [u8]) -> Reply
+    requires { ⌜ (pages ≤ 256) × (length (now bytes) ≡ 65536) ⌝ }
+    ensures { λ r. ⌜ Single (stored 4 (storeIn (now (bytes .entry)) pages) n) (now (bytes .exit)) r ⌝ }
+{
+    if n < 6 {
+        return refused(pages);
+    }
+    if 256 < n {
+        return refused(pages);
+    }
+    let made = n as usize;
+    let e = made * 256;
+    store::fresh(&mut bytes[..e]);
+    Reply {
+        pages: made,
+        answer: Answer::Done,
+        count: 0,
+    }
+}

@@ -1,0 +1,84 @@
+// The calls that change the store, each on the part of the bytes that is the store.
+ghost use mathlib.Core.Path.{_≡_};
+ghost use Prim.Native.Nat.{_≤_};
+ghost use lib.ListN.{length};
+ghost use Rattle.lines.specs.Session.{answered, outcome};
+ghost use Rattle.model.specs.Lent.{openLent, insertLent, deleteLent, commitLent, abandonLent};
+ghost use Rattle.console.specs.Obeys.{storeIn, Single};
+use crate::Reply;
+use lines::Answer;
+
+// "`ok`", or "`refused 6`".
+fn answer(n: u32) -> Answer
+    ensures { λ r. ⌜ r ≡ answered n ⌝ }
+{
+    if n == 0 {
+        return Answer::Done;
+    }
+    Answer::Refused(n)
+}
+
+pub(crate) fn open(pages: usize, bytes: &mut [u8]) -> Reply
+    requires { ⌜ (pages ≤ 256) × (length (now bytes) ≡ 65536) ⌝ }
+    ensures { λ r. ⌜ Single (outcome (openLent 4 (storeIn (now (bytes .entry)) pages))) (now (bytes .exit)) r ⌝ }
+{
+    let e = pages * 256;
+    let n = calls::open(&mut bytes[..e]);
+    Reply {
+        pages,
+        answer: answer(n),
+        count: 0,
+    }
+}
+
+pub(crate) fn insert(key: u32, value: u32, pages: usize, bytes: &mut [u8]) -> Reply
+    requires { ⌜ (pages ≤ 256) × (length (now bytes) ≡ 65536) ⌝ }
+    ensures { λ r. ⌜ Single (outcome (insertLent 4 (storeIn (now (bytes .entry)) pages) key value)) (now (bytes .exit)) r ⌝ }
+{
+    let e = pages * 256;
+    let n = calls::insert(&mut bytes[..e], key, value);
+    Reply {
+        pages,
+        answer: answer(n),
+        count: 0,
+    }
+}
+
+pub(crate) fn delete(key: u32, pages: usize, bytes: &mut [u8]) -> Reply
+    requires { ⌜ (pages ≤ 256) × (length (now bytes) ≡ 65536) ⌝ }
+    ensures { λ r. ⌜ Single (outcome (deleteLent 4 (storeIn (now (bytes .entry)) pages) key)) (now (bytes .exit)) r ⌝ }
+{
+    let e = pages * 256;
+    let n = calls::delete(&mut bytes[..e], key);
+    Reply {
+        pages,
+        answer: answer(n),
+        count: 0,
+    }
+}
+
+pub(crate) fn commit(pages: usize, bytes: &mut [u8]) -> Reply
+    requires { ⌜ (pages ≤ 256) × (length (now bytes) ≡ 65536) ⌝ }
+    ensures { λ r. ⌜ Single (outcome (commitLent 4 (storeIn (now (bytes .entry)) pages))) (now (bytes .exit)) r ⌝ }
+{
+    let e = pages * 256;
+    let n = calls::commit(&mut bytes[..e]);
+    Reply {
+        pages,
+        answer: answer(n),
+        count: 0,
+    }
+}
+
+pub(crate) fn abandon(pages: usize, bytes: &mut [u8]) -> Reply
+    requires { ⌜ (pages ≤ 256) × (length (now bytes) ≡ 65536) ⌝ }
+    ensures { λ r. ⌜ Single (outcome (abandonLent 4 (storeIn (now (bytes .entry)) pages))) (now (bytes .exit)) r ⌝ }
+{
+    let e = pages * 256;
+    let n = calls::abandon(&mut bytes[..e]);
+    Reply {
+        pages,
+        answer: answer(n),
+        count: 0,
+    }
+}

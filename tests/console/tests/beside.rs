@@ -1,0 +1,190 @@
+//! The proved console beside the independent one: every byte of the output.
+
+use console::{answers, answers_in_pieces, difference, rounds};
+use reference::lines::{bad_lines, lines};
+use reference::rng::Rng;
+
+fn same(input: &[u8], name: &str) {
+    let expected = reference::console::answers(input);
+    if let Some(difference) = difference(&answers(input), &expected) {
+        panic!("{name}: {difference}");
+    }
+}
+
+#[test]
+fn the_example_word_for_word() {
+    let input =
+        "store 16; open; insert 5 50; insert 9 90; commit; open; delete 5; get 5 1; get 5 2; \
+                 abandon; range 0 20 1; get 5 2"
+            .replace("; ", "\n");
+    let expected =
+        b"ok\nok\nok\nok\nok\nok\nok\nvalue 50\nabsent\nok\ncount 2\n5 50\n9 90\nrefused 6\n";
+    assert_eq!(answers(input.as_bytes()), expected);
+    assert_eq!(answers((input + "\n").as_bytes()), expected);
+}
+
+#[test]
+fn histories() {
+    for seed in 0..rounds(2000) {
+        let count = 10 + (seed % 31) as usize;
+        same(&lines(seed, count), &format!("history {seed} {count}"));
+    }
+}
+
+#[test]
+fn longer_histories() {
+    for seed in 0..rounds(6) {
+        same(&lines(seed, 2500), &format!("history {seed} 2500"));
+    }
+}
+
+/// Lines that are almost commands: each in front of a good one, and as the last
+/// line with no newline.
+#[test]
+fn almost_commands() {
+    let more = [
+        "open\r",
+        "store 16\r",
+        "get 5 1\r",
+        "insert 5\u{a0}50",
+        "insert 00000000005 1",
+        "insert 0000000005 1",
+        "insert 5 4294967295",
+        "insert 5 4294967296",
+        "insert 16777216 1",
+        "insert 16777215 1",
+        "store 4294967296",
+        "store 4294967295",
+        "store 257",
+        "store 256",
+        "store 6",
+        "store 5",
+        "store 0",
+        "store 00000000016",
+        "store 0000000016",
+        "get 5  1",
+        "get  5 1",
+        " get 5 1",
+        "get 5 1 ",
+        "get\t5 1",
+        "get 5\t1",
+        "range 0 20",
+        "range 0 20 1 ",
+        "range 20 0 1",
+        "range 0 16777216 1",
+        "range 0 16777215 1",
+        "delete 99999999999",
+        "7",
+        "ok",
+        "open open",
+        "",
+        " ",
+        "  ",
+    ];
+    for line in more.iter().chain(bad_lines()) {
+        for text in [
+            format!("{line}\nstore 6\nopen\n{line}\nget 5 1\n"),
+            format!("store 6\nopen\n{line}"),
+            format!("{line}"),
+            format!(
+                "store 16\nopen\ninsert 5 50\n{line}\n{line}\ncommit\nrange 0 16777215 1\n{line}"
+            ),
+        ] {
+            same(text.as_bytes(), &format!("{line:?} in {text:?}"));
+        }
+    }
+}
+
+/// 79, 80, 81 bytes and far more: of zeros, of spaces, of a good line made long.
+#[test]
+fn long_lines() {
+    for length in (75..90).chain([1000, 65534, 65535, 65536, 65537, 200_000]) {
+        for (start, filler) in [
+            ("insert 1 ", '0'),
+            ("open", ' '),
+            ("", 'x'),
+            ("", '\u{0}'),
+            ("get 5 1", ' '),
+        ] {
+            let mut line = start.to_string();
+            while line.len() < length {
+                line.push(filler);
+            }
+            same(
+                format!("store 6\n{line}\nopen\n{line}").as_bytes(),
+                &format!("{start:?} to {length}"),
+            );
+        }
+    }
+}
+
+/// The empty input writes nothing; text behind the last newline is a line only
+/// if it has a byte.
+#[test]
+fn where_lines_end() {
+    for text in [
+        "",
+        "\n",
+        "\n\n",
+        "open",
+        "open\n",
+        "open\n\n",
+        "\nopen",
+        "store 6\n\n",
+        "store 6\nopen",
+        "\r\n",
+        "store 6\r\nopen\n",
+    ] {
+        same(text.as_bytes(), &format!("{text:?}"));
+    }
+}
+
+#[test]
+fn any_bytes() {
+    let mut rng = Rng::new(28);
+    for round in 0..rounds(200) {
+        let mut input = lines(round, 40);
+        for _ in 0..rng.between(1, 20) {
+            let at = rng.below(input.len() as u32) as usize;
+            match rng.below(3) {
+                0 => input[at] = rng.word() as u8,
+                1 => input.insert(at, rng.word() as u8),
+                _ => drop(input.remove(at)),
+            }
+        }
+        same(&input, &format!("bytes {round}"));
+    }
+}
+
+/// However the input is cut into pieces, the output is the same.
+#[test]
+fn cut_anywhere() {
+    let mut rng = Rng::new(81);
+    for round in 0..rounds(40) {
+        let input = lines(1000 + round, 60);
+        let mut cuts: Vec<usize> = (0..rng.between(1, 60))
+            .map(|_| rng.below(input.len() as u32) as usize)
+            .collect();
+        cuts.sort_unstable();
+        let output = answers_in_pieces(&input, &cuts);
+        let expected = reference::console::answers(&input);
+        if let Some(difference) = difference(&output, &expected) {
+            panic!("history {} cut at {cuts:?}: {difference}", 1000 + round);
+        }
+    }
+}
+
+/// A range of all settings of a full store, again and again in one read: more
+/// output than any buffer holds.
+#[test]
+fn much_output() {
+    let mut input = String::from("store 256\nopen\n");
+    for key in 0..600 {
+        input += &format!("insert {} {}\n", key * 27_000, 4_294_967_295u32 - key);
+    }
+    input += "commit\n";
+    for _ in 0..rounds(100) {
+        input += "range 0 16777215 1\nget 27000 1\n";
+    }
+    same(input.as_bytes(), "much output");
+}
