@@ -2,15 +2,25 @@
 //! `bench/run` builds and runs it; docs/BENCH.md tells what follows.
 
 mod bitwise;
+mod chart;
+mod crowd;
+mod hostile;
+mod judging;
 mod lookups;
 mod measure;
 mod plain;
+mod plot;
+mod program;
 mod proved;
+mod quick;
 mod stores;
+mod updates;
+mod walked;
+mod worst;
 
 use std::hint::black_box;
 
-use measure::{in_turn, once, times, told, Times};
+use measure::{in_turn, times, told, Times};
 use reference::foreign::raise_current;
 use reference::image::Image;
 use reference::layout::{HIGHEST_VERSION, PAGE_BYTES};
@@ -19,13 +29,17 @@ use reference::{calls, store};
 
 /// All tables, or the one that the first argument names.
 fn main() {
-    let tables: [(&str, fn()); 6] = [
+    let tables: [(&str, fn()); 10] = [
         ("bytes", byte_layer),
+        ("quick", judging::judging),
         ("check", check_of_histories),
         ("empty", empty_commits),
         ("lookups", lookups::lookups),
         ("hostile", hostile_stores),
-        ("worst", worst_stores),
+        ("worst", worst::worst),
+        ("updates", updates::updates),
+        ("program", program::program),
+        ("plot", plot::plot),
     ];
     let wanted = std::env::args().nth(1);
     for (name, print) in tables {
@@ -117,7 +131,7 @@ fn write_pages() -> Times {
 }
 
 /// Judged by both, with this answer.
-fn judged(store: &[u8], verdict: (u32, u32)) -> Times {
+pub fn judged(store: &[u8], verdict: (u32, u32)) -> Times {
     assert_eq!(calls::check(store), verdict);
     assert_eq!(proved::check(store), verdict);
     in_turn(&mut [
@@ -127,14 +141,14 @@ fn judged(store: &[u8], verdict: (u32, u32)) -> Times {
 }
 
 /// Pages in use, and versions at which something starts or ends.
-fn shape(bytes: &[u8]) -> (usize, usize) {
+pub fn shape(bytes: &[u8]) -> (usize, usize) {
     let image = Image::read(bytes);
     (image.used().count(), image.turning_points().len())
 }
 
 fn check_of_histories() {
-    println!("## Check\n");
-    println!("Times as long as the reference program's check.\n");
+    println!("## Check, rule by rule\n");
+    println!("Times as long as the reference program's check, on stores that break rule 6 at the last version.\n");
     println!(
         "| pages | in use | versions walked | ratio | proved | reference | proved, a used page and version |"
     );
@@ -148,9 +162,9 @@ fn check_of_histories() {
         (4096, 4),
         (4096, 32),
     ] {
-        let store = stores::grown(pages, versions);
+        let store = stores::with_stray(&stores::grown(pages - 1, versions));
         let (used, turning) = shape(&store);
-        let taken = judged(&store, (0, 0));
+        let taken = judged(&store, (4, 6));
         println!(
             "| {pages} | {used} | {turning} | {} | {} | {} | {} |",
             times(taken.ratio(0, 1)),
@@ -163,11 +177,12 @@ fn check_of_histories() {
 }
 
 fn empty_commits() {
-    let store = stores::grown(256, 16);
+    let store = stores::grown(255, 16);
     let mut later = store.clone();
     raise_current(&mut later, HIGHEST_VERSION - 1);
     let more = store::header(&later).current - store::header(&store).current;
-    assert_eq!(proved::check(&later), (0, 0));
+    let (store, later) = (stores::with_stray(&store), stores::with_stray(&later));
+    assert_eq!(proved::check(&later), (4, 6));
     let taken = in_turn(&mut [
         &mut || proved::check(black_box(&later)).0.into(),
         &mut || proved::check(black_box(&store)).0.into(),
@@ -208,65 +223,4 @@ fn hostile_stores() {
         );
     }
     println!();
-}
-
-/// No larger store of a shape is judged after one that took the proved check
-/// so long, in seconds.
-const LONG: f64 = 4.0;
-
-fn worst_stores() {
-    println!("## The worst stores\n");
-    println!("| shape | pages | versions | broken rule | proved | reference |");
-    println!("|---|---|---|---|---|---|");
-    let largest = 3870;
-    for leaves in [10, 40, 160, 640, largest] {
-        worst("flickering leaves", 0, &stores::flickering(leaves));
-    }
-    for rule in [4, 5, 6] {
-        let name = format!("the same, rule {rule} broken at the last version");
-        worst(&name, rule, &stores::broken_at_last(largest, rule));
-    }
-    for leaves in [64, 256, 1024, 3200] {
-        if worst("moving routers", 0, &stores::moving(leaves)) > LONG {
-            break;
-        }
-    }
-    for size in [25, 50, 100, 200, 400, 800, 1900] {
-        if worst(
-            "pages that follow each other",
-            5,
-            &stores::following(size, size),
-        ) > LONG
-        {
-            break;
-        }
-    }
-    println!();
-}
-
-/// One line of the table; the time of the proved check. The reference program,
-/// which goes version by version, judges the small ones only.
-fn worst(name: &str, rule: u32, store: &[u8]) -> f64 {
-    let (_, turning) = shape(store);
-    let number = if rule == 0 { 0 } else { 4 };
-    let pages = store.len() / PAGE_BYTES;
-    let small = pages < 500;
-    let mut check = || {
-        let verdict = proved::check(black_box(store));
-        assert_eq!(verdict, (number, rule));
-        verdict.0.into()
-    };
-    let mut taken = once(&mut check);
-    if taken < 1.0 {
-        taken = in_turn(&mut [&mut check]).of(0);
-    }
-    let reference = match small {
-        true => told(judged(store, (number, rule)).of(1)),
-        false => "not run".to_string(),
-    };
-    println!(
-        "| {name} | {pages} | {turning} | {rule} | {} | {reference} |",
-        told(taken)
-    );
-    taken
 }

@@ -31,6 +31,10 @@ mod c {
             version: u32,
         ) -> u64;
         pub fn rcst_check(store: *const u8, length: usize, rule: *mut u32) -> u32;
+        pub fn rcst_open(store: *mut u8, length: usize) -> u32;
+        pub fn rcst_insert(store: *mut u8, length: usize, key: u32, value: u32) -> u32;
+        pub fn rcst_delete(store: *mut u8, length: usize, key: u32) -> u32;
+        pub fn rcst_commit(store: *mut u8, length: usize) -> u32;
     }
 }
 
@@ -56,6 +60,24 @@ pub fn check(store: &[u8]) -> (u32, u32) {
     let mut rule = 0;
     let number = unsafe { c::rcst_check(store.as_ptr(), store.len(), &mut rule) };
     (number, rule)
+}
+
+/// 8 where an update is open: the call judges, and refuses.
+pub fn open(store: &mut [u8]) -> u32 {
+    unsafe { c::rcst_open(store.as_mut_ptr(), store.len()) }
+}
+
+pub fn insert(store: &mut [u8], key: u32, value: u32) -> u32 {
+    unsafe { c::rcst_insert(store.as_mut_ptr(), store.len(), key, value) }
+}
+
+pub fn delete(store: &mut [u8], key: u32) -> u32 {
+    unsafe { c::rcst_delete(store.as_mut_ptr(), store.len(), key) }
+}
+
+/// 7 where no update is open: the call judges, and refuses.
+pub fn commit(store: &mut [u8]) -> u32 {
+    unsafe { c::rcst_commit(store.as_mut_ptr(), store.len()) }
 }
 
 /// The sum, modulo 2^32, of what `count` lookups find, after one judging: of the

@@ -11,21 +11,35 @@ use reference::rng::Rng;
 use reference::{calls, number, unjudged};
 
 /// A store of `pages` pages with a history of `versions` committed versions,
-/// of which each makes as many inserts and deletes, ten a page in all.
+/// over which ten inserts and deletes a page are spread evenly.
 pub fn grown(pages: usize, versions: usize) -> Vec<u8> {
+    grown_by(pages, versions, 10 * pages)
+}
+
+/// The same with so many inserts and deletes in all.
+pub fn grown_by(pages: usize, versions: usize, updates: usize) -> Vec<u8> {
     let mut store = vec![0; pages * PAGE_BYTES];
     assert_eq!(calls::fresh(&mut store), number::DONE);
     let mut rng = Rng::new(pages as u64);
     let mut alive = BTreeSet::new();
-    let each = (10 * pages).div_ceil(versions);
-    for _ in 0..versions {
+    for version in 0..versions {
         assert_eq!(unjudged::open(&mut store), number::DONE);
-        for _ in 0..each {
+        for _ in updates * version / versions..updates * (version + 1) / versions {
             update(&mut store, &mut alive, &mut rng);
         }
         assert_eq!(unjudged::commit(&mut store), number::DONE);
     }
     store
+}
+
+/// The store with one more page, a leaf alive from the last version on to
+/// which nothing leads. So it breaks rule 6 there and no rule before, and a
+/// check that goes rule by rule and version by version goes to the very end.
+pub fn with_stray(store: &[u8]) -> Vec<u8> {
+    let mut image = Image::read(store);
+    let span = Span::alive_from(image.header.last());
+    image.pages.push(Page::new(LEAF, span, Vec::new()));
+    image.write()
 }
 
 /// Three inserts for each delete. One that finds no page or slot is left out.
@@ -51,183 +65,28 @@ fn update(store: &mut [u8], alive: &mut BTreeSet<u32>, rng: &mut Rng) {
 /// start and end is a version of its own: 32 versions a leaf at which
 /// something starts or ends, and at each of them every leaf is reached.
 pub fn flickering(leaves: u32) -> Vec<u8> {
-    flickering_but(leaves, |_, _| ())
+    over_leaves((0..leaves).map(flickering_leaf), 2 + 32 * leaves)
 }
 
-/// The same, but that this rule is broken at the last version, and at no other.
-pub fn broken_at_last(leaves: u32, rule: u32) -> Vec<u8> {
-    flickering_but(leaves, |pages, last| match rule {
-        // a setting of the first leaf above the first key of the second
-        4 => {
-            let lives = &mut pages[1].entries;
-            lives.pop();
-            lives.push(Entry {
-                key: 32 + 5,
-                span: Span::alive_from(last),
-                value: 7,
-            });
-        }
-        // three live settings in the first leaf
-        5 => pages[1].entries[0].span.end = last,
-        // a page that is not reached
-        _ => pages.push(Page::new(LEAF, Span::alive_from(last), Vec::new())),
-    })
-}
-
-fn flickering_but(leaves: u32, change: impl Fn(&mut Vec<Page>, u32)) -> Vec<u8> {
+/// These leaves, with low keys 32 apart, and the index pages above them.
+fn over_leaves(leaves: impl Iterator<Item = Page>, current: u32) -> Vec<u8> {
     let mut pages = vec![empty_root()];
-    let mut routers = Vec::new();
-    for leaf in 0..leaves {
-        routers.push((32 * leaf, FIRST_PAGE + pages.len() as u32));
-        pages.push(flickering_leaf(leaf));
-    }
-    let root = up_to_root(&mut pages, routers);
-    let last = 2 + 32 * leaves;
-    change(&mut pages, last);
-    with_root(pages, last, root)
-}
-
-/// The index pages over these routers, up to a root.
-fn up_to_root(pages: &mut Vec<Page>, mut routers: Vec<(u32, u32)>) -> u32 {
+    pages.extend(leaves);
+    let numbers = 1..pages.len() as u32;
+    let mut routers: Vec<(u32, u32)> = numbers.map(|n| (32 * (n - 1), FIRST_PAGE + n)).collect();
     for level in LEAF + 1.. {
         if routers.len() == 1 {
             break;
         }
-        routers = above(pages, level, &routers);
-    }
-    routers[0].1
-}
-
-/// A sound store whose index pages do not stay: four leaves to each page of
-/// level 2, and the last of its routers moves its low key sixteen times, each
-/// time at a version of its own.
-pub fn moving(leaves: u32) -> Vec<u8> {
-    let mut pages = vec![empty_root()];
-    let mut over = Vec::new();
-    let mut version = 2;
-    for first in (0..leaves).step_by(4) {
-        let mut entries = Vec::new();
-        for leaf in first..first + 4 {
-            let page = FIRST_PAGE + pages.len() as u32;
-            pages.push(full_leaf(leaf));
-            if leaf < first + 3 {
-                entries.push(router(64 * leaf, Span::alive_from(1), page));
-            }
-        }
-        let last = FIRST_PAGE + pages.len() as u32 - 1;
-        let mut start = 1;
-        for step in 0..17 {
-            let end = if step == 16 { ALIVE } else { version };
-            entries.push(router(64 * (first + 3) + step, Span { start, end }, last));
-            start = version;
-            version += 1;
-        }
-        over.push((64 * first, FIRST_PAGE + pages.len() as u32));
-        pages.push(Page::new(LEAF + 1, Span::alive_from(1), entries));
-    }
-    let mut level = LEAF + 2;
-    while over.len() > 1 {
-        over = above(&mut pages, level, &over);
-        level += 1;
-    }
-    with_root(pages, version, over[0].1)
-}
-
-/// `tops` pages of level 5 that follow each other over one tree of `leaves`
-/// leaves, which stays. Beside it each has a router to an empty page, with
-/// nineteen lives: at each start and end the range of the tree's keys changes.
-/// Breaks rule 5, and rule 4 nowhere.
-pub fn following(tops: u32, leaves: u32) -> Vec<u8> {
-    let mut pages = vec![empty_root()];
-    let mut routers = Vec::new();
-    for leaf in 0..leaves {
-        routers.push((64 * leaf, FIRST_PAGE + pages.len() as u32));
-        pages.push(full_leaf(leaf));
-    }
-    for level in LEAF + 1..=4 {
         routers = above(&mut pages, level, &routers);
     }
-    let tree = routers[0].1;
-    let empty = FIRST_PAGE + pages.len() as u32;
-    pages.push(Page::new(4, Span::alive_from(1), Vec::new()));
-    let begin = |top: u32| 1 + 40 * top;
-    let mut row = Vec::new();
-    for top in 0..tops {
-        let end = if top + 1 == tops {
-            ALIVE
-        } else {
-            begin(top + 1)
-        };
-        let span = Span {
-            start: begin(top),
-            end,
-        };
-        let mut entries = vec![router(0, span, tree)];
-        for life in 0..19 {
-            let start = begin(top) + 1 + 2 * life;
-            entries.push(router(
-                1 << 23,
-                Span {
-                    start,
-                    end: start + 1,
-                },
-                empty,
-            ));
-        }
-        row.push((span, FIRST_PAGE + pages.len() as u32));
-        pages.push(Page::new(5, span, entries));
-    }
-    for level in 6..=HIGHEST_LEVEL {
-        row = in_time(&mut pages, level, &row);
-    }
-    let mut slots = vec![Slot {
-        version: 0,
-        root: FIRST_PAGE,
-    }];
-    slots.extend(row.iter().map(|&(span, root)| Slot {
-        version: span.start,
-        root,
-    }));
-    written(pages, begin(tops), slots)
-}
-
-/// Pages of `level` over pages that follow each other in time.
-fn in_time(pages: &mut Vec<Page>, level: u32, row: &[(Span, u32)]) -> Vec<(Span, u32)> {
-    let mut over = Vec::new();
-    for part in row.chunks(MOST_ENTRIES) {
-        let span = Span {
-            start: part[0].0.start,
-            end: part[part.len() - 1].0.end,
-        };
-        over.push((span, FIRST_PAGE + pages.len() as u32));
-        let entries = part.iter().map(|&(span, page)| router(0, span, page));
-        pages.push(Page::new(level, span, entries.collect()));
-    }
-    over
-}
-
-fn router(key: u32, span: Span, value: u32) -> Entry {
-    Entry { key, span, value }
-}
-
-/// Twenty settings that stay.
-fn full_leaf(leaf: u32) -> Page {
-    let entries = (20..40).map(|index| Entry {
-        key: 64 * leaf + index,
-        span: Span::alive_from(1),
-        value: 7,
-    });
-    Page::new(LEAF, Span::alive_from(1), entries.collect())
+    with_root(pages, current, routers[0].1)
 }
 
 /// These pages, the first of them the empty root of version 0; `root` from
 /// version 1 on.
 fn with_root(pages: Vec<Page>, current: u32, root: u32) -> Vec<u8> {
     let slot = |version, root| Slot { version, root };
-    written(pages, current, vec![slot(0, FIRST_PAGE), slot(1, root)])
-}
-
-fn written(pages: Vec<Page>, current: u32, slots: Vec<Slot>) -> Vec<u8> {
     Image {
         header: Header {
             page_count: 0,
@@ -235,13 +94,13 @@ fn written(pages: Vec<Page>, current: u32, slots: Vec<Slot>) -> Vec<u8> {
             open: false,
             roots: 0,
         },
-        slots,
+        slots: vec![slot(0, FIRST_PAGE), slot(1, root)],
         pages,
     }
     .write()
 }
 
-fn empty_root() -> Page {
+pub fn empty_root() -> Page {
     Page::new(LEAF, Span { start: 0, end: 1 }, Vec::new())
 }
 
@@ -263,27 +122,55 @@ pub fn shared_children() -> Vec<u8> {
 pub fn one_empty_leaf(lowest: u32) -> Vec<u8> {
     let empty = Page::new(LEAF, Span::alive_from(1), Vec::new());
     let mut pages = vec![empty_root(), empty];
-    let routers = (0..20 * lowest).map(|low| (low, FIRST_PAGE + 1)).collect();
-    let root = up_to_root(&mut pages, routers);
-    with_root(pages, 1, root)
+    let mut routers: Vec<(u32, u32)> = (0..20 * lowest).map(|low| (low, FIRST_PAGE + 1)).collect();
+    for level in LEAF + 1.. {
+        if routers.len() == 1 {
+            break;
+        }
+        routers = above(&mut pages, level, &routers);
+    }
+    with_root(pages, 1, routers[0].1)
 }
 
-fn flickering_leaf(leaf: u32) -> Page {
+pub fn entry(key: u32, span: Span, value: u32) -> Entry {
+    Entry { key, span, value }
+}
+
+pub fn flickering_leaf(leaf: u32) -> Page {
     let low = 32 * leaf;
-    let entry = |key, start, end| Entry {
-        key,
-        span: Span { start, end },
-        value: 7,
-    };
-    let staying = (0..4).map(|index| entry(low + index, 1, ALIVE));
+    let alive = Span::alive_from(1);
+    let staying = (0..4).map(|index| entry(low + index, alive, 7));
     let first = 2 + 32 * leaf;
-    let lives = (0..16).map(|life| entry(low + 4, first + 2 * life, first + 2 * life + 1));
-    Page::new(LEAF, Span::alive_from(1), staying.chain(lives).collect())
+    let lives = (0..16).map(|life| {
+        let start = first + 2 * life;
+        let end = start + 1;
+        entry(low + 4, Span { start, end }, 7)
+    });
+    Page::new(LEAF, alive, staying.chain(lives).collect())
+}
+
+/// A sound store in which no entry of a leaf stays: in each of `leaves` leaves
+/// four keys with five lives each, which follow one another and are cut at
+/// versions of their own. So judging must look at every end.
+pub fn cut_leaves(leaves: u32) -> Vec<u8> {
+    over_leaves((0..leaves).map(cut_leaf), 1 + 16 * leaves)
+}
+
+fn cut_leaf(leaf: u32) -> Page {
+    let mut entries = Vec::new();
+    for key in 0..4 {
+        let cuts = (0..4).map(|cut| 2 + 16 * leaf + 4 * cut + key);
+        let starts = [1].into_iter().chain(cuts.clone());
+        for (start, end) in starts.zip(cuts.chain([ALIVE])) {
+            entries.push(entry(32 * leaf + key, Span { start, end }, 7));
+        }
+    }
+    Page::new(LEAF, Span::alive_from(1), entries)
 }
 
 /// The index pages of `level` over these routers, none with fewer than four of
 /// them; the routers to those pages.
-fn above(pages: &mut Vec<Page>, level: u32, routers: &[(u32, u32)]) -> Vec<(u32, u32)> {
+pub fn above(pages: &mut Vec<Page>, level: u32, routers: &[(u32, u32)]) -> Vec<(u32, u32)> {
     let count = routers.len().div_ceil(MOST_ENTRIES);
     let mut over = Vec::new();
     for part in 0..count {

@@ -1,0 +1,216 @@
+//! A chart as plain SVG: panels side by side, both axes of each logarithmic,
+//! times from bottom to top.
+
+use crate::measure::told;
+
+pub struct Chart {
+    pub title: String,
+    /// What stands below all panels.
+    pub note: String,
+    pub panels: Vec<Panel>,
+}
+
+pub struct Panel {
+    pub title: String,
+    /// What stands along the bottom.
+    pub axis: String,
+    pub series: Vec<Series>,
+}
+
+pub struct Series {
+    pub name: &'static str,
+    pub colour: &'static str,
+    pub points: Vec<Point>,
+}
+
+/// A place along the bottom, and a time in seconds: the quartiles.
+pub struct Point {
+    pub place: usize,
+    pub quartiles: [f64; 3],
+}
+
+impl Point {
+    /// On a logarithmic axis only a time above zero has a place.
+    fn shown(&self) -> bool {
+        self.quartiles[0] > 0.0
+    }
+}
+
+const WIDTH: f64 = 980.0;
+const HEIGHT: f64 = 470.0;
+/// The inside of a panel.
+const ACROSS: f64 = 380.0;
+const TOP: f64 = 92.0;
+const BOTTOM: f64 = 400.0;
+const INK: &str = "#222222";
+const LINES: &str = "#dddddd";
+
+/// Powers of ten from the first to the last, as seconds.
+struct Times {
+    first: i32,
+    last: i32,
+}
+
+impl Times {
+    /// Enough for all points of the chart.
+    fn of(panels: &[Panel]) -> Times {
+        let series = panels.iter().flat_map(|panel| &panel.series);
+        let points = series.flat_map(|series| &series.points);
+        let shown = points.filter(|point| point.shown());
+        let powers: Vec<f64> = shown
+            .flat_map(|point| point.quartiles.map(f64::log10))
+            .collect();
+        let lowest = powers.iter().copied().fold(f64::MAX, f64::min);
+        let highest = powers.iter().copied().fold(f64::MIN, f64::max);
+        Times {
+            first: lowest.floor() as i32,
+            last: highest.ceil() as i32,
+        }
+    }
+
+    fn height(&self, seconds: f64) -> f64 {
+        let part = (seconds.log10() - f64::from(self.first)) / f64::from(self.last - self.first);
+        BOTTOM - part * (BOTTOM - TOP)
+    }
+}
+
+/// A line of text; `anchor` is start, middle or end.
+fn text(x: f64, y: f64, anchor: &str, size: u32, words: &str) -> String {
+    format!("<text x=\"{x:.1}\" y=\"{y:.1}\" text-anchor=\"{anchor}\" font-size=\"{size}\">{words}</text>\n")
+}
+
+fn line(from: (f64, f64), to: (f64, f64), colour: &str, width: f64) -> String {
+    format!(
+        "<line x1=\"{:.1}\" y1=\"{:.1}\" x2=\"{:.1}\" y2=\"{:.1}\" stroke=\"{colour}\" stroke-width=\"{width}\"/>\n",
+        from.0, from.1, to.0, to.1
+    )
+}
+
+/// The mark of a series, so that they differ by more than colour.
+fn mark(index: usize, x: f64, y: f64, colour: &str) -> String {
+    match index {
+        0 => format!("<circle cx=\"{x:.1}\" cy=\"{y:.1}\" r=\"4\" fill=\"{colour}\"/>\n"),
+        1 => format!(
+            "<rect x=\"{:.1}\" y=\"{:.1}\" width=\"8\" height=\"8\" fill=\"{colour}\"/>\n",
+            x - 4.0,
+            y - 4.0
+        ),
+        _ => format!(
+            "<polygon points=\"{x:.1},{:.1} {:.1},{:.1} {:.1},{:.1}\" fill=\"{colour}\"/>\n",
+            y - 5.0,
+            x - 5.0,
+            y + 4.0,
+            x + 5.0,
+            y + 4.0
+        ),
+    }
+}
+
+impl Chart {
+    pub fn svg(&self) -> String {
+        let mut svg = format!(
+            "<svg xmlns=\"http://www.w3.org/2000/svg\" viewBox=\"0 0 {WIDTH} {HEIGHT}\" width=\"{WIDTH}\" height=\"{HEIGHT}\" font-family=\"sans-serif\" fill=\"{INK}\">\n<title>{}</title>\n<rect width=\"{WIDTH}\" height=\"{HEIGHT}\" fill=\"#ffffff\"/>\n",
+            self.title
+        );
+        svg += &text(WIDTH / 2.0, 26.0, "middle", 17, &self.title);
+        svg += &text(WIDTH / 2.0, HEIGHT - 8.0, "middle", 11, &self.note);
+        svg += &self.legend();
+        let times = Times::of(&self.panels);
+        for (panel, left) in self.panels.iter().zip([80.0, 80.0 + ACROSS + 110.0]) {
+            svg += &panel.svg(left, &times);
+        }
+        svg + "</svg>\n"
+    }
+
+    fn legend(&self) -> String {
+        let mut svg = String::new();
+        for (index, series) in self.panels[0].series.iter().enumerate() {
+            let x = 80.0 + 300.0 * index as f64;
+            svg += &line((x - 14.0, 48.0), (x + 14.0, 48.0), series.colour, 2.0);
+            svg += &mark(index, x, 48.0, series.colour);
+            svg += &text(x + 22.0, 52.5, "start", 13, series.name);
+        }
+        svg
+    }
+}
+
+impl Panel {
+    fn svg(&self, left: f64, times: &Times) -> String {
+        let mut svg = text(left + ACROSS / 2.0, TOP - 12.0, "middle", 14, &self.title);
+        svg += &self.axes(left, times);
+        for (index, series) in self.series.iter().enumerate() {
+            svg += &self.curve(index, series, left, times);
+        }
+        svg
+    }
+
+    fn places(&self) -> Vec<usize> {
+        let points = &self.series[0].points;
+        points.iter().map(|point| point.place).collect()
+    }
+
+    /// How far to the right a place stands.
+    fn x(&self, left: f64, place: usize) -> f64 {
+        let places = self.places();
+        let log = |place: usize| (place as f64).ln();
+        let (first, last) = (log(places[0]), log(places[places.len() - 1]));
+        left + ACROSS * (log(place) - first) / (last - first)
+    }
+
+    fn axes(&self, left: f64, times: &Times) -> String {
+        let mut svg = String::new();
+        for power in times.first..=times.last {
+            let seconds = 10f64.powi(power);
+            let y = times.height(seconds);
+            svg += &line((left, y), (left + ACROSS, y), LINES, 1.0);
+            svg += &text(
+                left - 8.0,
+                y + 4.0,
+                "end",
+                12,
+                &told(seconds).replace(".00", ""),
+            );
+        }
+        for place in self.places() {
+            let x = self.x(left, place);
+            svg += &line((x, TOP), (x, BOTTOM), LINES, 1.0);
+            svg += &text(x, BOTTOM + 18.0, "middle", 11, &short(place));
+        }
+        svg += &line((left, BOTTOM), (left + ACROSS, BOTTOM), INK, 1.2);
+        svg += &line((left, TOP), (left, BOTTOM), INK, 1.2);
+        svg += &text(left + ACROSS / 2.0, BOTTOM + 42.0, "middle", 13, &self.axis);
+        let middle = (TOP + BOTTOM) / 2.0;
+        svg + &format!(
+            "<text transform=\"translate({:.1} {middle:.1}) rotate(-90)\" text-anchor=\"middle\" font-size=\"13\">processor time</text>\n",
+            left - 62.0
+        )
+    }
+
+    /// The medians, joined, each with its quartiles as an upright line.
+    fn curve(&self, index: usize, series: &Series, left: f64, times: &Times) -> String {
+        let shown = series.points.iter().filter(|point| point.shown());
+        let mut svg = String::new();
+        let mut before: Option<(f64, f64)> = None;
+        for point in shown {
+            let x = self.x(left, point.place);
+            let [low, middle, high] = point.quartiles.map(|seconds| times.height(seconds));
+            if let Some(before) = before {
+                svg += &line(before, (x, middle), series.colour, 2.0);
+            }
+            svg += &line((x, low), (x, high), series.colour, 1.0);
+            svg += &mark(index, x, middle, series.colour);
+            before = Some((x, middle));
+        }
+        svg
+    }
+}
+
+/// A number by its first digits, as on an axis: 1,048,573 is 1M.
+fn short(number: usize) -> String {
+    match number {
+        n if n >= 1_000_000 => format!("{}M", n / 1_000_000),
+        n if n >= 10_000 => format!("{}k", n / 1_000),
+        n if n >= 1_000 => format!("{},{:03}", n / 1_000, n % 1_000),
+        n => n.to_string(),
+    }
+}

@@ -1,0 +1,107 @@
+//! An unsound store made to keep quick judging busy: a crowd of pages that lead
+//! to the same twenty pages at the same versions. Each of them is right in
+//! itself, and the spans add up, since at all other versions nothing leads
+//! there. What is wrong shows in the pages above, which come last.
+
+use reference::layout::{Page, Span, ALIVE, FIRST_PAGE, HIGHEST_VERSION, LEAF, MOST_ENTRIES};
+
+use crate::hostile::{slot, Built};
+use crate::stores::entry;
+
+/// The largest crowd for which 4,096 pages and the versions suffice.
+const MOST: u32 = 3000;
+
+/// The versions at which all of them stand.
+const WIDTH: u32 = ALIVE / MOST;
+const ALL: Span = Span {
+    start: HIGHEST_VERSION - WIDTH,
+    end: HIGHEST_VERSION,
+};
+/// Lives of a last router, beside three that stay: in each of these lives
+/// another page comes last, with as many lives of its own last router.
+const LIVES: u32 = MOST_ENTRIES as u32 - 3;
+
+pub fn crowd(count: u32) -> Vec<u8> {
+    let before = Span {
+        start: 0,
+        end: ALL.start,
+    };
+    let mut built = Built {
+        pages: vec![Page::new(LEAF, before, Vec::new())],
+        next_key: 0,
+    };
+    let shared: Vec<(u32, u32)> = (0..MOST_ENTRIES)
+        .map(|_| shared_page(&mut built, count))
+        .collect();
+    let mut pages: Vec<u32> = (0..count)
+        .map(|_| index_page(&mut built, 4, &shared))
+        .collect();
+    for level in 5.. {
+        if pages.len() == 1 {
+            break;
+        }
+        let groups = pages.chunks(MOST_ENTRIES);
+        let above = groups.map(|group| {
+            let routers: Vec<(u32, u32)> = (0..).zip(group.iter().copied()).collect();
+            index_page(&mut built, level, &routers)
+        });
+        pages = above.collect();
+    }
+    let behind = Page::new(LEAF, Span::alive_from(ALL.end), Vec::new());
+    let behind = built.push(behind);
+    let slots = vec![
+        slot(0, FIRST_PAGE),
+        slot(ALL.start, pages[0]),
+        slot(ALL.end, behind),
+    ];
+    built.store(slots, HIGHEST_VERSION)
+}
+
+fn index_page(built: &mut Built, level: u32, routers: &[(u32, u32)]) -> u32 {
+    let entries = routers.iter().map(|&(key, page)| entry(key, ALL, page));
+    built.push(Page::new(level, ALL, entries.collect()))
+}
+
+/// A leaf with as many settings as fit: its low key and number.
+fn leaf(built: &mut Built) -> (u32, u32) {
+    let low = built.next_key;
+    built.next_key += MOST_ENTRIES as u32;
+    let entries = (low..built.next_key).map(|key| entry(key, ALL, 7));
+    (low, built.push(Page::new(LEAF, ALL, entries.collect())))
+}
+
+/// The lives of a last router within a span, the last of them up to its end.
+fn lives(span: Span) -> impl Iterator<Item = Span> {
+    let each = (span.end - span.start) / LIVES;
+    (0..LIVES).map(move |life| {
+        let start = span.start + each * life;
+        let last = life + 1 == LIVES;
+        let end = if last { span.end } else { start + each };
+        Span { start, end }
+    })
+}
+
+/// A page of level 3 to which the crowd leads: three pages below it stay, and
+/// then one follows another. Its span is as long as those of all that lead to
+/// it together.
+fn shared_page(built: &mut Built, crowd: u32) -> (u32, u32) {
+    let low = built.next_key;
+    let mut routers = Vec::new();
+    for _ in 0..3 {
+        let leaves: Vec<(u32, u32)> = (0..4).map(|_| leaf(built)).collect();
+        let page = index_page(built, 2, &leaves);
+        routers.push(entry(leaves[0].0, ALL, page));
+    }
+    let leaves: Vec<(u32, u32)> = (0..4).map(|_| leaf(built)).collect();
+    for span in lives(ALL) {
+        let staying = leaves[..3]
+            .iter()
+            .map(|&(key, page)| entry(key, span, page));
+        let (key, page) = leaves[3];
+        let last = lives(span).map(|life| entry(key, life, page));
+        let page = built.push(Page::new(2, span, staying.chain(last).collect()));
+        routers.push(entry(leaves[0].0, span, page));
+    }
+    let span = Span::alive_from(ALIVE - crowd * WIDTH);
+    (low, built.push(Page::new(3, span, routers)))
+}

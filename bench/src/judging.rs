@@ -1,0 +1,154 @@
+//! Sound or not, and nothing more: a commit on a store where no update is open
+//! judges, and is refused by number 7 right after.
+
+use std::hint::black_box;
+
+use reference::damage::kinds;
+use reference::foreign::raise_current;
+use reference::layout::{HIGHEST_VERSION, PAGE_BYTES};
+use reference::rng::Rng;
+use reference::samples::sound_store;
+use reference::{calls, number};
+
+use crate::crowd::crowd;
+use crate::hostile::{self, Shape};
+use crate::measure::{in_turn, times, told, Times};
+use crate::quick::read::{Fields, Loads};
+use crate::{proved, quick, shape, stores};
+
+/// Judged by the proved library, and by the same algorithm in Rust: entries by
+/// two loads, and each field by itself.
+fn judged(store: &[u8]) -> Times {
+    let verdict = quick::number::<Loads>(store);
+    assert_eq!(quick::number::<Fields>(store), verdict);
+    let mut lent = store.to_vec();
+    let sound = verdict == number::DONE;
+    let refused = if sound { number::NONE_OPEN } else { verdict };
+    assert_eq!(proved::commit(&mut lent), refused);
+    in_turn(&mut [
+        &mut || proved::commit(black_box(&mut lent)).into(),
+        &mut || quick::number::<Loads>(black_box(store)).into(),
+        &mut || quick::number::<Fields>(black_box(store)).into(),
+    ])
+}
+
+fn row(name: &str, store: &[u8]) {
+    let (used, turning) = shape(store);
+    let taken = judged(store);
+    println!(
+        "| {name} | {} | {used} | {turning} | {} | {} | {} | {} | {} |",
+        store.len() / PAGE_BYTES,
+        times(taken.ratio(0, 1)),
+        times(taken.ratio(0, 2)),
+        told(taken.of(0)),
+        told(taken.of(1)),
+        told(taken.of(2))
+    );
+}
+
+/// The programs in Rust answer as the reference program does, on sound stores
+/// and on damaged ones.
+fn same_verdicts() {
+    for seed in 0..60 {
+        let sound = sound_store(seed);
+        for kind in kinds() {
+            let mut store = sound.clone();
+            kind.make(&mut store, &mut Rng::new(seed));
+            let (verdict, _) = calls::check(&store);
+            assert_eq!(quick::number::<Loads>(&store), verdict, "{}", kind.name);
+            assert_eq!(quick::number::<Fields>(&store), verdict, "{}", kind.name);
+        }
+    }
+}
+
+pub fn judging() {
+    same_verdicts();
+    println!("## Judging\n");
+    println!("Times as long as the same algorithm in Rust, with entries read by two loads and with each field read by itself.\n");
+    println!("| store | pages | in use | versions with a change | two loads | by fields | proved | two loads | by fields |");
+    println!("|---|---|---|---|---|---|---|---|---|");
+    for pages in [16, 256, 4096] {
+        for versions in [2, 32, 1024] {
+            let name = format!("a history of {versions} versions");
+            row(&name, &stores::grown(pages, versions));
+        }
+    }
+    hostile_rows();
+    println!();
+    growth();
+    empty_commits();
+}
+
+fn hostile_rows() {
+    row(
+        "each leaf with sixteen lives of one key",
+        &stores::flickering(3870),
+    );
+    row("each leaf cut to pieces", &stores::cut_leaves(3870));
+    row(
+        "255 roots over two leaves, routers cut to pieces",
+        &hostile::cut_roots(),
+    );
+    let shape = |shared_level, shared, lives, wide| Shape {
+        shared_level,
+        shared,
+        lives,
+        wide,
+    };
+    for (name, shape) in [
+        (
+            "255 roots and 3,825 pages below them over four leaves, all cut to pieces",
+            shape(1, 4, 5, 4),
+        ),
+        (
+            "as many pages as fit over the same twenty leaves",
+            shape(1, 20, 1, 4),
+        ),
+        (
+            "as many pages as fit over the same five pages of level 3",
+            shape(3, 5, 4, 15),
+        ),
+    ] {
+        row(name, &hostile::in_turn(shape));
+    }
+    let name = "100 pages over the same twenty at the same versions (unsound)";
+    row(name, &crowd(100));
+}
+
+/// Two stores judged in turn.
+fn beside(one: &[u8], other: &[u8]) -> Times {
+    let (mut one, mut other) = (one.to_vec(), other.to_vec());
+    in_turn(&mut [
+        &mut || proved::commit(black_box(&mut one)).into(),
+        &mut || proved::commit(black_box(&mut other)).into(),
+    ])
+}
+
+fn growth() {
+    println!("| | ratio | first | second |\n|---|---|---|---|");
+    for versions in [2, 32, 1024] {
+        let taken = beside(
+            &stores::grown(4096, versions),
+            &stores::grown(256, versions),
+        );
+        println!(
+            "| 4,096 pages beside 256, {versions} versions | {} | {} | {} |",
+            times(taken.ratio(0, 1)),
+            told(taken.of(0)),
+            told(taken.of(1))
+        );
+    }
+}
+
+fn empty_commits() {
+    let store = stores::grown(256, 32);
+    let mut later = store.clone();
+    raise_current(&mut later, HIGHEST_VERSION - 1);
+    let taken = beside(&later, &store);
+    println!(
+        "| 256 pages, 32 versions, with a million empty commits beside without | {} | {} | {} |\n",
+        times(taken.ratio(0, 1)),
+        told(taken.of(0)),
+        told(taken.of(1))
+    );
+}
