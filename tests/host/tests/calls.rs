@@ -43,7 +43,7 @@ fn edge_calls(last: u32, found: usize) -> Vec<Call> {
 
 /// Every edge call on a store, and some lookups and ranges inside it.
 fn try_all(store: &[u8], rng: &mut Rng, tally: &mut BTreeMap<u32, u64>) {
-    let last = match store.len() >= 11 {
+    let last = match store.len() >= 256 {
         true => header(store).last(),
         false => 0,
     };
