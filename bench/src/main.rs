@@ -15,6 +15,8 @@ mod proved;
 mod quick;
 mod stores;
 mod updates;
+mod walked;
+mod worst;
 
 use std::hint::black_box;
 
@@ -34,7 +36,7 @@ fn main() {
         ("empty", empty_commits),
         ("lookups", lookups::lookups),
         ("hostile", hostile_stores),
-        ("worst", worst_stores),
+        ("worst", worst::worst),
         ("updates", updates::updates),
         ("program", program::program),
         ("plot", plot::plot),
@@ -129,7 +131,7 @@ fn write_pages() -> Times {
 }
 
 /// Judged by both, with this answer.
-fn judged(store: &[u8], verdict: (u32, u32)) -> Times {
+pub fn judged(store: &[u8], verdict: (u32, u32)) -> Times {
     assert_eq!(calls::check(store), verdict);
     assert_eq!(proved::check(store), verdict);
     in_turn(&mut [
@@ -156,6 +158,7 @@ fn check_of_histories() {
         (16, 32),
         (256, 4),
         (256, 256),
+        (256, 1700),
         (4096, 4),
         (4096, 32),
     ] {
@@ -220,40 +223,4 @@ fn hostile_stores() {
         );
     }
     println!();
-}
-
-/// No larger store is judged after one that took the proved check so long, in
-/// seconds.
-const LONG: f64 = 1.0;
-
-fn worst_stores() {
-    println!("## The worst stores\n");
-    println!(
-        "| pages | versions walked | ratio | proved | reference | proved, times the one above |"
-    );
-    println!("|---|---|---|---|---|---|");
-    let mut before: Option<f64> = None;
-    for leaves in [10, 20, 40, 80, 160, 320, 640, 1280, 2560, 3870] {
-        let store = stores::with_stray(&stores::flickering(leaves));
-        let (_, turning) = shape(&store);
-        let taken = judged(&store, (4, 6));
-        let growth = before.map_or(String::new(), |before| times(taken.of(0) / before));
-        println!(
-            "| {} | {turning} | {} | {} | {} | {growth} |",
-            store.len() / PAGE_BYTES,
-            times(taken.ratio(0, 1)),
-            told(taken.of(0)),
-            told(taken.of(1))
-        );
-        before = Some(taken.of(0));
-        if taken.of(0) > LONG {
-            break;
-        }
-    }
-    let largest = stores::with_stray(&stores::flickering(3870));
-    println!(
-        "\nThe largest of this kind has {} pages and {} such versions.",
-        largest.len() / PAGE_BYTES,
-        shape(&largest).1
-    );
 }

@@ -136,7 +136,7 @@ pub fn entry(key: u32, span: Span, value: u32) -> Entry {
     Entry { key, span, value }
 }
 
-fn flickering_leaf(leaf: u32) -> Page {
+pub fn flickering_leaf(leaf: u32) -> Page {
     let low = 32 * leaf;
     let alive = Span::alive_from(1);
     let staying = (0..4).map(|index| entry(low + index, alive, 7));
@@ -170,7 +170,7 @@ fn cut_leaf(leaf: u32) -> Page {
 
 /// The index pages of `level` over these routers, none with fewer than four of
 /// them; the routers to those pages.
-fn above(pages: &mut Vec<Page>, level: u32, routers: &[(u32, u32)]) -> Vec<(u32, u32)> {
+pub fn above(pages: &mut Vec<Page>, level: u32, routers: &[(u32, u32)]) -> Vec<(u32, u32)> {
     let count = routers.len().div_ceil(MOST_ENTRIES);
     let mut over = Vec::new();
     for part in 0..count {

@@ -38,6 +38,13 @@ quiet-more p k v r q x le a b =
       ends = λ i l. ⊎-elim (λ h. out-less v r q _ (x .ends i h) le) (λ h. let e : i ≡ k = omega arith in rw e b) (less i k);
     }
 
+out-one : (v r x : ℕ) → r ≡ v + 1 → Out v r x
+out-one v r x e = ⊎-elim (λ l. inr (omega arith)) (λ l. inl l) (less v x)
+
+-- between two versions that follow each other there is none
+pub quiet-one : (least : ℕ) (p : List ℕ) (v r : ℕ) → r ≡ v + 1 → QuietPart least p v r
+quiet-one least p v r e = record { start = out-one v r _ e; end = out-one v r _ e; entries = record { starts = λ i l. out-one v r _ e; ends = λ i l. out-one v r _ e } }
+
 reach-less : (least : ℕ) (p : List ℕ) (v r q : ℕ) → QuietReach least p v r → q ≤ r → QuietReach least p v q
 reach-less least p v r q x h =
     record {

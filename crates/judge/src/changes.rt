@@ -23,11 +23,14 @@ fn sooner(v: u32, r: u32, x: u32) -> u32
     x
 }
 
-// A version up to r such that nothing of the page starts or ends before it and behind v.
+// A version up to r such that nothing of the page starts or ends before it and behind v. For a single version nothing is read.
 pub(crate) fn page_change(page: &[u8], l: Limits, v: u32, r: u32) -> u32
     requires { ⌜ Edition l × (length (now page) ≡ 64 * l .least) × (readHead (l .least) (now page) .count ≤ 5 * l .least) × (v < r) ⌝ }
     ensures { λ q. ⌜ Sooner v r q × QuietPart (l .least) (now (page .entry)) v q ⌝ }
 {
+    if r - v == 1 {
+        return r;
+    }
     let h = page::head_of(page, l);
     let count = h.count;
     let mut q = sooner(v, sooner(v, r, h.start), h.end);

@@ -1,4 +1,4 @@
-//! Reading and turning pages beside the reference, on stores of every kind:
+//! Every call beside the reference, on stores of every kind:
 //! number, results, every byte of the store, every number of the list.
 
 mod common;
@@ -26,6 +26,8 @@ fn edge_calls(last: u32, found: usize) -> Vec<Call> {
     let far = [HIGHEST_VERSION - 1, HIGHEST_VERSION, HIGHEST_VERSION + 1];
     let versions = near.into_iter().chain(far).chain([u32::MAX]);
     let mut calls = vec![Call::Check, Call::Open, Call::Commit, Call::Abandon];
+    calls.extend(keys.map(|key| Call::Insert(key, u32::MAX - key)));
+    calls.extend(keys.map(Call::Delete));
     for version in versions {
         calls.extend(keys.map(|key| Call::Lookup(key, version)));
         calls.push(Call::Range(0, HIGHEST_KEY, version, 2 * found + 3));
@@ -41,7 +43,7 @@ fn edge_calls(last: u32, found: usize) -> Vec<Call> {
 
 /// Every edge call on a store, and some lookups and ranges inside it.
 fn try_all(store: &[u8], rng: &mut Rng, tally: &mut BTreeMap<u32, u64>) {
-    let last = match store.len() >= 11 {
+    let last = match store.len() >= 256 {
         true => header(store).last(),
         false => 0,
     };
@@ -51,6 +53,8 @@ fn try_all(store: &[u8], rng: &mut Rng, tally: &mut BTreeMap<u32, u64>) {
         let (low, high) = (rng.below(4000), rng.below(4000));
         let version = rng.below(last.min(5000) + 2);
         calls.push(Call::Lookup(low, version));
+        calls.push(Call::Insert(low, high));
+        calls.push(Call::Delete(low));
         calls.push(Call::Range(
             low,
             low + high,
@@ -72,7 +76,7 @@ fn every_call_on_sound_stores() {
         try_all(&sound_store(seed), &mut Rng::new(seed), &mut tally);
     }
     println!("numbers given, times: {tally:?}");
-    for number in [0, 5, 6, 7, 8, 14] {
+    for number in [0, 5, 6, 7, 8, 10, 11, 14] {
         assert!(tally.contains_key(&number), "{number} was never given");
     }
 }
@@ -120,12 +124,9 @@ fn histories() {
 fn going_back_is_also_a_release() {
     let mut store = vec![0; 16 * 256];
     assert_eq!(host::fresh(&mut store), 0);
-    for (key, value) in [(5, 50), (9, 90)] {
-        if key == 5 {
-            assert_eq!(host::open(&mut store), 0);
-        }
-        assert_eq!(host::insert(&mut store, key, value), 0);
-    }
+    assert_eq!(host::open(&mut store), 0);
+    assert_eq!(host::insert(&mut store, 5, 50), 0);
+    assert_eq!(host::insert(&mut store, 9, 90), 0);
     assert_eq!(host::commit(&mut store), 0);
     assert_eq!(host::open(&mut store), 0);
     assert_eq!(host::delete(&mut store, 5), 0);
