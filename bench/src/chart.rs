@@ -188,10 +188,13 @@ impl Panel {
 
     /// The medians, joined, each with its quartiles as an upright line.
     fn curve(&self, index: usize, series: &Series, left: f64, times: &Times) -> String {
-        let shown = series.points.iter().filter(|point| point.shown());
         let mut svg = String::new();
         let mut before: Option<(f64, f64)> = None;
-        for point in shown {
+        for point in &series.points {
+            if !point.shown() {
+                before = None;
+                continue;
+            }
             let x = self.x(left, point.place);
             let [low, middle, high] = point.quartiles.map(|seconds| times.height(seconds));
             if let Some(before) = before {

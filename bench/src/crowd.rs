@@ -8,11 +8,11 @@ use reference::layout::{Page, Span, ALIVE, FIRST_PAGE, HIGHEST_VERSION, LEAF, MO
 use crate::hostile::{slot, Built};
 use crate::stores::entry;
 
-/// The largest crowd for which 4,096 pages and the versions suffice.
-const MOST: u32 = 3000;
-
-/// The versions at which all of them stand.
-const WIDTH: u32 = ALIVE / MOST;
+/// Some 3,000 fit into 4,096 pages; the time grows with their number.
+const CROWD: u32 = 100;
+/// The versions at which all of them stand: enough for all lives, and so few
+/// that 3,000 times as many are no more than there are.
+const WIDTH: u32 = ALIVE / 3000;
 const ALL: Span = Span {
     start: HIGHEST_VERSION - WIDTH,
     end: HIGHEST_VERSION,
@@ -21,7 +21,7 @@ const ALL: Span = Span {
 /// another page comes last, with as many lives of its own last router.
 const LIVES: u32 = MOST_ENTRIES as u32 - 3;
 
-pub fn crowd(count: u32) -> Vec<u8> {
+pub fn crowd() -> Vec<u8> {
     let before = Span {
         start: 0,
         end: ALL.start,
@@ -30,10 +30,8 @@ pub fn crowd(count: u32) -> Vec<u8> {
         pages: vec![Page::new(LEAF, before, Vec::new())],
         next_key: 0,
     };
-    let shared: Vec<(u32, u32)> = (0..MOST_ENTRIES)
-        .map(|_| shared_page(&mut built, count))
-        .collect();
-    let mut pages: Vec<u32> = (0..count)
+    let shared: Vec<(u32, u32)> = (0..MOST_ENTRIES).map(|_| shared_page(&mut built)).collect();
+    let mut pages: Vec<u32> = (0..CROWD)
         .map(|_| index_page(&mut built, 4, &shared))
         .collect();
     for level in 5.. {
@@ -84,7 +82,7 @@ fn lives(span: Span) -> impl Iterator<Item = Span> {
 /// A page of level 3 to which the crowd leads: three pages below it stay, and
 /// then one follows another. Its span is as long as those of all that lead to
 /// it together.
-fn shared_page(built: &mut Built, crowd: u32) -> (u32, u32) {
+fn shared_page(built: &mut Built) -> (u32, u32) {
     let low = built.next_key;
     let mut routers = Vec::new();
     for _ in 0..3 {
@@ -102,6 +100,6 @@ fn shared_page(built: &mut Built, crowd: u32) -> (u32, u32) {
         let page = built.push(Page::new(2, span, staying.chain(last).collect()));
         routers.push(entry(leaves[0].0, span, page));
     }
-    let span = Span::alive_from(ALIVE - crowd * WIDTH);
+    let span = Span::alive_from(ALIVE - CROWD * WIDTH);
     (low, built.push(Page::new(3, span, routers)))
 }

@@ -76,7 +76,6 @@ pub fn judging() {
     hostile_rows();
     println!();
     growth();
-    empty_commits();
 }
 
 fn hostile_rows() {
@@ -112,43 +111,39 @@ fn hostile_rows() {
         row(name, &hostile::in_turn(shape));
     }
     let name = "100 pages over the same twenty at the same versions (unsound)";
-    row(name, &crowd(100));
+    row(name, &crowd());
 }
 
-/// Two stores judged in turn.
-fn beside(one: &[u8], other: &[u8]) -> Times {
-    let (mut one, mut other) = (one.to_vec(), other.to_vec());
-    in_turn(&mut [
-        &mut || proved::commit(black_box(&mut one)).into(),
-        &mut || proved::commit(black_box(&mut other)).into(),
-    ])
-}
-
-fn growth() {
-    println!("| | ratio | first | second |\n|---|---|---|---|");
-    for versions in [2, 32, 1024] {
-        let taken = beside(
-            &stores::grown(4096, versions),
-            &stores::grown(256, versions),
-        );
-        println!(
-            "| 4,096 pages beside 256, {versions} versions | {} | {} | {} |",
-            times(taken.ratio(0, 1)),
-            told(taken.of(0)),
-            told(taken.of(1))
-        );
-    }
-}
-
-fn empty_commits() {
-    let store = stores::grown(256, 32);
-    let mut later = store.clone();
-    raise_current(&mut later, HIGHEST_VERSION - 1);
-    let taken = beside(&later, &store);
+/// Two stores judged in turn, by the proved library and then in Rust.
+fn beside(name: &str, one: &[u8], other: &[u8]) {
+    let (mut lent, mut other_lent) = (one.to_vec(), other.to_vec());
+    let taken = in_turn(&mut [
+        &mut || proved::commit(black_box(&mut lent)).into(),
+        &mut || proved::commit(black_box(&mut other_lent)).into(),
+        &mut || quick::number::<Loads>(black_box(one)).into(),
+        &mut || quick::number::<Loads>(black_box(other)).into(),
+    ]);
     println!(
-        "| 256 pages, 32 versions, with a million empty commits beside without | {} | {} | {} |\n",
+        "| {name} | {} | {} | {} | {} |",
         times(taken.ratio(0, 1)),
+        times(taken.ratio(2, 3)),
         told(taken.of(0)),
         told(taken.of(1))
     );
+}
+
+fn growth() {
+    println!("| one store beside another | proved | in Rust | one | the other |");
+    println!("|---|---|---|---|---|");
+    for versions in [2, 32, 1024] {
+        let name = format!("4,096 pages beside 256, {versions} versions");
+        let store = |pages| stores::grown(pages, versions);
+        beside(&name, &store(4096), &store(256));
+    }
+    let store = stores::grown(256, 32);
+    let mut later = store.clone();
+    raise_current(&mut later, HIGHEST_VERSION - 1);
+    let name = "256 pages, 32 versions, a million empty commits beside none";
+    beside(name, &later, &store);
+    println!();
 }

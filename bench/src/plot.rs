@@ -24,7 +24,9 @@ pub fn plot() {
     let by_versions = (0..10).map(|power| 1 << (2 * power)).chain([MOST_VERSIONS]);
     let chart = Chart {
         title: "How the time of a call grows".to_string(),
-        note: "Medians of one run, joined; the upright lines are the quartiles.".to_string(),
+        note: "Medians of one run, joined; the upright lines are the quartiles. \
+               No mark: an update that could not be told from judging."
+            .to_string(),
         panels: vec![
             Panel {
                 title: format!("with pages ({VERSIONS} versions)"),

@@ -57,10 +57,6 @@ fn light_lines() -> Vec<u8> {
 
 pub fn program() {
     println!("## The program\n");
-    if !Path::new(PROVED).exists() {
-        println!("There is no target/bin/console.\n");
-        return;
-    }
     println!("Times as long as the reference program, both as a whole.\n");
     println!("| lines | on stores of | ratio | proved, a line | reference, a line |");
     println!("|---|---|---|---|---|");
