@@ -74,8 +74,8 @@ pub fn undo(page: &mut [u8], l: Limits, w: u32)
     requires { ⌜ Edition l × Exact (l .least) (now page) × (w < 2 ^ 20) ⌝ }
     ensures { λ _. ⌜ now (page .exit) ≡ encodePage (l .least) (back w (decodePage (l .least) (now (page .entry)))) ⌝ }
 {
-    let h = page::head_of(page, l);
-    if h.start == w {
+    let front = page::head_of(page, l);
+    if front.start == w {
         page::clear(page);
     } else {
         sift::sift(page, l, sift::Rule::Back, w);
