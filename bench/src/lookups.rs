@@ -33,7 +33,7 @@ pub fn lookups() {
         "| pages | versions | settings | ratio | proved, one lookup | sorted list | judging once |"
     );
     println!("|---|---|---|---|---|---|---|");
-    for (pages, versions) in [(16, 8), (256, 32)] {
+    for (pages, versions) in [(16, 8), (256, 32), (4096, 32)] {
         let store = stores::grown(pages, versions);
         let version = versions as u32;
         let model = Model::of_store(&store);
