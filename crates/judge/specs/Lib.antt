@@ -12,3 +12,4 @@ pub mod Reached
 pub mod Runs
 pub mod Rules
 pub mod Judge
+pub mod Named

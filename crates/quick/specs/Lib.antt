@@ -9,3 +9,4 @@ pub mod Slots
 pub mod Sums
 pub mod Number
 pub mod Led
+pub mod Slow

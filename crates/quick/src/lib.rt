@@ -10,16 +10,20 @@ mod slots;
 mod sums;
 mod under;
 
+use model::Header;
 use model::Limits;
 ghost use mathlib.Core.Path.{_≡_};
+ghost use mathlib.Core.Bool.{_&&_};
 ghost use Prim.Native.Nat.{_≤_, _^_};
-ghost use lib.ListN.{length};
+ghost use lib.ListN.{length, drop};
 ghost use Rattle.model.specs.Limits.{Edition};
 ghost use Rattle.model.specs.Layout.{decode};
 ghost use Rattle.model.specs.Judged.{editionOk, judged, isSound};
-ghost use Rattle.model.specs.Quick.{quick, quickIn};
+ghost use Rattle.model.specs.Quick.{spansMet, slotsFine, quick, quickIn};
 ghost use Rattle.local.specs.Local.{Sized};
+ghost use Rattle.notes.specs.Ready.{Ready};
 ghost use Rattle.quick.specs.Good.{Good};
+ghost use Rattle.quick.specs.Slow.{Ruled};
 ghost use Rattle.quick.specs.Slots.{GoodSlots};
 
 pub(crate) fn wide(x: u32) -> usize
@@ -42,6 +46,28 @@ fn quick(s: &[u8], l: Limits) -> bool
     pages::pages_fine(s, l)
 }
 
+// The sums and the slots: rule 6, once rules 4 and 5 hold (notes/specs/Six, `six-by`).
+pub fn led(s: &[u8], l: Limits) -> bool
+    requires { ⌜ Edition l × Good (l .least) (now s) × GoodSlots (l .least) (now s) ⌝ }
+    ensures { λ r. ⌜ r ≡ (spansMet (decode (l .least) (now (s .entry))) 5 (drop 5 (decode (l .least) (now (s .entry)) .pages)) && slotsFine (l .least) (decode (l .least) (now (s .entry)) .pages) (decode (l .least) (now (s .entry)) .slots)) ⌝ }
+{
+    if !sums::spans_met(s, l) {
+        return false;
+    }
+    slots::slots_fine(s, l)
+}
+
+// The same as `quick`, by the notes: bounded for any bytes, where `quick` is not. Slower on what a history leaves.
+fn slow(s: &[u8], l: Limits, h: Header) -> bool
+    requires { ⌜ Edition l × Good (l .least) (now s) × GoodSlots (l .least) (now s) × Ready (l .least) (now s) h × Ruled (l .least) (decode (l .least) (now s)) ⌝ }
+    ensures { λ r. ⌜ r ≡ quick (l .least) (decode (l .least) (now (s .entry))) ⌝ }
+{
+    if !led(s, l) {
+        return false;
+    }
+    notes::broken(s, l, h) == 0
+}
+
 // Rules 1 to 6 of lent bytes, which make `size` pages.
 fn rules_hold(s: &[u8], l: Limits, size: usize) -> bool
     requires { ⌜ Edition l × Sized (l .least) (now s) size ⌝ }
@@ -57,7 +83,7 @@ fn rules_hold(s: &[u8], l: Limits, size: usize) -> bool
     if !local::third_rule(s, l, h) {
         return false;
     }
-    quick(s, l)
+    slow(s, l, h)
 }
 
 fn of_edition(s: &[u8], l: Limits) -> bool
