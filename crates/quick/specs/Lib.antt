@@ -1,4 +1,5 @@
 pub mod Good
+pub mod Within
 pub mod Part
 pub mod Here
 pub mod Under
@@ -9,4 +10,4 @@ pub mod Slots
 pub mod Sums
 pub mod Number
 pub mod Led
-pub mod Slow
+pub mod Noted

@@ -65,12 +65,12 @@ returns-3 : tie.Need-returns-3
 returns-3 c = let a = c .before .before .before .before .before .before .before .before .args in sym (in-third (a .l .least) (a .s .now) (one ((c .before .before .before .before .before))) (two ((c .before .before))) (sym (c .before .third-rule .ensures) ∙ not-true (c .before .third-rule .result) (c .if3 .taken)))
 
 -- src/lib.rt:56:5
-slow-requires : tie.Need-slow-requires
-slow-requires c κs = let a = c .before .before .before .before .before .before .before .before .args in (c .before .before .before .before .before .before .before .before .pre .0, good (a .l .least) (a .s .now) (a .size) (c .before .before .before .before .before .before .before .before .pre .1) (one ((c .before .before .before .before .before))) (three ((c))), good-slots (a .l .least) (a .s .now) (a .size) (c .before .before .before .before .before .before .before .before .pre .1) (one ((c .before .before .before .before .before))), ready (a .l .least) (a .s .now) (c .before .before .before .before .header .result) (is-held (c .before .before .before .before)) (two (c .before .before)) (three ((c))), record { two = omega (arith, c .before .before .before .before .before .before .before .before .pre .0 .four); first = clean-first (a .l .least) (a .s .now) (one (c .before .before .before .before .before)); second = two (c .before .before); third = three ((c)) })
+quick-requires : tie.Need-quick-requires
+quick-requires c κs = let a = c .before .before .before .before .before .before .before .before .args in (c .before .before .before .before .before .before .before .before .pre .0, good (a .l .least) (a .s .now) (a .size) (c .before .before .before .before .before .before .before .before .pre .1) (one ((c .before .before .before .before .before))) (three ((c))), good-slots (a .l .least) (a .s .now) (a .size) (c .before .before .before .before .before .before .before .before .pre .1) (one ((c .before .before .before .before .before))), ready (a .l .least) (a .s .now) (c .before .before .before .before .header .result) (is-held (c .before .before .before .before)) (two (c .before .before)) (three ((c))), record { two = omega (arith, c .before .before .before .before .before .before .before .before .pre .0 .four); first = clean-first (a .l .least) (a .s .now) (one (c .before .before .before .before .before)); second = two (c .before .before); third = three ((c)) })
 
 -- src/lib.rt:42:1
 returns-4 : tie.Need-returns-4
-returns-4 c = let a = c .before .before .before .before .before .before .before .before .before .args in c .slow .ensures ∙ sym (in-rest (a .l .least) (a .s .now) (one ((c .before .before .before .before .before .before))) (two ((c .before .before .before))) (three ((c .before))))
+returns-4 c = let a = c .before .before .before .before .before .before .before .before .before .args in c .quick .ensures ∙ sym (in-rest (a .l .least) (a .s .now) (one ((c .before .before .before .before .before .before))) (two ((c .before .before .before))) (three ((c .before))))
 
 pub rules-hold-spec : {M : Type 1} → statement M
 rules-hold-spec =
@@ -83,5 +83,5 @@ rules-hold-spec =
     returns-2
     third-rule-requires
     returns-3
-    slow-requires
+    quick-requires
     returns-4)

@@ -1,4 +1,4 @@
--- The quick tests where the notes stand in for the pages'. Assumes nothing.
+-- Where the notes stand in for the pages' own tests. Assumes nothing.
 use Prim.Native.Nat.{ℕ, _≤_}
 use native.Mathlib.Omega.{arith}
 use mathlib.Core.Bool.{Bool, true, false, _&&_}
@@ -27,8 +27,8 @@ module _ (least : ℕ) (s : Store) (h : Ruled least s) where
   by : quick least s ≡ (spansMet s 5 (drop 5 (s .pages)) && slotsFine least (s .pages) (s .slots) && (rule4 s && rule5 least s))
   by = quick-by least (h .two) s (h .first) (h .second) (h .third)
 
-  pub slow-led : (spansMet s 5 (drop 5 (s .pages)) && slotsFine least (s .pages) (s .slots)) ≡ false → false ≡ quick least s
-  slow-led e = sym (by ∙ ap (λ (b : Bool). b && (rule4 s && rule5 least s)) e)
+  pub not-led : (spansMet s 5 (drop 5 (s .pages)) && slotsFine least (s .pages) (s .slots)) ≡ false → false ≡ quick least s
+  not-led e = sym (by ∙ ap (λ (b : Bool). b && (rule4 s && rule5 least s)) e)
 
-  pub slow-told : (r : ℕ) → r ≡ told (rule4 s) (rule5 least s) → (spansMet s 5 (drop 5 (s .pages)) && slotsFine least (s .pages) (s .slots)) ≡ true → eqb r 0 ≡ quick least s
-  slow-told r q e = ap (λ (k : ℕ). eqb k 0) q ∙ told-both (rule4 s) (rule5 least s) ∙ sym (by ∙ ap (λ (b : Bool). b && (rule4 s && rule5 least s)) e)
+  pub noted : (r : ℕ) → r ≡ told (rule4 s) (rule5 least s) → (spansMet s 5 (drop 5 (s .pages)) && slotsFine least (s .pages) (s .slots)) ≡ true → eqb r 0 ≡ quick least s
+  noted r q e = ap (λ (k : ℕ). eqb k 0) q ∙ told-both (rule4 s) (rule5 least s) ∙ sym (by ∙ ap (λ (b : Bool). b && (rule4 s && rule5 least s)) e)
