@@ -16,4 +16,4 @@ pub record Good (least : ℕ) (s : List ℕ) : Type 0 where
   pub low : (n : ℕ) → IsPage least s n → levelAt least s n ≤ 7
   pub child : (n i : ℕ) → IsPage least s n → 2 ≤ levelAt least s n → i < countAt least s n → IsPage least s (entryAt least s n i .value)
   pub lower : (n i : ℕ) → IsPage least s n → 2 ≤ levelAt least s n → i < countAt least s n → levelAt least s (entryAt least s n i .value) + 1 ≡ levelAt least s n
-  pub order : (n : ℕ) → IsPage least s n → 1 ≤ levelAt least s n → inOrder before (readEntries (pageOf least s n) 128 (countAt least s n)) ≡ true
+  pub order : (n : ℕ) → IsPage least s n → inOrder before (readEntries (pageOf least s n) 128 (countAt least s n)) ≡ true

@@ -30,6 +30,9 @@ module _ {l : Limits} (d : Edition l) (s : List ℕ) (g : Good (l .least) s) (n 
     pub room-here : readHead (l .least) p .count ≤ 5 * l .least
     room-here = rw (part .0) (g .room n k)
 
+    pub order-part : inOrder before (readEntries p 128 (readHead (l .least) p .count)) ≡ true
+    order-part = rw (part .0) (g .order n k)
+
     module _ (h : Head) (front : h ≡ readHead (l .least) p) where
       pub front-is : h ≡ headAt (l .least) s n
       front-is = front ∙ ap (readHead (l .least)) (part .0)
@@ -52,8 +55,8 @@ module _ {l : Limits} (d : Edition l) (s : List ℕ) (g : Good (l .least) s) (n 
       pub entries-start : readEntries (pageOf (l .least) s n) 128 (countAt (l .least) s n) ≡ readEntries p (128 + 96 * 0) (h .count - 0)
       entries-start = entries-are ∙ rw sub-zero refl
 
-      pub order-here : 1 ≤ levelAt (l .least) s n → inOrder before (readEntries p 128 (h .count)) ≡ true
-      order-here u = ap (inOrder before) (sym entries-are) ∙ g .order n k u
+      pub order-here : inOrder before (readEntries p 128 (h .count)) ≡ true
+      order-here = ap (inOrder before) (sym entries-are) ∙ g .order n k
 
       pub child-here : (i m : ℕ) → 2 ≤ levelAt (l .least) s n → i < h .count → m ≡ readEntry p (128 + 96 * i) .value → IsPage (l .least) s m × (levelAt (l .least) s m + 1 ≡ levelAt (l .least) s n)
       child-here i m u lt e =

@@ -1,6 +1,7 @@
 pub mod Good
 pub mod Within
 pub mod Part
+pub mod Order
 pub mod Here
 pub mod Under
 pub mod Routers

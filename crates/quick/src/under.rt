@@ -37,8 +37,8 @@ fn way_at(page: &[u8], n: usize, i: usize, h: u32, a: u32, b: u32) -> Way
         };
     }
     let c = crate::entry::larger(a, e.start);
-    let from = crate::part::past_behind(page, n, i + 1, c);
     let upto = crate::entry::smaller(b, e.end);
+    let from = crate::part::past_behind(page, n, i + 1, c, upto);
     Way {
         fine: e.key < h,
         from: from,

@@ -28,7 +28,7 @@ returns c =
 all-apart-requires : tie.Need-all-apart-requires
 all-apart-requires c κs =
     let a = c .before .before .before .before .before .args in let r = c .before .before .before .before .before .pre in
-    (stands-here (r .0) (a .s .now) (r .1) (a .n) (r .2) (c .before .before .before .part .result .now) (c .before .before .before .part .ensures) (c .before .before .head-of .result) (c .before .before .head-of .ensures), order-here (r .0) (a .s .now) (r .1) (a .n) (r .2) (c .before .before .before .part .result .now) (c .before .before .before .part .ensures) (c .before .before .head-of .result) (c .before .before .head-of .ensures) (omega (arith, c .if1 .left, level-is (r .0) (a .s .now) (r .1) (a .n) (r .2) (c .before .before .before .part .result .now) (c .before .before .before .part .ensures) (c .before .before .head-of .result) (c .before .before .head-of .ensures))))
+    (stands-here (r .0) (a .s .now) (r .1) (a .n) (r .2) (c .before .before .before .part .result .now) (c .before .before .before .part .ensures) (c .before .before .head-of .result) (c .before .before .head-of .ensures), order-here (r .0) (a .s .now) (r .1) (a .n) (r .2) (c .before .before .before .part .result .now) (c .before .before .before .part .ensures) (c .before .before .head-of .result) (c .before .before .head-of .ensures))
 
 -- a used page
 some : (c : tie.Else1) → let b = c .before .before .before .before .before in let ps = decode (b .args .l .least) (b .args .s .now) .pages in

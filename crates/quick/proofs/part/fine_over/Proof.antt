@@ -27,7 +27,7 @@ stands c =
 
 -- src/part.rt:155:9
 low-over-requires : tie.Need-low-over-requires
-low-over-requires c κs = stands (c)
+low-over-requires c κs = (stands (c), rw (c .head-of .ensures) (c .before .before .pre .3))
 
 -- src/part.rt:156:9
 returns : tie.Need-returns

@@ -1,5 +1,5 @@
 use Rattle.model.specs.declared.Slot.{Slot}
-use Rattle.quick.specs.Here.{part-asks, room-here}
+use Rattle.quick.specs.Here.{part-asks, room-here, order-part}
 use Rattle.store.specs.Read.{page-at}
 use Rattle.local.specs.Local.{IsPage, slotAt}
 use mathlib.Core.Path.{_≡_, ap, _∙_}
@@ -44,7 +44,7 @@ part-requires c κs = let k = part-asks (c .before .before .before .before .pre 
 
 -- src/slots.rt:62:5
 root-fine-requires : tie.Need-root-fine-requires
-root-fine-requires c κs = (c .before .before .before .before .before .pre .0, c .part .ensures .1, room-here (c .before .before .before .before .before .pre .0) (c .before .before .before .before .before .args .s .now) (c .before .before .before .before .before .pre .1) (c .before .wide .result) (rooted ((c .before))) (c .part .result .now) (c .part .ensures))
+root-fine-requires c κs = (c .before .before .before .before .before .pre .0, c .part .ensures .1, room-here (c .before .before .before .before .before .pre .0) (c .before .before .before .before .before .args .s .now) (c .before .before .before .before .before .pre .1) (c .before .wide .result) (rooted ((c .before))) (c .part .result .now) (c .part .ensures), order-part (c .before .before .before .before .before .pre .0) (c .before .before .before .before .before .args .s .now) (c .before .before .before .before .before .pre .1) (c .before .wide .result) (rooted ((c .before))) (c .part .result .now) (c .part .ensures))
 
 -- src/slots.rt:55:1
 returns : tie.Need-returns

@@ -12,7 +12,7 @@ use Rattle.model.specs.Basic.{pick}
 use Rattle.model.specs.Layout.{decode, readEntry, readEntries}
 use Rattle.model.specs.Quick.{under as underOf, lasts}
 use Rattle.quick.specs.Part.{highOver}
-use Rattle.quick.specs.Here.{part-asks, head-asks, stands-here, few, entries-are, entries-start, child-here}
+use Rattle.quick.specs.Here.{part-asks, head-asks, stands-here, few, entries-are, entries-start, order-here, child-here}
 use Rattle.quick.specs.Under.{under-empty, under-leaf, under-start, lasts-step, lasts-end, way-page}
 use Rattle.quick.specs.Within.{spent, unspent, taken, given-up, settled, ends, goes-on}
 use Rattle.quick.proofs.under.under.Reads as under
@@ -76,7 +76,7 @@ under-head-of-requires : (t : ℕ) → under-lts.Need-head-of-requires (claims t
 under-head-of-requires t c κs = let a = c .before .before .before .before .args in let r = c .before .before .before .before .pre .1 in let k = head-asks (r .0) (a .s .now) (r .1) (a .n) (r .2) (c .part .result .now) (c .part .ensures) in (r .0, k .0, k .1)
 
 under-high-over-requires : (t : ℕ) → under-lts.Need-high-over-requires (claims t) (under-at t) under.Post under-Inv-loop under-μ-loop
-under-high-over-requires t c κs = let a = c .before .before .before .before .before .before .args in let r = c .before .before .before .before .before .before .pre .1 in stands-here (r .0) (a .s .now) (r .1) (a .n) (r .2) (c .before .before .part .result .now) (c .before .before .part .ensures) (c .before .head-of .result) (c .before .head-of .ensures)
+under-high-over-requires t c κs = let a = c .before .before .before .before .before .before .args in let r = c .before .before .before .before .before .before .pre .1 in (stands-here (r .0) (a .s .now) (r .1) (a .n) (r .2) (c .before .before .part .result .now) (c .before .before .part .ensures) (c .before .head-of .result) (c .before .head-of .ensures), order-here (r .0) (a .s .now) (r .1) (a .n) (r .2) (c .before .before .part .result .now) (c .before .before .part .ensures) (c .before .head-of .result) (c .before .head-of .ensures))
 
 under-sub-t19 : (t : ℕ) → under-lts.Need-sub-t19 (claims t) (under-at t) under.Post under-Inv-loop under-μ-loop
 under-sub-t19 t c = omega (arith, c .before .before .before .before .if2 .left)
