@@ -1,13 +1,13 @@
 -- Rules 4, 5 and 6 as `check` names them: by the notes, by the reach walk at the last version, by the sums and the slots. Assumes nothing.
-use Prim.Native.Nat.{ℕ, _+_, _<_, _≤_}
+use Prim.Native.Nat.{ℕ, _+_, _≤_}
 use native.Mathlib.Omega.{arith}
 use mathlib.Core.Bool.{Bool, true, false, _&&_}
-use mathlib.Core.Path.{_≡_, refl, ap, sym, _∙_}
+use mathlib.Core.Path.{_≡_, refl, sym, _∙_}
 use mathlib.Core.Logic.{_⊎_, inl, inr}
 use mathlib.Core.List.{List}
 use lib.ListN.{drop}
 use Rattle.model.specs.declared.Header.{Header}
-use Rattle.model.specs.Basic.{all, count, pick}
+use Rattle.model.specs.Basic.{count}
 use Rattle.model.specs.Store.{lastOf}
 use Rattle.model.specs.Sound.{rule2, rule3, rule4, rule5, rule6}
 use Rattle.model.specs.Layout.{decode, readHeader}
@@ -16,25 +16,10 @@ use Rattle.model.specs.Quick.{spansMet, slotsFine}
 use Rattle.model.specs.Judged.{brokenIn}
 use Rattle.model.proofs.Members.{bool-cases, not-both, all-in, in-count}
 use Rattle.model.proofs.Judging.{clean-first, broken-four, broken-five, broken-six, broken-none}
-use Rattle.notes.specs.Linked.{Linked}
-use Rattle.notes.specs.Ready as noted
 use Rattle.notes.specs.Pass.{told}
 use Rattle.notes.specs.Six.{six-by}
-use Rattle.judge.specs.Versions.{Ready, RootFine, versionOk}
+use Rattle.judge.specs.Versions.{versionOk}
 use Rattle.judge.specs.Rules.{six-is}
-
--- what the notes ask
-pub noted-ready : (least : ℕ) (s : List ℕ) (h : Header) → Ready least s h → noted.Ready least s h
-noted-ready least s h y = record {
-  header = y .header;
-  sized = y .sized;
-  linked = record { long = y .linked .long; most = y .linked .most; room = y .linked .room; child = y .linked .child; lower = y .linked .lower };
-  roots = y .roots;
-  some = y .some;
-  first = y .first;
-  rooted = λ i l. let f = y .rooted i l in record { isPage = f .isPage; used = f .used; low = f .low };
-  last = y .last;
-}
 
 -- ---- rules 4 and 5
 

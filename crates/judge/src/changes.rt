@@ -4,23 +4,9 @@ ghost use mathlib.Core.Path.{_≡_};
 ghost use Prim.Native.Nat.{_*_, _≤_, _<_};
 ghost use lib.ListN.{length};
 ghost use Rattle.model.specs.Limits.{Edition};
-ghost use Rattle.model.proofs.Quiet.{Out};
 ghost use Rattle.page.specs.Head.{readHead};
-ghost use Rattle.judge.specs.Versions.{QuietPart, Sooner};
-
-// r, or x if it stands between v and r.
-fn sooner(v: u32, r: u32, x: u32) -> u32
-    requires { ⌜ v < r ⌝ }
-    ensures { λ q. ⌜ Sooner v r q × Out v q x ⌝ }
-{
-    if x <= v {
-        return r;
-    }
-    if r <= x {
-        return r;
-    }
-    x
-}
+ghost use Rattle.notes.specs.Ready.{Sooner};
+ghost use Rattle.judge.specs.Versions.{QuietPart};
 
 // A version up to r such that nothing of the page starts or ends before it and behind v. For a single version nothing is read.
 pub(crate) fn page_change(page: &[u8], l: Limits, v: u32, r: u32) -> u32
@@ -32,11 +18,11 @@ pub(crate) fn page_change(page: &[u8], l: Limits, v: u32, r: u32) -> u32
     }
     let h = page::head_of(page, l);
     let count = h.count;
-    let mut q = sooner(v, sooner(v, r, h.start), h.end);
+    let mut q = notes::sooner(v, notes::sooner(v, r, h.start), h.end);
     let mut i = 0;
     while i < count {
         let e = page::entry_at(page, i);
-        q = sooner(v, sooner(v, q, e.start), e.end);
+        q = notes::sooner(v, notes::sooner(v, q, e.start), e.end);
         i += 1;
     }
     q

@@ -5,7 +5,6 @@
 mod changes;
 mod live;
 mod reach;
-mod versions;
 mod walk;
 
 use model::Limits;

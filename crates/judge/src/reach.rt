@@ -10,7 +10,8 @@ ghost use Rattle.model.specs.Entry.{within};
 ghost use Rattle.model.specs.Limits.{Edition};
 ghost use Rattle.model.specs.Sound.{same};
 ghost use Rattle.model.specs.Layout.{readPages, sizeOf};
-ghost use Rattle.judge.specs.Versions.{versionOk, markedWell, Ready};
+ghost use Rattle.notes.specs.Ready.{Ready};
+ghost use Rattle.judge.specs.Versions.{versionOk, markedWell};
 
 fn used_at(h: Head, v: u32) -> bool
     ensures { λ r. ⌜ r ≡ (not (eqb (h .level) 0) && within (h .start) (h .end) v) ⌝ }
@@ -56,7 +57,7 @@ pub(crate) fn version_ok(s: &[u8], l: Limits, h: Header, v: u32) -> bool
     requires { ⌜ Edition l × Ready (l .least) (now s) h × (v ≤ 1048574) ⌝ }
     ensures { λ r. ⌜ r ≡ versionOk (l .least) 6 (now (s .entry)) v ⌝ }
 {
-    let root = crate::versions::root_at(s, l, h, v);
+    let root = notes::root_at(s, l, h, v);
     let f = page::head_of(store::part(s, l, root), l);
     let up = crate::wide(f.level) - 1;
     let w = crate::walk::walk(s, l, root, up, v, v + 1, 6);

@@ -25,11 +25,13 @@ pub good : (least : ℕ) (s : List ℕ) (size : ℕ) → Sized least s size → 
 good least s size z one three =
     let r : Ruled least s = ruled least s size z one in
     record {
-      long = z .long;
-      most = omega (arith, z .is, z .most);
-      room = r .room;
+      linked = record {
+        long = z .long;
+        most = omega (arith, z .is, z .most);
+        room = r .room;
+        child = λ n i k u lt. r .child n i k (λ q. omega arith) lt;
+        lower = child-lower least s r three;
+      };
       low = r .level;
-      child = λ n i k u lt. r .child n i k (λ q. omega arith) lt;
-      lower = child-lower least s r three;
       order = λ n k. ⊎-elim (λ q. none (pageOf least s n) (countAt least s n) (r .empty n k q)) (λ q. order least s size z one n k q) (same? (levelAt least s n) 0);
     }

@@ -1,5 +1,5 @@
 -- A page in itself, by its part p and its front h. Assumes nothing.
-use Prim.Native.Nat.{ℕ, zero, suc, _+_, _*_, _-_, _^_, _≤_, _<_}
+use Prim.Native.Nat.{ℕ, zero, suc, _+_, _*_, _-_, _≤_, _<_}
 use mathlib.Core.Bool.{Bool, true, false, not, _&&_, _||_}
 use mathlib.Core.Path.{_≡_, refl, ap, ap₂, sym, _∙_}
 use mathlib.Core.Logic.{_⊎_, inl, inr}
@@ -22,8 +22,8 @@ use Rattle.page.specs.Read.{level-of, entries-of}
 use Rattle.bits.specs.Put.{less}
 use Rattle.store.specs.Read.{behind}
 use Rattle.local.specs.Local.{IsPage}
+use Rattle.notes.specs.Here.{level-is, entries-are}
 use Rattle.quick.specs.Good.{Good}
-use Rattle.quick.specs.Here.{level-is, entries-are}
 use Rattle.quick.specs.Routers.{entriesAt}
 
 abbrev pub ownFine : ℕ → List Page → Page → Bool
@@ -59,7 +59,7 @@ module _ {l : Limits} (d : Edition l) (s : List ℕ) (g : Good (l .least) s) (n 
 
   own-by : own ≡ (eqb (h .level) 0 || (inOrder apart (readEntries p 128 (h .count)) && childrenFine (l .least) ps (h .level) (entriesAt (l .least) s n)))
   own-by =
-      rw (level-of (l .least) (pageOf (l .least) s n), entries-of (l .least) (pageOf (l .least) s n), level-is d s g n k p part h front, ← entries-are d s g n k p part h front)
+      rw (level-of (l .least) (pageOf (l .least) s n), entries-of (l .least) (pageOf (l .least) s n), level-is d s (g .linked) n k p part h front, ← entries-are d s (g .linked) n k p part h front)
 
   pub own-none : h .level ≡ 0 → own ≡ true
   own-none z = own-by ∙ rw (eq-eqb (h .level) 0 z)
@@ -68,7 +68,7 @@ module _ {l : Limits} (d : Edition l) (s : List ℕ) (g : Good (l .least) s) (n 
   own-some u = own-by ∙ rw (ne-eqb (h .level) 0 u)
 
   level-here : decodePage (l .least) (pageOf (l .least) s n) .level ≡ h .level
-  level-here = level-of (l .least) (pageOf (l .least) s n) ∙ sym (level-is d s g n k p part h front)
+  level-here = level-of (l .least) (pageOf (l .least) s n) ∙ sym (level-is d s (g .linked) n k p part h front)
 
   pub at-other : (m : ℕ) → (h .level ≡ m → ⊥) → true ≡ atLevel m (l .least) ps (decodePage (l .least) (pageOf (l .least) s n))
   at-other m z = sym (ap (λ (b : Bool). not b || own) (ne-eqb (decodePage (l .least) (pageOf (l .least) s n) .level) m (λ e. z (sym level-here ∙ e))))

@@ -1,5 +1,5 @@
 -- One page's tests, one entry at a time for a loop. Assumes nothing.
-use Prim.Native.Nat.{ℕ, _+_, _*_, _-_, _^_, _<_, _≤_, min, max}
+use Prim.Native.Nat.{ℕ, _+_, _*_, _-_, _<_, _≤_, min, max}
 use mathlib.Core.Bool.{Bool, true, false, _&&_, _||_, not}
 use mathlib.Core.Path.{_≡_, refl, ap, sym, _∙_}
 use mathlib.Core.Logic.{_⊎_, inl, inr}
@@ -18,11 +18,6 @@ use Rattle.model.proofs.QuickLaws.{throughout}
 use Rattle.page.specs.declared.Head.{Head}
 use Rattle.page.specs.Head.{readHead}
 use Rattle.page.specs.Read.{level-of, entries-of, entries-step, entries-end}
-
--- a part that has room for its entries
-pub record Stands (p : List ℕ) (n : ℕ) : Type 0 where
-  pub room : 16 + 12 * n ≤ length p
-  pub long : length p ≤ 2 ^ 40
 
 -- where the entry ends inside the stretch, m are alive
 abbrev pub endFine : ℕ → ℕ → ℕ → List Entry → Entry → Bool

@@ -1,7 +1,6 @@
 // Every page in itself: "No live key stands twice in a page", and its routers.
 use crate::within::Within;
 use model::Limits;
-ghost use mathlib.Core.Path.{_≡_};
 ghost use mathlib.Core.Bool.{_&&_};
 ghost use Prim.Native.Nat.{_-_};
 ghost use Rattle.model.specs.Basic.{all, inOrder};

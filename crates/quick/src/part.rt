@@ -12,7 +12,8 @@ ghost use Rattle.model.specs.Quick.{apart, lowOver, keyOver, liveCount, manyOve
 ghost use Rattle.model.proofs.QuickLaws.{throughout};
 ghost use Rattle.model.proofs.Rising.{firstOk};
 ghost use Rattle.page.specs.Head.{readHead};
-ghost use Rattle.quick.specs.Part.{Stands, endFine, highOver};
+ghost use Rattle.notes.specs.Linked.{Stands};
+ghost use Rattle.quick.specs.Part.{endFine, highOver};
 
 // The live keys are at least low.
 fn low_each(page: &[u8], n: usize, low: u32, a: u32, b: u32) -> bool

@@ -9,7 +9,7 @@ ghost use Rattle.model.specs.Layout.{readEntry, readEntries, decode};
 ghost use Rattle.model.specs.Quick.{under, nexts, routersFine};
 ghost use Rattle.local.specs.Local.{IsPage, levelAt};
 ghost use Rattle.quick.specs.Good.{Good};
-ghost use Rattle.quick.specs.Part.{Stands};
+ghost use Rattle.notes.specs.Linked.{Stands};
 ghost use Rattle.quick.specs.Routers.{routerFine, entriesAt};
 ghost use Rattle.quick.specs.Under.{underPage};
 ghost use Rattle.quick.specs.Within.{Answers};

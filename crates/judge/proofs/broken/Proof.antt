@@ -4,12 +4,12 @@ use mathlib.Core.Bool.{true}
 use native.Mathlib.Omega.{arith}
 use borrow.Author.Tests.{not-true, not-false}
 use Rattle.local.specs.Linked.{held}
-use Rattle.judge.specs.Rules.{ready}
-use Rattle.judge.specs.Named.{noted-ready, named-some, six-last, six-led, six-none}
+use Rattle.notes.specs.Given.{ready}
+use Rattle.judge.specs.Named.{named-some, six-last, six-led, six-none}
 use Rattle.quick.specs.Given.{good}
 use Rattle.quick.specs.Slots.{good-slots}
 use Rattle.store.specs.Read.{current-lt}
-use Rattle.judge.specs.Versions.{Ready}
+use Rattle.notes.specs.Ready.{Ready}
 use Rattle.local.specs.Local.{Held}
 use Rattle.model.proofs.Judging.{broken-one, broken-two, broken-three}
 use Rattle.model.specs.Clean.{clean}
@@ -58,7 +58,7 @@ returns-3 : tie.Need-returns-3
 returns-3 c = let a = c .before .before .before .before .before .before .before .before .args in sym (broken-three (a .l .least) (a .s .now) (one ((c .before .before .before .before .before))) (two ((c .before .before))) (sym (c .before .third-rule .ensures) ∙ not-true (c .before .third-rule .result) (c .if3 .taken)))
 
 broken-requires : tie.Need-broken-requires
-broken-requires c κs = let a = c .before .before .before .before .before .before .before .before .args in (c .before .before .before .before .before .before .before .before .pre .0, noted-ready (a .l .least) (a .s .now) (c .before .before .before .before .header .result) (is-ready ((c))))
+broken-requires c κs = let a = c .before .before .before .before .before .before .before .before .args in (c .before .before .before .before .before .before .before .before .pre .0, is-ready ((c)))
 
 returns-4 : tie.Need-returns-4
 returns-4 c = let a = c .before .before .before .before .before .before .before .before .before .before .args in named-some (a .l .least) (a .s .now) (one (c .before .before .before .before .before .before .before)) (two (c .before .before .before .before)) (three (c .before .before)) (c .before .broken .result) (c .before .broken .ensures) (c .if4 .taken)

@@ -19,7 +19,7 @@ size-requires : tie.Need-size-requires
 size-requires c κs = c .before .before .before .pre .0
 
 budget-requires : tie.Need-budget-requires
-budget-requires c κs = omega (arith, c .size .ensures, c .before .before .before .before .pre .1 .most)
+budget-requires c κs = omega (arith, c .size .ensures, c .before .before .before .before .pre .1 .linked .most)
 
 pages-fine-requires : tie.Need-pages-fine-requires
 pages-fine-requires c κs = (c .before .before .before .before .before .pre .0, c .before .before .before .before .before .pre .1)

@@ -4,16 +4,16 @@ use native.Mathlib.Omega.{arith}
 use borrow.Author.Needs.{needs}
 use Rattle.model.specs.Layout.{decode, decodePage, pageOf}
 use Rattle.quick.specs.Pages.{ownFine, atLevel, at-other, at-same}
-use Rattle.quick.specs.Here.{part-asks, head-asks}
+use Rattle.notes.specs.Here.{part-asks, head-asks}
 use Rattle.quick.specs.Within.{settled, handed}
 use Rattle.quick.proofs.pages.fine_at.Statement.{statement}
 use Rattle.quick.proofs.pages.fine_at.Tie as tie
 
 part-requires : tie.Need-part-requires
-part-requires c κs = let a = c .before .args in let r = c .before .pre in let k = part-asks (r .0) (a .s .now) (r .1) (a .n) (r .2) in (r .0, k .0, k .1)
+part-requires c κs = let a = c .before .args in let r = c .before .pre in let k = part-asks (r .0) (a .s .now) (r .1 .linked) (a .n) (r .2) in (r .0, k .0, k .1)
 
 head-of-requires : tie.Need-head-of-requires
-head-of-requires c κs = let a = c .before .before .args in let r = c .before .before .pre in let k = head-asks (r .0) (a .s .now) (r .1) (a .n) (r .2) (c .part .result .now) (c .part .ensures) in (r .0, k .0, k .1)
+head-of-requires c κs = let a = c .before .before .args in let r = c .before .before .pre in let k = head-asks (r .0) (a .s .now) (r .1 .linked) (a .n) (r .2) (c .part .result .now) (c .part .ensures) in (r .0, k .0, k .1)
 
 returns : tie.Need-returns
 returns c =

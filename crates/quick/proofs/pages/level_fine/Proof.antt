@@ -37,7 +37,7 @@ returns c =
     ends (a .left) (j .rest) (j .inv .1) x y z (c .before .before .fine-at .result) q (c .before .before .fine-at .ensures) (not-true (c .before .before .fine-at .result .fine) (c .if1 .taken))
 
 add-n : tie.Need-add-n Inv-loop μ-loop
-add-n c = omega (arith, c .before .before .before .loop-test .taken, c .before .before .before .before .before .size .ensures, c .before .before .before .before .before .before .before .pre .1 .most)
+add-n c = omega (arith, c .before .before .before .loop-test .taken, c .before .before .before .before .before .size .ensures, c .before .before .before .before .before .before .before .pre .1 .linked .most)
 
 loop-less : tie.Need-loop-less Inv-loop μ-loop
 loop-less c = omega (arith, c .before .before .before .loop-test .taken)

@@ -9,16 +9,17 @@ use Rattle.model.specs.Quick.{apart, childrenFine, routersFine}
 use Rattle.model.specs.Layout.{decode, decodePage, pageOf, readEntries}
 use Rattle.quick.specs.Pages.{ownFine, own-none, own-some, children-leaf, children-index}
 use Rattle.quick.specs.Routers.{entriesAt}
-use Rattle.quick.specs.Here.{part-asks, head-asks, stands-here, order-here, level-is}
+use Rattle.notes.specs.Here.{part-asks, head-asks, stands-here, level-is}
+use Rattle.quick.specs.Here.{order-here}
 use Rattle.quick.specs.Within.{settled, handed}
 use Rattle.quick.proofs.pages.page_fine.Statement.{statement}
 use Rattle.quick.proofs.pages.page_fine.Tie as tie
 
 part-requires : tie.Need-part-requires
-part-requires c κs = let a = c .before .args in let r = c .before .pre in let k = part-asks (r .0) (a .s .now) (r .1) (a .n) (r .2) in (r .0, k .0, k .1)
+part-requires c κs = let a = c .before .args in let r = c .before .pre in let k = part-asks (r .0) (a .s .now) (r .1 .linked) (a .n) (r .2) in (r .0, k .0, k .1)
 
 head-of-requires : tie.Need-head-of-requires
-head-of-requires c κs = let a = c .before .before .args in let r = c .before .before .pre in let k = head-asks (r .0) (a .s .now) (r .1) (a .n) (r .2) (c .part .result .now) (c .part .ensures) in (r .0, k .0, k .1)
+head-of-requires c κs = let a = c .before .before .args in let r = c .before .before .pre in let k = head-asks (r .0) (a .s .now) (r .1 .linked) (a .n) (r .2) (c .part .result .now) (c .part .ensures) in (r .0, k .0, k .1)
 
 returns : tie.Need-returns
 returns c =
@@ -28,7 +29,7 @@ returns c =
 all-apart-requires : tie.Need-all-apart-requires
 all-apart-requires c κs =
     let a = c .before .before .before .before .before .args in let r = c .before .before .before .before .before .pre in
-    (stands-here (r .0) (a .s .now) (r .1) (a .n) (r .2) (c .before .before .before .part .result .now) (c .before .before .before .part .ensures) (c .before .before .head-of .result) (c .before .before .head-of .ensures), order-here (r .0) (a .s .now) (r .1) (a .n) (r .2) (c .before .before .before .part .result .now) (c .before .before .before .part .ensures) (c .before .before .head-of .result) (c .before .before .head-of .ensures))
+    (stands-here (r .0) (a .s .now) (r .1 .linked) (a .n) (r .2) (c .before .before .before .part .result .now) (c .before .before .before .part .ensures) (c .before .before .head-of .result) (c .before .before .head-of .ensures), order-here (r .0) (a .s .now) (r .1) (a .n) (r .2) (c .before .before .before .part .result .now) (c .before .before .before .part .ensures) (c .before .before .head-of .result) (c .before .before .head-of .ensures))
 
 -- a used page
 some : (c : tie.Else1) → let b = c .before .before .before .before .before in let ps = decode (b .args .l .least) (b .args .s .now) .pages in
@@ -57,7 +58,7 @@ wide-requires c κs = search needs
 routers-fine-requires : tie.Need-routers-fine-requires
 routers-fine-requires c κs =
     let a = c .before .before .before .before .before .before .before .before .before .before .before .args in let r = c .before .before .before .before .before .before .before .before .before .before .before .pre in
-    (r .0, r .1, r .2, omega (arith, c .wide .ensures, c .before .before .before .before .before .before .if1 .left, c .before .before .if3 .left, level-is (r .0) (a .s .now) (r .1) (a .n) (r .2) (c .before .before .before .before .before .before .before .before .before .part .result .now) (c .before .before .before .before .before .before .before .before .before .part .ensures) (c .before .before .before .before .before .before .before .before .head-of .result) (c .before .before .before .before .before .before .before .before .head-of .ensures)))
+    (r .0, r .1, r .2, omega (arith, c .wide .ensures, c .before .before .before .before .before .before .if1 .left, c .before .before .if3 .left, level-is (r .0) (a .s .now) (r .1 .linked) (a .n) (r .2) (c .before .before .before .before .before .before .before .before .before .part .result .now) (c .before .before .before .before .before .before .before .before .before .part .ensures) (c .before .before .before .before .before .before .before .before .head-of .result) (c .before .before .before .before .before .before .before .before .head-of .ensures)))
 
 returns-4 : tie.Need-returns-4
 returns-4 c =

@@ -2,7 +2,8 @@ use mathlib.Core.Path.{ap, sym, _∙_}
 use native.Mathlib.Omega.{arith}
 use borrow.Author.Tests.{not-true, not-false, eq-eqb, ne-eqb}
 use Rattle.page.specs.declared.Head.{Head}
-use Rattle.quick.specs.Part.{Stands, fine-by}
+use Rattle.notes.specs.Linked.{Stands}
+use Rattle.quick.specs.Part.{fine-by}
 use borrow.Author.Needs.{needs}
 use Rattle.quick.proofs.part.fine_over.Statement.{statement}
 use Rattle.quick.proofs.part.fine_over.Tie as tie

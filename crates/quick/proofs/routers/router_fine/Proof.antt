@@ -7,7 +7,8 @@ use borrow.Author.Tests.{not-true, not-false}
 use Rattle.model.specs.Layout.{readEntry, readEntries, decode}
 use Rattle.model.specs.Quick.{nexts}
 use Rattle.local.specs.Local.{IsPage, levelAt}
-use Rattle.quick.specs.Here.{part-asks, room-here, order-part}
+use Rattle.notes.specs.Here.{part-asks, room-here}
+use Rattle.quick.specs.Here.{order-part}
 use Rattle.quick.specs.Routers.{routerFine, leads-to, router-by}
 use Rattle.quick.specs.Under.{underPage}
 use Rattle.quick.specs.Within.{settled, handed}
@@ -27,10 +28,10 @@ child c =
     leads-to (a .l .least) (a .s .now) (readEntry (a .p .now) (128 + 96 * a .i)) (c .before .entry-at .result) (c .wide .result) (c .before .entry-at .ensures) (c .wide .ensures) (a .up + 1) (b .pre .4) (b .pre .5)
 
 part-requires : tie.Need-part-requires
-part-requires c κs = let a = c .before .before .before .before .args in let r = c .before .before .before .before .pre in let k = part-asks (r .0) (a .s .now) (r .1) (c .wide .result) (child (c) .0) in (r .0, k .0, k .1)
+part-requires c κs = let a = c .before .before .before .before .args in let r = c .before .before .before .before .pre in let k = part-asks (r .0) (a .s .now) (r .1 .linked) (c .wide .result) (child (c) .0) in (r .0, k .0, k .1)
 
 fine-over-requires : tie.Need-fine-over-requires
-fine-over-requires c κs = let a = c .before .before .before .before .before .args in let r = c .before .before .before .before .before .pre in (r .0, c .part .ensures .1, room-here (r .0) (a .s .now) (r .1) (c .before .wide .result) (child (c .before) .0) (c .part .result .now) (c .part .ensures), order-part (r .0) (a .s .now) (r .1) (c .before .wide .result) (child (c .before) .0) (c .part .result .now) (c .part .ensures))
+fine-over-requires c κs = let a = c .before .before .before .before .before .args in let r = c .before .before .before .before .before .pre in (r .0, c .part .ensures .1, room-here (r .0) (a .s .now) (r .1 .linked) (c .before .wide .result) (child (c .before) .0) (c .part .result .now) (c .part .ensures), order-part (r .0) (a .s .now) (r .1) (c .before .wide .result) (child (c .before) .0) (c .part .result .now) (c .part .ensures))
 
 returns : tie.Need-returns
 returns c =

@@ -6,7 +6,7 @@ use native.Mathlib.Omega.{arith}
 use borrow.Author.Tests.{not-true, not-false}
 use Rattle.model.specs.Layout.{readEntry, readEntries, decode}
 use Rattle.model.specs.Quick.{routersFine}
-use Rattle.quick.specs.Here.{part-asks, head-asks, stands-here, few, entries-start, child-here}
+use Rattle.notes.specs.Here.{part-asks, head-asks, stands-here, few, entries-start, child-here}
 use Rattle.quick.specs.Routers.{entriesAt, routerFine}
 use Rattle.quick.specs.Under.{routers-step, routers-end}
 use Rattle.quick.specs.Within.{settled, ends, goes-on}
@@ -20,19 +20,19 @@ abbrev μ-loop : tie.MeasureT-loop
 μ-loop s l up n left p count rest₀ i₀ rest i = count - i
 
 part-requires : tie.Need-part-requires Inv-loop μ-loop
-part-requires c κs = let a = c .before .args in let r = c .before .pre in let k = part-asks (r .0) (a .s .now) (r .1) (a .n) (r .2) in (r .0, k .0, k .1)
+part-requires c κs = let a = c .before .args in let r = c .before .pre in let k = part-asks (r .0) (a .s .now) (r .1 .linked) (a .n) (r .2) in (r .0, k .0, k .1)
 
 head-of-requires : tie.Need-head-of-requires Inv-loop μ-loop
-head-of-requires c κs = let a = c .before .before .args in let r = c .before .before .pre in let k = head-asks (r .0) (a .s .now) (r .1) (a .n) (r .2) (c .part .result .now) (c .part .ensures) in (r .0, k .0, k .1)
+head-of-requires c κs = let a = c .before .before .args in let r = c .before .before .pre in let k = head-asks (r .0) (a .s .now) (r .1 .linked) (a .n) (r .2) (c .part .result .now) (c .part .ensures) in (r .0, k .0, k .1)
 
 loop-holds : tie.Need-loop-holds Inv-loop μ-loop
-loop-holds c = let a = c .before .before .before .args in let r = c .before .before .before .pre in (omega arith, omega arith, λ lt. ap (routersFine (a .l .least) (a .up) (decode (a .l .least) (a .s .now) .pages)) (entries-start (r .0) (a .s .now) (r .1) (a .n) (r .2) (c .before .part .result .now) (c .before .part .ensures) (c .head-of .result) (c .head-of .ensures)))
+loop-holds c = let a = c .before .before .before .args in let r = c .before .before .before .pre in (omega arith, omega arith, λ lt. ap (routersFine (a .l .least) (a .up) (decode (a .l .least) (a .s .now) .pages)) (entries-start (r .0) (a .s .now) (r .1 .linked) (a .n) (r .2) (c .before .part .result .now) (c .before .part .ensures) (c .head-of .result) (c .head-of .ensures)))
 
 router-fine-requires : tie.Need-router-fine-requires Inv-loop μ-loop
 router-fine-requires c κs =
     let a = c .before .before .before .before .before .args in let r = c .before .before .before .before .before .pre in let j = c .before .loop in
-    let (x, y) = child-here (r .0) (a .s .now) (r .1) (a .n) (r .2) (c .before .before .before .part .result .now) (c .before .before .before .part .ensures) (c .before .before .head-of .result) (c .before .before .head-of .ensures) (j .i) (readEntry (c .before .before .before .part .result .now) (128 + 96 * j .i) .value) (omega (arith, r .3)) (c .loop-test .taken) refl in
-    (r .0, r .1, stands-here (r .0) (a .s .now) (r .1) (a .n) (r .2) (c .before .before .before .part .result .now) (c .before .before .before .part .ensures) (c .before .before .head-of .result) (c .before .before .head-of .ensures), omega (arith, c .loop-test .taken), x, omega (arith, y, r .3))
+    let (x, y) = child-here (r .0) (a .s .now) (r .1 .linked) (a .n) (r .2) (c .before .before .before .part .result .now) (c .before .before .before .part .ensures) (c .before .before .head-of .result) (c .before .before .head-of .ensures) (j .i) (readEntry (c .before .before .before .part .result .now) (128 + 96 * j .i) .value) (omega (arith, r .3)) (c .loop-test .taken) refl in
+    (r .0, r .1, stands-here (r .0) (a .s .now) (r .1 .linked) (a .n) (r .2) (c .before .before .before .part .result .now) (c .before .before .before .part .ensures) (c .before .before .head-of .result) (c .before .before .head-of .ensures), omega (arith, c .loop-test .taken), x, omega (arith, y, r .3))
 
 returns : tie.Need-returns Inv-loop μ-loop
 returns c =
@@ -44,7 +44,7 @@ returns c =
     ends (a .left) (j .rest) (j .inv .1) x y z (c .before .before .router-fine .result) q (c .before .before .router-fine .ensures) (not-true (c .before .before .router-fine .result .fine) (c .if1 .taken))
 
 add-i : tie.Need-add-i Inv-loop μ-loop
-add-i c = let a = c .before .before .before .before .before .before .before .before .args in let r = c .before .before .before .before .before .before .before .before .pre in omega (arith, c .before .before .before .loop-test .taken, few (r .0) (a .s .now) (r .1) (a .n) (r .2) (c .before .before .before .before .before .before .part .result .now) (c .before .before .before .before .before .before .part .ensures) (c .before .before .before .before .before .head-of .result) (c .before .before .before .before .before .head-of .ensures))
+add-i c = let a = c .before .before .before .before .before .before .before .before .args in let r = c .before .before .before .before .before .before .before .before .pre in omega (arith, c .before .before .before .loop-test .taken, few (r .0) (a .s .now) (r .1 .linked) (a .n) (r .2) (c .before .before .before .before .before .before .part .result .now) (c .before .before .before .before .before .before .part .ensures) (c .before .before .before .before .before .head-of .result) (c .before .before .before .before .before .head-of .ensures))
 
 loop-less : tie.Need-loop-less Inv-loop μ-loop
 loop-less c = omega (arith, c .before .before .before .loop-test .taken)
