@@ -16,7 +16,7 @@ use reference::samples::sound_store;
 fn judged(store: &[u8], name: &str) -> (u32, u32) {
     let verdict = calls::check(store);
     assert_eq!(host::check(store), verdict, "{name}");
-    for left in [0, 1, 8, budget(store.len() / PAGE_BYTES), u32::MAX] {
+    for left in [0, 1, 8, budget(store.len() / PAGE_BYTES)] {
         let (number, rule, _) = check(store, left);
         assert_eq!((number, rule), verdict, "{name}, budget {left}");
     }
@@ -25,7 +25,7 @@ fn judged(store: &[u8], name: &str) -> (u32, u32) {
 
 #[test]
 fn damaged_stores() {
-    for seed in 0..60 {
+    for seed in 0..40 {
         let sound = sound_store(seed);
         assert_eq!(judged(&sound, "sound"), (0, 0));
         for kind in kinds() {
@@ -39,7 +39,7 @@ fn damaged_stores() {
 
 #[test]
 fn nearly_sound_stores() {
-    for seed in 0..30 {
+    for seed in 0..20 {
         let sound = sound_store(seed);
         let mut rng = Rng::new(seed);
         for _ in 0..40 {
@@ -63,7 +63,7 @@ fn a_root_outside_its_stretch() {
 fn hostile_stores() {
     for family in &FAMILIES {
         let mut rules = [0; 7];
-        climb(family, 5, 60, 80, &mut |tried| {
+        climb(family, 5, 40, 120, &mut |tried| {
             let verdict = judged(&tried.store, family.name);
             assert_eq!((tried.number, tried.rule), verdict);
             rules[verdict.1 as usize] += 1;

@@ -1,85 +1,170 @@
-//! Pages that `under` reads in the stores that histories leave: what the budget
+//! Pages that `under` reads where nothing bounds it, in sound stores: what the budget
 //! rests on.
 
 use hostile::judge::judged;
 use hostile::quick::read::Loads;
 use hostile::stores;
-use reference::history::{calls, KINDS};
-use reference::layout::PAGE_BYTES;
+use reference::engine::{Answer, Call};
+use reference::foreign::unsettle;
+use reference::history::{History, KINDS};
+use reference::layout::{MOST_PAGES, PAGE_BYTES};
+use reference::rng::Rng;
 use reference::samples::sound_store;
 use reference::tall::{tall, Fill, Spine};
+use reference::{number, unjudged};
 
-fn under(store: &[u8]) -> (usize, u32, u32) {
-    let (number, taken) = judged::<Loads>(store, u32::MAX);
-    (store.len() / PAGE_BYTES, number, taken.under)
+/// The most reads for a page of all stores of a kind.
+#[derive(Default)]
+struct Most {
+    stores: u32,
+    reads: u32,
+    pages: usize,
+}
+
+impl Most {
+    fn a_page(&self) -> f64 {
+        f64::from(self.reads) / self.pages.max(1) as f64
+    }
+
+    fn see(&mut self, store: &[u8]) {
+        let pages = store.len() / PAGE_BYTES;
+        let (number, taken) = judged::<Loads>(store, u32::MAX);
+        assert_eq!(number, number::DONE);
+        self.stores += 1;
+        if f64::from(taken.under) / pages as f64 > self.a_page() {
+            self.reads = taken.under;
+            self.pages = pages;
+        }
+    }
+
+    fn row(&self, name: &str) {
+        println!(
+            "| {name} | {} | {} | {} | {:.2} |",
+            self.stores,
+            self.pages,
+            self.reads,
+            self.a_page()
+        );
+    }
 }
 
 fn main() {
-    println!("grown:");
-    for pages in [6, 8, 12, 16, 32, 64, 128, 256, 512, 1024, 2048, 4096] {
-        for versions in [1, 2, 4, 8, 16, 32, 128, 1024, 8192] {
-            for per in [4, 10, 30] {
-                if pages > 1024 && versions > 1024 {
-                    continue;
-                }
-                let store = stores::grown_by(pages, versions, per * pages);
-                let (p, n, u) = under(&store);
-                println!(
-                    "{p} v{versions} x{per} n{n} under {u} per page {:.3}",
-                    f64::from(u) / p as f64
-                );
+    println!("| sound stores | so many | pages of the one with the most reads a page | its reads | a page |");
+    println!("|---|---|---|---|---|");
+    for pages in [16, 64, 256, 1024, 4096] {
+        let mut most = Most::default();
+        for versions in [1, 4, 16, 64, 256, 1024] {
+            for updates in [4, 10, 30] {
+                most.see(&stores::grown_by(pages, versions, updates * pages));
             }
         }
+        most.row(&format!("grown, {pages} pages"));
     }
-    println!("samples:");
-    let mut worst = 0.0;
-    for seed in 0..20000 {
-        let store = sound_store(seed);
-        let (p, n, u) = under(&store);
-        assert_eq!(n, 0);
-        let per = f64::from(u) / p as f64;
-        if per > worst {
-            worst = per;
-            println!("seed {seed} pages {p} under {u} per {per:.3}");
-        }
-    }
-    println!("histories:");
-    let mut worst = [0.0; 4];
-    for (k, kind) in KINDS.iter().enumerate() {
-        for seed in 0..300 {
-            for pages in [6, 8, 12, 20, 40, 80, 200] {
-                let (_, store) = calls(seed, *kind, pages, 40 * pages);
-                let (p, n, u) = under(&store);
-                assert_eq!(n, 0);
-                let per = f64::from(u) / p as f64;
-                if per > worst[k] {
-                    worst[k] = per;
-                    println!("{kind:?} seed {seed} pages {p} under {u} per {per:.3}");
-                }
-            }
-        }
-    }
-    println!("tall:");
-    for level in 2..=7 {
-        for spine in [Spine::First, Spine::Middle, Spine::Last] {
-            for (l, d) in [(4, 0), (4, 16), (5, 15), (8, 8), (16, 4), (20, 0)] {
-                let mut fills = vec![Fill::new(l, d); level];
-                fills[level - 1] = Fill::new(2, d.min(18));
-                let mut found = tall(&fills, spine, 0);
-                if found.is_none() {
-                    for f in fills.iter_mut().skip(2) {
-                        *f = Fill::new(4, d);
+    let mut most = Most::default();
+    (0..3000).for_each(|seed| most.see(&sound_store(seed)));
+    most.row("samples: small histories, unsettled, tall, near the last version");
+    for kind in KINDS {
+        let mut most = Most::default();
+        for pages in [12, 40, 120, 400] {
+            for seed in 0..6 {
+                let mut store = vec![0; pages * PAGE_BYTES];
+                let mut history = History::new(seed, kind, pages);
+                for call in 0..40 * pages {
+                    step(&mut history, &mut store);
+                    if call % (10 * pages) == 0 && call > 0 {
+                        most.see(&store);
                     }
-                    found = tall(&fills, spine, 0);
                 }
-                if let Some(t) = found {
-                    let (p, n, u) = under(&t.store);
-                    println!(
-                        "level {level} {spine:?} {l}+{d}: {p} n{n} under {u} per page {:.3}",
-                        f64::from(u) / p as f64
-                    );
+                most.see(&store);
+            }
+        }
+        most.row(&format!("histories, {kind:?}"));
+    }
+    hot_pages();
+    foreign();
+}
+
+/// One call of the history that changes the store; others are left out.
+fn step(history: &mut History, store: &mut [u8]) {
+    let call = history.next_call();
+    let number = match call {
+        Call::Fresh => reference::calls::fresh(store),
+        Call::Open => unjudged::open(store),
+        Call::Commit => unjudged::commit(store),
+        Call::Abandon => unjudged::abandon(store),
+        Call::Insert(key, value) => unjudged::insert(store, key, value),
+        Call::Delete(key) => unjudged::delete(store, key),
+        _ => return,
+    };
+    history.observe(call, &Answer::of(number));
+}
+
+/// A tall store whose way to one leaf has sixteen live entries a page, and five of
+/// that leaf's settings put again at every version: a new leaf each time, a new page
+/// above it each fifth time, and so on up.
+fn hot_pages() {
+    for level in 2..=6 {
+        let mut most = Most::default();
+        for spine in [Spine::First, Spine::Middle, Spine::Last] {
+            for (live, root) in [(16, 2), (16, 16), (12, 12), (8, 8)] {
+                let mut fills = vec![Fill::new(live, 0); level];
+                fills[level - 1] = Fill::new(root, 0);
+                if level > 4 {
+                    fills[3..].fill(Fill::new(4, 0));
+                }
+                let Some(built) = tall(&fills, spine, 0) else {
+                    continue;
+                };
+                let used = built.store.len() / PAGE_BYTES;
+                for free in [used / 4, used, 4 * used, MOST_PAGES - used] {
+                    let free = free.min(MOST_PAGES - used);
+                    let Some(built) = tall(&fills, spine, free) else {
+                        continue;
+                    };
+                    let mut store = built.store;
+                    put_again(&mut store, &built.spine_keys);
+                    most.see(&store);
                 }
             }
         }
+        most.row(&format!("one hot leaf, level {level}"));
     }
+}
+
+fn put_again(store: &mut [u8], keys: &[u32]) {
+    for version in 0.. {
+        if unjudged::open(store) != number::DONE {
+            return;
+        }
+        for key in keys.iter().cycle().skip(5 * version % keys.len()).take(5) {
+            let deleted = unjudged::delete(store, *key);
+            if deleted != number::DONE || unjudged::insert(store, *key, 1) != number::DONE {
+                // no page or no slot is left
+                unjudged::abandon(store);
+                return;
+            }
+        }
+        unjudged::commit(store);
+    }
+}
+
+fn foreign() {
+    let mut most = Most::default();
+    for pages in [64, 512, 2048] {
+        for seed in 0..6 {
+            let mut rng = Rng::new(seed);
+            let mut store = stores::grown_by(pages, 8, 3 * pages);
+            for _ in 0..pages / 2 {
+                if unjudged::open(&mut store) != number::DONE {
+                    break;
+                }
+                for _ in 0..rng.below(4) {
+                    unsettle(&mut store, &mut rng);
+                }
+                unjudged::commit(&mut store);
+            }
+            most.see(&store);
+        }
+    }
+    most.row("grown, then unsettled at many versions");
 }

@@ -1,5 +1,10 @@
-//! Pages of each level with routers to those below, as numbers and a seed say:
-//! rules 1 to 3 hold, and nothing else is aimed at.
+//! Pages of a level stand at low keys evenly apart, the same on each level. Some
+//! routers of a page stay, the first of them to the page of its own low key; others
+//! start one after another, as numbers and a seed say, to pages with higher low keys.
+//! So each router leads to a page that fits it; whether all that stands at one version
+//! fits together is another matter.
+
+use std::collections::BTreeMap;
 
 use reference::layout::{Entry, Span, ALIVE, LEAF};
 use reference::rng::Rng;
@@ -10,87 +15,80 @@ use super::sketch::Sketch;
 #[derive(Clone, Copy)]
 pub struct Web {
     pub seed: u32,
-    /// The root's level, and pages of each level below it.
+    /// The root's level, and the most pages of each level below it.
     pub depth: u32,
     pub wide: u32,
-    /// Most entries of a page.
+    /// Most entries of a page, and how many of them stay.
     pub fan: u32,
+    pub staying: u32,
     /// Versions from an entry's start to the next one's, and how long it lives.
     pub stagger: u32,
     pub life: u32,
-    /// Of so many routers one leads anywhere, the others to the page that is due.
+    /// How many times as far apart the pages stand to which a page leads one level
+    /// up.
+    pub step: u32,
+    /// Of so many routers one leads to any page with a higher low key.
     pub astray: u32,
-    /// Routers of one page in turn to one page below, to one after another, or to
-    /// any.
-    pub share: u32,
 }
+
+/// The low keys of two pages of a level lie this far apart.
+const APART: u32 = 32;
 
 pub fn web(numbers: Web) -> Option<Vec<u8>> {
     let mut sketch = Sketch::new();
-    if !sketch.has_room(numbers.wide * (numbers.depth - 1) + 3) {
-        return None;
-    }
     let mut rng = Rng::new(numbers.seed.into());
-    let last = (numbers.life + numbers.stagger * numbers.fan * numbers.depth).min(ALIVE - 2);
+    let last = 2 + numbers.life + numbers.stagger * numbers.fan * numbers.depth;
     let whole = Span {
         start: 1,
         end: last,
     };
     sketch.nothing_from(0);
     let root = sketch.page(numbers.depth, Vec::new());
-    let mut row = vec![(0, root)];
-    for level in (LEAF..=numbers.depth).rev() {
-        let below = sketch.len() as u32;
-        let wide = if level == LEAF { 0 } else { numbers.wide };
-        let mut lows = vec![None; wide as usize];
-        // so far apart that all keys below find room, where there is that much
-        let apart = numbers.fan.pow(level - LEAF).min(1 << 17);
-        let mut due = 0;
-        for (low, page) in row {
-            let count = rng.between(1, numbers.fan);
-            for place in 0..count {
-                let key = low + apart * place;
-                let late = numbers.stagger * (place + numbers.fan * (numbers.depth - level));
-                let value = match (level, numbers.share) {
-                    (LEAF, _) => 7,
-                    _ if numbers.astray > 0 && rng.once_in(numbers.astray) => rng.below(wide),
-                    (_, 0) => due % wide,
-                    (_, 1) => (due + place) % wide,
-                    _ => rng.below(wide),
-                };
-                if level > LEAF && lows[value as usize].is_none() {
-                    lows[value as usize] = Some(key);
-                }
-                let target = if level == LEAF { 7 } else { below + value };
-                sketch.router(
-                    page,
-                    entry_in(whole, key, late, numbers.life, target, place == 0),
-                );
-            }
-            due += if numbers.share == 0 { 1 } else { count };
-        }
-        row = Vec::new();
-        for low in lows {
-            row.push((low.unwrap_or(0), sketch.page(level - 1, Vec::new())));
-        }
-    }
     sketch.root(whole.start, root);
     sketch.nothing_from(whole.end);
+    let mut row = BTreeMap::from([(0, root)]);
+    for level in (LEAF..=numbers.depth).rev() {
+        let mut below = BTreeMap::new();
+        for (own, page) in row {
+            let fewest = numbers.staying.min(numbers.fan);
+            let mut orders = Vec::new();
+            for place in 0..rng.between(fewest, numbers.fan) {
+                let late = numbers.stagger * (place + numbers.fan * (numbers.depth - level));
+                let start = whole.start + late;
+                let span = match place < numbers.staying {
+                    true => whole,
+                    false => Span {
+                        start,
+                        end: whole.end.min(start + numbers.life),
+                    },
+                };
+                let (key, value) = match level {
+                    LEAF => (APART * own + place, 7),
+                    _ => {
+                        let led = target(&mut rng, numbers, level, own, place);
+                        let more = || sketch.page(level - 1, Vec::new());
+                        (APART * led, *below.entry(led).or_insert_with(more))
+                    }
+                };
+                let router = entry(key, span, value);
+                if !orders.contains(&Entry::order(&router)) {
+                    orders.push(router.order());
+                    sketch.router(page, router);
+                }
+            }
+        }
+        row = below;
+    }
     sketch.store(ALIVE - 1)
 }
 
-/// An entry of so many versions within the whole; a page's first is there from the
-/// first version on.
-fn entry_in(whole: Span, key: u32, late: u32, life: u32, value: u32, first: bool) -> Entry {
-    let start = if first {
-        whole.start
-    } else {
-        whole.start + late.min(whole.end - 2)
-    };
-    let end = if first {
-        whole.end
-    } else {
-        whole.end.min(start + life)
-    };
-    entry(key, Span { start, end }, value)
+/// Which page a router leads to, by its place among those of the level below.
+fn target(rng: &mut Rng, numbers: Web, level: u32, own: u32, place: u32) -> u32 {
+    let due =
+        own.saturating_add(place.saturating_mul(numbers.step.saturating_pow(level - LEAF - 1)));
+    match numbers.astray > 0 && place > 0 && rng.once_in(numbers.astray) {
+        true => rng.between(own, own.max(numbers.wide - 1)),
+        false if due < numbers.wide => due,
+        false => own,
+    }
 }
