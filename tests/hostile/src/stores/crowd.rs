@@ -3,13 +3,24 @@
 //! itself, and the spans add up, since at all other versions nothing leads
 //! there. What is wrong shows in the pages above, which come last.
 
-use reference::layout::{Page, Span, ALIVE, FIRST_PAGE, HIGHEST_VERSION, LEAF, MOST_ENTRIES};
+use reference::layout::{
+    Page, Span, ALIVE, FIRST_PAGE, HIGHEST_LEVEL, HIGHEST_VERSION, LEAF, MOST_ENTRIES, MOST_PAGES,
+};
 
-use crate::hostile::{slot, Built};
-use crate::stores::entry;
+use super::entry;
+use super::shared::{slot, Built};
 
-/// Some 3,000 fit into 4,096 pages; the time grows with their number.
-const CROWD: u32 = 100;
+#[derive(Clone, Copy)]
+pub struct Crowd {
+    /// The pages that lead to the same ones; some 3,000 fit into 4,096 pages.
+    pub crowd: u32,
+    /// The pages to which they lead.
+    pub shared: u32,
+    /// Lives of a last router, beside three that stay: in each of these lives
+    /// another page comes last, with as many lives of its own last router.
+    pub lives: u32,
+}
+
 /// The versions at which all of them stand: enough for all lives, and so few
 /// that 3,000 times as many are no more than there are.
 const WIDTH: u32 = ALIVE / 3000;
@@ -17,11 +28,9 @@ const ALL: Span = Span {
     start: HIGHEST_VERSION - WIDTH,
     end: HIGHEST_VERSION,
 };
-/// Lives of a last router, beside three that stay: in each of these lives
-/// another page comes last, with as many lives of its own last router.
-const LIVES: u32 = MOST_ENTRIES as u32 - 3;
 
-pub fn crowd() -> Vec<u8> {
+/// None if that is more than 4,096 pages.
+pub fn crowd(numbers: Crowd) -> Option<Vec<u8>> {
     let before = Span {
         start: 0,
         end: ALL.start,
@@ -30,11 +39,13 @@ pub fn crowd() -> Vec<u8> {
         pages: vec![Page::new(LEAF, before, Vec::new())],
         next_key: 0,
     };
-    let shared: Vec<(u32, u32)> = (0..MOST_ENTRIES).map(|_| shared_page(&mut built)).collect();
-    let mut pages: Vec<u32> = (0..CROWD)
+    let shared: Vec<(u32, u32)> = (0..numbers.shared)
+        .map(|_| shared_page(&mut built, numbers))
+        .collect();
+    let mut pages: Vec<u32> = (0..numbers.crowd)
         .map(|_| index_page(&mut built, 4, &shared))
         .collect();
-    for level in 5.. {
+    for level in 5..=HIGHEST_LEVEL {
         if pages.len() == 1 {
             break;
         }
@@ -52,7 +63,8 @@ pub fn crowd() -> Vec<u8> {
         slot(ALL.start, pages[0]),
         slot(ALL.end, behind),
     ];
-    built.store(slots, HIGHEST_VERSION)
+    let fits = pages.len() == 1 && built.pages.len() + FIRST_PAGE as usize <= MOST_PAGES;
+    fits.then(|| built.store(slots, HIGHEST_VERSION))
 }
 
 fn index_page(built: &mut Built, level: u32, routers: &[(u32, u32)]) -> u32 {
@@ -69,11 +81,11 @@ fn leaf(built: &mut Built) -> (u32, u32) {
 }
 
 /// The lives of a last router within a span, the last of them up to its end.
-fn lives(span: Span) -> impl Iterator<Item = Span> {
-    let each = (span.end - span.start) / LIVES;
-    (0..LIVES).map(move |life| {
+fn lives(span: Span, lives: u32) -> impl Iterator<Item = Span> {
+    let each = (span.end - span.start) / lives;
+    (0..lives).map(move |life| {
         let start = span.start + each * life;
-        let last = life + 1 == LIVES;
+        let last = life + 1 == lives;
         let end = if last { span.end } else { start + each };
         Span { start, end }
     })
@@ -82,7 +94,7 @@ fn lives(span: Span) -> impl Iterator<Item = Span> {
 /// A page of level 3 to which the crowd leads: three pages below it stay, and
 /// then one follows another. Its span is as long as those of all that lead to
 /// it together.
-fn shared_page(built: &mut Built) -> (u32, u32) {
+fn shared_page(built: &mut Built, numbers: Crowd) -> (u32, u32) {
     let low = built.next_key;
     let mut routers = Vec::new();
     for _ in 0..3 {
@@ -91,15 +103,15 @@ fn shared_page(built: &mut Built) -> (u32, u32) {
         routers.push(entry(leaves[0].0, ALL, page));
     }
     let leaves: Vec<(u32, u32)> = (0..4).map(|_| leaf(built)).collect();
-    for span in lives(ALL) {
+    for span in lives(ALL, numbers.lives) {
         let staying = leaves[..3]
             .iter()
             .map(|&(key, page)| entry(key, span, page));
         let (key, page) = leaves[3];
-        let last = lives(span).map(|life| entry(key, life, page));
+        let last = lives(span, numbers.lives).map(|life| entry(key, life, page));
         let page = built.push(Page::new(2, span, staying.chain(last).collect()));
         routers.push(entry(leaves[0].0, span, page));
     }
-    let span = Span::alive_from(ALIVE - CROWD * WIDTH);
+    let span = Span::alive_from(ALIVE - numbers.crowd * WIDTH);
     (low, built.push(Page::new(3, span, routers)))
 }
