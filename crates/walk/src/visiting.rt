@@ -25,8 +25,8 @@ fn number(n: usize) -> u32
     n as u32
 }
 
-// The pages from page n, `up` levels above the leaves, down to the leaf for a key, into a list that holds them. The level has three
-// bits, so there are at most seven.
+// The pages from page n, `up` levels above the leaves, down to the leaf for a key, into a list that holds them. Rule 1 has no level
+// above 7, so they are at most seven.
 fn note(s: &[u8], l: Limits, v: u32, key: u32, n: usize, up: usize, list: &mut [u32])
     requires { ⌜ Readable l (now s) v × Covers (l .least) v (decode (l .least) (now s) .pages) up n key × (up < length (now list)) ⌝ }
     ensures { λ _. ⌜ now (list .exit) ≡ sets (now (list .entry)) 0 (pathDown up (decode (l .least) (now (s .entry)) .pages) v key n) ⌝ }

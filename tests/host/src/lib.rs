@@ -34,6 +34,15 @@ mod c {
             room: usize,
             count: *mut usize,
         ) -> u32;
+        pub fn rcst_visits(
+            store: *const u8,
+            length: usize,
+            key: u32,
+            version: u32,
+            pages: *mut u32,
+            room: usize,
+            count: *mut usize,
+        ) -> u32;
     }
 }
 
@@ -102,6 +111,24 @@ pub fn range(store: &[u8], low: u32, high: u32, version: u32, list: &mut [u32]) 
             version,
             list.as_mut_ptr(),
             list.len(),
+            &mut count,
+        )
+    };
+    (number, count)
+}
+
+/// The number and the count of pages that a lookup visits; their numbers go to
+/// the list, from the root down.
+pub fn visits(store: &[u8], key: u32, version: u32, pages: &mut [u32]) -> (u32, usize) {
+    let mut count = 0;
+    let number = unsafe {
+        c::rcst_visits(
+            store.as_ptr(),
+            store.len(),
+            key,
+            version,
+            pages.as_mut_ptr(),
+            pages.len(),
             &mut count,
         )
     };
