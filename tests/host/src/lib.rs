@@ -164,11 +164,9 @@ impl Engine for Proved {
             }
             Call::Range(low, high, version, _) => {
                 let (number, count) = range(store, low, high, version, list);
-                Answer {
-                    count: count as u32,
-                    ..Answer::of(number)
-                }
+                Answer::counted((number, count as u32))
             }
+            Call::Visits(..) => unimplemented!("the library does not have it yet"),
         }
     }
 }
