@@ -166,7 +166,10 @@ impl Engine for Proved {
                 let (number, count) = range(store, low, high, version, list);
                 Answer::counted((number, count as u32))
             }
-            Call::Visits(..) => unimplemented!("the library does not have it yet"),
+            Call::Visits(key, version, _) => {
+                let (number, count) = visits(store, key, version, list);
+                Answer::counted((number, count as u32))
+            }
         }
     }
 }

@@ -7,7 +7,7 @@ use reference::trace::seeds;
 use reference::trace::session::answers;
 
 /// Lines that the library cannot answer yet.
-const NOT_YET: &[&str] = &["visits"];
+const NOT_YET: &[&str] = &[];
 
 /// `usual`, or twenty times that if `RCST_LONG` is set.
 fn rounds(usual: u64) -> u64 {
