@@ -25,7 +25,7 @@ use Rattle.model.proofs.Given.{Sound, from-tests, GoodEntry, span-of, e
 use Rattle.model.proofs.Walks.{Reach, Self, reach-self, seen-reached, IsSeen, reached-under}
 use Rattle.model.proofs.Back.{endsWell}
 use Rattle.model.specs.Climb.{Result, refused, update}
-use Rattle.model.specs.Calls.{Rule, rule, numbered, isSome, insert, delete}
+use Rattle.model.specs.Calls.{Rule, numbered, isSome, benchLimit, insertTests, deleteTests, rawInsert, insert, delete}
 use Rattle.model.proofs.Undo.{TamePage, Good, Next, Beside, WayGood, Ready, Undone, update-undone}
 use Rattle.model.proofs.Edit.{leaf-insert, leaf-delete, length-enter, keep-all, dropped-one}
 use Rattle.model.proofs.Main.{Fit, leafPairs, Changed, update-changes}
@@ -395,14 +395,14 @@ pub insert-by : (P : Result → Type 0) (least : ℕ) (s : Store) (k x : ℕ) �
     → (s .opened ≡ true → k < keyLimit → lookup s k (next s) ≡ none → P (update least s k (record { drop = []; take = pair k x ∷ [] }))) → P (insert least s k x)
 unfolding insert
 insert-by P least s k x a b =
-    numbered-by P (rule 5 (leb keyLimit k) ∷ rule 7 (not (s .opened)) ∷ rule 10 (isSome (lookup s k (next s))) ∷ []) (update least s k (record { drop = []; take = pair k x ∷ [] })) a
-    (λ f. b (not-false (s .opened) (f .1 .0)) (leb-false keyLimit k (f .0)) (is-none (lookup s k (next s)) (f .1 .1 .0)))
+    numbered-by P (insertTests k (s .opened) (isSome (lookup s k (next s)))) (rawInsert least s k x) a
+    (λ f. b (not-false (s .opened) (f .1 .0)) (omega (arith, leb-false benchLimit k (f .0))) (is-none (lookup s k (next s)) (f .1 .1 .0)))
 
 pub delete-by : (P : Result → Type 0) (least : ℕ) (s : Store) (k : ℕ) → ((n : ℕ) → P (refused n))
     → (s .opened ≡ true → k < keyLimit → isSome (lookup s k (next s)) ≡ true → P (update least s k (record { drop = k ∷ []; take = [] }))) → P (delete least s k)
 unfolding delete
 delete-by P least s k a b =
-    numbered-by P (rule 5 (leb keyLimit k) ∷ rule 7 (not (s .opened)) ∷ rule 11 (not (isSome (lookup s k (next s)))) ∷ []) (update least s k (record { drop = k ∷ []; take = [] })) a
+    numbered-by P (deleteTests k (s .opened) (isSome (lookup s k (next s)))) (update least s k (record { drop = k ∷ []; take = [] })) a
     (λ f. b (not-false (s .opened) (f .1 .0)) (leb-false keyLimit k (f .0)) (is-some (lookup s k (next s)) (f .1 .1 .0)))
 
 -- For every sound store: an abandon after an accepted insert or delete leaves what an abandon before it leaves, and the settings at the open version change by the change alone.
