@@ -6,6 +6,7 @@ use model::Limits;
 use model::Looked;
 pub use updating::delete;
 pub use updating::insert;
+pub use updating::raw_insert;
 use walk::Counted;
 ghost use mathlib.Core.Path.{_≡_};
 ghost use Rattle.model.specs.Limits.{Edition};

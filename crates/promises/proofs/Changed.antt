@@ -34,7 +34,7 @@ opened-by false true q m n h g e = refl
 insert-opened : (k : ℕ) (o alive : Bool) (n : ℕ) → Gives (firstOf (insertTests k o alive)) n → n ≡ 0 → o ≡ true
 insert-opened k o alive n g e = opened-by (leb benchLimit k) o alive 10 n (omega arith) g e
 
-delete-opened : (k : ℕ) (o alive : Bool) (n : ℕ) → Gives (firstOf (deleteTests k o alive)) n → n ≡ 0 → o ≡ true
+pub delete-opened : (k : ℕ) (o alive : Bool) (n : ℕ) → Gives (firstOf (deleteTests k o alive)) n → n ≡ 0 → o ≡ true
 delete-opened k o alive n g e = opened-by (leb keyLimit k) o (not alive) 11 n (omega arith) g e
 
 module _ (least : ℕ) (four : 4 ≤ least) (eight : least ≤ 8) (b : List ℕ) (t : Turn) (ok : Accepts least b) (fit : fitting (kindOf (t .call)) ≡ true) (done : ended least (t .call) b (t .list) .number ≡ 0)

@@ -7,4 +7,5 @@ pub mod Demand1
 pub mod Demand2
 pub mod Demand3
 pub mod Replayed
+pub mod Bench
 pub mod Fakes

@@ -1,0 +1,25 @@
+-- `raw_insert` meets its contract. Assumes nothing.
+use mathlib.Core.Path.{ap₂, _∙_}
+use Rattle.calls.specs.Turning.{ended}
+use Rattle.calls.specs.Updating.{raw-leaves}
+use borrow.Author.Needs.{needs}
+use Rattle.calls.proofs.updating.raw_insert.Statement.{statement}
+use Rattle.calls.proofs.updating.raw_insert.Tie as tie
+
+inserting-requires : tie.Need-inserting-requires
+inserting-requires c κs = c .before .pre .key
+
+update-requires : tie.Need-update-requires
+update-requires c κs =
+    let a = c .before .before .args in
+    let p = c .before .before .pre in
+    (p .edition, p .sound, p .opened, p .key, c .inserting .ensures .1, raw-leaves (p .edition) (a .s .now) (a .key) p (a .value) (search needs) _ (c .inserting .ensures .0))
+
+same-length : tie.Need-same-length
+same-length c = search needs
+
+returns : tie.Need-returns
+returns c = ?
+
+pub raw-insert-spec : {M : Type 1} → statement M
+raw-insert-spec = tie.close (tie.spec inserting-requires update-requires same-length returns)
