@@ -1,7 +1,5 @@
 -- `raw_insert` meets its contract. Assumes nothing.
-use mathlib.Core.Path.{ap₂, _∙_}
-use Rattle.calls.specs.Turning.{ended}
-use Rattle.calls.specs.Updating.{raw-leaves}
+use Rattle.calls.specs.Updating.{raw-leaves, raw-done}
 use borrow.Author.Needs.{needs}
 use Rattle.calls.proofs.updating.raw_insert.Statement.{statement}
 use Rattle.calls.proofs.updating.raw_insert.Tie as tie
@@ -19,7 +17,9 @@ same-length : tie.Need-same-length
 same-length c = search needs
 
 returns : tie.Need-returns
-returns c = ?
+returns c =
+    let a = c .before .before .before .before .before .args in
+    raw-done (a .l .least) (a .s .now) (a .key) (a .value) _ (c .before .before .before .inserting .ensures .0) _ _ (c .before .before .update .ensures .0) (c .before .before .update .ensures .1)
 
 pub raw-insert-spec : {M : Type 1} → statement M
 raw-insert-spec = tie.close (tie.spec inserting-requires update-requires same-length returns)
