@@ -1,12 +1,12 @@
 //! 2026-06, "keep the bench keys out", by hand: the numbers are written here and
-//! not taken from the other program. What cleans a store is made by both.
+//! not taken from the other program, whose raw insert makes the stores that were
+//! shipped with bench keys. What cleans such a store is made by both.
 
 mod common;
 
 use common::both;
+use reference::calls::raw_insert;
 use reference::engine::Call;
-use reference::store::header;
-use reference::update::{plan, Change};
 
 const FIRST: u32 = 16_776_960;
 const HIGHEST: u32 = 16_777_215;
@@ -17,14 +17,6 @@ fn opened(pages: usize) -> Vec<u8> {
     assert_eq!(host::fresh(&mut store), 0);
     assert_eq!(host::open(&mut store), 0);
     store
-}
-
-/// An insert by the page rules alone, behind every test: so stores were shipped
-/// with bench keys.
-fn raw_insert(store: &mut [u8], key: u32, value: u32) {
-    let change = Change::insert(key, value, header(store).last());
-    let changes = plan(store, key, change).expect("room").finish();
-    changes.write(store);
 }
 
 /// Inserts that give 5 and leave every byte.
@@ -43,12 +35,12 @@ fn shipped() -> Vec<u8> {
         .chain([FIRST - 2, FIRST - 1])
         .chain(FIRST..FIRST + 30)
     {
-        raw_insert(&mut store, key, key / 7);
+        assert_eq!(raw_insert(&mut store, key, key / 7), 0);
     }
     assert_eq!(host::commit(&mut store), 0);
     assert_eq!(host::open(&mut store), 0);
     for key in HIGHEST - 19..=HIGHEST {
-        raw_insert(&mut store, key, key / 7);
+        assert_eq!(raw_insert(&mut store, key, key / 7), 0);
     }
     assert_eq!(host::commit(&mut store), 0);
     assert_eq!(host::check(&store), (0, 0));
@@ -199,7 +191,7 @@ fn bench_keys_in_an_open_update_are_abandoned_to_the_byte() {
     let mut store = before.clone();
     assert_eq!(host::open(&mut store), 0);
     for key in FIRST + 30..FIRST + 60 {
-        raw_insert(&mut store, key, key);
+        assert_eq!(raw_insert(&mut store, key, key), 0);
     }
     assert_eq!(host::check(&store), (0, 0));
     assert_eq!(host::lookup(&store, FIRST + 59, 3), (0, true, FIRST + 59));
