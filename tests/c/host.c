@@ -58,7 +58,7 @@ static void releases(void) {
 
 static void settings(void) {
     static uint8_t store[8 * RCST_PAGE_BYTES], before[8 * RCST_PAGE_BYTES];
-    uint32_t found = 9, value = 9, list[4] = {1, 2, 3, 4}, key;
+    uint32_t found = 9, value = 9, list[4] = {1, 2, 3, 4}, pages[RCST_MOST_LEVELS] = {0}, key;
     size_t count = 9;
 
     expect(rcst_fresh(store, sizeof store) == 0, "a fresh store of 8 pages");
@@ -75,6 +75,7 @@ static void settings(void) {
     expect(rcst_delete(store, sizeof store, 41) == 11, "the key is not alive");
     expect(rcst_lookup(store, sizeof store, 40, 1, &found, &value) == 0 && found == 1 && value == 7, "the open version is readable");
     expect(rcst_commit(store, sizeof store) == 0, "a release");
+    expect(rcst_visits(store, sizeof store, 40, 1, pages, 1, &count) == 0 && count == 1 && pages[0] == 5, "a lookup goes by page 5 alone");
     memcpy(before, store, sizeof store);
     expect(rcst_open(store, sizeof store) == 0, "the next update");
     expect(rcst_delete(store, sizeof store, 40) == 0, "a delete");
@@ -87,6 +88,8 @@ static void settings(void) {
     }
     expect(key == 20, "a dead entry takes room too");
     expect(rcst_insert(store, sizeof store, key, key) == 12, "pages run out");
+    expect(rcst_visits(store, sizeof store, 40, 1, pages, RCST_MOST_LEVELS, &count) == 0 && count == 1 && pages[0] == 5, "the old version by the same page");
+    expect(rcst_visits(store, sizeof store, 40, 1, pages, 0, &count) == 14 && count == 1, "no room for its number");
     expect(rcst_range(store, sizeof store, 3, 4, 2, list, 4, &count) == 0 && count == 2, "two settings");
     expect(list[0] == 3 && list[1] == 3 && list[2] == 4 && list[3] == 4, "key, value, key, value");
     expect(rcst_abandon(store, sizeof store) == 0, "the update is abandoned");

@@ -9,6 +9,8 @@ pub mod Sound
 pub mod Rules
 pub mod Climb
 pub mod Calls
+pub mod Told
+pub mod Visited
 pub mod Settings
 pub mod Histories
 pub mod Field

@@ -8,6 +8,8 @@ use Rattle.model.specs.Store.{fresh}
 use Rattle.model.specs.Rules
 use Rattle.model.specs.Climb
 use Rattle.model.specs.Calls
+use Rattle.model.specs.Told
+use Rattle.model.specs.Visited
 use Rattle.model.specs.Sound
 use Rattle.model.specs.Sound.{sound}
 use Rattle.model.specs.Field
@@ -19,7 +21,7 @@ use Rattle.model.specs.AlsoRun.{alsoRun}
 use Rattle.model.specs.Bench.{benchRun}
 use Rattle.model.specs.Vectors.{freshBytes, entryForty, fortyBytes}
 use Rattle.model.specs.Figures.{Figure, made, figures}
-use Rattle.model.specs.Samples.{twoLevels, fromElsewhere, served}
+use Rattle.model.specs.Samples.{twoLevels, fromElsewhere, served, visited, visitedPages}
 
 -- ---- what is computed with
 
@@ -107,3 +109,7 @@ from-elsewhere-sound = tt
 pub samples-served : T (all holds served)
 unfolding calling
 samples-served = tt
+
+pub samples-visited : visited ≡ visitedPages
+unfolding Visited.visits Told.toldBy Told.toldIn
+samples-visited = refl

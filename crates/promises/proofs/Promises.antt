@@ -1,4 +1,4 @@
--- The promises, each under its name: what it says stands in specs/Demand1, Demand2, Demand3, Bench, Replayed and Fakes.
+-- The promises, each under its name: what it says stands in specs/Demand1, Demand2, Demand3, OldReadings, Bench, Replayed and Fakes.
 -- Assumes nothing.
 use Prim.Native.Nat.{ℕ}
 use native.Mathlib.Omega.{arith}
@@ -30,6 +30,7 @@ use Rattle.promises.specs.Beside.{along, fromFresh, fromLent}
 use Rattle.promises.specs.Demand1.{Unique, Refused, Blank, Judges, Untrusted, OneForm, FreshMade}
 use Rattle.promises.specs.Demand2.{EncodedSound, AcceptedSound, SoundStays, FreshSound, History, HistoryLent, Found, SettingsChange, AnswersStay, ViewsStay, ByTheRules, ReadsOnly, Balanced, Levels, Lacking}
 use Rattle.promises.specs.Demand3.{Abandoned}
+use Rattle.promises.specs.OldReadings.{PagesStay, VisitsTold, VisitsStay}
 use Rattle.promises.specs.Replayed.{TableLent}
 use Rattle.promises.specs.Bench.{KeptOut}
 use Rattle.promises.specs.Fakes.{FakesStopped}
@@ -158,6 +159,17 @@ table = replaying.table-lent
 
 pub abandoned : Abandoned
 abandoned = restored.abandoned
+
+-- ---- request 2026-13
+
+pub pages-stay : PagesStay
+pages-stay = stays.pages-stay
+
+pub visits-told : VisitsTold
+visits-told = stays.visits-told
+
+pub visits-stay : VisitsStay
+visits-stay = stays.visits-stay
 
 -- ---- fakes
 

@@ -1,4 +1,4 @@
-//! The nine calls, on any bytes and any numbers.
+//! The calls, on any bytes and any numbers.
 //!
 //! Every call but making fresh judges the whole store before it trusts it,
 //! also where an argument would be refused anyway: of several numbers the
@@ -54,6 +54,15 @@ pub fn range(bytes: &[u8], low: u32, high: u32, version: u32, list: &mut [u32]) 
     match judged(bytes) {
         Some(refusal) => (refusal, 0),
         None => unjudged::range(bytes, low, high, version, list),
+    }
+}
+
+/// The number and the count of pages that a lookup visits; their numbers, from
+/// the root down to the leaf, are written to the front of `list`.
+pub fn visits(bytes: &[u8], key: u32, version: u32, list: &mut [u32]) -> (u32, u32) {
+    match judged(bytes) {
+        Some(refusal) => (refusal, 0),
+        None => unjudged::visits(bytes, key, version, list),
     }
 }
 

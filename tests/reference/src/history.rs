@@ -207,7 +207,16 @@ impl History {
             Order::Falling => absent[absent.len() - 1],
             Order::Scattered => *self.rng.pick(&absent).unwrap_or(&0),
         };
-        Call::Insert(key, self.rng.word())
+        Call::Insert(key, self.some_value())
+    }
+
+    /// Mostly any 32 bits; 0 is a value too.
+    fn some_value(&mut self) -> u32 {
+        match self.rng.below(8) {
+            0 => 0,
+            1 => u32::MAX,
+            _ => self.rng.word(),
+        }
     }
 
     fn delete(&mut self, alive: &[u32]) -> Call {
@@ -242,8 +251,10 @@ impl History {
 
     fn read(&mut self) -> Call {
         let version = self.some_version();
-        if self.rng.once_in(2) {
-            return Call::Lookup(self.some_key(), version);
+        match self.rng.below(5) {
+            0 | 1 => return Call::Lookup(self.some_key(), version),
+            2 => return Call::Visits(self.some_key(), version, self.rng.below(8) as usize),
+            _ => {}
         }
         let (one, other) = match self.rng.below(3) {
             0 => (0, HIGHEST_KEY),
@@ -272,7 +283,7 @@ impl History {
         };
         let (key, version) = (self.some_key(), self.some_version());
         let word = self.rng.word();
-        match self.rng.below(12) {
+        match self.rng.below(14) {
             0 => Call::Insert(too_large, word),
             1 => Call::Delete(too_large),
             2 => Call::Lookup(too_large, version),
@@ -285,6 +296,8 @@ impl History {
             8 if self.rng.once_in(2) => Call::Commit,
             8 => Call::Abandon,
             9 | 10 => self.updates_turned_round(),
+            11 => Call::Visits(too_large, version, 7),
+            12 => Call::Visits(key, late, 0),
             _ => Call::Range(too_large, too_large, version, 4),
         }
     }

@@ -76,7 +76,8 @@ impl Model {
         found.flat_map(|(key, value)| [*key, *value]).collect()
     }
 
-    /// The answer to `call` if pages and slots were endless.
+    /// The answer to `call` if pages and slots were endless. Of a lookup's
+    /// pages it knows only whether they are refused by 5 or 6.
     pub fn answer(&self, call: Call) -> Answer {
         match call {
             Call::Fresh | Call::Check => Answer::default(),
@@ -88,6 +89,7 @@ impl Model {
             Call::Range(low, high, version, length) => {
                 self.answer_to_range(low, high, version, length)
             }
+            Call::Visits(key, version, _) => Answer::of(self.number_of_reading(key, version)),
         }
     }
 
@@ -126,12 +128,20 @@ impl Model {
         }
     }
 
-    fn answer_to_lookup(&self, key: u32, version: u32) -> Answer {
+    fn number_of_reading(&self, key: u32, version: u32) -> u32 {
         if key > HIGHEST_KEY {
-            return Answer::of(number::ARGUMENT);
+            number::ARGUMENT
+        } else if version > self.last() {
+            number::VERSION
+        } else {
+            number::DONE
         }
-        if version > self.last() {
-            return Answer::of(number::VERSION);
+    }
+
+    fn answer_to_lookup(&self, key: u32, version: u32) -> Answer {
+        let number = self.number_of_reading(key, version);
+        if number != number::DONE {
+            return Answer::of(number);
         }
         let found = self.at(version).get(&key);
         Answer {
@@ -174,7 +184,7 @@ impl Model {
                 self.committed.insert(self.current, settings);
             }
             Call::Abandon => self.open = None,
-            Call::Check | Call::Lookup(..) | Call::Range(..) => {}
+            Call::Check | Call::Lookup(..) | Call::Range(..) | Call::Visits(..) => {}
         }
     }
 

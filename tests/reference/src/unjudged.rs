@@ -121,3 +121,23 @@ pub fn range(bytes: &[u8], low: u32, high: u32, version: u32, list: &mut [u32]) 
     }
     (number::DONE, count)
 }
+
+/// The number and the count of pages that a lookup visits, in order: "the page
+/// numbers from the root down to the leaf", for any key. Refused as a range is.
+pub fn visits(bytes: &[u8], key: u32, version: u32, list: &mut [u32]) -> (u32, u32) {
+    if key > HIGHEST_KEY {
+        return (number::ARGUMENT, 0);
+    }
+    if version > store::header(bytes).last() {
+        return (number::VERSION, 0);
+    }
+    let path = walk::path(bytes, key, version);
+    let count = path.len() as u32;
+    if list.len() < path.len() {
+        return (number::LIST_TOO_SHORT, count);
+    }
+    for (place, step) in list.iter_mut().zip(path) {
+        *place = step.page;
+    }
+    (number::DONE, count)
+}
