@@ -13,6 +13,10 @@
  * and it ends by a commit, which makes it the current version for ever, or by an
  * abandon, after which every byte is what it was before the open.
  *
+ * Keys 16,776,960 and above belong to the test bench. Insert refuses them with
+ * 5; lookup, range and delete take them, so that a store that was shipped with
+ * bench keys can be read and cleaned.
+ *
  * Every call gives a number, of several that apply the smallest:
  *
  *    0  done
@@ -20,7 +24,7 @@
  *    2  first four bytes wrong
  *    3  edition not 1
  *    4  not sound
- *    5  key too large, or range low above high
+ *    5  key too large (insert: from 16,776,960 on), or range low above high
  *    6  version above the last one that can be read
  *    7  no update open (insert, delete, commit, abandon)
  *    8  update already open (open)
@@ -56,6 +60,7 @@ extern "C" {
 #define RCST_FEWEST_PAGES 6u
 #define RCST_MOST_PAGES 4096u
 #define RCST_HIGHEST_KEY 16777215u
+#define RCST_HIGHEST_INSERT_KEY 16776959u
 #define RCST_HIGHEST_VERSION 1048574u
 #define RCST_MOST_LEVELS 7u
 
@@ -72,14 +77,14 @@ uint32_t rcst_check(const uint8_t *store, size_t length, uint32_t *rule);
 uint32_t rcst_open(uint8_t *store, size_t length);
 
 /*
- * Inserts a setting in the open update: a key that is not alive, and its value,
- * any 32 bits. Gives 0, 1 to 5, 7, 10, 12 or 13.
+ * Inserts a setting in the open update: a key up to RCST_HIGHEST_INSERT_KEY that
+ * is not alive, and its value, any 32 bits. Gives 0, 1 to 5, 7, 10, 12 or 13.
  */
 uint32_t rcst_insert(uint8_t *store, size_t length, uint32_t key, uint32_t value);
 
 /*
- * Deletes a setting in the open update: a key that is alive. A delete can need a
- * page or a slot too. Gives 0, 1 to 5, 7, 11, 12 or 13.
+ * Deletes a setting in the open update: a key that is alive, a bench key too. A
+ * delete can need a page or a slot too. Gives 0, 1 to 5, 7, 11, 12 or 13.
  */
 uint32_t rcst_delete(uint8_t *store, size_t length, uint32_t key);
 

@@ -63,8 +63,13 @@ static void settings(void) {
 
     expect(rcst_fresh(store, sizeof store) == 0, "a fresh store of 8 pages");
     expect(rcst_insert(store, sizeof store, 40, 7) == 7, "no update is open");
+    expect(rcst_insert(store, sizeof store, RCST_HIGHEST_INSERT_KEY, 7) == 7, "nor for the highest key that goes in");
+    expect(rcst_insert(store, sizeof store, RCST_HIGHEST_INSERT_KEY + 1, 7) == 5, "a bench key comes first");
     expect(rcst_insert(store, sizeof store, RCST_HIGHEST_KEY + 1, 7) == 5, "a key too large comes first");
     expect(rcst_open(store, sizeof store) == 0, "an update opens");
+    expect(rcst_insert(store, sizeof store, RCST_HIGHEST_KEY, 7) == 5, "a bench key is refused");
+    expect(rcst_delete(store, sizeof store, RCST_HIGHEST_KEY) == 11, "a bench key may be deleted, and is not alive");
+    expect(rcst_lookup(store, sizeof store, RCST_HIGHEST_KEY, 1, &found, &value) == 0 && found == 0, "nor found");
     expect(rcst_insert(store, sizeof store, 40, 7) == 0, "an insert");
     expect(rcst_insert(store, sizeof store, 40, 8) == 10, "the key is alive");
     expect(rcst_delete(store, sizeof store, 41) == 11, "the key is not alive");

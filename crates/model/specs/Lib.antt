@@ -25,6 +25,7 @@ pub mod Plan
 pub mod Replay
 pub mod Table
 pub mod AlsoRun
+pub mod Bench
 pub mod Vectors
 pub mod Figures
 pub mod Samples

@@ -18,6 +18,7 @@ use Rattle.model.specs.Layout.{encode, decode, entryBytes}
 use Rattle.model.specs.Replay.{History, holds, soundWay, readBack}
 use Rattle.model.specs.Table.{table}
 use Rattle.model.specs.AlsoRun.{alsoRun}
+use Rattle.model.specs.Bench.{benchRun}
 use Rattle.model.specs.Vectors.{freshBytes, entryForty, fortyBytes}
 use Rattle.model.specs.Figures.{Figure, made, figures}
 use Rattle.model.specs.Samples.{twoLevels, fromElsewhere, served, visited, visitedPages}
@@ -69,6 +70,15 @@ also-run = tt
 pub also-sound : T (all (λ (h : History). sound 4 (h .store)) alsoRun)
 unfolding judging
 also-sound = tt
+
+-- 2026-06: where the bench keys begin, and a store shipped with them, sound on every way
+pub bench-run : T (all holds benchRun)
+unfolding calling writing
+bench-run = tt
+
+pub bench-sound : T (all soundWay benchRun)
+unfolding calling judging
+bench-sound = tt
 
 -- ---- outside vectors
 

@@ -10,6 +10,7 @@ pub mod Changed
 pub mod Projected
 pub mod Stays
 pub mod Restored
+pub mod KeptOut
 pub mod Replaying
 pub mod Fakes
 pub mod Promises

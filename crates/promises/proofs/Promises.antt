@@ -1,4 +1,4 @@
--- The promises, each under its name: what it says stands in specs/Demand1, Demand2, Demand3, OldReadings, Replayed and Fakes.
+-- The promises, each under its name: what it says stands in specs/Demand1, Demand2, Demand3, OldReadings, Bench, Replayed and Fakes.
 -- Assumes nothing.
 use Prim.Native.Nat.{ℕ}
 use native.Mathlib.Omega.{arith}
@@ -32,6 +32,7 @@ use Rattle.promises.specs.Demand2.{EncodedSound, AcceptedSound, SoundSta
 use Rattle.promises.specs.Demand3.{Abandoned}
 use Rattle.promises.specs.OldReadings.{PagesStay, VisitsTold, VisitsStay}
 use Rattle.promises.specs.Replayed.{TableLent}
+use Rattle.promises.specs.Bench.{KeptOut}
 use Rattle.promises.specs.Fakes.{FakesStopped}
 use Rattle.promises.proofs.Encoded as encoded
 use Rattle.promises.proofs.Judges as judging
@@ -41,6 +42,7 @@ use Rattle.promises.proofs.Answering.{answers}
 use Rattle.promises.proofs.Changed as changed
 use Rattle.promises.proofs.Stays as stays
 use Rattle.promises.proofs.Restored as restored
+use Rattle.promises.proofs.KeptOut as bench
 use Rattle.promises.proofs.Replaying as replaying
 use Rattle.promises.proofs.Fakes as fakes
 
@@ -97,6 +99,9 @@ found least four eight b ok = history-lent least four eight b ok [] refl
 
 pub settings-change : SettingsChange
 settings-change = changed.settings-change
+
+pub kept-out : KeptOut
+kept-out = bench.kept-out
 
 pub answers-stay : AnswersStay
 answers-stay = stays.answers-stay

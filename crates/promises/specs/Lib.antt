@@ -8,4 +8,5 @@ pub mod Demand2
 pub mod Demand3
 pub mod OldReadings
 pub mod Replayed
+pub mod Bench
 pub mod Fakes

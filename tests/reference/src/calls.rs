@@ -28,6 +28,12 @@ pub fn insert(bytes: &mut [u8], key: u32, value: u32) -> u32 {
     judged(bytes).unwrap_or_else(|| unjudged::insert(bytes, key, value))
 }
 
+/// Insert as it was before 2026-06, to make stores from before. It is not
+/// offered to the console.
+pub fn raw_insert(bytes: &mut [u8], key: u32, value: u32) -> u32 {
+    judged(bytes).unwrap_or_else(|| unjudged::raw_insert(bytes, key, value))
+}
+
 pub fn delete(bytes: &mut [u8], key: u32) -> u32 {
     judged(bytes).unwrap_or_else(|| unjudged::delete(bytes, key))
 }

@@ -9,7 +9,7 @@ use std::collections::BTreeMap;
 
 use crate::engine::{Answer, Call};
 use crate::image::Image;
-use crate::layout::{HIGHEST_KEY, HIGHEST_VERSION};
+use crate::layout::{FIRST_BENCH_KEY, HIGHEST_KEY, HIGHEST_VERSION};
 use crate::{number, store, walk};
 
 pub type Settings = BTreeMap<u32, u32>;
@@ -83,6 +83,7 @@ impl Model {
             Call::Fresh | Call::Check => Answer::default(),
             Call::Open => Answer::of(self.number_of_open()),
             Call::Commit | Call::Abandon => Answer::of(self.number_unless_open()),
+            Call::Insert(key, _) if key >= FIRST_BENCH_KEY => Answer::of(number::ARGUMENT),
             Call::Insert(key, _) => Answer::of(self.number_of_update(key, number::KEY_ALIVE)),
             Call::Delete(key) => Answer::of(self.number_of_update(key, number::KEY_NOT_ALIVE)),
             Call::Lookup(key, version) => self.answer_to_lookup(key, version),

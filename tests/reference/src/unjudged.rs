@@ -5,7 +5,7 @@
 //! cost of judging. On a store that is not sound they may panic or answer
 //! anything.
 
-use crate::layout::{Header, HIGHEST_KEY, HIGHEST_VERSION};
+use crate::layout::{Header, FIRST_BENCH_KEY, HIGHEST_KEY, HIGHEST_VERSION};
 use crate::update::{self, Change};
 use crate::{abandon, number, store, walk};
 
@@ -28,6 +28,14 @@ pub fn open(bytes: &mut [u8]) -> u32 {
 }
 
 pub fn insert(bytes: &mut [u8], key: u32, value: u32) -> u32 {
+    if key >= FIRST_BENCH_KEY {
+        return number::ARGUMENT;
+    }
+    raw_insert(bytes, key, value)
+}
+
+/// Insert as it was before 2026-06: the bench keys go in too.
+pub fn raw_insert(bytes: &mut [u8], key: u32, value: u32) -> u32 {
     let header = store::header(bytes);
     if key > HIGHEST_KEY {
         return number::ARGUMENT;

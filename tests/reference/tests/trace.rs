@@ -146,6 +146,10 @@ fn lines_there_and_back() {
     assert!(good > 1000);
 }
 
+const WORDS: &str = "store open insert delete commit abandon get range check visits list byte \
+                     cut rawinsert";
+const NUMBERS: &str = "0 1 2 3 4 5 6 7 8 10 11 12 14 bad";
+
 /// How often each first word and each number stands in generated lines.
 #[test]
 fn generated_lines_meet_every_word_and_number() {
@@ -167,15 +171,10 @@ fn generated_lines_meet_every_word_and_number() {
         }
     }
     println!("{words:?}\n{numbers:?}");
-    for word in [
-        "store", "open", "insert", "delete", "commit", "abandon", "get", "range", "check",
-        "visits", "list", "byte", "cut",
-    ] {
+    for word in WORDS.split(' ') {
         assert!(words[word] > 10, "{word}: {words:?}");
     }
-    for number in [
-        "0", "1", "2", "3", "4", "5", "6", "7", "8", "10", "11", "12", "14", "bad",
-    ] {
+    for number in NUMBERS.split(' ') {
         assert!(numbers[number] > 10, "{number}: {numbers:?}");
     }
 }

@@ -1,7 +1,7 @@
 //! Bytes of every kind to lend: sound, damaged, and any at all.
 
 use reference::damage::{kinds, tamper};
-use reference::layout::{HIGHEST_KEY, HIGHEST_VERSION};
+use reference::layout::{FIRST_BENCH_KEY, HIGHEST_KEY, HIGHEST_VERSION};
 use reference::rng::Rng;
 use reference::samples::sound_store;
 use reference::{store, walk};
@@ -28,6 +28,7 @@ pub fn stores(seed: u64) -> Vec<Vec<u8>> {
 /// Keys at the borders, and some that are alive somewhere.
 pub fn some_keys(bytes: &[u8], rng: &mut Rng) -> Vec<u32> {
     let mut keys = vec![0, 1, HIGHEST_KEY, HIGHEST_KEY + 1, u32::MAX];
+    keys.extend([FIRST_BENCH_KEY - 1, FIRST_BENCH_KEY]);
     if reference::calls::check(bytes).0 == 0 {
         let version = rng.between(0, store::header(bytes).last());
         let settings = walk::range(bytes, 0, HIGHEST_KEY, version);

@@ -7,7 +7,7 @@ use super::writer::Writer;
 use crate::damage::{kinds, tamper};
 use crate::engine::Call;
 use crate::history::{History, Kind, KINDS};
-use crate::layout::{HIGHEST_KEY, PAGE_BYTES};
+use crate::layout::{FIRST_BENCH_KEY, HIGHEST_KEY, PAGE_BYTES};
 use crate::model::Model;
 use crate::samples::sound_store;
 
@@ -41,6 +41,7 @@ impl Writer {
             match self.rng.below(80) {
                 0 => self.malformed_line(),
                 1 | 2 => self.damaged_for_a_while(),
+                3 | 4 => self.as_before(&mut history),
                 _ => self.go_on(&mut history),
             }
         }
@@ -59,6 +60,19 @@ impl Writer {
             _ => self.write_call(call),
         };
         history.observe(call, &answer);
+    }
+
+    /// Bench keys, as they went in before 2026-06.
+    fn as_before(&mut self, history: &mut History) {
+        for _ in 0..self.rng.between(1, 4) {
+            let key = match self.rng.below(4) {
+                0 => self.any_key(),
+                _ => self.rng.between(FIRST_BENCH_KEY - 1, HIGHEST_KEY),
+            };
+            let value = self.rng.word();
+            let answer = self.write(Line::RawInsert(key, value));
+            history.observe(Call::Insert(key, value), &answer);
+        }
     }
 
     fn begin(&mut self) -> History {
@@ -82,13 +96,14 @@ impl Writer {
     fn damaged_for_a_while(&mut self) {
         let before = self.store.clone();
         let mut damaged = before.clone();
-        match self.rng.below(3) {
-            0 => {
+        match self.rng.below(4) {
+            0 => damaged[self.rng.below(5) as usize] = self.rng.below(4) as u8,
+            1 => {
                 let kinds = kinds();
                 let kind = &kinds[self.rng.below(kinds.len() as u32) as usize];
                 kind.make(&mut damaged, &mut self.rng);
             }
-            1 => tamper::flip_bit(&mut damaged, &mut self.rng),
+            2 => tamper::flip_bit(&mut damaged, &mut self.rng),
             _ => tamper::set_some_field(&mut damaged, &mut self.rng),
         }
         self.write_differing(&damaged);
@@ -150,10 +165,11 @@ impl Writer {
     }
 
     fn any_key(&mut self) -> u32 {
-        match self.rng.below(6) {
+        match self.rng.below(7) {
             0 => self.rng.word(),
             1 => HIGHEST_KEY + self.rng.below(2),
-            2 => self.rng.below(HIGHEST_KEY),
+            2 => FIRST_BENCH_KEY - self.rng.below(2),
+            3 => self.rng.below(HIGHEST_KEY),
             _ => self.rng.below(2000),
         }
     }
@@ -175,6 +191,8 @@ pub const MALFORMED: &[&str] = &[
     "open 1",
     "insert 1",
     "insert 1  2",
+    "rawinsert 1",
+    "raw insert 1 2",
     "insert 1 -2",
     "insert 1 4294967296",
     "get 1",

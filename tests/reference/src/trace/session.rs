@@ -4,6 +4,7 @@ use std::io::{self, BufRead, Write};
 
 use super::hash;
 use super::line::{self, Line};
+use crate::calls;
 use crate::engine::{Answer, Call, Engine};
 use crate::layout::PAGE_BYTES;
 use crate::number;
@@ -75,6 +76,10 @@ impl<'a> Session<'a> {
             Line::Store(pages) => {
                 self.store = vec![LENT_BYTE; pages as usize * PAGE_BYTES];
                 return self.call(Call::Fresh);
+            }
+            // Whoever answers: this program makes stores from before.
+            Line::RawInsert(key, value) => {
+                return calls::raw_insert(&mut self.store, key, value).to_string();
             }
             Line::List(length) => self.list_length = length as usize,
             Line::Byte(at, byte) => {

@@ -2,6 +2,7 @@
 
 use super::line::Line;
 use super::session::{LENT_BYTE, LIST_AT_FIRST};
+use crate::calls;
 use crate::engine::{apply, Answer, Call};
 use crate::layout::PAGE_BYTES;
 use crate::rng::Rng;
@@ -34,6 +35,9 @@ impl Writer {
             Line::Store(pages) => {
                 self.store = vec![LENT_BYTE; pages as usize * PAGE_BYTES];
                 return self.make(Call::Fresh);
+            }
+            Line::RawInsert(key, value) => {
+                return Answer::of(calls::raw_insert(&mut self.store, key, value));
             }
             Line::List(length) => self.list_length = length as usize,
             Line::Byte(at, byte) => {
