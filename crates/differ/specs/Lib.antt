@@ -1,0 +1,5 @@
+pub mod Differ
+pub mod Merge
+pub mod Told
+pub mod Same
+pub mod Listing
