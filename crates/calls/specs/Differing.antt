@@ -15,9 +15,10 @@ use Rattle.model.specs.Layout.{decode}
 use Rattle.model.specs.Judged.{judged}
 use Rattle.model.specs.declared.Limits.{Limits}
 use Rattle.model.specs.Calls.{Rule, rule, firstOf}
-use Rattle.model.specs.Lent.{judgedFirst, Listed, listed}
+use Rattle.model.specs.Lent.{judgedFirst, Listed, listed, differenceLent}
+use Rattle.model.specs.Told.{toldBy}
+use Rattle.model.specs.Differ.{differ, deltaNumbers, tooLate, difference}
 use Rattle.walk.specs.Sure.{Readable}
-use Rattle.differ.specs.Differ.{differ, toldBy, tooLate, difference, differenceLent}
 use Rattle.calls.specs.Guard.{guarded, refused-by, goes-by, by-guard}
 use Rattle.calls.specs.Reading.{reading}
 
@@ -26,7 +27,7 @@ later u v = pick (ltb u v) v u
 
 -- "either version above last"
 abbrev differing : ℕ → ℕ → Store → List Rule
-differing u v s = rule 6 (tooLate u v s) ∷ []
+differing u v s = rule 6 (tooLate s u v) ∷ []
 
 late-is : (n u v : ℕ) → (ltb n u || ltb n v) ≡ ltb n (later u v)
 late-is n u v = at (ltb u v) refl (ltb n u) refl
@@ -47,12 +48,12 @@ module _ (least : ℕ) (b : List ℕ) (u v : ℕ) where
     kept m = record { number = m; count = 0; list = ns }
 
     abbrev walked : Listed
-    walked = listed ns (toldBy 0 (length ns) (differ (settings (decode least b) u) (settings (decode least b) v)))
+    walked = listed ns (toldBy deltaNumbers 4 0 (length ns) (differ (settings (decode least b) u) (settings (decode least b) v)))
 
     difference-guard : differenceLent least b u v ns ≡ judgedFirst (guarded least b (reading false (later u v))) kept walked
     unfolding differenceLent difference
     difference-guard =
-        by-guard least b (differing u v) {A = Listed} kept (λ (n : ℕ). listed ns (toldBy n (length ns) (differ (settings (decode least b) u) (settings (decode least b) v)))) (unfold toldBy in λ n. refl)
+        by-guard least b (differing u v) {A = Listed} kept (λ (n : ℕ). listed ns (toldBy deltaNumbers 4 n (length ns) (differ (settings (decode least b) u) (settings (decode least b) v)))) (unfold toldBy in λ n. refl)
         ∙ ap (λ (n : ℕ). judgedFirst n kept walked) same-guard
 
     -- by the number that the guard gave

@@ -1,4 +1,3 @@
-pub mod Differ
 pub mod Merge
 pub mod Told
 pub mod Same

@@ -21,8 +21,9 @@ use Rattle.store.specs.Sure.{sure}
 use Rattle.walk.specs.Counted.{withList}
 use Rattle.walk.specs.Sure.{Readable}
 use Rattle.cursor.specs.First.{atOrAbove, leads}
-use Rattle.differ.specs.declared.Delta.{Delta}
-use Rattle.differ.specs.Differ.{differ, toldIn, toldBy}
+use Rattle.model.specs.declared.Delta.{Delta}
+use Rattle.model.specs.Told.{toldIn, toldBy}
+use Rattle.model.specs.Differ.{differ, deltaNumbers}
 use Rattle.differ.specs.Merge.{compared, told, left, Onward, left-start, left-end, left-on, left-step}
 use Rattle.differ.specs.Same.{samePairs, same-none}
 use Rattle.differ.specs.Told.{numbers, written, written-not, written-all, Room, Tells}
@@ -93,14 +94,14 @@ told-few d = at (eqb (d .kind) 3)
 
 -- ---- the answer
 
-pub told-short : (ns : List ℕ) (ds : List Delta) → length ns < 4 * length ds → listed ns (toldBy 0 (length ns) ds) ≡ record { number = 14; count = length ds; list = ns }
+pub told-short : (ns : List ℕ) (ds : List Delta) → length ns < 4 * length ds → listed ns (toldBy deltaNumbers 4 0 (length ns) ds) ≡ record { number = 14; count = length ds; list = ns }
 unfolding toldIn toldBy
-told-short ns ds h = ap (λ (b : Bool). listed ns (toldIn (firstOf (rule 14 b ∷ [])) ds)) (lt-ltb (length ns) (4 * length ds) h)
+told-short ns ds h = ap (λ (b : Bool). listed ns (toldIn deltaNumbers (firstOf (rule 14 b ∷ [])) ds)) (lt-ltb (length ns) (4 * length ds) h)
 
 pub told-all : (ns : List ℕ) (ds : List Delta) → 4 * length ds ≤ length ns
-    → listed ns (toldBy 0 (length ns) ds) ≡ record { number = 0; count = length ds; list = numbers ds ++ drop (length (numbers ds)) ns }
+    → listed ns (toldBy deltaNumbers 4 0 (length ns) ds) ≡ record { number = 0; count = length ds; list = numbers ds ++ drop (length (numbers ds)) ns }
 unfolding toldIn toldBy
-told-all ns ds h = ap (λ (b : Bool). listed ns (toldIn (firstOf (rule 14 b ∷ [])) ds)) (le-ltb (length ns) (4 * length ds) h)
+told-all ns ds h = ap (λ (b : Bool). listed ns (toldIn deltaNumbers (firstOf (rule 14 b ∷ [])) ds)) (le-ltb (length ns) (4 * length ds) h)
 
 -- the first pass counts
 module _ {ns ns1 : List ℕ} {r : ℕ} {ds : List Delta} (g : Tells false ns ns1 0 r ds) where
@@ -110,14 +111,14 @@ module _ {ns ns1 : List ℕ} {r : ℕ} {ds : List Delta} (g : Tells false ns ns1
   pub untouched : ns1 ≡ ns
   untouched = g .list ∙ written-not ns ds
 
-  pub list-short : length ns1 < 4 * r → withList (record { number = 14; count = r }) ns1 ≡ listed ns (toldBy 0 (length ns) ds)
+  pub list-short : length ns1 < 4 * r → withList (record { number = 14; count = r }) ns1 ≡ listed ns (toldBy deltaNumbers 4 0 (length ns) ds)
   list-short h = rw (counted, untouched) (sym (told-short ns ds (rw (counted, untouched) at h)))
 
   module _ (h : 4 * r ≤ length ns1) where
     pub second-room : Room true ns1 0 ds
     second-room e = omega (arith, counted)
 
-    pub list-all : {ns2 : List ℕ} {r2 : ℕ} → Tells true ns1 ns2 0 r2 ds → withList (record { number = 0; count = r }) ns2 ≡ listed ns (toldBy 0 (length ns) ds)
+    pub list-all : {ns2 : List ℕ} {r2 : ℕ} → Tells true ns1 ns2 0 r2 ds → withList (record { number = 0; count = r }) ns2 ≡ listed ns (toldBy deltaNumbers 4 0 (length ns) ds)
     list-all {ns2} k =
         let room : 4 * length ds ≤ length ns = rw (counted, untouched) at h in
         let e : ns2 ≡ numbers ds ++ drop (length (numbers ds)) ns = k .list ∙ ap (λ (ms : List ℕ). written true ms 0 ds) untouched ∙ written-all ns ds room in

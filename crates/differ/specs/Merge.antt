@@ -11,16 +11,15 @@ use borrow.Author.Tests.{leb-true, leb-false, ltb-true, ltb-false, lt-ltb, le-lt
 use Rattle.model.specs.Basic.{those, keep, pick}
 use Rattle.model.specs.declared.Pair.{Pair}
 use Rattle.model.specs.Entry.{pair, within}
+use Rattle.model.specs.declared.Delta.{Delta}
 use Rattle.model.specs.Walk.{keyLimit}
+use Rattle.model.specs.Differ.{added, removed, changed, against, differ}
 use Rattle.model.proofs.Lists.{both-true, both-intro, all-cons}
 use Rattle.model.proofs.Local.{inRange}
 use Rattle.model.proofs.Lookups.{rising}
 use Rattle.model.proofs.Edit.{rising-those}
-use Rattle.walk.specs.Live.{above}
-use Rattle.walk.specs.Ends.{find-above}
+use Rattle.model.proofs.Merging.{above, above-lower, above-cons, old-first, new-first, both-first}
 use Rattle.cursor.specs.First.{atOrAbove, leads, above-none, above-all, above-in}
-use Rattle.differ.specs.declared.Delta.{Delta}
-use Rattle.differ.specs.Differ.{added, removed, changed, against, differ}
 
 -- what two cursors say of the smaller of their keys: 3 where both have it with one value
 abbrev pub compared : Pair → Pair → Delta
@@ -32,22 +31,6 @@ abbrev pub told : Delta → List Delta
 told d = pick (eqb (d .kind) 3) [] (d ∷ [])
 
 -- ---- lists that stand above a key
-
-pub above-lower : (j k : ℕ) (xs : List Pair) → above k xs ≡ true → j ≤ k → above j xs ≡ true
-above-lower j k [] a h = refl
-above-lower j k (x ∷ xs) a h =
-    let (p, q) = all-cons (λ (y : Pair). ltb k (y .key)) x xs a in
-    both-intro (ltb j (x .key)) (above j xs) (lt-ltb j (x .key) (omega (arith, ltb-true k (x .key) p))) (above-lower j k xs q h)
-
-none-before : (k : ℕ) (xs : List Pair) → above k xs ≡ true → those (λ (y : Pair). ltb (y .key) k) xs ≡ []
-none-before k [] a = refl
-none-before k (x ∷ xs) a =
-    let (p, q) = all-cons (λ (y : Pair). ltb k (y .key)) x xs a in
-    rw (le-ltb (x .key) k (omega (arith, ltb-true k (x .key) p))) (none-before k xs q)
-
-all-behind : (k : ℕ) (xs : List Pair) → above k xs ≡ true → those (λ (y : Pair). ltb k (y .key)) xs ≡ xs
-all-behind k [] a = refl
-all-behind k (x ∷ xs) a = let (p, q) = all-cons (λ (y : Pair). ltb k (y .key)) x xs a in rw p (ap (λ (zs : List Pair). x ∷ zs) (all-behind k xs q))
 
 all-onward : (k : ℕ) (xs : List Pair) → above k xs ≡ true → atOrAbove (k + 1) xs ≡ xs
 all-onward k [] a = refl
@@ -68,23 +51,6 @@ above-above j k (x ∷ xs) h = at (leb k (x .key)) refl (above-above j k xs h)
 
 -- ---- one step
 
--- the first version's key comes first
-pub old-first : (x : Pair) (xs bs : List Pair) → above (x .key) bs ≡ true → differ (x ∷ xs) bs ≡ removed x ∷ differ xs bs
-old-first x xs bs a =
-    ap₂ (λ (us vs : List Delta). us ++ vs) (ap (map added) (none-before (x .key) bs a))
-    (ap₂ (λ (o : Option ℕ) (zs : List Pair). against x o ++ differ xs zs) (find-above (x .key) bs a) (all-behind (x .key) bs a))
-
--- the second's
-pub new-first : (x : Pair) (xs : List Pair) (y : Pair) (ys : List Pair) → y .key < x .key → differ (x ∷ xs) (y ∷ ys) ≡ added y ∷ differ (x ∷ xs) ys
-new-first x xs y ys h =
-    rw (lt-ltb (y .key) (x .key) h, ne-eqb (y .key) (x .key) (λ (e : y .key ≡ x .key). omega arith), le-ltb (x .key) (y .key) (omega arith)) refl
-
--- both have it
-pub both-first : (x : Pair) (xs : List Pair) (y : Pair) (ys : List Pair) → x .key ≡ y .key → above (y .key) ys ≡ true → differ (x ∷ xs) (y ∷ ys) ≡ against x (some (y .value)) ++ differ xs ys
-both-first x xs y ys e a =
-    let b : above (x .key) ys ≡ true = rw e a in
-    rw (le-ltb (y .key) (x .key) (omega arith), eq-eqb (y .key) (x .key) (sym e), le-ltb (x .key) (y .key) (omega arith), none-before (x .key) ys b, all-behind (x .key) ys b) refl
-
 -- what is left behind a difference
 abbrev StepBy : List Pair → List Pair → Delta → Type 0
 StepBy us ws d = differ us ws ≡ told d ++ differ (atOrAbove (d .key + 1) us) (atOrAbove (d .key + 1) ws)
@@ -104,7 +70,7 @@ step-old x xs ws a b = old-first x xs ws b ∙ ap₂ (λ (us vs : List Pair). re
 step-new : (x : Pair) (xs : List Pair) (y : Pair) (ys : List Pair) → y .key < x .key → above (x .key) xs ≡ true → above (y .key) ys ≡ true → StepBy (x ∷ xs) (y ∷ ys) (added y)
 step-new x xs y ys h a b =
     let c : above (y .key) (x ∷ xs) ≡ true = both-intro (ltb (y .key) (x .key)) (above (y .key) xs) (lt-ltb (y .key) (x .key) h) (above-lower (y .key) (x .key) xs a (omega arith)) in
-    new-first x xs y ys h ∙ ap₂ (λ (us vs : List Pair). added y ∷ differ us vs) (sym (all-onward (y .key) (x ∷ xs) c)) (sym (first-gone y ys b))
+    new-first (x ∷ xs) y ys c ∙ ap₂ (λ (us vs : List Pair). added y ∷ differ us vs) (sym (all-onward (y .key) (x ∷ xs) c)) (sym (first-gone y ys b))
 
 told-both : (x y : Pair) (b : Bool) → eqb (x .value) (y .value) ≡ b → told (record { key = x .key; kind = pick b 3 2; old = x .value; new = y .value }) ≡ pick b [] (changed x (y .value) ∷ [])
 told-both x y true e = refl

@@ -6,15 +6,14 @@ use mathlib.Core.Bool.{Bool, true, false, _&&_}
 use mathlib.Core.Path.{_≡_, refl, ap, ap₂, sym, subst, _∙_}
 use mathlib.Core.List.{List, [], _∷_, _++_}
 use lib.Dec.{T, ltb, eqb}
-use borrow.Author.Tests.{eqb-true, eq-eqb, ne-eqb, ltb-true, ltb-false}
+use borrow.Author.Tests.{eqb-true, eq-eqb, ne-eqb, ltb-true}
 use Rattle.model.specs.Basic.{pick, isEmpty}
 use Rattle.model.specs.declared.Pair.{Pair}
-use Rattle.model.proofs.Lists.{both-true, both-intro}
+use Rattle.model.proofs.Lists.{both-true, all-cons}
 use Rattle.model.proofs.Lookups.{rising}
-use Rattle.walk.specs.Live.{above}
-use Rattle.differ.specs.declared.Delta.{Delta}
-use Rattle.differ.specs.Differ.{changed, differ}
-use Rattle.differ.specs.Merge.{above-lower, old-first, new-first, both-first}
+use Rattle.model.specs.declared.Delta.{Delta}
+use Rattle.model.specs.Differ.{changed, differ}
+use Rattle.model.proofs.Merging.{above, by-merge, old-first, new-first, both-first}
 
 -- "equal, key for key"
 abbrev pub samePairs : List Pair → List Pair → Bool
@@ -38,32 +37,27 @@ equal-same [] = refl
 equal-same (x ∷ xs) = rw (eq-eqb (x .key) (x .key) refl, eq-eqb (x .value) (x .value) refl, equal-same xs)
 
 -- nothing differs exactly where the settings are the same
+old-alone : (x : Pair) (xs ws : List Pair) → above (x .key) ws ≡ true → samePairs (x ∷ xs) ws ≡ false
+old-alone x xs [] a = refl
+old-alone x xs (y ∷ ys) a =
+    let h = ltb-true (x .key) (y .key) (all-cons (λ (z : Pair). ltb (x .key) (z .key)) y ys a .0) in
+    rw (ne-eqb (x .key) (y .key) (λ (z : x .key ≡ y .key). omega arith))
+
+new-alone : (us : List Pair) (y : Pair) (ys : List Pair) → above (y .key) us ≡ true → samePairs us (y ∷ ys) ≡ false
+new-alone [] y ys a = refl
+new-alone (x ∷ xs) y ys a =
+    let h = ltb-true (y .key) (x .key) (all-cons (λ (z : Pair). ltb (y .key) (z .key)) x xs a .0) in
+    rw (ne-eqb (x .key) (y .key) (λ (z : x .key ≡ y .key). omega arith))
+
 pub same-none : (us ws : List Pair) → rising us ≡ true → rising ws ≡ true → samePairs us ws ≡ isEmpty (differ us ws)
-same-none [] [] r q = refl
-same-none [] (y ∷ ys) r q = refl
-same-none (x ∷ xs) [] r q = refl
-same-none (x ∷ xs) (y ∷ ys) r q =
-    let (a, p) = both-true (above (x .key) xs) (rising xs) r in
-    let (b, o) = both-true (above (y .key) ys) (rising ys) q in
-    at b (ltb (x .key) (y .key)) refl (ltb (y .key) (x .key)) refl (same-none xs ys p o)
+same-none = by-merge (λ us ws. samePairs us ws ≡ isEmpty (differ us ws)) refl
+    (λ x xs ws a b ih. old-alone x xs ws b ∙ sym (ap (λ (ds : List Delta). isEmpty ds) (old-first x xs ws b)))
+    (λ us y ys a b ih. new-alone us y ys a ∙ sym (ap (λ (ds : List Delta). isEmpty ds) (new-first us y ys a)))
+    (λ x xs y ys e a b ih.
+        ap (λ (c : Bool). c && (eqb (x .value) (y .value) && samePairs xs ys)) (eq-eqb (x .key) (y .key) e)
+        ∙ values x xs y ys (eqb (x .value) (y .value)) ih ∙ sym (ap (λ (ds : List Delta). isEmpty ds) (both-first x xs y ys e b)))
   where
-    values : (c : Bool) → samePairs xs ys ≡ isEmpty (differ xs ys) → (c && samePairs xs ys) ≡ isEmpty (pick c [] (changed x (y .value) ∷ []) ++ differ xs ys)
-    values true ih = ih
-    values false ih = refl
-
-    other : (x .key ≡ y .key → ⊥) → samePairs (x ∷ xs) (y ∷ ys) ≡ false
-    other n = rw (ne-eqb (x .key) (y .key) n)
-
-    at : above (y .key) ys ≡ true → (p : Bool) → ltb (x .key) (y .key) ≡ p → (o : Bool) → ltb (y .key) (x .key) ≡ o → samePairs xs ys ≡ isEmpty (differ xs ys)
-        → samePairs (x ∷ xs) (y ∷ ys) ≡ isEmpty (differ (x ∷ xs) (y ∷ ys))
-    at b true e o f ih =
-        let h : x .key < y .key = ltb-true (x .key) (y .key) e in
-        other (λ (z : x .key ≡ y .key). omega arith)
-        ∙ sym (ap (λ (ds : List Delta). isEmpty ds) (old-first x xs (y ∷ ys) (both-intro (ltb (x .key) (y .key)) (above (x .key) ys) e (above-lower (x .key) (y .key) ys b (omega arith)))))
-    at b false e true f ih =
-        let h : y .key < x .key = ltb-true (y .key) (x .key) f in
-        other (λ (z : x .key ≡ y .key). omega arith) ∙ sym (ap (λ (ds : List Delta). isEmpty ds) (new-first x xs y ys h))
-    at b false e false f ih =
-        let h : x .key ≡ y .key = omega (arith, ltb-false (x .key) (y .key) e, ltb-false (y .key) (x .key) f) in
-        ap (λ (c : Bool). c && (eqb (x .value) (y .value) && samePairs xs ys)) (eq-eqb (x .key) (y .key) h)
-        ∙ values (eqb (x .value) (y .value)) ih ∙ sym (ap (λ (ds : List Delta). isEmpty ds) (both-first x xs y ys h b))
+    values : (x : Pair) (xs : List Pair) (y : Pair) (ys : List Pair) (c : Bool) → samePairs xs ys ≡ isEmpty (differ xs ys)
+        → (c && samePairs xs ys) ≡ isEmpty (pick c [] (changed x (y .value) ∷ []) ++ differ xs ys)
+    values x xs y ys true ih = ih
+    values x xs y ys false ih = refl

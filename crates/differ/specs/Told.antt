@@ -8,8 +8,8 @@ use mathlib.Core.List.{List, [], _∷_, _++_, append-assoc}
 use lib.ListN.{length, set, drop, length-append}
 use lib.Seq.{sets, length-sets, sets-eq}
 use Rattle.model.specs.Basic.{pick, flatMap}
-use Rattle.differ.specs.declared.Delta.{Delta}
-use Rattle.differ.specs.Differ.{deltaNumbers}
+use Rattle.model.specs.declared.Delta.{Delta}
+use Rattle.model.specs.Differ.{deltaNumbers}
 
 abbrev pub numbers : List Delta → List ℕ
 numbers ds = flatMap deltaNumbers ds

@@ -1,4 +1,5 @@
 // What differs between two versions of a sound store, in key order: two cursors, and at each step the smaller of their keys.
+use model::Delta;
 use model::Limits;
 use model::Pair;
 use walk::Counted;
@@ -9,10 +10,11 @@ ghost use Prim.Native.Nat.{_+_, _*_, _≤_};
 ghost use lib.ListN.{length};
 ghost use Rattle.model.specs.Walk.{settings, keyLimit};
 ghost use Rattle.model.specs.Layout.{decode};
+ghost use Rattle.model.specs.Told.{toldBy};
+ghost use Rattle.model.specs.Differ.{deltaNumbers};
 ghost use Rattle.model.specs.Lent.{listed};
 ghost use Rattle.walk.specs.Counted.{withList};
 ghost use Rattle.walk.specs.Sure.{Readable};
-ghost use Rattle.differ.specs.Differ.{toldBy};
 ghost use Rattle.differ.specs.Merge.{compared, told};
 ghost use Rattle.differ.specs.Same.{samePairs};
 ghost use Rattle.differ.specs.Told.{written, Room, Tells};
@@ -20,14 +22,6 @@ ghost use Rattle.differ.specs.Listing.{between, nextOf};
 
 // "Keys are 0 to 16,777,215".
 const KEYS: u32 = 16777216;
-
-// What differs at a key: 0 added, 1 removed, 2 changed; the old value and the new one, zero where there is none.
-pub struct Delta {
-    pub key: u32,
-    pub kind: u32,
-    pub old: u32,
-    pub new: u32,
-}
 
 // What two cursors say of the smaller of their keys; 3 where both have it with one value.
 fn compared(x: Pair, y: Pair) -> Delta
@@ -136,7 +130,7 @@ pub fn alike(s: &[u8], l: Limits, u: u32, v: u32) -> bool
 // caller's list. They are counted before any is written, so that 14 leaves the list untouched.
 pub fn difference(s: &[u8], l: Limits, u: u32, v: u32, list: &mut [u32]) -> Counted
     requires { ⌜ Readable l (now s) u × Readable l (now s) v ⌝ }
-    ensures { λ r. ⌜ withList r (now (list .exit)) ≡ listed (now (list .entry)) (toldBy 0 (length (now (list .entry))) (between l (now (s .entry)) u v)) ⌝ }
+    ensures { λ r. ⌜ withList r (now (list .exit)) ≡ listed (now (list .entry)) (toldBy deltaNumbers 4 0 (length (now (list .entry))) (between l (now (s .entry)) u v)) ⌝ }
 {
     let found = tell(s, l, u, v, list, false);
     if list.len() < 4 * found {

@@ -2,7 +2,7 @@
 use borrow.Author.Tests.{not-true, not-false}
 use Rattle.differ.specs.Listing.{told-same, told-one}
 use Rattle.differ.specs.Told.{tells-none, tells-counted, tells-put}
-use Rattle.differ.specs.declared.Delta.{Delta}
+use Rattle.model.specs.declared.Delta.{Delta}
 use lib.ListN.{length}
 use mathlib.Core.List.{List}
 use mathlib.Core.Path.{ap}
