@@ -6,5 +6,6 @@ pub mod Views
 pub mod Demand1
 pub mod Demand2
 pub mod Demand3
+pub mod Differences
 pub mod Replayed
 pub mod Fakes
