@@ -8,8 +8,8 @@ use mathlib.Core.List.{List}
 use mathlib.Core.Path.{ap}
 use native.Mathlib.Omega.{arith}
 use borrow.Author.Needs.{needs}
-use Rattle.differ.proofs.put.Statement.{statement}
-use Rattle.differ.proofs.put.Tie as tie
+use Rattle.differ.proofs.telling.put.Statement.{statement}
+use Rattle.differ.proofs.telling.put.Tie as tie
 
 returns : tie.Need-returns
 returns c =
