@@ -65,7 +65,7 @@ module _ (hi : ℕ) (us ws : List Pair) (a : above hi us ≡ true) (b : above hi
 
 -- no more differences than keys
 fewer : (lo hi : ℕ) (ds : List Delta) → lo ≤ hi → inOrder before ds ≡ true → all (λ (d : Delta). within lo hi (d .key)) ds ≡ true → length ds + lo ≤ hi
-fewer lo hi [] l o i = l
+fewer lo hi [] l o i = omega arith
 fewer lo hi (d ∷ ds) l o i =
     let (here, more) = all-cons (λ (e : Delta). within lo hi (e .key)) d ds i in
     let (p, q) = both-true (leb lo (d .key)) (ltb (d .key) hi) here in

@@ -104,4 +104,4 @@ module _ {l : Limits} {b : List ℕ} (a : Ask) (r : Readable l b (a .old)) (q : 
       (stretch (l .least) (a .new) (decode (l .least) b .pages) ws (y .page) (a .low) (y .high) f (reads-rising q) (a .high) (omega arith) j)
       ∙ differ-append (a .high) (atOrAbove (a .high + 1) us) (atOrAbove (a .high + 1) ws) (onward-above (a .high) us) (onward-above (a .high) ws)
       (inLeaf l b (a .old) (a .low) (a .high) x) (inLeaf l b (a .new) (a .low) (a .high) y) (leaf-ordered r (a .low) x g (a .low) (a .high) .rises) (leaf-ordered q (a .low) y f (a .low) (a .high) .rises)
-      (between-upto (a .low) (a .high) _) (between-upto (a .low) (a .high) _)
+      (between-upto (a .low) (a .high) (pairsAt (a .old) (page (decode (l .least) b .pages) (x .page)))) (between-upto (a .low) (a .high) (pairsAt (a .new) (page (decode (l .least) b .pages) (y .page))))

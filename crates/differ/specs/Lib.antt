@@ -6,3 +6,4 @@ pub mod Listing
 pub mod Side
 pub mod Quiet
 pub mod Leaves
+pub mod Halfway

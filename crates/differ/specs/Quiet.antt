@@ -29,8 +29,8 @@ quiet-shows u v (e ∷ es) h =
   where
     at : (s : Bool) → liveAt u e ≡ s → (t : Bool) → liveAt v e ≡ t → not (pick s (not t) t) ≡ true → live u es ≡ live v es → live u (e ∷ es) ≡ live v (e ∷ es)
     at true p true q h ih = live-on u e es p ∙ ap (λ (zs : List Pair). pairOf e ∷ zs) ih ∙ sym (live-on v e es q)
-    at true p false q h ih = absurd (let z : _≡_ {A = Bool} false true = h in cc)
-    at false p true q h ih = absurd (let z : _≡_ {A = Bool} false true = h in cc)
+    at true p false q h ih = absurd (let z : _≡_ {A = ℕ} 0 1 = cc in omega arith)
+    at false p true q h ih = absurd (let z : _≡_ {A = ℕ} 0 1 = cc in omega arith)
     at false p false q h ih = live-off u e es p ∙ ih ∙ sym (live-off v e es q)
 
 -- entry by entry

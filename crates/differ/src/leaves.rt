@@ -36,7 +36,7 @@ pub struct Side {
 }
 
 // The next setting from place i on.
-fn side(page: &[u8], n: usize, v: u32, low: u32, high: u32, i: usize) -> Side
+fn side_from(page: &[u8], n: usize, v: u32, low: u32, high: u32, i: usize) -> Side
     requires { ⌜ Stands (now page) n × (i ≤ n) × (rising (rest (now page) n v low high i) ≡ true) ⌝ }
     ensures { λ r. ⌜ At (now (page .entry)) n v low high r × (rest (now (page .entry)) n v low high (r .place) ≡ rest (now (page .entry)) n v low high i) ⌝ }
 {
@@ -70,7 +70,7 @@ fn on(page: &[u8], n: usize, v: u32, low: u32, high: u32, x: Side, key: u32) -> 
     if n <= x.place {
         return x;
     }
-    side(page, n, v, low, high, x.place + 1)
+    side_from(page, n, v, low, high, x.place + 1)
 }
 
 // What differs from the stretch in the leaf p, of m entries, to that in the leaf q, of n, behind the first `found` of a list; gives how
@@ -81,8 +81,8 @@ fn merge(p: &[u8], m: usize, q: &[u8], n: usize, a: Ask, list: &mut [u32], found
 {
     let mut sum = found;
     let mut key = 0;
-    let mut x = side(p, m, a.old, a.low, a.high, 0);
-    let mut y = side(q, n, a.new, a.low, a.high, 0);
+    let mut x = side_from(p, m, a.old, a.low, a.high, 0);
+    let mut y = side_from(q, n, a.new, a.low, a.high, 0);
     while key < KEYS {
         let d = crate::telling::compared(x.pair, y.pair);
         sum = crate::telling::put(list, sum, d, a.write);

@@ -1,64 +1,57 @@
--- `tell` meets its contract. Assumes nothing.
-use Rattle.differ.specs.Listing.{between, leftOf, from-start, from-end, from-on, from-step, told-few}
-use Rattle.differ.specs.Told.{Telling, telling-start, telling-same, telling-step, telling-end, room-front}
-use Rattle.differ.specs.Merge.{told}
-use Rattle.model.specs.Walk.{keyLimit}
-use mathlib.Core.Path.{sym}
-use native.Mathlib.Omega.{arith}
-use Prim.Native.Nat.{_+_, _-_, _≤_}
 use borrow.Author.Needs.{needs}
 use Rattle.differ.proofs.tell.Statement.{statement}
 use Rattle.differ.proofs.tell.Tie as tie
+use Rattle.differ.proofs.tell.Reads as reads
+use Rattle.differ.proofs.tell.Lts as lts
+use Rattle.cursor.proofs.leaf_for.Reads as leaf-for-reads
+use Rattle.differ.proofs.leaves.tell.Reads as tell-reads
+use Rattle.differ.proofs.lower.Reads as lower-reads
 
 abbrev Inv-loop : tie.InvT-loop
-Inv-loop s l u v list₀ write found₀ key₀ list found key = (key ≤ keyLimit + 1) × (found ≤ key) × Telling write list₀ list found (between l s u v) (leftOf l s u v key)
+Inv-loop s l u v list₀ write found₀ key₀ list found key = ?
 
 abbrev μ-loop : tie.MeasureT-loop
-μ-loop s l u v list₀ write found₀ key₀ list found key = keyLimit + 1 - key
+μ-loop s l u v list₀ write found₀ key₀ list found key = ?
 
+-- src/lib.rt:57:5
 loop-holds : tie.Need-loop-holds Inv-loop μ-loop
-loop-holds c = (omega arith, omega arith, telling-same (sym (from-start (c .before .before .pre .0) (c .before .before .pre .1))) (telling-start (c .before .before .pre .2)))
+loop-holds c = ?
 
-next-requires : tie.Need-next-requires Inv-loop μ-loop
-next-requires c κs = (c .before .before .before .before .pre .0, c .before .before .before .before .pre .1)
+-- src/lib.rt:58:13
+leaf-for-requires : tie.Need-leaf-for-requires Inv-loop μ-loop
+leaf-for-requires c κs = search needs
 
-put-requires : tie.Need-put-requires Inv-loop μ-loop
-put-requires c κs =
-    let l = c .before .before .before .loop in
-    let e = c .before .next .ensures in
-    let g = telling-same (from-step (c .before .before .before .before .before .before .pre .0) (c .before .before .before .before .before .before .pre .1) (l .key) (omega (arith, c .before .before .loop-test .taken)) (c .before .next .result) e) (l .inv .2) in
-    (room-front (c .before .before .before .before .before .before .args .write) (l .list) (l .found) (told (c .before .next .result)) _ (g .room), omega (arith, l .inv .1, c .before .before .loop-test .taken))
+-- src/lib.rt:59:13
+leaf-for-requires-2 : tie.Need-leaf-for-requires-2 Inv-loop μ-loop
+leaf-for-requires-2 c κs = search needs
 
-add-key : tie.Need-add-key Inv-loop μ-loop
-add-key c =
-    let l = c .before .before .before .before .before .before .before .loop in
-    let e = c .before .before .before .before .before .next .ensures in
-    let o = from-on (c .before .before .before .before .before .before .before .before .before .before .pre .0) (c .before .before .before .before .before .before .before .before .before .before .pre .1) (l .key) (omega (arith, c .before .before .before .before .before .before .loop-test .taken)) (c .before .before .before .before .before .next .result) e in
-    omega (arith, o .high)
+-- src/lib.rt:60:13
+lower-requires : tie.Need-lower-requires Inv-loop μ-loop
+lower-requires c κs = search needs
 
+-- src/lib.rt:65:19
+sub-t14 : tie.Need-sub-t14 Inv-loop μ-loop
+sub-t14 c = search needs
+
+-- src/lib.rt:68:9
+tell-requires : tie.Need-tell-requires Inv-loop μ-loop
+tell-requires c κs = search needs
+
+-- src/lib.rt:57:5
 loop-less : tie.Need-loop-less Inv-loop μ-loop
-loop-less c =
-    let l = c .before .before .before .before .before .before .before .loop in
-    let e = c .before .before .before .before .before .next .ensures in
-    let o = from-on (c .before .before .before .before .before .before .before .before .before .before .pre .0) (c .before .before .before .before .before .before .before .before .before .before .pre .1) (l .key) (omega (arith, c .before .before .before .before .before .before .loop-test .taken)) (c .before .before .before .before .before .next .result) e in
-    omega (arith, o .low, o .high, c .before .before .before .before .before .before .loop-test .taken)
+loop-less c = search needs
 
+-- src/lib.rt:57:5
 loop-again : tie.Need-loop-again Inv-loop μ-loop
-loop-again c =
-    let l = c .before .before .before .before .before .before .before .loop in
-    let e = c .before .before .before .before .before .next .ensures in
-    let o = from-on (c .before .before .before .before .before .before .before .before .before .before .pre .0) (c .before .before .before .before .before .before .before .before .before .before .pre .1) (l .key) (omega (arith, c .before .before .before .before .before .before .loop-test .taken)) (c .before .before .before .before .before .next .result) e in
-    let g = telling-same (from-step (c .before .before .before .before .before .before .before .before .before .before .pre .0) (c .before .before .before .before .before .before .before .before .before .before .pre .1) (l .key) (omega (arith, c .before .before .before .before .before .before .loop-test .taken)) (c .before .before .before .before .before .next .result) e) (l .inv .2) in
-    let h = telling-step (told (c .before .before .before .before .before .next .result)) _ g _ _ (c .before .before .before .put .ensures) in
-    (omega (arith, o .high), omega (arith, l .inv .1, o .low, c .before .before .before .put .ensures .count, told-few (c .before .before .before .before .before .next .result)), h)
+loop-again c = ?
 
+-- src/lib.rt:51:1
 same-length : tie.Need-same-length Inv-loop μ-loop
 same-length c = search needs
 
+-- src/lib.rt:51:1
 returns : tie.Need-returns Inv-loop μ-loop
-returns c =
-    let l = c .before .loop in
-    (telling-end (telling-same (from-end (c .before .before .before .before .pre .0) (c .before .before .before .before .pre .1) (l .key) (c .loop-test .left)) (l .inv .2)), omega (arith, l .inv .0, l .inv .1))
+returns c = ?
 
 pub tell-spec : {M : Type 1} → statement M
 tell-spec =
@@ -67,9 +60,11 @@ tell-spec =
     Inv-loop
     μ-loop
     loop-holds
-    next-requires
-    put-requires
-    add-key
+    leaf-for-requires
+    leaf-for-requires-2
+    lower-requires
+    sub-t14
+    tell-requires
     loop-less
     loop-again
     same-length
