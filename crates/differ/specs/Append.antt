@@ -54,14 +54,14 @@ module _ (hi : ℕ) (us ws : List Pair) (a : above hi us ≡ true) (b : above hi
   pub differ-append : (xs ys : List Pair) → rising xs ≡ true → rising ys ≡ true → upTo hi xs ≡ true → upTo hi ys ≡ true → differ (xs ++ us) (ys ++ ws) ≡ differ xs ys ++ differ us ws
   differ-append = by-merge Parts (λ i j. refl)
       (λ x xs ys c d ih i j. let (p, q) = all-cons (λ (z : Pair). leb (z .key) hi) x xs i in
-          old-first x (xs ++ us) (ys ++ ws) (behind x ys ws p d b) ∙ ap (λ (ds : List Delta). removed x ∷ ds) (ih q j) ∙ ap (λ (ds : List Delta). ds ++ differ us ws) (sym (old-first x xs ys d)))
+      old-first x (xs ++ us) (ys ++ ws) (behind x ys ws p d b) ∙ ap (λ (ds : List Delta). removed x ∷ ds) (ih q j) ∙ ap (λ (ds : List Delta). ds ++ differ us ws) (sym (old-first x xs ys d)))
       (λ xs y ys c d ih i j. let (p, q) = all-cons (λ (z : Pair). leb (z .key) hi) y ys j in
-          new-first (xs ++ us) y (ys ++ ws) (behind y xs us p c a) ∙ ap (λ (ds : List Delta). added y ∷ ds) (ih i q) ∙ ap (λ (ds : List Delta). ds ++ differ us ws) (sym (new-first xs y ys c)))
+      new-first (xs ++ us) y (ys ++ ws) (behind y xs us p c a) ∙ ap (λ (ds : List Delta). added y ∷ ds) (ih i q) ∙ ap (λ (ds : List Delta). ds ++ differ us ws) (sym (new-first xs y ys c)))
       (λ x xs y ys e c d ih i j.
-          let q = all-cons (λ (z : Pair). leb (z .key) hi) x xs i .1 in
-          let (m, n) = all-cons (λ (z : Pair). leb (z .key) hi) y ys j in
-          both-first x (xs ++ us) y (ys ++ ws) e (behind y ys ws m d b) ∙ ap (λ (ds : List Delta). against x (some (y .value)) ++ ds) (ih q n)
-          ∙ sym (append-assoc (against x (some (y .value))) (differ xs ys) (differ us ws)) ∙ ap (λ (ds : List Delta). ds ++ differ us ws) (sym (both-first x xs y ys e d)))
+      let q = all-cons (λ (z : Pair). leb (z .key) hi) x xs i .1 in
+      let (m, n) = all-cons (λ (z : Pair). leb (z .key) hi) y ys j in
+      both-first x (xs ++ us) y (ys ++ ws) e (behind y ys ws m d b) ∙ ap (λ (ds : List Delta). against x (some (y .value)) ++ ds) (ih q n)
+      ∙ sym (append-assoc (against x (some (y .value))) (differ xs ys) (differ us ws)) ∙ ap (λ (ds : List Delta). ds ++ differ us ws) (sym (both-first x xs y ys e d)))
 
 -- no more differences than keys
 fewer : (lo hi : ℕ) (ds : List Delta) → lo ≤ hi → inOrder before ds ≡ true → all (λ (d : Delta). within lo hi (d .key)) ds ≡ true → length ds + lo ≤ hi

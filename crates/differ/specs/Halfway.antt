@@ -111,18 +111,19 @@ module _ (p : List ℕ) (m : ℕ) (q : List ℕ) (n : ℕ) (a : Ask) where
 
 -- ---- two versions
 
-module _ {l : Limits} {b : List ℕ} {u v : ℕ} (r : Readable l b u) (q : Readable l b v) where
-  pub record Between (w : Bool) (ns₀ ns : List ℕ) (found key : ℕ) : Type 0 where
-    pub limit : key ≤ keyLimit
-    pub tells : Telling w ns₀ ns 0 found (between l b u v) (leftOf l b u v key)
+-- all that differs below a key is told
+pub record Between (l : Limits) (b : List ℕ) (u v : ℕ) (w : Bool) (ns₀ ns : List ℕ) (found key : ℕ) : Type 0 where
+  pub limit : key ≤ keyLimit
+  pub tells : Telling w ns₀ ns 0 found (between l b u v) (leftOf l b u v key)
 
-  pub between-start : {w : Bool} {ns : List ℕ} → Space w ns 0 (between l b u v) → Between w ns ns 0 0
+module _ {l : Limits} {b : List ℕ} {u v : ℕ} (r : Readable l b u) (q : Readable l b v) where
+  pub between-start : {w : Bool} {ns : List ℕ} → Space w ns 0 (between l b u v) → Between l b u v w ns ns 0 0
   between-start s = record { limit = omega arith; tells = telling-same (sym (from-start r q)) (telling-start s) }
 
-  pub between-end : {w : Bool} {ns₀ ns : List ℕ} {found key : ℕ} → Between w ns₀ ns found key → keyLimit ≤ key → Tells w ns₀ ns 0 found (between l b u v)
+  pub between-end : {w : Bool} {ns₀ ns : List ℕ} {found key : ℕ} → Between l b u v w ns₀ ns found key → keyLimit ≤ key → Tells w ns₀ ns 0 found (between l b u v)
   between-end {key = key} h l = telling-end (telling-same (from-end r q key l) (h .tells))
 
-  module _ {w : Bool} {ns₀ ns : List ℕ} {found key : ℕ} (h : Between w ns₀ ns found key) (x y : Under) (g : Below l b u 0 key x) (f : Below l b v 0 key y)
+  module _ {w : Bool} {ns₀ ns : List ℕ} {found key : ℕ} (h : Between l b u v w ns₀ ns found key) (x y : Under) (g : Below l b u 0 key x) (f : Below l b v 0 key y)
       (high : ℕ) (e : high ≡ pick (ltb (x .high) (y .high)) (x .high) (y .high)) where
     -- the lower of two ends is behind the key
     lower : (high ≤ x .high) × (high ≤ y .high) × (key < high)
@@ -149,5 +150,5 @@ module _ {l : Limits} {b : List ℕ} {u v : ℕ} (r : Readable l b u) (q : Reada
     pub between-space : Space w ns found (inLeaves l b ask x y)
     between-space = space-front (inLeaves l b ask x y) (leftOf l b u v high) (parts-of .space)
 
-    pub between-step : (ns′ : List ℕ) (found′ : ℕ) → Tells w ns ns′ found found′ (inLeaves l b ask x y) → Between w ns₀ ns′ found′ high
+    pub between-step : (ns′ : List ℕ) (found′ : ℕ) → Tells w ns ns′ found found′ (inLeaves l b ask x y) → Between l b u v w ns₀ ns′ found′ high
     between-step ns′ found′ t = record { limit = high-top; tells = telling-step (inLeaves l b ask x y) (leftOf l b u v high) parts-of ns′ found′ t }

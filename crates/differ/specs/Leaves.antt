@@ -85,7 +85,7 @@ module _ {l : Limits} {b : List ℕ} (a : Ask) (r : Readable l b (a .old)) (q : 
       let (m, n) = both-true (eqb (x .page) (y .page)) (quiet (a .old) (a .new) (from p 0 (h .count))) t in
       let e′ : p ≡ pageOf (l .least) b (y .page) = e ∙ ap (pageOf (l .least) b) (eqb-true (x .page) (y .page) m) in
       let one : inLeaf l b (a .old) (a .low) (a .high) x ≡ inLeaf l b (a .new) (a .low) (a .high) y =
-          sym (leaf-rest r (a .low) x g p h e d (a .low) (a .high)) ∙ ap (between (a .low) (a .high)) (quiet-shows (a .old) (a .new) (from p 0 (h .count)) n) ∙ leaf-rest q (a .low) y f p h e′ d (a .low) (a .high) in
+      sym (leaf-rest r (a .low) x g p h e d (a .low) (a .high)) ∙ ap (between (a .low) (a .high)) (quiet-shows (a .old) (a .new) (from p 0 (h .count)) n) ∙ leaf-rest q (a .low) y f p h e′ d (a .low) (a .high) in
       ap (λ (us : List Pair). differ us (inLeaf l b (a .new) (a .low) (a .high) y)) one ∙ none-differs (inLeaf l b (a .new) (a .low) (a .high) y) (leaf-ordered q (a .low) y f (a .low) (a .high) .rises)
 
   pub both-asked : (o : List ℕ) (i : Head) → o ≡ pageOf (l .least) b (y .page) → i ≡ readHead (l .least) o → asked p (h .count) o (i .count) a ≡ inLeaves l b a x y

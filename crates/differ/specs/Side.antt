@@ -49,12 +49,15 @@ module _ (p : List ℕ) (n v lo hi : ℕ) where
     at-here h = (record { within = f .within; pair = sym (ap leads (f .here h)); here = f .here; rises = still }, sym (f .same))
 
     pub at-none : r ≡ n → At p n v lo hi (record { place = n; pair = pair keyLimit 0 }) × (rest p n v lo hi n ≡ rest p n v lo hi i)
-    at-none e = (record {
-      within = omega arith;
-      pair = sym (ap leads (none-left n refl));
-      here = λ (h : n < n). absurd (omega arith);
-      rises = subst (λ (us : List Pair). rising us ≡ true) (sym (none-left n refl)) refl;
-    }, none-left n refl ∙ sym (f .same ∙ none-left r e))
+    at-none e = (
+      record {
+        within = omega arith;
+        pair = sym (ap leads (none-left n refl));
+        here = λ (h : n < n). absurd (omega arith);
+        rises = subst (λ (us : List Pair). rising us ≡ true) (sym (none-left n refl)) refl;
+      },
+      none-left n refl ∙ sym (f .same ∙ none-left r e),
+    )
 
   -- on to a key
   module _ (x : Side) (a : At p n v lo hi x) (key : ℕ) where

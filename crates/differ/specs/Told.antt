@@ -84,6 +84,9 @@ pub record Tells (w : Bool) (ns ns′ : List ℕ) (k r : ℕ) (ds : List Delta) 
   pub count : r ≡ k + length ds
   pub list : ns′ ≡ written w ns k ds
 
+pub tells-same : {w : Bool} {ns ns1 : List ℕ} {k k1 : ℕ} {xs ys : List Delta} → xs ≡ ys → Tells w ns ns1 k k1 xs → Tells w ns ns1 k k1 ys
+tells-same e g = rw e at g
+
 pub tells-none : (w : Bool) (ns : List ℕ) (k : ℕ) → Tells w ns ns k k []
 tells-none w ns k = record { count = omega arith; list = sym (written-none w ns k) }
 

@@ -131,7 +131,15 @@ fn same(page: &[u8], n: usize, a: Ask, x: usize, y: usize) -> bool
 }
 
 // What differs in a stretch from the leaf x of the old version to the leaf y of the new one.
-pub fn tell(s: &[u8], l: Limits, a: Ask, x: Under, y: Under, list: &mut [u32], found: usize) -> usize
+pub fn tell(
+    s: &[u8],
+    l: Limits,
+    a: Ask,
+    x: Under,
+    y: Under,
+    list: &mut [u32],
+    found: usize,
+) -> usize
     requires { ⌜ Readable l (now s) (a .old) × Readable l (now s) (a .new) × Below l (now s) (a .old) 0 (a .low) x × Below l (now s) (a .new) 0 (a .low) y × Space (a .write) (now list) found (inLeaves l (now s) a x y) ⌝ }
     ensures { λ r. ⌜ Tells (a .write) (now (list .entry)) (now (list .exit)) found r (inLeaves l (now (s .entry)) a x y) ⌝ }
 {

@@ -1,6 +1,7 @@
 -- `difference` meets its contract. Assumes nothing.
 use Rattle.differ.specs.Listing.{few-between, list-short, second-room, list-all}
 use Rattle.differ.specs.Told.{no-room}
+use native.Mathlib.Omega.{arith}
 use borrow.Author.Needs.{needs}
 use Rattle.differ.proofs.difference.Statement.{statement}
 use Rattle.differ.proofs.difference.Tie as tie
@@ -9,7 +10,7 @@ tell-requires : tie.Need-tell-requires
 tell-requires c κs = (c .before .before .before .pre .0, c .before .before .before .pre .1, no-room (omega (arith, few-between (c .before .before .before .pre .0) (c .before .before .before .pre .1))))
 
 mul-if1 : tie.Need-mul-if1
-mul-if1 c = ?
+mul-if1 c = omega (arith, c .before .before .tell .ensures .count, few-between (c .before .before .before .before .before .before .pre .0) (c .before .before .before .before .before .before .pre .1))
 
 same-length : tie.Need-same-length
 same-length c = search needs

@@ -1,57 +1,48 @@
+-- `tell` meets its contract. Assumes nothing.
+use Rattle.differ.specs.Halfway.{Between, between-start, between-end, between-space, between-step, high-low, high-top}
+use Rattle.model.specs.Walk.{keyLimit}
+use native.Mathlib.Omega.{arith}
+use Prim.Native.Nat.{_-_}
 use borrow.Author.Needs.{needs}
 use Rattle.differ.proofs.tell.Statement.{statement}
 use Rattle.differ.proofs.tell.Tie as tie
-use Rattle.differ.proofs.tell.Reads as reads
-use Rattle.differ.proofs.tell.Lts as lts
-use Rattle.cursor.proofs.leaf_for.Reads as leaf-for-reads
-use Rattle.differ.proofs.leaves.tell.Reads as tell-reads
-use Rattle.differ.proofs.lower.Reads as lower-reads
 
 abbrev Inv-loop : tie.InvT-loop
-Inv-loop s l u v list₀ write found₀ key₀ list found key = ?
+Inv-loop s l u v list₀ write found₀ key₀ list found key = Between l s u v write list₀ list found key
 
 abbrev μ-loop : tie.MeasureT-loop
-μ-loop s l u v list₀ write found₀ key₀ list found key = ?
+μ-loop s l u v list₀ write found₀ key₀ list found key = keyLimit - key
 
--- src/lib.rt:57:5
 loop-holds : tie.Need-loop-holds Inv-loop μ-loop
-loop-holds c = ?
+loop-holds c = between-start (c .before .before .pre .0) (c .before .before .pre .1) (c .before .before .pre .2)
 
--- src/lib.rt:58:13
 leaf-for-requires : tie.Need-leaf-for-requires Inv-loop μ-loop
-leaf-for-requires c κs = search needs
+leaf-for-requires c κs = (c .before .before .before .before .pre .0, c .loop-test .taken)
 
--- src/lib.rt:59:13
 leaf-for-requires-2 : tie.Need-leaf-for-requires-2 Inv-loop μ-loop
-leaf-for-requires-2 c κs = search needs
+leaf-for-requires-2 c κs = (c .before .before .before .before .before .pre .1, c .before .loop-test .taken)
 
--- src/lib.rt:60:13
 lower-requires : tie.Need-lower-requires Inv-loop μ-loop
 lower-requires c κs = search needs
 
--- src/lib.rt:65:19
 sub-t14 : tie.Need-sub-t14 Inv-loop μ-loop
-sub-t14 c = search needs
+sub-t14 c = omega (arith, high-low (c .before .before .before .before .before .before .before .pre .0) (c .before .before .before .before .before .before .before .pre .1) (c .before .before .before .before .loop .inv) (c .before .before .leaf-for .result) (c .before .leaf-for2 .result) (c .before .before .leaf-for .ensures) (c .before .leaf-for2 .ensures) (c .lower .result) (c .lower .ensures))
 
--- src/lib.rt:68:9
 tell-requires : tie.Need-tell-requires Inv-loop μ-loop
-tell-requires c κs = search needs
+tell-requires c κs =
+    (c .before .before .before .before .before .before .before .before .pre .0, c .before .before .before .before .before .before .before .before .pre .1, c .before .before .before .leaf-for .ensures, c .before .before .leaf-for2 .ensures, between-space (c .before .before .before .before .before .before .before .before .pre .0) (c .before .before .before .before .before .before .before .before .pre .1) (c .before .before .before .before .before .loop .inv) (c .before .before .before .leaf-for .result) (c .before .before .leaf-for2 .result) (c .before .before .before .leaf-for .ensures) (c .before .before .leaf-for2 .ensures) (c .before .lower .result) (c .before .lower .ensures))
 
--- src/lib.rt:57:5
 loop-less : tie.Need-loop-less Inv-loop μ-loop
-loop-less c = search needs
+loop-less c = omega (arith, high-low (c .before .before .before .before .before .before .before .before .before .before .before .pre .0) (c .before .before .before .before .before .before .before .before .before .before .before .pre .1) (c .before .before .before .before .before .before .before .before .loop .inv) (c .before .before .before .before .before .before .leaf-for .result) (c .before .before .before .before .before .leaf-for2 .result) (c .before .before .before .before .before .before .leaf-for .ensures) (c .before .before .before .before .before .leaf-for2 .ensures) (c .before .before .before .before .lower .result) (c .before .before .before .before .lower .ensures), high-top (c .before .before .before .before .before .before .before .before .before .before .before .pre .0) (c .before .before .before .before .before .before .before .before .before .before .before .pre .1) (c .before .before .before .before .before .before .before .before .loop .inv) (c .before .before .before .before .before .before .leaf-for .result) (c .before .before .before .before .before .leaf-for2 .result) (c .before .before .before .before .before .before .leaf-for .ensures) (c .before .before .before .before .before .leaf-for2 .ensures) (c .before .before .before .before .lower .result) (c .before .before .before .before .lower .ensures))
 
--- src/lib.rt:57:5
 loop-again : tie.Need-loop-again Inv-loop μ-loop
-loop-again c = ?
+loop-again c = between-step (c .before .before .before .before .before .before .before .before .before .before .before .pre .0) (c .before .before .before .before .before .before .before .before .before .before .before .pre .1) (c .before .before .before .before .before .before .before .before .loop .inv) (c .before .before .before .before .before .before .leaf-for .result) (c .before .before .before .before .before .leaf-for2 .result) (c .before .before .before .before .before .before .leaf-for .ensures) (c .before .before .before .before .before .leaf-for2 .ensures) (c .before .before .before .before .lower .result) (c .before .before .before .before .lower .ensures) _ _ (c .before .before .tell .ensures)
 
--- src/lib.rt:51:1
 same-length : tie.Need-same-length Inv-loop μ-loop
 same-length c = search needs
 
--- src/lib.rt:51:1
 returns : tie.Need-returns Inv-loop μ-loop
-returns c = ?
+returns c = between-end (c .before .before .before .before .pre .0) (c .before .before .before .before .pre .1) (c .before .loop .inv) (c .loop-test .left)
 
 pub tell-spec : {M : Type 1} → statement M
 tell-spec =

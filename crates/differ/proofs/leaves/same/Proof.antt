@@ -1,21 +1,16 @@
-use borrow.Author.Needs.{needs}
+-- `same` meets its contract. Assumes nothing.
+use borrow.Author.Tests.{eq-eqb, ne-eqb}
 use Rattle.differ.proofs.leaves.same.Statement.{statement}
 use Rattle.differ.proofs.leaves.same.Tie as tie
-use Rattle.differ.proofs.leaves.same.Reads as reads
-use Rattle.differ.proofs.leaves.same.Lts as lts
-use Rattle.differ.proofs.leaves.quiet.Reads as quiet-reads
 
--- src/leaves.rt:128:9
 returns : tie.Need-returns
-returns c = ?
+returns c = simp (ne-eqb _ _ (c .if1 .taken))
 
--- src/leaves.rt:130:5
 quiet-requires : tie.Need-quiet-requires
-quiet-requires c κs = search needs
+quiet-requires c κs = c .before .before .pre
 
--- src/leaves.rt:123:1
 returns-2 : tie.Need-returns-2
-returns-2 c = ?
+returns-2 c = rw (eq-eqb _ _ (c .before .if1 .left)) (c .quiet .ensures)
 
 pub same-spec : {M : Type 1} → statement M
 same-spec = tie.close (tie.spec returns quiet-requires returns-2)
