@@ -12,7 +12,7 @@ use Rattle.model.specs.declared.Pair.{Pair}
 use Rattle.model.specs.declared.Delta.{Delta}
 use Rattle.model.specs.declared.Limits.{Limits}
 use Rattle.model.specs.Walk.{keyLimit}
-use Rattle.model.specs.Differ.{added, removed, differ}
+use Rattle.model.specs.Differ.{added, removed}
 use Rattle.walk.specs.Sure.{Readable}
 use Rattle.cursor.specs.declared.Under.{Under}
 use Rattle.cursor.specs.First.{atOrAbove, leads, above-all}

@@ -1,6 +1,6 @@
 -- What differs between two leaves in a stretch of keys, and that it is what differs between their versions there.
 -- Assumes nothing.
-use Prim.Native.Nat.{ℕ, _+_, _-_, _≤_, _<_}
+use Prim.Native.Nat.{ℕ, _+_, _≤_, _<_}
 use native.Mathlib.Omega.{arith}
 use mathlib.Core.Bool.{true, _&&_}
 use mathlib.Core.Path.{_≡_, ap, ap₂, sym, _∙_}
@@ -18,13 +18,11 @@ use Rattle.model.specs.Layout.{pageOf, decode}
 use Rattle.model.specs.Differ.{differ}
 use Rattle.model.proofs.Lists.{both-true}
 use Rattle.model.proofs.Tree.{widen}
-use Rattle.model.proofs.Local.{inRange}
 use Rattle.model.proofs.Lookups.{rising}
 use Rattle.model.proofs.Edit.{all-those, rising-those}
 use Rattle.model.proofs.Differs.{none-differs}
 use Rattle.page.specs.declared.Head.{Head}
 use Rattle.page.specs.Head.{readHead}
-use Rattle.walk.specs.Live.{live}
 use Rattle.walk.specs.Scan.{Stands, from}
 use Rattle.walk.specs.Sure.{Readable}
 use Rattle.walk.specs.Here.{here-stands, here-pairs}

@@ -8,7 +8,6 @@ use model::Delta;
 use model::Limits;
 use walk::Counted;
 ghost use mathlib.Core.Path.{_≡_};
-ghost use Prim.Native.Nat.{_≤_};
 ghost use lib.ListN.{length};
 ghost use Rattle.model.specs.Basic.{pick};
 ghost use lib.Dec.{ltb};

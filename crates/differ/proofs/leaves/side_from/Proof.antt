@@ -1,11 +1,6 @@
 -- `side_from` meets its contract. Assumes nothing.
-use Rattle.differ.specs.Side.{At, rest, at-here, at-none}
-use Rattle.differ.specs.declared.leaves.Side.{Side}
-use Rattle.model.specs.declared.Entry.{Entry}
-use Rattle.model.specs.Entry.{pairOf}
-use mathlib.Core.Path.{_≡_, sym, subst}
+use Rattle.differ.specs.Side.{at-here, at-none}
 use native.Mathlib.Omega.{arith}
-use borrow.Author.Needs.{needs}
 use Rattle.differ.proofs.leaves.side_from.Statement.{statement}
 use Rattle.differ.proofs.leaves.side_from.Tie as tie
 

@@ -5,7 +5,7 @@ use Rattle.model.specs.declared.Delta.{Delta}
 use Rattle.walk.specs.Sure.{covers-inside}
 use Rattle.cursor.specs.Leaf.{below-covers}
 use Rattle.store.specs.Sure.{few}
-use mathlib.Core.Path.{_≡_, sym, _∙_, subst}
+use mathlib.Core.Path.{sym, _∙_, subst}
 use mathlib.Core.List.{List}
 use borrow.Author.Needs.{needs}
 use Rattle.differ.proofs.leaves.tell.Statement.{statement}
