@@ -70,18 +70,28 @@ fn tell(s: &[u8], l: Limits, u: u32, v: u32, list: &mut [u32], write: bool) -> u
     found
 }
 
-// Whether versions u and v of a sound store have the same settings: the walk over both ends at the first difference.
+// Whether versions u and v of a sound store have the same settings, by the same steps; it ends at the first two leaves that differ.
 pub fn alike(s: &[u8], l: Limits, u: u32, v: u32) -> bool
     requires { ⌜ Readable l (now s) u × Readable l (now s) v ⌝ }
     ensures { λ r. ⌜ r ≡ samePairs (settings (decode (l .least) (now (s .entry))) u) (settings (decode (l .least) (now (s .entry))) v) ⌝ }
 {
+    let mut none = [0; 1];
     let mut key = 0;
     while key < KEYS {
-        let d = next(s, l, u, v, key);
-        if d.kind != 3 {
+        let x = cursor::leaf_for(s, l, u, key);
+        let y = cursor::leaf_for(s, l, v, key);
+        let high = lower(x.high, y.high);
+        let a = Ask {
+            old: u,
+            new: v,
+            low: key,
+            high: high - 1,
+            write: false,
+        };
+        if leaves::tell(s, l, a, x, y, &mut none, 0) != 0 {
             return false;
         }
-        key = d.key + 1;
+        key = high;
     }
     true
 }
