@@ -11,6 +11,7 @@ pub mod Projected
 pub mod Stays
 pub mod Differences
 pub mod Restored
+pub mod KeptOut
 pub mod Replaying
 pub mod Fakes
 pub mod Promises

@@ -12,7 +12,7 @@ use Rattle.model.specs.declared.Pair.{Pair}
 use Rattle.model.specs.declared.Looked.{Looked}
 use Rattle.model.specs.Store.{lastOf}
 use Rattle.model.specs.Walk.{keyLimit, find, between}
-use Rattle.model.specs.Calls.{isSome, Rule, rule, firstOf, lookedBy, Ranged, rangedBy}
+use Rattle.model.specs.Calls.{isSome, Rule, rule, insertTests, deleteTests, firstOf, lookedBy, Ranged, rangedBy}
 use Rattle.model.specs.Told.{toldBy}
 use Rattle.model.specs.Differ.{differ, deltaNumbers}
 use Rattle.model.specs.Settings.{Machine}
@@ -25,7 +25,7 @@ use Rattle.promises.specs.Beside.{Beside}
 abbrev pub lastIn : Machine → ℕ
 lastIn m = lastOf (m .opened) (m .current)
 
--- ---- the tests of each call's refusals, smallest number first
+-- ---- the tests of each call's refusals, smallest number first; insert's and delete's stand with the calls (model/specs/Calls)
 
 -- 5 "key too large", 6 "version above last"
 abbrev pub lookupTests : ℕ → ℕ → ℕ → List Rule
@@ -46,14 +46,6 @@ openTests opened current = rule 8 opened ∷ rule 9 (leb 1048574 current) ∷ []
 -- commit and abandon: 7 "no update open"
 abbrev pub endTests : Bool → List Rule
 endTests opened = rule 7 (not opened) ∷ []
-
--- 10 "key alive"
-abbrev pub insertTests : ℕ → Bool → Bool → List Rule
-insertTests k opened alive = rule 5 (leb keyLimit k) ∷ rule 7 (not opened) ∷ rule 10 alive ∷ []
-
--- 11 "key not alive"
-abbrev pub deleteTests : ℕ → Bool → Bool → List Rule
-deleteTests k opened alive = rule 5 (leb keyLimit k) ∷ rule 7 (not opened) ∷ rule 11 (not alive) ∷ []
 
 -- ---- what the machine's settings answer
 

@@ -6,6 +6,8 @@ pub mod Views
 pub mod Demand1
 pub mod Demand2
 pub mod Demand3
+pub mod OldReadings
 pub mod Differences
 pub mod Replayed
+pub mod Bench
 pub mod Fakes

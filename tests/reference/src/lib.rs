@@ -9,7 +9,7 @@
 //! - [`walk`]: lookups and ranges; [`update`] over a [`draft`]: the page rules;
 //!   [`mod@abandon`];
 //! - [`unjudged`]: the calls on a store known to be sound, and [`calls`]: the
-//!   nine calls as the console has them, on any bytes;
+//!   calls as the console has them, on any bytes;
 //! - [`console`]: the line language.
 //!
 //! The rest makes and judges work for two programs run side by side:
@@ -20,7 +20,8 @@
 //! - [`history`], [`lines`]: calls and console input from a seed;
 //! - [`foreign`], [`tall`]: sound stores that no history makes;
 //! - [`damage`]: unsound stores, with the rule that each one breaks;
-//! - [`samples`]: sound stores of all these shapes from a seed.
+//! - [`samples`]: sound stores of all these shapes from a seed;
+//! - [`trace`]: a line for each call, to hold any program to any other.
 
 #![forbid(unsafe_code)]
 
@@ -44,6 +45,7 @@ pub mod rng;
 pub mod samples;
 pub mod store;
 pub mod tall;
+pub mod trace;
 pub mod unjudged;
 pub mod update;
 pub mod walk;

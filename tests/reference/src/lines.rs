@@ -91,7 +91,10 @@ impl Session {
             Call::Delete(key) => format!("delete {key}"),
             Call::Commit => "commit".to_string(),
             Call::Abandon => "abandon".to_string(),
-            Call::Lookup(key, version) => format!("get {key} {version}"),
+            // Nor for a lookup's pages: the lookup itself stands for them.
+            Call::Lookup(key, version) | Call::Visits(key, version, _) => {
+                format!("get {key} {version}")
+            }
             // The console's list is always long enough.
             Call::Range(low, high, version, _) => format!("range {low} {high} {version}"),
         }

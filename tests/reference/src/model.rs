@@ -9,7 +9,7 @@ use std::collections::BTreeMap;
 
 use crate::engine::{Answer, Call};
 use crate::image::Image;
-use crate::layout::{HIGHEST_KEY, HIGHEST_VERSION};
+use crate::layout::{FIRST_BENCH_KEY, HIGHEST_KEY, HIGHEST_VERSION};
 use crate::{number, store, walk};
 
 pub type Settings = BTreeMap<u32, u32>;
@@ -76,18 +76,21 @@ impl Model {
         found.flat_map(|(key, value)| [*key, *value]).collect()
     }
 
-    /// The answer to `call` if pages and slots were endless.
+    /// The answer to `call` if pages and slots were endless. Of a lookup's
+    /// pages it knows only whether they are refused by 5 or 6.
     pub fn answer(&self, call: Call) -> Answer {
         match call {
             Call::Fresh | Call::Check => Answer::default(),
             Call::Open => Answer::of(self.number_of_open()),
             Call::Commit | Call::Abandon => Answer::of(self.number_unless_open()),
+            Call::Insert(key, _) if key >= FIRST_BENCH_KEY => Answer::of(number::ARGUMENT),
             Call::Insert(key, _) => Answer::of(self.number_of_update(key, number::KEY_ALIVE)),
             Call::Delete(key) => Answer::of(self.number_of_update(key, number::KEY_NOT_ALIVE)),
             Call::Lookup(key, version) => self.answer_to_lookup(key, version),
             Call::Range(low, high, version, length) => {
                 self.answer_to_range(low, high, version, length)
             }
+            Call::Visits(key, version, _) => Answer::of(self.number_of_reading(key, version)),
         }
     }
 
@@ -126,12 +129,20 @@ impl Model {
         }
     }
 
-    fn answer_to_lookup(&self, key: u32, version: u32) -> Answer {
+    fn number_of_reading(&self, key: u32, version: u32) -> u32 {
         if key > HIGHEST_KEY {
-            return Answer::of(number::ARGUMENT);
+            number::ARGUMENT
+        } else if version > self.last() {
+            number::VERSION
+        } else {
+            number::DONE
         }
-        if version > self.last() {
-            return Answer::of(number::VERSION);
+    }
+
+    fn answer_to_lookup(&self, key: u32, version: u32) -> Answer {
+        let number = self.number_of_reading(key, version);
+        if number != number::DONE {
+            return Answer::of(number);
         }
         let found = self.at(version).get(&key);
         Answer {
@@ -174,7 +185,7 @@ impl Model {
                 self.committed.insert(self.current, settings);
             }
             Call::Abandon => self.open = None,
-            Call::Check | Call::Lookup(..) | Call::Range(..) => {}
+            Call::Check | Call::Lookup(..) | Call::Range(..) | Call::Visits(..) => {}
         }
     }
 

@@ -9,6 +9,7 @@ use std::io::{self, BufWriter, Write};
 use reference::engine::{apply, Call};
 use reference::history::{History, KINDS};
 use reference::layout::PAGE_BYTES;
+use reference::trace::hash;
 
 fn main() -> io::Result<()> {
     let words: Vec<u64> = std::env::args()
@@ -25,12 +26,16 @@ fn main() -> io::Result<()> {
         let mut list = vec![0; call.list_length()];
         let answer = apply(call, &mut store, &mut list);
         history.observe(call, &answer);
-        let list: Vec<u8> = list.iter().flat_map(|n| n.to_be_bytes()).collect();
         write!(output, "{} -> ", text(call))?;
         write!(output, "{} {} ", answer.number, answer.rule)?;
         write!(output, "{} {} ", u32::from(answer.found), answer.value)?;
         write!(output, "{} ", answer.count)?;
-        writeln!(output, "{:016x} {:016x}", digest(&store), digest(&list))?;
+        writeln!(
+            output,
+            "{:016x} {:016x}",
+            hash::of_bytes(&store),
+            hash::of_numbers(&list)
+        )?;
     }
     output.flush()
 }
@@ -48,11 +53,6 @@ fn text(call: Call) -> String {
         Call::Range(low, high, version, length) => {
             format!("range {low} {high} {version} {length}")
         }
+        Call::Visits(key, version, length) => format!("visits {key} {version} {length}"),
     }
-}
-
-fn digest(bytes: &[u8]) -> u64 {
-    bytes.iter().fold(0xCBF2_9CE4_8422_2325, |digest, byte| {
-        (digest ^ u64::from(*byte)).wrapping_mul(0x0000_0100_0000_01B3)
-    })
 }
