@@ -19,6 +19,9 @@ use Rattle.model.specs.AlsoRun.{alsoRun}
 use Rattle.model.specs.Vectors.{freshBytes, entryForty, fortyBytes}
 use Rattle.model.specs.Figures.{Figure, made, figures}
 use Rattle.model.specs.Samples.{twoLevels, fromElsewhere, served}
+use Rattle.model.specs.Told
+use Rattle.model.specs.Differ
+use Rattle.model.specs.Signed.{asked, answered, signed, byHand}
 
 -- ---- what is computed with
 
@@ -97,3 +100,12 @@ from-elsewhere-sound = tt
 pub samples-served : T (all holds served)
 unfolding calling
 samples-served = tt
+
+-- ---- lists that would be signed
+
+pub differences-answered : asked ≡ answered
+unfolding Differ.difference Told.toldBy Told.toldIn
+differences-answered = refl
+
+pub signed-by-hand : signed ≡ byHand
+signed-by-hand = refl
