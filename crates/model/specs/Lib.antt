@@ -30,4 +30,5 @@ pub mod Bench
 pub mod Vectors
 pub mod Figures
 pub mod Samples
+pub mod Signed
 pub mod Proved
