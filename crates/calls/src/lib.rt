@@ -1,8 +1,10 @@
 // The calls, for any bytes and any numbers lent: each is its guard, which judges the store and then goes through the call's
 // refusals in order, and a core that rests on a sound store.
+mod differing;
 mod updating;
 mod visiting;
 
+pub use differing::difference;
 use model::Limits;
 use model::Looked;
 pub use updating::delete;
@@ -37,8 +39,8 @@ fn bad_range(low: u32, high: u32) -> bool
     high < low
 }
 
-// The guard of lookup, range and visits: judging, then 5 where the keys are wrong, then 6. Offered to callers that read many times from a
-// store that nobody writes in between.
+// The guard of lookup, range, visits and difference: judging, then 5 where the keys are wrong, then 6. Offered to callers that read many
+// times from a store that nobody writes in between.
 pub fn guard_reading(s: &[u8], l: Limits, bad: bool, v: u32) -> u32
     requires { ⌜ Edition l ⌝ }
     ensures { λ r. ⌜ r ≡ guarded (l .least) (now (s .entry)) (reading bad v) ⌝ }

@@ -4,7 +4,7 @@ ghost use mathlib.Core.Path.{_≡_};
 ghost use Rattle.model.specs.Layout.{bit};
 ghost use Rattle.model.specs.Judged.{judged};
 ghost use Rattle.model.specs.Calls.{lookedNumber, lookedFound, lookedValue};
-ghost use Rattle.model.specs.Lent.{freshLent, openLent, insertLent, deleteLent, commitLent, abandonLent, lookupLent, rangeLent, visitsLent};
+ghost use Rattle.model.specs.Lent.{freshLent, openLent, insertLent, deleteLent, commitLent, abandonLent, lookupLent, rangeLent, differenceLent, visitsLent};
 ghost use Rattle.calls.specs.Turning.{ended};
 
 // Makes a fresh store.
@@ -149,6 +149,24 @@ pub extern "C" fn rcst_visits(
     ensures written { λ _. ⌜ now (pages .exit) ≡ visitsLent 4 (now (store .entry)) key version (now (pages .entry)) .list ⌝ }
 {
     let r = calls::visits(store, key, version, pages);
+    *count = r.count;
+    r.number
+}
+
+// What differs from version `old` to version `new` goes to `list`, the number of differences to `count`.
+#[no_mangle]
+pub extern "C" fn rcst_difference(
+    store: &[u8],
+    old: u32,
+    new: u32,
+    list: &mut [u32],
+    count: &mut usize,
+) -> u32
+    ensures number { λ r. ⌜ r ≡ differenceLent 4 (now (store .entry)) old new (now (list .entry)) .number ⌝ }
+    ensures differences { λ _. ⌜ now (count .exit) ≡ differenceLent 4 (now (store .entry)) old new (now (list .entry)) .count ⌝ }
+    ensures written { λ _. ⌜ now (list .exit) ≡ differenceLent 4 (now (store .entry)) old new (now (list .entry)) .list ⌝ }
+{
+    let r = calls::difference(store, old, new, list);
     *count = r.count;
     r.number
 }

@@ -23,9 +23,10 @@ use Rattle.model.specs.Calls
 use Rattle.model.specs.Calls.{lookedNumber, lookedFound, lookedValue, Ranged, rule, firstOf}
 use Rattle.model.specs.Told
 use Rattle.model.specs.Visited
-use Rattle.model.specs.Ended.{Asked, toFresh, toCheck, toOpen, toCommit, toAbandon, toInsert, toDelete, toLookup, toRange, toVisits, Ended, ended, Meets, Untouched, Named, Zeros}
+use Rattle.model.specs.Differ
+use Rattle.model.specs.Ended.{Asked, toFresh, toCheck, toOpen, toCommit, toAbandon, toInsert, toDelete, toLookup, toRange, toDifference, toVisits, Ended, ended, Meets, Untouched, Named, Zeros}
 use Rattle.model.specs.Lent
-use Rattle.model.specs.Lent.{Outcome, Listed, listed, left, judgedFirst, openLent, insertLent, deleteLent, commitLent, abandonLent, freshLent, lookupLent, rangeLent, visitsLent}
+use Rattle.model.specs.Lent.{Outcome, Listed, listed, left, judgedFirst, openLent, insertLent, deleteLent, commitLent, abandonLent, freshLent, lookupLent, rangeLent, differenceLent, visitsLent}
 
 -- Two outcomes that meet a call's contract are the same: number, results, store and list.
 pub unique : (least : ℕ) (c : Asked) (b ns : List ℕ) (e f : Ended) → Meets least c b ns e → Meets least c b ns f → e ≡ f
@@ -98,6 +99,14 @@ visits-same least b k v ns = at (judged least b .number)
     at zero = told-same _ 1 ns _ _
     at (suc n) = λ h. refl
 
+difference-same : (least : ℕ) (b : List ℕ) (u v : ℕ) (ns : List ℕ) → ListSame ns (differenceLent least b u v ns)
+unfolding Lent.differenceLent Differ.difference
+difference-same least b u v ns = at (judged least b .number)
+  where
+    at : (n : ℕ) → ListSame ns (judgedFirst n (λ m. record { number = m; count = 0; list = ns }) (listed ns (Differ.difference (decode least b) u v (length ns))))
+    at zero = told-same _ 4 ns _ _
+    at (suc n) = λ h. refl
+
 leaves : (least : ℕ) (c : Asked) (b ns : List ℕ) → ended least c b ns .number ≢ 0 → Untouched b ns (ended least c b ns)
 unfolding Lent.openLent Lent.commitLent Lent.abandonLent Lent.insertLent Lent.deleteLent
 leaves least toFresh b ns h = record { store = fresh-same least b h; list = refl }
@@ -110,6 +119,7 @@ leaves least (toDelete k) b ns h = record { store = lent-same least _ b h; list 
 leaves least (toLookup k v) b ns h = record { store = refl; list = refl }
 leaves least (toRange lo hi v) b ns h = record { store = refl; list = range-same least b lo hi v ns h }
 leaves least (toVisits k v) b ns h = record { store = refl; list = visits-same least b k v ns h }
+leaves least (toDifference u v) b ns h = record { store = refl; list = difference-same least b u v ns h }
 
 pub refused : (least : ℕ) (c : Asked) (b ns : List ℕ) (e : Ended) → Meets least c b ns e → e .number ≢ 0 → Untouched b ns e
 refused least c b ns e m h = subst (Untouched b ns) (sym m) (leaves least c b ns (subst (λ (x : Ended). x .number ≢ 0) m h))
@@ -178,6 +188,14 @@ visits-blank least b i v ns = at (judged least b .number)
     at zero = told-blank _ 1 _ (length ns) _
     at (suc n) = λ h k. refl
 
+difference-blank : (least : ℕ) (b : List ℕ) (u v : ℕ) (ns : List ℕ) → ListedBlank (differenceLent least b u v ns)
+unfolding Lent.differenceLent Differ.difference
+difference-blank least b u v ns = at (judged least b .number)
+  where
+    at : (n : ℕ) → ListedBlank (judgedFirst n (λ m. record { number = m; count = 0; list = ns }) (listed ns (Differ.difference (decode least b) u v (length ns))))
+    at zero = told-blank _ 4 _ (length ns) _
+    at (suc n) = λ h k. refl
+
 zero-one : (x : ℕ) → x ≡ 0 → Zeros (x ∷ [])
 zero-one x e = rw e
 
@@ -192,6 +210,7 @@ blanks least (toDelete i) b ns h k = refl
 blanks least (toLookup i v) b ns h k = looked-blank (lookupLent least b i v) h
 blanks least (toRange lo hi v) b ns h k = zero-one _ (range-blank least b lo hi v ns h k)
 blanks least (toVisits i v) b ns h k = zero-one _ (visits-blank least b i v ns h k)
+blanks least (toDifference u v) b ns h k = zero-one _ (difference-blank least b u v ns h k)
 
 pub blank : (least : ℕ) (c : Asked) (b ns : List ℕ) (e : Ended) → Meets least c b ns e → e .number ≢ 0 → (Named c (e .number) → ⊥) → Zeros (e .results)
 blank least c b ns e m h k =

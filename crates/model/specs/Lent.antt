@@ -12,6 +12,7 @@ use Rattle.model.specs.Judged.{lengthOk, judged}
 use Rattle.model.specs.Climb.{Result, done, refused}
 use Rattle.model.specs.Calls.{insert, delete, begin, commit, abandon, get, range, Ranged}
 use Rattle.model.specs.Visited.{visits}
+use Rattle.model.specs.Differ.{difference}
 
 -- the number that a call gives, and the store's bytes after it
 pub record Outcome : Type 0 where
@@ -69,3 +70,7 @@ rangeLent least b lo hi v ns =
 unfoldable pub visitsLent : ℕ → List ℕ → ℕ → ℕ → List ℕ → Listed
 visitsLent least b k v ns =
     judgedFirst (judged least b .number) (λ n. record { number = n; count = 0; list = ns }) (listed ns (visits (decode least b) k v (length ns)))
+
+unfoldable pub differenceLent : ℕ → List ℕ → ℕ → ℕ → List ℕ → Listed
+differenceLent least b u v ns =
+    judgedFirst (judged least b .number) (λ n. record { number = n; count = 0; list = ns }) (listed ns (difference (decode least b) u v (length ns)))

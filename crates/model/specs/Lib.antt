@@ -11,6 +11,7 @@ pub mod Climb
 pub mod Calls
 pub mod Told
 pub mod Visited
+pub mod Differ
 pub mod Settings
 pub mod Histories
 pub mod Field
@@ -29,4 +30,5 @@ pub mod Bench
 pub mod Vectors
 pub mod Figures
 pub mod Samples
+pub mod Signed
 pub mod Proved

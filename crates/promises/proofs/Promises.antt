@@ -1,4 +1,5 @@
--- The promises, each under its name: what it says stands in specs/Demand1, Demand2, Demand3, OldReadings, Bench, Replayed and Fakes.
+-- The promises, each under its name: what it says stands in specs/Demand1, Demand2, Demand3, in a file for each request of document 02
+-- (OldReadings, Bench, Differences), in Replayed and Fakes.
 -- Assumes nothing.
 use Prim.Native.Nat.{ℕ}
 use native.Mathlib.Omega.{arith}
@@ -31,6 +32,7 @@ use Rattle.promises.specs.Demand1.{Unique, Refused, Blank, Judges, Untru
 use Rattle.promises.specs.Demand2.{EncodedSound, AcceptedSound, SoundStays, FreshSound, History, HistoryLent, Found, SettingsChange, AnswersStay, ViewsStay, ByTheRules, ReadsOnly, Balanced, Levels, Lacking}
 use Rattle.promises.specs.Demand3.{Abandoned}
 use Rattle.promises.specs.OldReadings.{PagesStay, VisitsTold, VisitsStay}
+use Rattle.promises.specs.Differences.{DifferenceGiven, DifferenceSays, DifferenceNone, DifferenceExchanged, DifferenceStays}
 use Rattle.promises.specs.Replayed.{TableLent}
 use Rattle.promises.specs.Bench.{KeptOut}
 use Rattle.promises.specs.Fakes.{FakesStopped}
@@ -41,6 +43,7 @@ use Rattle.promises.proofs.Agreed.{many-turns, fresh-agreed, lent-agree
 use Rattle.promises.proofs.Answering.{answers}
 use Rattle.promises.proofs.Changed as changed
 use Rattle.promises.proofs.Stays as stays
+use Rattle.promises.proofs.Differences as differ
 use Rattle.promises.proofs.Restored as restored
 use Rattle.promises.proofs.KeptOut as bench
 use Rattle.promises.proofs.Replaying as replaying
@@ -170,6 +173,23 @@ visits-told = stays.visits-told
 
 pub visits-stay : VisitsStay
 visits-stay = stays.visits-stay
+
+-- ---- what differs between two versions
+
+pub difference-given : DifferenceGiven
+difference-given = differ.difference-given
+
+pub difference-says : DifferenceSays
+difference-says = differ.difference-says
+
+pub difference-none : DifferenceNone
+difference-none = differ.difference-none
+
+pub difference-exchanged : DifferenceExchanged
+difference-exchanged = differ.difference-exchanged
+
+pub difference-stays : DifferenceStays
+difference-stays = differ.difference-stays
 
 -- ---- fakes
 

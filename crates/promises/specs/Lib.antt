@@ -7,6 +7,7 @@ pub mod Demand1
 pub mod Demand2
 pub mod Demand3
 pub mod OldReadings
+pub mod Differences
 pub mod Replayed
 pub mod Bench
 pub mod Fakes

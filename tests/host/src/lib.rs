@@ -43,6 +43,15 @@ mod c {
             room: usize,
             count: *mut usize,
         ) -> u32;
+        pub fn rcst_difference(
+            store: *const u8,
+            length: usize,
+            old: u32,
+            new: u32,
+            list: *mut u32,
+            room: usize,
+            count: *mut usize,
+        ) -> u32;
     }
 }
 
@@ -135,6 +144,25 @@ pub fn visits(store: &[u8], key: u32, version: u32, pages: &mut [u32]) -> (u32, 
     (number, count)
 }
 
+/// The number and the count of differences from version `old` to version
+/// `new`; these go to the list: key, kind (0 added, 1 removed, 2 changed), old
+/// value and new value of each.
+pub fn difference(store: &[u8], old: u32, new: u32, list: &mut [u32]) -> (u32, usize) {
+    let mut count = 0;
+    let number = unsafe {
+        c::rcst_difference(
+            store.as_ptr(),
+            store.len(),
+            old,
+            new,
+            list.as_mut_ptr(),
+            list.len(),
+            &mut count,
+        )
+    };
+    (number, count)
+}
+
 /// The proved library.
 pub struct Proved;
 
@@ -164,6 +192,10 @@ impl Engine for Proved {
             }
             Call::Range(low, high, version, _) => {
                 let (number, count) = range(store, low, high, version, list);
+                Answer::counted((number, count as u32))
+            }
+            Call::Difference(old, new, _) => {
+                let (number, count) = difference(store, old, new, list);
                 Answer::counted((number, count as u32))
             }
             Call::Visits(key, version, _) => {

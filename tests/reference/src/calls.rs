@@ -72,6 +72,16 @@ pub fn visits(bytes: &[u8], key: u32, version: u32, list: &mut [u32]) -> (u32, u
     }
 }
 
+/// The number and the count of differences between two versions, of which
+/// `old` is the old side; four numbers each are written to the front of
+/// `list`.
+pub fn difference(bytes: &[u8], old: u32, new: u32, list: &mut [u32]) -> (u32, u32) {
+    match judged(bytes) {
+        Some(refusal) => (refusal, 0),
+        None => unjudged::difference(bytes, old, new, list),
+    }
+}
+
 /// The number by which judging refuses the store, if it does.
 fn judged(bytes: &[u8]) -> Option<u32> {
     match judging::judge(bytes) {

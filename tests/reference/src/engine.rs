@@ -21,20 +21,27 @@ pub enum Call {
     Range(u32, u32, u32, usize),
     /// Key, version, and how many numbers the lent list holds.
     Visits(u32, u32, usize),
+    /// The old version, the new one, and how many numbers the lent list holds.
+    Difference(u32, u32, usize),
 }
 
 impl Call {
     /// How many numbers the list lent with this call holds.
     pub fn list_length(self) -> usize {
         match self {
-            Call::Range(_, _, _, length) | Call::Visits(_, _, length) => length,
+            Call::Range(_, _, _, length)
+            | Call::Visits(_, _, length)
+            | Call::Difference(_, _, length) => length,
             _ => 0,
         }
     }
 
     /// Whether a list is lent with this call.
     pub fn takes_list(self) -> bool {
-        matches!(self, Call::Range(..) | Call::Visits(..))
+        matches!(
+            self,
+            Call::Range(..) | Call::Visits(..) | Call::Difference(..)
+        )
     }
 
     /// The same call with a list that holds `length` numbers, if it takes one.
@@ -42,6 +49,7 @@ impl Call {
         match self {
             Call::Range(low, high, version, _) => Call::Range(low, high, version, length),
             Call::Visits(key, version, _) => Call::Visits(key, version, length),
+            Call::Difference(old, new, _) => Call::Difference(old, new, length),
             _ => self,
         }
     }
@@ -57,7 +65,8 @@ pub struct Answer {
     /// Lookup: whether the key is alive, and its value.
     pub found: bool,
     pub value: u32,
-    /// Range: the count of settings found. Visits: the count of pages.
+    /// Range: the count of settings found. Visits: of pages. Difference: of
+    /// differences.
     pub count: u32,
 }
 
@@ -121,5 +130,6 @@ pub fn apply(call: Call, store: &mut [u8], list: &mut [u32]) -> Answer {
             Answer::counted(calls::range(store, low, high, version, list))
         }
         Call::Visits(key, version, _) => Answer::counted(calls::visits(store, key, version, list)),
+        Call::Difference(old, new, _) => Answer::counted(calls::difference(store, old, new, list)),
     }
 }

@@ -251,9 +251,10 @@ impl History {
 
     fn read(&mut self) -> Call {
         let version = self.some_version();
-        match self.rng.below(5) {
+        match self.rng.below(6) {
             0 | 1 => return Call::Lookup(self.some_key(), version),
             2 => return Call::Visits(self.some_key(), version, self.rng.below(8) as usize),
+            3 => return self.difference(),
             _ => {}
         }
         let (one, other) = match self.rng.below(3) {
@@ -262,12 +263,22 @@ impl History {
         };
         let (low, high) = (one.min(other), one.max(other));
         let wanted = self.model.listed(low, high, version).len();
-        let length = match self.rng.below(4) {
+        Call::Range(low, high, version, self.some_length(wanted))
+    }
+
+    /// As many numbers as wanted, or about as many.
+    fn some_length(&mut self, wanted: usize) -> usize {
+        match self.rng.below(4) {
             0 => wanted.saturating_sub(1),
             1 => wanted + self.rng.below(5) as usize,
             _ => wanted,
-        };
-        Call::Range(low, high, version, length)
+        }
+    }
+
+    fn difference(&mut self) -> Call {
+        let (old, new) = (self.some_version(), self.some_version());
+        let wanted = self.model.differing(old, new).len();
+        Call::Difference(old, new, self.some_length(wanted))
     }
 
     /// A call that is refused, for one reason or for several at once.
@@ -287,7 +298,7 @@ impl History {
         };
         let (key, version) = (self.some_key(), self.some_version());
         let word = self.rng.word();
-        match self.rng.below(15) {
+        match self.rng.below(17) {
             0 => Call::Insert(too_large, word),
             1 => Call::Delete(too_large),
             2 => Call::Lookup(too_large, version),
@@ -303,6 +314,8 @@ impl History {
             11 => Call::Visits(too_large, version, 7),
             12 => Call::Visits(key, late, 0),
             13 => Call::Insert(bench, word),
+            14 => Call::Difference(late, version, 4),
+            15 => Call::Difference(version, late, 0),
             _ => Call::Range(too_large, too_large, version, 4),
         }
     }

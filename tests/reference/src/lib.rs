@@ -7,7 +7,7 @@
 //! - [`bits`], [`layout`], [`store`]: where each number stands in the bytes;
 //! - [`check`]: when a store is sound, a module for each rule;
 //! - [`walk`]: lookups and ranges; [`update`] over a [`draft`]: the page rules;
-//!   [`mod@abandon`];
+//!   [`mod@abandon`]; [`mod@difference`];
 //! - [`unjudged`]: the calls on a store known to be sound, and [`calls`]: the
 //!   calls as the console has them, on any bytes;
 //! - [`console`]: the line language.
@@ -32,6 +32,7 @@ pub mod calls;
 pub mod check;
 pub mod console;
 pub mod damage;
+pub mod difference;
 pub mod draft;
 pub mod engine;
 pub mod foreign;

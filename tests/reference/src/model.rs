@@ -7,6 +7,7 @@
 
 use std::collections::BTreeMap;
 
+use crate::difference::differences;
 use crate::engine::{Answer, Call};
 use crate::image::Image;
 use crate::layout::{FIRST_BENCH_KEY, HIGHEST_KEY, HIGHEST_VERSION};
@@ -41,7 +42,7 @@ impl Model {
     /// stand for the history so far."
     pub fn of_store(bytes: &[u8]) -> Model {
         let header = store::header(bytes);
-        let settings = |version| Settings::from_iter(walk::range(bytes, 0, HIGHEST_KEY, version));
+        let settings = |version| walk::settings(bytes, version);
         let versions = Image::read(bytes).turning_points();
         let committed = versions.into_iter().filter(|v| *v <= header.current);
         Model {
@@ -91,6 +92,7 @@ impl Model {
                 self.answer_to_range(low, high, version, length)
             }
             Call::Visits(key, version, _) => Answer::of(self.number_of_reading(key, version)),
+            Call::Difference(old, new, length) => self.answer_to_difference(old, new, length),
         }
     }
 
@@ -167,6 +169,23 @@ impl Model {
         }
     }
 
+    /// What a difference is to write.
+    pub fn differing(&self, old: u32, new: u32) -> Vec<u32> {
+        differences(self.at(old), self.at(new)).concat()
+    }
+
+    fn answer_to_difference(&self, old: u32, new: u32, length: usize) -> Answer {
+        if old.max(new) > self.last() {
+            return Answer::of(number::VERSION);
+        }
+        let wanted = self.differing(old, new).len();
+        let short = length < wanted;
+        Answer {
+            count: wanted as u32 / 4,
+            ..Answer::of(if short { number::LIST_TOO_SHORT } else { 0 })
+        }
+    }
+
     /// Makes the change of a call that was accepted.
     pub fn record(&mut self, call: Call) {
         match call {
@@ -185,7 +204,8 @@ impl Model {
                 self.committed.insert(self.current, settings);
             }
             Call::Abandon => self.open = None,
-            Call::Check | Call::Lookup(..) | Call::Range(..) | Call::Visits(..) => {}
+            Call::Check | Call::Lookup(..) | Call::Range(..) => {}
+            Call::Visits(..) | Call::Difference(..) => {}
         }
     }
 

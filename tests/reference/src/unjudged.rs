@@ -5,6 +5,7 @@
 //! cost of judging. On a store that is not sound they may panic or answer
 //! anything.
 
+use crate::difference::differences;
 use crate::layout::{Header, FIRST_BENCH_KEY, HIGHEST_KEY, HIGHEST_VERSION};
 use crate::update::{self, Change};
 use crate::{abandon, number, store, walk};
@@ -146,6 +147,29 @@ pub fn visits(bytes: &[u8], key: u32, version: u32, list: &mut [u32]) -> (u32, u
     }
     for (place, step) in list.iter_mut().zip(path) {
         *place = step.page;
+    }
+    (number::DONE, count)
+}
+
+/// The number and the count of differences between two readable versions.
+pub fn difference(bytes: &[u8], old: u32, new: u32, list: &mut [u32]) -> (u32, u32) {
+    let last = store::header(bytes).last();
+    if old > last || new > last {
+        return (number::VERSION, 0);
+    }
+    let settings = |version| walk::settings(bytes, version);
+    write_rows(&differences(&settings(old), &settings(new)), list)
+}
+
+/// Writes the rows to the front of a list that holds them all; the number and
+/// their count.
+fn write_rows<const N: usize>(rows: &[[u32; N]], list: &mut [u32]) -> (u32, u32) {
+    let count = rows.len() as u32;
+    if list.len() < N * rows.len() {
+        return (number::LIST_TOO_SHORT, count);
+    }
+    for (place, row) in list.chunks_exact_mut(N).zip(rows) {
+        place.copy_from_slice(row);
     }
     (number::DONE, count)
 }

@@ -10,6 +10,7 @@ use reference::engine::{apply, Call};
 use reference::history::{History, KINDS};
 use reference::layout::PAGE_BYTES;
 use reference::trace::hash;
+use reference::trace::line::Line;
 
 fn main() -> io::Result<()> {
     let words: Vec<u64> = std::env::args()
@@ -40,19 +41,14 @@ fn main() -> io::Result<()> {
     output.flush()
 }
 
+/// The call as a line of a trace, and how long its list is.
 fn text(call: Call) -> String {
-    match call {
+    let line = match call {
         Call::Fresh => "fresh".to_string(),
-        Call::Check => "check".to_string(),
-        Call::Open => "open".to_string(),
-        Call::Insert(key, value) => format!("insert {key} {value}"),
-        Call::Delete(key) => format!("delete {key}"),
-        Call::Commit => "commit".to_string(),
-        Call::Abandon => "abandon".to_string(),
-        Call::Lookup(key, version) => format!("lookup {key} {version}"),
-        Call::Range(low, high, version, length) => {
-            format!("range {low} {high} {version} {length}")
-        }
-        Call::Visits(key, version, length) => format!("visits {key} {version} {length}"),
+        _ => Line::Call(call).to_string(),
+    };
+    match call.takes_list() {
+        true => format!("{line} {}", call.list_length()),
+        false => line,
     }
 }
