@@ -48,6 +48,7 @@ pub mod PlanSizes
 pub mod Lacking
 pub mod Unique
 pub mod Steady
+pub mod Lives
 pub mod Sampled
 pub mod Rising
 pub mod Judging

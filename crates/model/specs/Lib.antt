@@ -10,6 +10,7 @@ pub mod Rules
 pub mod Climb
 pub mod Calls
 pub mod Told
+pub mod Life
 pub mod Settings
 pub mod Histories
 pub mod Field
