@@ -49,6 +49,7 @@ pub mod Lacking
 pub mod Unique
 pub mod Steady
 pub mod Lives
+pub mod Telling
 pub mod Sampled
 pub mod Rising
 pub mod Judging
