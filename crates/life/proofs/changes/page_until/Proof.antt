@@ -1,48 +1,54 @@
+-- `changes::page_until` meets its contract: of the entries from i on the same are alive up to q. Assumes nothing.
+use Prim.Native.Nat.{ℕ, _≤_, _+_, _-_}
+use native.Mathlib.Omega.{arith}
+use mathlib.Core.Path.{_≡_, subst, sym}
 use borrow.Author.Needs.{needs}
+use Rattle.walk.specs.Scan.{entry}
+use Rattle.life.specs.Still.{Until, aliveFrom, page-none, page-more}
 use Rattle.life.proofs.changes.page_until.Statement.{statement}
 use Rattle.life.proofs.changes.page_until.Tie as tie
-use Rattle.life.proofs.changes.page_until.Reads as reads
-use Rattle.life.proofs.changes.page_until.Lts as lts
-use Rattle.life.proofs.changes.sooner.Reads as sooner-reads
-use Rattle.page.proofs.entry_at.Reads as entry-at-reads
 
 abbrev Inv-loop : tie.InvT-loop
-Inv-loop page n v r q₀ i₀ q i = ?
+Inv-loop page n v r q₀ i₀ q i = (i ≤ n) × Until v r (aliveFrom page n v r i) q
 
 abbrev μ-loop : tie.MeasureT-loop
-μ-loop page n v r q₀ i₀ q i = ?
+μ-loop page n v r q₀ i₀ q i = i
 
--- src/changes.rt:47:5
 loop-holds : tie.Need-loop-holds Inv-loop μ-loop
-loop-holds c = ?
+loop-holds c = let a = c .before .args in (omega arith, page-none (a .page .now) (a .n) (a .v) (a .r) (c .before .pre .1))
 
--- src/changes.rt:48:9
 sub-i : tie.Need-sub-i Inv-loop μ-loop
 sub-i c = search needs
 
--- src/changes.rt:49:13
 entry-at-requires : tie.Need-entry-at-requires Inv-loop μ-loop
-entry-at-requires c κs = search needs
+entry-at-requires c κs = let s = c .before .before .before .pre .0 in (omega (arith, s .long), s .short)
 
--- src/changes.rt:50:23
 sooner-requires : tie.Need-sooner-requires Inv-loop μ-loop
-sooner-requires c κs = search needs
+sooner-requires c κs = c .before .before .loop .inv .1 .above
 
--- src/changes.rt:50:9
 sooner-requires-2 : tie.Need-sooner-requires-2 Inv-loop μ-loop
-sooner-requires-2 c κs = search needs
+sooner-requires-2 c κs = c .sooner .ensures .above
 
--- src/changes.rt:47:5
 loop-less : tie.Need-loop-less Inv-loop μ-loop
 loop-less c = search needs
 
--- src/changes.rt:47:5
 loop-again : tie.Need-loop-again Inv-loop μ-loop
-loop-again c = ?
+loop-again c =
+    let a = c .before .before .before .before .before .before .args in
+    let k = c .before .before .before .before .loop in
+    let e = c .before .before .entry-at .ensures in
+    let i : k .i ≡ k .i - 1 + 1 = omega (arith, c .before .before .before .loop-test .taken) in (
+      omega arith,
+      page-more (a .page .now) (a .n) (a .v) (a .r) (k .i - 1) (k .q) (c .before .sooner .result) (c .sooner2 .result) (omega (arith, c .before .before .before .loop-test .taken))
+      (subst (λ (j : ℕ). Until (a .v) (a .r) (aliveFrom (a .page .now) (a .n) (a .v) (a .r) j) (k .q)) i (k .inv .1)) (rw e at (c .before .sooner .ensures)) (rw e at (c .sooner2 .ensures)),
+    )
 
--- src/changes.rt:41:1
 returns : tie.Need-returns Inv-loop μ-loop
-returns c = ?
+returns c =
+    let a = c .before .before .before .args in
+    let k = c .before .loop in
+    let i : k .i ≡ 0 = omega (arith, c .loop-test .left) in
+    subst (λ (j : ℕ). Until (a .v) (a .r) (aliveFrom (a .page .now) (a .n) (a .v) (a .r) j) (k .q)) i (k .inv .1)
 
 pub page-until-spec : {M : Type 1} → statement M
 page-until-spec =
