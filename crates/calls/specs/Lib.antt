@@ -1,4 +1,5 @@
 pub mod Guard
 pub mod Reading
+pub mod Living
 pub mod Turning
 pub mod Updating
