@@ -27,7 +27,7 @@ module _ (a b : Stretch) (ys : List Stretch) (p : a .end ≡ b .start) (q : a .v
 -- a, b, and what stands behind: it makes no difference which two are joined first
 join-join : (a b : Stretch) (ys : List Stretch) → a .end ≡ b .start → a .value ≡ b .value → join a (join b ys) ≡ join (stretch (a .start) (b .end) (a .value)) ys
 join-join a b [] p q = join-touch a b [] p q
-join-join a b (y ∷ ys) p q = 
+join-join a b (y ∷ ys) p q =
     at (touch b y)
     ∙ ap (λ (z : ℕ). pick (eqb (b .end) (y .start) && eqb z (y .value)) (stretch (a .start) (y .end) (a .value) ∷ ys) (stretch (a .start) (b .end) (a .value) ∷ y ∷ ys)) (sym q)
   where

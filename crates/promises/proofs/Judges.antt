@@ -21,10 +21,13 @@ use Rattle.model.specs.Judged.{lengthOk, magicOk, editionOk, brokenIn, judged, 
 use Rattle.model.specs.Climb.{Result, done, refused}
 use Rattle.model.specs.Calls
 use Rattle.model.specs.Calls.{rule, firstOf, lookedBy, lookedAt, lookedNumber, get, range}
+use Rattle.model.specs.Told
+use Rattle.model.specs.Told.{toldIn, toldBy}
+use Rattle.model.specs.Life
 use Rattle.model.specs.Histories.{begins, commits, abandons, inserts, deletes}
 use Rattle.model.specs.Lent
-use Rattle.model.specs.Lent.{left, judgedFirst, listed, lookupLent, rangeLent}
-use Rattle.model.specs.Ended.{Asked, toFresh, toCheck, toOpen, toCommit, toAbandon, toInsert, toDelete, toLookup, toRange, ofOutcome, ended}
+use Rattle.model.specs.Lent.{left, judgedFirst, listed, lookupLent, rangeLent, lifeLent}
+use Rattle.model.specs.Ended.{Asked, toFresh, toCheck, toOpen, toCommit, toAbandon, toInsert, toDelete, toLookup, toRange, toLife, ofOutcome, ended}
 use Rattle.model.proofs.Lists.{both-true, both-intro}
 use Rattle.model.proofs.Members.{bool-cases, not-both}
 use Rattle.model.proofs.Judging.{unbroken, whole}
@@ -102,6 +105,31 @@ range-past least b lo hi v ns = at (judged least b .number)
     at zero = ranged-past (decode least b) lo hi v (length ns)
     at (suc j) = refl
 
+-- a call that tells
+told-past : {A : Type 0} (numbers : A → List ℕ) (each room : ℕ) (xs : List A) → Past 0 (toldBy numbers each 0 room xs .number)
+unfolding Told.toldBy Told.toldIn
+told-past numbers each room xs = at (ltb room (each * length xs))
+  where
+    at : (t : Bool) → Past 0 (toldIn numbers (firstOf (rule 14 t ∷ [])) xs .number)
+    at true = inr (omega arith)
+    at false = inl refl
+
+lived-past : (s : Store) (k room : ℕ) → Past 0 (Life.lived s k room .number)
+unfolding Life.lived Told.toldBy
+lived-past s k room = at (leb keyLimit k)
+  where
+    at : (p : Bool) → Past 0 (toldBy Life.stretchNumbers 3 (firstOf (rule 5 p ∷ [])) room (Life.life s k) .number)
+    at true = inr (omega arith)
+    at false = told-past Life.stretchNumbers 3 room (Life.life s k)
+
+life-past : (least : ℕ) (b : List ℕ) (k : ℕ) (ns : List ℕ) → Past (judged least b .number) (lifeLent least b k ns .number)
+unfolding Lent.lifeLent
+life-past least b k ns = at (judged least b .number)
+  where
+    at : (j : ℕ) → Past j (judgedFirst j (λ n. record { number = n; count = 0; list = ns }) (listed ns (Life.lived (decode least b) k (length ns))) .number)
+    at zero = lived-past (decode least b) k (length ns)
+    at (suc j) = refl
+
 past-same : (j : ℕ) → Past j j
 past-same zero = inl refl
 past-same (suc j) = refl
@@ -117,6 +145,7 @@ call-past least (toInsert k x) b ns h = change-past least b _ (λ s. call-high l
 call-past least (toDelete k) b ns h = change-past least b _ (λ s. call-high least s (deletes k))
 call-past least (toLookup k v) b ns h = lookup-past least b k v
 call-past least (toRange lo hi v) b ns h = range-past least b lo hi v ns
+call-past least (toLife k) b ns h = life-past least b k ns
 
 -- bytes on which it gives 0 are accepted
 pub zero-accepts : (least : ℕ) (c : Asked) (b ns : List ℕ) → notMaking (kindOf c) ≡ true → ended least c b ns .number ≡ 0 → Accepts least b

@@ -9,6 +9,8 @@ pub mod Answering
 pub mod Changed
 pub mod Projected
 pub mod Stays
+pub mod Stretches
+pub mod Lives
 pub mod Restored
 pub mod Replaying
 pub mod Fakes

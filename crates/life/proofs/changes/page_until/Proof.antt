@@ -40,7 +40,7 @@ loop-again c =
     let i : k .i ≡ k .i - 1 + 1 = omega (arith, c .before .before .before .loop-test .taken) in (
       omega arith,
       page-more (a .page .now) (a .n) (a .v) (a .r) (k .i - 1) (k .q) (c .before .sooner .result) (c .sooner2 .result) (omega (arith, c .before .before .before .loop-test .taken))
-      (subst (λ (j : ℕ). Until (a .v) (a .r) (aliveFrom (a .page .now) (a .n) (a .v) (a .r) j) (k .q)) i (k .inv .1)) (rw e at (c .before .sooner .ensures)) (rw e at (c .sooner2 .ensures)),
+          (subst (λ (j : ℕ). Until (a .v) (a .r) (aliveFrom (a .page .now) (a .n) (a .v) (a .r) j) (k .q)) i (k .inv .1)) (rw e at (c .before .sooner .ensures)) (rw e at (c .sooner2 .ensures)),
     )
 
 returns : tie.Need-returns Inv-loop μ-loop

@@ -56,7 +56,7 @@ loop-again c =
     let e : suc (k .i) ≡ k .i + 1 = omega arith in (
       omega arith,
       subst (λ (j : ℕ). Until (a .v) (a .r) (rootAt (readSlots (a .s .now) (512 * a .l .least) j)) (c .sooner .result)) e
-      (roots-more (a .s .now) (512 * a .l .least) (a .v) (a .r) (k .i) (k .q) (c .sooner .result) (k .inv .1) (rw (c .before .slot .ensures) at (c .sooner .ensures))),
+          (roots-more (a .s .now) (512 * a .l .least) (a .v) (a .r) (k .i) (k .q) (c .sooner .result) (k .inv .1) (rw (c .before .slot .ensures) at (c .sooner .ensures))),
     )
 
 returns : tie.Need-returns Inv-loop μ-loop
