@@ -3,8 +3,8 @@ use Prim.Native.Nat.{ℕ, suc, _+_, _*_, _≤_, _<_}
 use native.Mathlib.Omega.{arith}
 use mathlib.Core.Bool.{Bool, true, false}
 use mathlib.Core.Path.{_≡_, refl, ap, ap₂, sym, _∙_}
-use mathlib.Core.Logic.{_⊎_, inl, inr}
-use mathlib.Core.List.{List, [], _∷_}
+use mathlib.Core.Logic.{inl, inr}
+use mathlib.Core.List.{List, _∷_}
 use Rattle.model.specs.Basic.{keep}
 use Rattle.model.specs.declared.Pair.{Pair}
 use Rattle.model.specs.declared.Entry.{Entry}

@@ -1,19 +1,16 @@
 -- On the way down for a key: what a lookup still has to find below the page that it has come to, at each version up to which all pages
 -- passed show the same. Assumes nothing.
-use Prim.Native.Nat.{ℕ, zero, suc, _≤_, _<_}
+use Prim.Native.Nat.{ℕ, suc, _≤_, _<_}
 use native.Mathlib.Omega.{arith}
 use mathlib.Core.Option.{Option}
-use mathlib.Core.Path.{_≡_, refl, ap, ap₂, sym, _∙_}
+use mathlib.Core.Path.{_≡_, ap, sym, _∙_}
 use mathlib.Core.List.{List}
 use Rattle.model.specs.declared.Pair.{Pair}
-use Rattle.model.specs.declared.Limits.{Limits}
 use Rattle.model.specs.Page.{Page, pairsAt}
 use Rattle.model.specs.Store.{Store, page}
-use Rattle.model.specs.Walk.{around, rootAt, heightOf, find, lookup, keyLimit}
-use Rattle.model.specs.Layout.{decode}
+use Rattle.model.specs.Walk.{around, rootAt, heightOf, find, lookup}
 use Rattle.walk.specs.Covers.{Covers, covers-own}
 use Rattle.walk.specs.Down.{leafDown, way-leaf}
-use Rattle.walk.specs.Sure.{Readable, root-covers}
 use Rattle.life.specs.Still.{Until}
 
 -- the value of a key below page n

@@ -38,7 +38,7 @@ pub record Quiet (v r : ℕ) (s : Store) : Type 0 where
   pub pages : (n : ℕ) → n < length (s .pages) → QuietPage v r (page (s .pages) n)
 
 module _ (v u r : ℕ) (low : v ≤ u) (high : u < r) where
-  pub leb-still : (x : ℕ) → Out v r x → leb x v ≡ leb x u
+  leb-still : (x : ℕ) → Out v r x → leb x v ≡ leb x u
   leb-still x (inl l) = le-leb x v l ∙ sym (le-leb x u (omega arith))
   leb-still x (inr l) = lt-leb x v (omega arith) ∙ sym (lt-leb x u (omega arith))
 

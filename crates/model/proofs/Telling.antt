@@ -13,7 +13,7 @@ use borrow.Author.Tests.{lt-ltb, le-ltb}
 use Rattle.model.specs.Basic.{pick, flatMap}
 use Rattle.model.specs.Calls.{rule, firstOf}
 use Rattle.model.specs.Told.{toldIn, toldBy}
-use Rattle.model.specs.Lent.{Listed, listed}
+use Rattle.model.specs.Lent.{listed}
 
 -- how a thing is told: its numbers, so many for each
 pub record Shape (A : Type 0) : Type 0 where

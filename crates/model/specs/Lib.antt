@@ -28,4 +28,5 @@ pub mod AlsoRun
 pub mod Vectors
 pub mod Figures
 pub mod Samples
+pub mod Lifetimes
 pub mod Proved

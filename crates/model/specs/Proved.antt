@@ -8,6 +8,8 @@ use Rattle.model.specs.Store.{fresh}
 use Rattle.model.specs.Rules
 use Rattle.model.specs.Climb
 use Rattle.model.specs.Calls
+use Rattle.model.specs.Told
+use Rattle.model.specs.Life
 use Rattle.model.specs.Sound
 use Rattle.model.specs.Sound.{sound}
 use Rattle.model.specs.Field
@@ -19,6 +21,7 @@ use Rattle.model.specs.AlsoRun.{alsoRun}
 use Rattle.model.specs.Vectors.{freshBytes, entryForty, fortyBytes}
 use Rattle.model.specs.Figures.{Figure, made, figures}
 use Rattle.model.specs.Samples.{twoLevels, fromElsewhere, served}
+use Rattle.model.specs.Lifetimes.{lifetimes}
 
 -- ---- what is computed with
 
@@ -67,6 +70,15 @@ also-run = tt
 pub also-sound : T (all (λ (h : History). sound 4 (h .store)) alsoRun)
 unfolding judging
 also-sound = tt
+
+-- 2026-01: lives written out; the stores that these begin with are sound
+pub lifetimes-run : T (all holds lifetimes)
+unfolding calling Told.toldIn Told.toldBy Life.lifeOf Life.lived
+lifetimes-run = tt
+
+pub lifetimes-sound : T (all (λ (h : History). sound 4 (h .store)) lifetimes)
+unfolding judging
+lifetimes-sound = tt
 
 -- ---- outside vectors
 

@@ -1,20 +1,18 @@
 -- The life of a key on accepted bytes: it says what lookups say, an open update is not shown, and a commit that leaves the key alone
 -- leaves it.
 -- Assumes nothing.
-use Prim.Native.Nat.{ℕ, suc, _≤_, _<_}
+use Prim.Native.Nat.{ℕ, _≤_, _<_}
 use native.Mathlib.Omega.{arith}
 use mathlib.Core.Bool.{Bool, true, false, not}
 use mathlib.Core.Option.{Option, none, some}
-use mathlib.Core.Path.{_≡_, refl, ap, ap₂, sym, _∙_, subst}
-use mathlib.Core.Logic.{_↔_, ⊎-elim}
+use mathlib.Core.Path.{_≡_, refl, ap, ap₂, sym, _∙_}
+use mathlib.Core.Logic.{_↔_}
 use mathlib.Core.List.{List, [], _∷_}
-use lib.Dec.{leb, ltb}
+use lib.Dec.{leb}
 use lib.ListN.{length}
 use borrow.Author.Tests.{lt-leb, leb-false, le-ltb}
 use Rattle.model.specs.Basic.{all}
-use Rattle.model.specs.declared.Stretch.{Stretch}
-use Rattle.model.specs.declared.Looked.{Looked}
-use Rattle.model.specs.declared.Looked.the-variants.{Value, Absent, Refused}
+use Rattle.model.specs.declared.Looked.the-variants.{Value}
 use Rattle.model.specs.Entry.{alive}
 use Rattle.model.specs.Store.{Store, next, last, lastOf}
 use Rattle.model.specs.Walk.{keyLimit, lookup}
@@ -38,11 +36,11 @@ use Rattle.model.proofs.History.{many-calls}
 use Rattle.model.proofs.Undone.{lent-agrees}
 use Rattle.model.proofs.Lives.{life-ext}
 use Rattle.promises.specs.Accepts.{Accepts}
-use Rattle.promises.specs.Runs.{Turn, runBytes, Kind, making, changing, reading, kindOf, notMaking, fitting, uncommitting, each}
+use Rattle.promises.specs.Runs.{Turn, runBytes, Kind, making, changing, reading, kindOf, notMaking, uncommitting, each}
 use Rattle.promises.specs.Views.{SaysSame}
-use Rattle.promises.specs.Lives.{Lies, LivesAgree, StretchesApart, OpenUnshown, LeftAlone}
+use Rattle.promises.specs.Lives.{LivesAgree, StretchesApart, OpenUnshown, LeftAlone}
 use Rattle.promises.proofs.High.{numberOf}
-use Rattle.promises.proofs.Lending.{Leaves, held-sound, change-leaves, change-number}
+use Rattle.promises.proofs.Lending.{held-sound, change-leaves, change-number}
 use Rattle.promises.proofs.Projected.{withCall, callsOf, calls-fit}
 use Rattle.promises.proofs.Stays.{lookup-lent, later, goes}
 use Rattle.promises.proofs.Stretches.{life-ends, life-apart, life-lies, life-stays}

@@ -1,10 +1,9 @@
 -- `change_after` meets its contract: up to u the answer has not changed. Assumes nothing.
-use Prim.Native.Nat.{ℕ, suc, _≤_, _<_, _+_, _-_}
+use Prim.Native.Nat.{suc, _-_}
 use native.Mathlib.Omega.{arith}
-use mathlib.Core.Path.{_≡_, ap, ap₂, sym, _∙_}
+use mathlib.Core.Path.{ap₂, sym, _∙_}
 use Rattle.model.specs.Walk.{lookup}
 use Rattle.model.specs.Layout.{decode}
-use Rattle.model.specs.Calls.{lookedAt}
 use Rattle.life.specs.Lived.{sameAs, same-true, same-false, reads-at, low, Lasting, lasts-on, lasts-other, lasts-end}
 use borrow.Author.Needs.{needs}
 use borrow.Author.Tests.{not-true, not-false}

@@ -1,5 +1,5 @@
 -- `is_value` meets its contract. Assumes nothing.
-use mathlib.Core.Path.{ap, sym, _∙_}
+use mathlib.Core.Path.{ap, sym}
 use Rattle.life.specs.Lived.{isValue}
 use borrow.Author.Needs.{needs}
 use Rattle.life.proofs.is_value.Statement.{statement}

@@ -1,10 +1,9 @@
 -- `life` meets its contract: counted first, then written. Assumes nothing.
 use Prim.Native.Nat.{ℕ}
 use native.Mathlib.Omega.{arith}
-use mathlib.Core.Path.{_≡_, ap, sym, _∙_}
+use mathlib.Core.Path.{ap, sym, _∙_}
 use borrow.Author.Needs.{needs}
 use lib.ListN.{length}
-use Rattle.model.specs.declared.Header.{Header}
 use Rattle.model.specs.Walk.{lookup}
 use Rattle.model.specs.Layout.{decode}
 use Rattle.model.specs.Told.{toldBy}

@@ -1,9 +1,9 @@
 -- `put` meets its contract. Assumes nothing.
-use Prim.Native.Nat.{ℕ, suc, _+_, _*_}
+use Prim.Native.Nat.{suc, _+_, _*_}
 use native.Mathlib.Omega.{arith}
 use mathlib.Core.Bool.{Bool}
 use mathlib.Core.Path.{_≡_, ap, sym, _∙_}
-use mathlib.Core.List.{List, [], _∷_}
+use mathlib.Core.List.{[], _∷_}
 use lib.ListN.{length-set}
 use Rattle.model.proofs.Telling.{written, write-one, write-not}
 use Rattle.life.specs.Lived.{stretches}

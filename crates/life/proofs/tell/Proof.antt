@@ -1,9 +1,6 @@
 -- `tell` meets its contract. Assumes nothing.
 use native.Mathlib.Omega.{arith}
-use mathlib.Core.Bool.{Bool}
-use mathlib.Core.Path.{_≡_, refl, ap, sym, _∙_, subst}
-use mathlib.Core.List.{List, [], _∷_}
-use Rattle.model.specs.declared.Stretch.{Stretch}
+use mathlib.Core.Path.{refl, ap, sym, subst}
 use Rattle.model.proofs.Telling.{written-none, Space}
 use Rattle.life.specs.Lived.{stretches, shown}
 use borrow.Author.Needs.{needs}

@@ -1,7 +1,7 @@
 -- `tell_all` meets its contract: what is left is the life from version v on. Assumes nothing.
 use Prim.Native.Nat.{suc, _≤_, _-_}
 use native.Mathlib.Omega.{arith}
-use mathlib.Core.Path.{_≡_, sym}
+use mathlib.Core.Path.{sym}
 use borrow.Author.Needs.{needs}
 use Rattle.model.specs.Walk.{lookup}
 use Rattle.model.specs.Layout.{decode}

@@ -1,9 +1,8 @@
 -- `changes::page_until` meets its contract: of the entries from i on the same are alive up to q. Assumes nothing.
 use Prim.Native.Nat.{ℕ, _≤_, _+_, _-_}
 use native.Mathlib.Omega.{arith}
-use mathlib.Core.Path.{_≡_, subst, sym}
+use mathlib.Core.Path.{_≡_, subst}
 use borrow.Author.Needs.{needs}
-use Rattle.walk.specs.Scan.{entry}
 use Rattle.life.specs.Still.{Until, aliveFrom, page-none, page-more}
 use Rattle.life.proofs.changes.page_until.Statement.{statement}
 use Rattle.life.proofs.changes.page_until.Tie as tie

@@ -6,7 +6,7 @@ use mathlib.Core.Path.{_≡_, ap, sym, _∙_, subst}
 use borrow.Author.Needs.{needs}
 use Rattle.model.specs.declared.Header.{Header}
 use Rattle.model.specs.declared.Slot.{Slot}
-use Rattle.model.specs.Layout.{readSlots, decode}
+use Rattle.model.specs.Layout.{readSlots}
 use Rattle.model.specs.Walk.{rootAt}
 use Rattle.store.specs.Read.{slots-of}
 use Rattle.store.specs.Sure.{few, front, roots}
