@@ -6,6 +6,7 @@ mod chart;
 mod crowd;
 mod hostile;
 mod judging;
+mod lives;
 mod lookups;
 mod measure;
 mod plain;
@@ -29,12 +30,13 @@ use reference::{calls, store};
 
 /// All tables, or the one that the first argument names.
 fn main() {
-    let tables: [(&str, fn()); 10] = [
+    let tables: [(&str, fn()); 11] = [
         ("bytes", byte_layer),
         ("quick", judging::judging),
         ("check", check_of_histories),
         ("empty", empty_commits),
         ("lookups", lookups::lookups),
+        ("lives", lives::lives),
         ("hostile", hostile_stores),
         ("worst", worst::worst),
         ("updates", updates::updates),

@@ -1,17 +1,18 @@
 -- The life of a key on accepted bytes: it says what lookups say, an open update is not shown, and a commit that leaves the key alone
 -- leaves it.
 -- Assumes nothing.
-use Prim.Native.Nat.{ℕ, _≤_, _<_}
+use Prim.Native.Nat.{ℕ, _*_, _≤_, _<_}
 use native.Mathlib.Omega.{arith}
 use mathlib.Core.Bool.{Bool, true, false, not}
 use mathlib.Core.Option.{Option, none, some}
 use mathlib.Core.Path.{_≡_, refl, ap, ap₂, sym, _∙_}
 use mathlib.Core.Logic.{_↔_}
-use mathlib.Core.List.{List, [], _∷_}
-use lib.Dec.{leb}
-use lib.ListN.{length}
-use borrow.Author.Tests.{lt-leb, leb-false, le-ltb}
-use Rattle.model.specs.Basic.{all}
+use mathlib.Core.List.{List, [], _∷_, _++_}
+use lib.Dec.{leb, ltb}
+use lib.ListN.{length, drop}
+use borrow.Author.Tests.{lt-leb, leb-false, le-ltb, lt-ltb}
+use Rattle.model.specs.Basic.{all, flatMap}
+use Rattle.model.specs.declared.Stretch.{Stretch}
 use Rattle.model.specs.declared.Looked.the-variants.{Value}
 use Rattle.model.specs.Entry.{alive}
 use Rattle.model.specs.Store.{Store, next, last, lastOf}
@@ -21,7 +22,7 @@ use Rattle.model.specs.Climb.{Result, done, refused}
 use Rattle.model.specs.Calls
 use Rattle.model.specs.Calls.{rule, firstOf, lookedAt, lookedBy, get, commit}
 use Rattle.model.specs.Told
-use Rattle.model.specs.Told.{toldBy}
+use Rattle.model.specs.Told.{toldIn, toldBy}
 use Rattle.model.specs.Life
 use Rattle.model.specs.Life.{lifeOf, life, lived, stretchNumbers}
 use Rattle.model.specs.Histories.{Call, begins, commits, abandons, inserts, deletes, callBy, after}
@@ -35,10 +36,11 @@ use Rattle.model.proofs.Alike.{alike-lookup}
 use Rattle.model.proofs.History.{many-calls}
 use Rattle.model.proofs.Undone.{lent-agrees}
 use Rattle.model.proofs.Lives.{life-ext}
+use Rattle.model.proofs.Telling.{Shape, length-numbers}
 use Rattle.promises.specs.Accepts.{Accepts}
 use Rattle.promises.specs.Runs.{Turn, runBytes, Kind, making, changing, reading, kindOf, notMaking, uncommitting, each}
 use Rattle.promises.specs.Views.{SaysSame}
-use Rattle.promises.specs.Lives.{LivesAgree, StretchesApart, OpenUnshown, LeftAlone}
+use Rattle.promises.specs.Lives.{LifeGiven, LivesAgree, StretchesApart, OpenUnshown, LeftAlone}
 use Rattle.promises.proofs.High.{numberOf}
 use Rattle.promises.proofs.Lending.{held-sound, change-leaves, change-number}
 use Rattle.promises.proofs.Projected.{withCall, callsOf, calls-fit}
@@ -83,6 +85,30 @@ looked-one none none e = refl
 looked-one none (some y) e = absurd (let z : _≡_ {A = ℕ} 0 1 = cc in omega arith)
 looked-one (some x) none e = absurd (let z : _≡_ {A = ℕ} 0 1 = cc in omega arith)
 looked-one (some x) (some y) e = let q : x ≡ y = cc in ap some q
+
+-- ---- what the call gives
+
+abbrev shape : Shape Stretch
+shape = record { numbers = stretchNumbers; each = 3; size = λ a. refl }
+
+module _ (least : ℕ) (b : List ℕ) (ok : Accepts least b) (k : ℕ) (h : k < keyLimit) (ns : List ℕ) where
+  told : (t : Bool) → ltb (length ns) (3 * length (life (decode least b) k)) ≡ t
+      → ended least (toLife k) b ns ≡ ofListed b (listed ns (toldIn stretchNumbers (firstOf (rule 14 t ∷ [])) (life (decode least b) k)))
+  unfolding Life.lived Told.toldBy
+  told t e =
+      ap (ofListed b) (life-lent least b ok k ns)
+      ∙ ap (λ (p : Bool). ofListed b (listed ns (toldBy stretchNumbers 3 (firstOf (rule 5 p ∷ [])) (length ns) (life (decode least b) k)))) (lt-leb keyLimit k h)
+      ∙ ap (λ (q : Bool). ofListed b (listed ns (toldIn stretchNumbers (firstOf (rule 14 q ∷ [])) (life (decode least b) k)))) e
+
+pub life-given : LifeGiven
+unfolding Told.toldIn
+life-given least b ok k h ns =
+    let xs = life (decode least b) k in
+    record {
+      room = λ r. told least b ok k h ns false (le-ltb (length ns) (3 * length xs) r)
+          ∙ ap (λ (n : ℕ). record { number = 0; results = length xs ∷ []; store = b; list = flatMap stretchNumbers xs ++ drop n ns }) (length-numbers shape xs);
+      short = λ r. told least b ok k h ns true (lt-ltb (length ns) (3 * length xs) r);
+    }
 
 -- ---- lookups and lives never disagree; stretches stand apart
 

@@ -30,7 +30,7 @@ use Rattle.promises.specs.Beside.{along, fromFresh, fromLent}
 use Rattle.promises.specs.Demand1.{Unique, Refused, Blank, Judges, Untrusted, OneForm, FreshMade}
 use Rattle.promises.specs.Demand2.{EncodedSound, AcceptedSound, SoundStays, FreshSound, History, HistoryLent, Found, SettingsChange, AnswersStay, ViewsStay, ByTheRules, ReadsOnly, Balanced, Levels, Lacking}
 use Rattle.promises.specs.Demand3.{Abandoned}
-use Rattle.promises.specs.Lives.{LivesAgree, StretchesApart, OpenUnshown, LeftAlone}
+use Rattle.promises.specs.Lives.{LifeGiven, LivesAgree, StretchesApart, OpenUnshown, LeftAlone}
 use Rattle.promises.specs.Replayed.{TableLent}
 use Rattle.promises.specs.Fakes.{FakesStopped}
 use Rattle.promises.proofs.Encoded as encoded
@@ -157,6 +157,9 @@ pub abandoned : Abandoned
 abandoned = restored.abandoned
 
 -- ---- 2026-01, the life of a key
+
+pub life-given : LifeGiven
+life-given = lives.life-given
 
 pub lives-agree : LivesAgree
 lives-agree = lives.lives-agree

@@ -1,23 +1,36 @@
--- 2026-01, "when was this setting changed?": what a life (model's Life) tells. `life s k` is the list of stretches that the call writes
--- into the caller's list, three numbers each.
+-- 2026-01, "when was this setting changed?": what a life (model's Life) tells.
 -- Assumes nothing.
-use Prim.Native.Nat.{ℕ, _≤_, _<_}
+use Prim.Native.Nat.{ℕ, _*_, _≤_, _<_}
 use mathlib.Core.Bool.{true}
 use mathlib.Core.Path.{_≡_}
 use mathlib.Core.Logic.{_≢_, _↔_, _⊎_}
-use mathlib.Core.List.{List, [], _∷_}
+use mathlib.Core.List.{List, [], _∷_, _++_}
+use lib.ListN.{length, drop}
+use Rattle.model.specs.Basic.{flatMap}
 use Rattle.model.specs.declared.Stretch.{Stretch}
 use Rattle.model.specs.declared.Looked.the-variants.{Value}
 use Rattle.model.specs.Entry.{alive}
 use Rattle.model.specs.Store.{next}
 use Rattle.model.specs.Walk.{keyLimit}
 use Rattle.model.specs.Layout.{decode}
-use Rattle.model.specs.Life.{life}
+use Rattle.model.specs.Life.{life, stretchNumbers}
 use Rattle.model.specs.Lent.{lookupLent}
 use Rattle.model.specs.Ended.{toCommit, toLife, ended}
 use Rattle.promises.specs.Accepts.{Accepts}
 use Rattle.promises.specs.Runs.{Turn, runBytes, fitting, uncommitting, each}
 use Rattle.promises.specs.Views.{SaysSame}
+
+-- ---- "Each stretch takes three numbers .. 14 is given when the list holds fewer than that, with the count of stretches. Nothing behind is
+-- touched": what the call gives and leaves
+
+pub record Given (least : ℕ) (b : List ℕ) (k : ℕ) (ns : List ℕ) : Type 0 where
+  pub room : 3 * length (life (decode least b) k) ≤ length ns
+      → ended least (toLife k) b ns
+      ≡ record { number = 0; results = length (life (decode least b) k) ∷ []; store = b; list = flatMap stretchNumbers (life (decode least b) k) ++ drop (3 * length (life (decode least b) k)) ns }
+  pub short : length ns < 3 * length (life (decode least b) k) → ended least (toLife k) b ns ≡ record { number = 14; results = length (life (decode least b) k) ∷ []; store = b; list = ns }
+
+abbrev pub LifeGiven : Type 0
+LifeGiven = (least : ℕ) (b : List ℕ) → Accepts least b → (k : ℕ) → k < keyLimit → (ns : List ℕ) → Given least b k ns
 
 -- ---- "every stretch of committed versions in which it held one value": lookups and lives never disagree
 

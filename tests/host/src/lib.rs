@@ -34,6 +34,14 @@ mod c {
             room: usize,
             count: *mut usize,
         ) -> u32;
+        pub fn rcst_life(
+            store: *const u8,
+            length: usize,
+            key: u32,
+            list: *mut u32,
+            room: usize,
+            count: *mut usize,
+        ) -> u32;
     }
 }
 
@@ -100,6 +108,23 @@ pub fn range(store: &[u8], low: u32, high: u32, version: u32, list: &mut [u32]) 
             low,
             high,
             version,
+            list.as_mut_ptr(),
+            list.len(),
+            &mut count,
+        )
+    };
+    (number, count)
+}
+
+/// The number and the count of stretches in which the key held one value;
+/// these go to the list, start, end and value each.
+pub fn life(store: &[u8], key: u32, list: &mut [u32]) -> (u32, usize) {
+    let mut count = 0;
+    let number = unsafe {
+        c::rcst_life(
+            store.as_ptr(),
+            store.len(),
+            key,
             list.as_mut_ptr(),
             list.len(),
             &mut count,
