@@ -58,18 +58,24 @@ static void releases(void) {
 
 static void settings(void) {
     static uint8_t store[8 * RCST_PAGE_BYTES], before[8 * RCST_PAGE_BYTES];
-    uint32_t found = 9, value = 9, list[4] = {1, 2, 3, 4}, key;
+    uint32_t found = 9, value = 9, list[4] = {1, 2, 3, 4}, pages[RCST_MOST_LEVELS] = {0}, key;
     size_t count = 9;
 
     expect(rcst_fresh(store, sizeof store) == 0, "a fresh store of 8 pages");
     expect(rcst_insert(store, sizeof store, 40, 7) == 7, "no update is open");
+    expect(rcst_insert(store, sizeof store, RCST_HIGHEST_INSERT_KEY, 7) == 7, "nor for the highest key that goes in");
+    expect(rcst_insert(store, sizeof store, RCST_HIGHEST_INSERT_KEY + 1, 7) == 5, "a bench key comes first");
     expect(rcst_insert(store, sizeof store, RCST_HIGHEST_KEY + 1, 7) == 5, "a key too large comes first");
     expect(rcst_open(store, sizeof store) == 0, "an update opens");
+    expect(rcst_insert(store, sizeof store, RCST_HIGHEST_KEY, 7) == 5, "a bench key is refused");
+    expect(rcst_delete(store, sizeof store, RCST_HIGHEST_KEY) == 11, "a bench key may be deleted, and is not alive");
+    expect(rcst_lookup(store, sizeof store, RCST_HIGHEST_KEY, 1, &found, &value) == 0 && found == 0, "nor found");
     expect(rcst_insert(store, sizeof store, 40, 7) == 0, "an insert");
     expect(rcst_insert(store, sizeof store, 40, 8) == 10, "the key is alive");
     expect(rcst_delete(store, sizeof store, 41) == 11, "the key is not alive");
     expect(rcst_lookup(store, sizeof store, 40, 1, &found, &value) == 0 && found == 1 && value == 7, "the open version is readable");
     expect(rcst_commit(store, sizeof store) == 0, "a release");
+    expect(rcst_visits(store, sizeof store, 40, 1, pages, 1, &count) == 0 && count == 1 && pages[0] == 5, "a lookup goes by page 5 alone");
     memcpy(before, store, sizeof store);
     expect(rcst_open(store, sizeof store) == 0, "the next update");
     expect(rcst_delete(store, sizeof store, 40) == 0, "a delete");
@@ -82,10 +88,43 @@ static void settings(void) {
     }
     expect(key == 20, "a dead entry takes room too");
     expect(rcst_insert(store, sizeof store, key, key) == 12, "pages run out");
+    expect(rcst_visits(store, sizeof store, 40, 1, pages, RCST_MOST_LEVELS, &count) == 0 && count == 1 && pages[0] == 5, "the old version by the same page");
+    expect(rcst_visits(store, sizeof store, 40, 1, pages, 0, &count) == 14 && count == 1, "no room for its number");
     expect(rcst_range(store, sizeof store, 3, 4, 2, list, 4, &count) == 0 && count == 2, "two settings");
     expect(list[0] == 3 && list[1] == 3 && list[2] == 4 && list[3] == 4, "key, value, key, value");
     expect(rcst_abandon(store, sizeof store) == 0, "the update is abandoned");
     expect(memcmp(before, store, sizeof store) == 0, "every byte is what it was");
+}
+
+/* What changed between last month's release and this one. */
+static void differences(void) {
+    static uint8_t store[16 * RCST_PAGE_BYTES];
+    static const uint32_t signed_list[12] = {40, 2, 7, 9, 41, 1, 300, 0, 42, 0, 0, 5};
+    uint32_t list[13] = {0};
+    size_t count = 9;
+
+    rcst_fresh(store, sizeof store);
+    rcst_open(store, sizeof store);
+    rcst_insert(store, sizeof store, 40, 7);
+    rcst_insert(store, sizeof store, 41, 300);
+    rcst_insert(store, sizeof store, 43, 1);
+    expect(rcst_commit(store, sizeof store) == 0, "last month's release");
+    rcst_open(store, sizeof store);
+    rcst_delete(store, sizeof store, 40);
+    rcst_insert(store, sizeof store, 40, 9);
+    rcst_delete(store, sizeof store, 41);
+    rcst_insert(store, sizeof store, 42, 5);
+    expect(rcst_commit(store, sizeof store) == 0, "this month's release");
+    list[12] = 77;
+    expect(rcst_difference(store, sizeof store, 1, 2, list, 11, &count) == 14 && count == 3, "eleven numbers are too few for three differences");
+    expect(list[0] == 0, "and nothing is written");
+    expect(rcst_difference(store, sizeof store, 1, 2, list, 13, &count) == 0 && count == 3, "three differences");
+    expect(memcmp(list, signed_list, sizeof signed_list) == 0, "changed, removed, added; by key");
+    expect(list[12] == 77, "and nothing behind is touched");
+    expect(rcst_difference(store, sizeof store, 2, 1, list, 13, &count) == 0 && list[5] == 0 && list[7] == 300, "the other way round 41 is added");
+    expect(rcst_difference(store, sizeof store, 2, 2, list, 13, &count) == 0 && count == 0, "nothing differs from itself");
+    expect(rcst_difference(store, sizeof store, 3, 1, list, 13, &count) == 6 && count == 0, "a version above last");
+    expect(rcst_difference(store, sizeof store, 3, 3, list, 13, &count) == 6, "also twice the same");
 }
 
 static void lives(void) {
@@ -113,6 +152,7 @@ int main(void) {
     fresh_and_check();
     releases();
     settings();
+    differences();
     lives();
     return failures != 0;
 }

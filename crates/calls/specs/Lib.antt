@@ -3,3 +3,4 @@ pub mod Reading
 pub mod Living
 pub mod Turning
 pub mod Updating
+pub mod Differing

@@ -1,5 +1,5 @@
 -- The calls on lent bytes, taken as one. `unique`: no second outcome meets a call's contract. `refused`: every number but 0 leaves
--- store and list untouched. `blank`: with such a number every result is 0, but for check's rule with 4 and with 14 the count of a range or a life.
+-- store and list untouched. `blank`: with such a number every result is 0, but for check's rule with 4 and the count of a call that tells a list with 14.
 -- Assumes nothing.
 use Prim.Native.Nat.{ℕ, zero, suc, _*_}
 use mathlib.Core.Bool.{Bool, true, false}
@@ -22,11 +22,13 @@ use Rattle.model.specs.Climb.{Result}
 use Rattle.model.specs.Calls
 use Rattle.model.specs.Calls.{lookedNumber, lookedFound, lookedValue, Ranged, rule, firstOf}
 use Rattle.model.specs.Told
+use Rattle.model.specs.Visited
+use Rattle.model.specs.Differ
 use Rattle.model.specs.Told.{toldIn, toldBy}
 use Rattle.model.specs.Life
-use Rattle.model.specs.Ended.{Asked, toFresh, toCheck, toOpen, toCommit, toAbandon, toInsert, toDelete, toLookup, toRange, toLife, Ended, ended, Meets, Untouched, Named, Zeros}
+use Rattle.model.specs.Ended.{Asked, toFresh, toCheck, toOpen, toCommit, toAbandon, toInsert, toDelete, toLookup, toRange, toLife, toDifference, toVisits, Ended, ended, Meets, Untouched, Named, Zeros}
 use Rattle.model.specs.Lent
-use Rattle.model.specs.Lent.{Outcome, Listed, listed, left, judgedFirst, openLent, insertLent, deleteLent, commitLent, abandonLent, freshLent, lookupLent, rangeLent, lifeLent}
+use Rattle.model.specs.Lent.{Outcome, Listed, listed, left, judgedFirst, openLent, insertLent, deleteLent, commitLent, abandonLent, freshLent, lookupLent, rangeLent, lifeLent, differenceLent, visitsLent}
 
 -- Two outcomes that meet a call's contract are the same: number, results, store and list.
 pub unique : (least : ℕ) (c : Asked) (b ns : List ℕ) (e f : Ended) → Meets least c b ns e → Meets least c b ns f → e ≡ f
@@ -79,6 +81,34 @@ module _ (least : ℕ) (b : List ℕ) (lo hi v : ℕ) (ns : List ℕ) where
       at zero = by-same _ _
       at (suc n) = λ h. refl
 
+-- a call that tells a list
+module _ {A : Type 0} (numbers : A → List ℕ) (each : ℕ) (ns : List ℕ) where
+  told-in-same : (n : ℕ) (xs : List A) → ListSame ns (listed ns (Told.toldIn numbers n xs))
+  unfolding Told.toldIn
+  told-in-same zero xs h = absurd (h refl)
+  told-in-same (suc n) xs h = refl
+
+  told-same : (n : ℕ) (xs : List A) → ListSame ns (listed ns (Told.toldBy numbers each n (length ns) xs))
+  unfolding Told.toldBy
+  told-same zero xs = told-in-same _ xs
+  told-same (suc n) xs = λ h. refl
+
+visits-same : (least : ℕ) (b : List ℕ) (k v : ℕ) (ns : List ℕ) → ListSame ns (visitsLent least b k v ns)
+unfolding Lent.visitsLent Visited.visits
+visits-same least b k v ns = at (judged least b .number)
+  where
+    at : (n : ℕ) → ListSame ns (judgedFirst n (λ m. record { number = m; count = 0; list = ns }) (listed ns (Visited.visits (decode least b) k v (length ns))))
+    at zero = told-same _ 1 ns _ _
+    at (suc n) = λ h. refl
+
+difference-same : (least : ℕ) (b : List ℕ) (u v : ℕ) (ns : List ℕ) → ListSame ns (differenceLent least b u v ns)
+unfolding Lent.differenceLent Differ.difference
+difference-same least b u v ns = at (judged least b .number)
+  where
+    at : (n : ℕ) → ListSame ns (judgedFirst n (λ m. record { number = m; count = 0; list = ns }) (listed ns (Differ.difference (decode least b) u v (length ns))))
+    at zero = told-same _ 4 ns _ _
+    at (suc n) = λ h. refl
+
 -- a call that tells
 module _ {A : Type 0} (numbers : A → List ℕ) (each : ℕ) where
   told-in-same : (ns : List ℕ) (n : ℕ) (xs : List A) → ListSame ns (listed ns (toldIn numbers n xs))
@@ -110,6 +140,8 @@ leaves least (toInsert k x) b ns h = record { store = lent-same least _ b h; lis
 leaves least (toDelete k) b ns h = record { store = lent-same least _ b h; list = refl }
 leaves least (toLookup k v) b ns h = record { store = refl; list = refl }
 leaves least (toRange lo hi v) b ns h = record { store = refl; list = range-same least b lo hi v ns h }
+leaves least (toVisits k v) b ns h = record { store = refl; list = visits-same least b k v ns h }
+leaves least (toDifference u v) b ns h = record { store = refl; list = difference-same least b u v ns h }
 leaves least (toLife k) b ns h = record { store = refl; list = life-same least b k ns h }
 
 pub refused : (least : ℕ) (c : Asked) (b ns : List ℕ) (e : Ended) → Meets least c b ns e → e .number ≢ 0 → Untouched b ns e
@@ -162,6 +194,31 @@ range-blank least b lo hi v ns = at (judged least b .number)
     at zero = count-blank _ (length ns) _
     at (suc n) = λ h k. refl
 
+told-blank : {A : Type 0} (numbers : A → List ℕ) (each n room : ℕ) (xs : List A) → CountBlank (Told.toldBy numbers each n room xs)
+unfolding Told.toldBy Told.toldIn
+told-blank numbers each zero room xs h k = at (ltb room (each * length xs)) h k
+  where
+    at : (t : Bool) → CountBlank (Told.toldIn numbers (firstOf (rule 14 t ∷ [])) xs)
+    at true h k = absurd (k refl)
+    at false h k = absurd (h refl)
+told-blank numbers each (suc n) room xs h k = refl
+
+visits-blank : (least : ℕ) (b : List ℕ) (i v : ℕ) (ns : List ℕ) → ListedBlank (visitsLent least b i v ns)
+unfolding Lent.visitsLent Visited.visits
+visits-blank least b i v ns = at (judged least b .number)
+  where
+    at : (n : ℕ) → ListedBlank (judgedFirst n (λ m. record { number = m; count = 0; list = ns }) (listed ns (Visited.visits (decode least b) i v (length ns))))
+    at zero = told-blank _ 1 _ (length ns) _
+    at (suc n) = λ h k. refl
+
+difference-blank : (least : ℕ) (b : List ℕ) (u v : ℕ) (ns : List ℕ) → ListedBlank (differenceLent least b u v ns)
+unfolding Lent.differenceLent Differ.difference
+difference-blank least b u v ns = at (judged least b .number)
+  where
+    at : (n : ℕ) → ListedBlank (judgedFirst n (λ m. record { number = m; count = 0; list = ns }) (listed ns (Differ.difference (decode least b) u v (length ns))))
+    at zero = told-blank _ 4 _ (length ns) _
+    at (suc n) = λ h k. refl
+
 told-blank : {A : Type 0} (numbers : A → List ℕ) (each n room : ℕ) (xs : List A) → CountBlank (toldBy numbers each n room xs)
 unfolding Told.toldBy Told.toldIn
 told-blank numbers each zero room xs h k = at (ltb room (each * length xs)) h k
@@ -192,6 +249,8 @@ blanks least (toInsert i x) b ns h k = refl
 blanks least (toDelete i) b ns h k = refl
 blanks least (toLookup i v) b ns h k = looked-blank (lookupLent least b i v) h
 blanks least (toRange lo hi v) b ns h k = zero-one _ (range-blank least b lo hi v ns h k)
+blanks least (toVisits i v) b ns h k = zero-one _ (visits-blank least b i v ns h k)
+blanks least (toDifference u v) b ns h k = zero-one _ (difference-blank least b u v ns h k)
 blanks least (toLife i) b ns h k = zero-one _ (life-blank least b i ns h k)
 
 pub blank : (least : ℕ) (c : Asked) (b ns : List ℕ) (e : Ended) → Meets least c b ns e → e .number ≢ 0 → (Named c (e .number) → ⊥) → Zeros (e .results)

@@ -11,6 +11,8 @@ use Rattle.model.specs.Layout.{sizeOf, encode, decode}
 use Rattle.model.specs.Judged.{lengthOk, judged}
 use Rattle.model.specs.Climb.{Result, done, refused}
 use Rattle.model.specs.Calls.{insert, delete, begin, commit, abandon, get, range, Ranged}
+use Rattle.model.specs.Visited.{visits}
+use Rattle.model.specs.Differ.{difference}
 use Rattle.model.specs.Life.{lived}
 
 -- the number that a call gives, and the store's bytes after it
@@ -53,7 +55,7 @@ freshLent least b = pick (lengthOk least b) (record { number = 0; store = encode
 unfoldable pub lookupLent : ℕ → List ℕ → ℕ → ℕ → Looked
 lookupLent least b k v = judgedFirst (judged least b .number) (λ n. Refused n) (get (decode least b) k v)
 
--- the number of a call that tells, its count, and the caller's list after it: "touches nothing behind"
+-- the number of a call that tells a list, its count, and the caller's list after it: "touches nothing behind"
 pub record Listed : Type 0 where
   pub number : ℕ
   pub count : ℕ
@@ -65,6 +67,14 @@ listed ns r = record { number = r .number; count = r .count; list = r .written +
 unfoldable pub rangeLent : ℕ → List ℕ → ℕ → ℕ → ℕ → List ℕ → Listed
 rangeLent least b lo hi v ns =
     judgedFirst (judged least b .number) (λ n. record { number = n; count = 0; list = ns }) (listed ns (range (decode least b) lo hi v (length ns)))
+
+unfoldable pub visitsLent : ℕ → List ℕ → ℕ → ℕ → List ℕ → Listed
+visitsLent least b k v ns =
+    judgedFirst (judged least b .number) (λ n. record { number = n; count = 0; list = ns }) (listed ns (visits (decode least b) k v (length ns)))
+
+unfoldable pub differenceLent : ℕ → List ℕ → ℕ → ℕ → List ℕ → Listed
+differenceLent least b u v ns =
+    judgedFirst (judged least b .number) (λ n. record { number = n; count = 0; list = ns }) (listed ns (difference (decode least b) u v (length ns)))
 
 -- 2026-01: "Refusals 1 to 5 and 14 apply as in 01, in that order."
 unfoldable pub lifeLent : ℕ → List ℕ → ℕ → List ℕ → Listed

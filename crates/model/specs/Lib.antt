@@ -10,6 +10,8 @@ pub mod Rules
 pub mod Climb
 pub mod Calls
 pub mod Told
+pub mod Visited
+pub mod Differ
 pub mod Life
 pub mod Settings
 pub mod Histories
@@ -25,6 +27,7 @@ pub mod Plan
 pub mod Replay
 pub mod Table
 pub mod AlsoRun
+pub mod Bench
 pub mod Vectors
 pub mod Figures
 pub mod Samples

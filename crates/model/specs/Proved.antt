@@ -9,6 +9,7 @@ use Rattle.model.specs.Rules
 use Rattle.model.specs.Climb
 use Rattle.model.specs.Calls
 use Rattle.model.specs.Told
+use Rattle.model.specs.Visited
 use Rattle.model.specs.Life
 use Rattle.model.specs.Sound
 use Rattle.model.specs.Sound.{sound}
@@ -18,9 +19,10 @@ use Rattle.model.specs.Layout.{encode, decode, entryBytes}
 use Rattle.model.specs.Replay.{History, holds, soundWay, readBack}
 use Rattle.model.specs.Table.{table}
 use Rattle.model.specs.AlsoRun.{alsoRun}
+use Rattle.model.specs.Bench.{benchRun}
 use Rattle.model.specs.Vectors.{freshBytes, entryForty, fortyBytes}
 use Rattle.model.specs.Figures.{Figure, made, figures}
-use Rattle.model.specs.Samples.{twoLevels, fromElsewhere, served}
+use Rattle.model.specs.Samples.{twoLevels, fromElsewhere, served, visited, visitedPages}
 use Rattle.model.specs.Lifetimes.{lifetimes}
 
 -- ---- what is computed with
@@ -71,6 +73,15 @@ pub also-sound : T (all (λ (h : History). sound 4 (h .store)) alsoRun)
 unfolding judging
 also-sound = tt
 
+-- 2026-06: where the bench keys begin, and a store shipped with them, sound on every way
+pub bench-run : T (all holds benchRun)
+unfolding calling writing
+bench-run = tt
+
+pub bench-sound : T (all soundWay benchRun)
+unfolding calling judging
+bench-sound = tt
+
 -- 2026-01: lives written out; the stores that these begin with are sound
 pub lifetimes-run : T (all holds lifetimes)
 unfolding calling Told.toldIn Told.toldBy Life.lifeOf Life.lived
@@ -109,3 +120,7 @@ from-elsewhere-sound = tt
 pub samples-served : T (all holds served)
 unfolding calling
 samples-served = tt
+
+pub samples-visited : visited ≡ visitedPages
+unfolding Visited.visits Told.toldBy Told.toldIn
+samples-visited = refl

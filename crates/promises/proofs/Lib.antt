@@ -9,9 +9,11 @@ pub mod Answering
 pub mod Changed
 pub mod Projected
 pub mod Stays
+pub mod Differences
 pub mod Stretches
 pub mod Lives
 pub mod Restored
+pub mod KeptOut
 pub mod Replaying
 pub mod Fakes
 pub mod Promises

@@ -1,4 +1,5 @@
--- The promises, each under its name: what it says stands in specs/Demand1, Demand2, Demand3, Lives, Replayed and Fakes.
+-- The promises, each under its name: what it says stands in specs/Demand1, Demand2, Demand3, in a file for each request of document 02
+-- (OldReadings, Bench, Differences, Lives), in Replayed and Fakes.
 -- Assumes nothing.
 use Prim.Native.Nat.{ℕ}
 use native.Mathlib.Omega.{arith}
@@ -30,8 +31,11 @@ use Rattle.promises.specs.Beside.{along, fromFresh, fromLent}
 use Rattle.promises.specs.Demand1.{Unique, Refused, Blank, Judges, Untrusted, OneForm, FreshMade}
 use Rattle.promises.specs.Demand2.{EncodedSound, AcceptedSound, SoundStays, FreshSound, History, HistoryLent, Found, SettingsChange, AnswersStay, ViewsStay, ByTheRules, ReadsOnly, Balanced, Levels, Lacking}
 use Rattle.promises.specs.Demand3.{Abandoned}
+use Rattle.promises.specs.OldReadings.{PagesStay, VisitsTold, VisitsStay}
+use Rattle.promises.specs.Differences.{DifferenceGiven, DifferenceSays, DifferenceNone, DifferenceExchanged, DifferenceStays}
 use Rattle.promises.specs.Lives.{LifeGiven, LivesAgree, StretchesApart, OpenUnshown, LeftAlone}
 use Rattle.promises.specs.Replayed.{TableLent}
+use Rattle.promises.specs.Bench.{KeptOut}
 use Rattle.promises.specs.Fakes.{FakesStopped}
 use Rattle.promises.proofs.Encoded as encoded
 use Rattle.promises.proofs.Judges as judging
@@ -40,8 +44,10 @@ use Rattle.promises.proofs.Agreed.{many-turns, fresh-agreed, lent-agree
 use Rattle.promises.proofs.Answering.{answers}
 use Rattle.promises.proofs.Changed as changed
 use Rattle.promises.proofs.Stays as stays
+use Rattle.promises.proofs.Differences as differ
 use Rattle.promises.proofs.Lives as lives
 use Rattle.promises.proofs.Restored as restored
+use Rattle.promises.proofs.KeptOut as bench
 use Rattle.promises.proofs.Replaying as replaying
 use Rattle.promises.proofs.Fakes as fakes
 
@@ -99,6 +105,9 @@ found least four eight b ok = history-lent least four eight b ok [] refl
 pub settings-change : SettingsChange
 settings-change = changed.settings-change
 
+pub kept-out : KeptOut
+kept-out = bench.kept-out
+
 pub answers-stay : AnswersStay
 answers-stay = stays.answers-stay
 
@@ -155,6 +164,34 @@ table = replaying.table-lent
 
 pub abandoned : Abandoned
 abandoned = restored.abandoned
+
+-- ---- request 2026-13
+
+pub pages-stay : PagesStay
+pages-stay = stays.pages-stay
+
+pub visits-told : VisitsTold
+visits-told = stays.visits-told
+
+pub visits-stay : VisitsStay
+visits-stay = stays.visits-stay
+
+-- ---- what differs between two versions
+
+pub difference-given : DifferenceGiven
+difference-given = differ.difference-given
+
+pub difference-says : DifferenceSays
+difference-says = differ.difference-says
+
+pub difference-none : DifferenceNone
+difference-none = differ.difference-none
+
+pub difference-exchanged : DifferenceExchanged
+difference-exchanged = differ.difference-exchanged
+
+pub difference-stays : DifferenceStays
+difference-stays = differ.difference-stays
 
 -- ---- 2026-01, the life of a key
 

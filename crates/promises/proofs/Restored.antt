@@ -68,7 +68,7 @@ still-open least (t ∷ ts) h x o =
     still-open least ts g (onward least x t)
     (when-open (turned least (x .bytes) t .number) (stepped (kindOf (t .call)) (x .machine)) (x .machine) (step-open (kindOf (t .call)) (x .machine) f o) o)
 
-along-bytes : (least : ℕ) (ts : List Turn) (x : Beside) → along least x ts .bytes ≡ runBytes least (x .bytes) ts
+pub along-bytes : (least : ℕ) (ts : List Turn) (x : Beside) → along least x ts .bytes ≡ runBytes least (x .bytes) ts
 along-bytes least [] x = refl
 along-bytes least (t ∷ ts) x = along-bytes least ts (onward least x t)
 

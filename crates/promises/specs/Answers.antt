@@ -12,12 +12,13 @@ use Rattle.model.specs.declared.Pair.{Pair}
 use Rattle.model.specs.declared.Looked.{Looked}
 use Rattle.model.specs.Store.{lastOf}
 use Rattle.model.specs.Walk.{keyLimit, find, between}
-use Rattle.model.specs.Calls.{isSome, Rule, rule, firstOf, lookedBy, Ranged, rangedBy}
+use Rattle.model.specs.Calls.{isSome, Rule, rule, insertTests, deleteTests, firstOf, lookedBy, Ranged, rangedBy}
 use Rattle.model.specs.Told.{toldBy}
+use Rattle.model.specs.Differ.{differ, deltaNumbers}
 use Rattle.model.specs.Life.{lifeOf, stretchNumbers}
 use Rattle.model.specs.Settings.{Machine}
 use Rattle.model.specs.Lent.{listed}
-use Rattle.model.specs.Ended.{toOpen, toCommit, toAbandon, toInsert, toDelete, toLookup, toRange, toLife, ended, ofLooked, ofListed}
+use Rattle.model.specs.Ended.{toOpen, toCommit, toAbandon, toInsert, toDelete, toLookup, toRange, toLife, toDifference, ended, ofLooked, ofListed}
 use Rattle.promises.specs.Accepts.{Accepts}
 use Rattle.promises.specs.Beside.{Beside}
 
@@ -25,7 +26,7 @@ use Rattle.promises.specs.Beside.{Beside}
 abbrev pub lastIn : Machine → ℕ
 lastIn m = lastOf (m .opened) (m .current)
 
--- ---- the tests of each call's refusals, smallest number first
+-- ---- the tests of each call's refusals, smallest number first; insert's and delete's stand with the calls (model/specs/Calls)
 
 -- 5 "key too large", 6 "version above last"
 abbrev pub lookupTests : ℕ → ℕ → ℕ → List Rule
@@ -34,6 +35,10 @@ lookupTests last k v = rule 5 (leb keyLimit k) ∷ rule 6 (ltb last v) ∷ []
 -- 5 "key too large, or range low above high"
 abbrev pub rangeTests : ℕ → ℕ → ℕ → ℕ → List Rule
 rangeTests last lo hi v = rule 5 (leb keyLimit lo || leb keyLimit hi || ltb hi lo) ∷ rule 6 (ltb last v) ∷ []
+
+-- 6 of either version
+abbrev pub differenceTests : ℕ → ℕ → ℕ → List Rule
+differenceTests last u v = rule 6 (ltb last u || ltb last v) ∷ []
 
 -- 5 "key too large"
 abbrev pub lifeTests : ℕ → List Rule
@@ -47,14 +52,6 @@ openTests opened current = rule 8 opened ∷ rule 9 (leb 1048574 current) ∷ []
 abbrev pub endTests : Bool → List Rule
 endTests opened = rule 7 (not opened) ∷ []
 
--- 10 "key alive"
-abbrev pub insertTests : ℕ → Bool → Bool → List Rule
-insertTests k opened alive = rule 5 (leb keyLimit k) ∷ rule 7 (not opened) ∷ rule 10 alive ∷ []
-
--- 11 "key not alive"
-abbrev pub deleteTests : ℕ → Bool → Bool → List Rule
-deleteTests k opened alive = rule 5 (leb keyLimit k) ∷ rule 7 (not opened) ∷ rule 11 (not alive) ∷ []
-
 -- ---- what the machine's settings answer
 
 -- the value of a key at a version, or that it is absent
@@ -64,6 +61,10 @@ lookedIn m k v = lookedBy (firstOf (lookupTests (lastIn m) k v)) (find k (m .sho
 -- all the settings from lo to hi at a version, with 14 if the list has not the room
 abbrev pub rangedFrom : Machine → ℕ → ℕ → ℕ → ℕ → Ranged
 rangedFrom m lo hi v room = rangedBy (firstOf (rangeTests (lastIn m) lo hi v)) room (between lo hi (m .shows v))
+
+-- what differs between two versions, with 14 if the list has not the room
+abbrev pub toldFrom : Machine → ℕ → ℕ → ℕ → Ranged
+toldFrom m u v room = toldBy deltaNumbers 4 (firstOf (differenceTests (lastIn m) u v)) room (differ (m .shows u) (m .shows v))
 
 -- the life of a key, by what the committed versions show
 abbrev pub livedIn : Machine → ℕ → ℕ → Ranged
@@ -84,6 +85,7 @@ pub record Answers (least : ℕ) (x : Beside) : Type 0 where
   -- readings
   pub lookup : (k v : ℕ) (ns : List ℕ) → ended least (toLookup k v) (x .bytes) ns ≡ ofLooked (x .bytes) ns (lookedIn (x .machine) k v)
   pub range : (lo hi v : ℕ) (ns : List ℕ) → ended least (toRange lo hi v) (x .bytes) ns ≡ ofListed (x .bytes) (listed ns (rangedFrom (x .machine) lo hi v (length ns)))
+  pub difference : (u v : ℕ) (ns : List ℕ) → ended least (toDifference u v) (x .bytes) ns ≡ ofListed (x .bytes) (listed ns (toldFrom (x .machine) u v (length ns)))
   pub life : (k : ℕ) (ns : List ℕ) → ended least (toLife k) (x .bytes) ns ≡ ofListed (x .bytes) (listed ns (livedIn (x .machine) k (length ns)))
   -- "in key order", no key twice
   pub order : (v : ℕ) → v ≤ lastIn (x .machine) → inOrder (λ (p q : Pair). ltb (p .key) (q .key)) (x .machine .shows v) ≡ true

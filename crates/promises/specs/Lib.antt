@@ -7,5 +7,8 @@ pub mod Lives
 pub mod Demand1
 pub mod Demand2
 pub mod Demand3
+pub mod OldReadings
+pub mod Differences
 pub mod Replayed
+pub mod Bench
 pub mod Fakes

@@ -1,0 +1,9 @@
+pub mod Append
+pub mod Merge
+pub mod Told
+pub mod Same
+pub mod Listing
+pub mod Side
+pub mod Quiet
+pub mod Leaves
+pub mod Halfway

@@ -1,0 +1,117 @@
+// What differs between two versions of a sound store, in key order. Both are gone through a stretch of keys at a time that lies in one leaf
+// of each: the two leaves are merged, unless they are one page in which nothing starts or ends between the versions.
+mod leaves;
+mod telling;
+
+use leaves::Ask;
+use model::Delta;
+use model::Limits;
+use walk::Counted;
+ghost use mathlib.Core.Path.{_≡_};
+ghost use lib.ListN.{length};
+ghost use Rattle.model.specs.Basic.{pick};
+ghost use lib.Dec.{ltb};
+ghost use Rattle.model.specs.Walk.{settings};
+ghost use Rattle.model.specs.Layout.{decode};
+ghost use Rattle.model.specs.Told.{toldBy};
+ghost use Rattle.model.specs.Differ.{deltaNumbers};
+ghost use Rattle.model.specs.Lent.{listed};
+ghost use Rattle.walk.specs.Counted.{withList};
+ghost use Rattle.walk.specs.Sure.{Readable};
+ghost use Rattle.differ.specs.Same.{samePairs};
+ghost use Rattle.differ.specs.Told.{Space, Tells};
+ghost use Rattle.differ.specs.Listing.{between, nextOf};
+
+// "Keys are 0 to 16,777,215".
+const KEYS: u32 = 16777216;
+
+// What the cursors of versions u and v say of the first key at or above a key that either has.
+pub fn next(s: &[u8], l: Limits, u: u32, v: u32, key: u32) -> Delta
+    requires { ⌜ Readable l (now s) u × Readable l (now s) v ⌝ }
+    ensures { λ r. ⌜ r ≡ nextOf l (now (s .entry)) u v key ⌝ }
+{
+    let x = cursor::first_from(s, l, u, key);
+    let y = cursor::first_from(s, l, v, key);
+    telling::compared(x, y)
+}
+
+// The lower of two keys.
+fn lower(a: u32, b: u32) -> u32
+    ensures { λ r. ⌜ r ≡ pick (ltb a b) a b ⌝ }
+{
+    if a < b {
+        return a;
+    }
+    b
+}
+
+// What differs from version u to version v, into a list or only counted; gives how many differences there are. Each step ends where the
+// first of two leaves does, so there are at most as many as the two versions have leaves.
+fn tell(s: &[u8], l: Limits, u: u32, v: u32, list: &mut [u32], write: bool) -> usize
+    requires { ⌜ Readable l (now s) u × Readable l (now s) v × Space write (now list) 0 (between l (now s) u v) ⌝ }
+    ensures { λ r. ⌜ Tells write (now (list .entry)) (now (list .exit)) 0 r (between l (now (s .entry)) u v) ⌝ }
+{
+    let mut found = 0;
+    let mut key = 0;
+    while key < KEYS {
+        let x = cursor::leaf_for(s, l, u, key);
+        let y = cursor::leaf_for(s, l, v, key);
+        let high = lower(x.high, y.high);
+        let a = Ask {
+            old: u,
+            new: v,
+            low: key,
+            high: high - 1,
+            write: write,
+        };
+        found = leaves::tell(s, l, a, x, y, list, found);
+        key = high;
+    }
+    found
+}
+
+// Whether versions u and v of a sound store have the same settings, by the same steps; it ends at the first two leaves that differ.
+pub fn alike(s: &[u8], l: Limits, u: u32, v: u32) -> bool
+    requires { ⌜ Readable l (now s) u × Readable l (now s) v ⌝ }
+    ensures { λ r. ⌜ r ≡ samePairs (settings (decode (l .least) (now (s .entry))) u) (settings (decode (l .least) (now (s .entry))) v) ⌝ }
+{
+    let mut none = [0; 1];
+    let mut key = 0;
+    while key < KEYS {
+        let x = cursor::leaf_for(s, l, u, key);
+        let y = cursor::leaf_for(s, l, v, key);
+        let high = lower(x.high, y.high);
+        let a = Ask {
+            old: u,
+            new: v,
+            low: key,
+            high: high - 1,
+            write: false,
+        };
+        if leaves::tell(s, l, a, x, y, &mut none, 0) != 0 {
+            return false;
+        }
+        key = high;
+    }
+    true
+}
+
+// What differs from version u to version v of a sound store: the count, and key, kind, old value and new value of each in the
+// caller's list. They are counted before any is written, so that 14 leaves the list untouched.
+pub fn difference(s: &[u8], l: Limits, u: u32, v: u32, list: &mut [u32]) -> Counted
+    requires { ⌜ Readable l (now s) u × Readable l (now s) v ⌝ }
+    ensures { λ r. ⌜ withList r (now (list .exit)) ≡ listed (now (list .entry)) (toldBy deltaNumbers 4 0 (length (now (list .entry))) (between l (now (s .entry)) u v)) ⌝ }
+{
+    let found = tell(s, l, u, v, list, false);
+    if list.len() < 4 * found {
+        return Counted {
+            number: 14,
+            count: found,
+        };
+    }
+    tell(s, l, u, v, list, true);
+    Counted {
+        number: 0,
+        count: found,
+    }
+}
