@@ -219,6 +219,7 @@ impl Engine for Proved {
                 let (number, count) = range(store, low, high, version, list);
                 Answer::counted((number, count as u32))
             }
+            Call::Life(..) => unimplemented!("the library does not have it yet"),
             Call::Difference(old, new, _) => {
                 let (number, count) = difference(store, old, new, list);
                 Answer::counted((number, count as u32))
