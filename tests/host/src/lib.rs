@@ -219,7 +219,10 @@ impl Engine for Proved {
                 let (number, count) = range(store, low, high, version, list);
                 Answer::counted((number, count as u32))
             }
-            Call::Life(..) => unimplemented!("the library does not have it yet"),
+            Call::Life(key, _) => {
+                let (number, count) = life(store, key, list);
+                Answer::counted((number, count as u32))
+            }
             Call::Difference(old, new, _) => {
                 let (number, count) = difference(store, old, new, list);
                 Answer::counted((number, count as u32))
