@@ -24,7 +24,6 @@ use Rattle.model.specs.Calls.{lookedNumber, lookedFound, lookedValue, Ra
 use Rattle.model.specs.Told
 use Rattle.model.specs.Visited
 use Rattle.model.specs.Differ
-use Rattle.model.specs.Told.{toldIn, toldBy}
 use Rattle.model.specs.Life
 use Rattle.model.specs.Ended.{Asked, toFresh, toCheck, toOpen, toCommit, toAbandon, toInsert, toDelete, toLookup, toRange, toLife, toDifference, toVisits, Ended, ended, Meets, Untouched, Named, Zeros}
 use Rattle.model.specs.Lent
@@ -108,18 +107,6 @@ difference-same least b u v ns = at (judged least b .number)
     at : (n : ℕ) → ListSame ns (judgedFirst n (λ m. record { number = m; count = 0; list = ns }) (listed ns (Differ.difference (decode least b) u v (length ns))))
     at zero = told-same _ 4 ns _ _
     at (suc n) = λ h. refl
-
--- a call that tells
-module _ {A : Type 0} (numbers : A → List ℕ) (each : ℕ) where
-  told-in-same : (ns : List ℕ) (n : ℕ) (xs : List A) → ListSame ns (listed ns (toldIn numbers n xs))
-  unfolding Told.toldIn
-  told-in-same ns zero xs h = absurd (h refl)
-  told-in-same ns (suc n) xs h = refl
-
-  told-same : (ns : List ℕ) (n : ℕ) (xs : List A) → ListSame ns (listed ns (toldBy numbers each n (length ns) xs))
-  unfolding Told.toldBy
-  told-same ns zero xs = told-in-same ns _ xs
-  told-same ns (suc n) xs = λ h. refl
 
 life-same : (least : ℕ) (b : List ℕ) (k : ℕ) (ns : List ℕ) → ListSame ns (lifeLent least b k ns)
 unfolding Lent.lifeLent Life.lived
@@ -218,15 +205,6 @@ difference-blank least b u v ns = at (judged least b .number)
     at : (n : ℕ) → ListedBlank (judgedFirst n (λ m. record { number = m; count = 0; list = ns }) (listed ns (Differ.difference (decode least b) u v (length ns))))
     at zero = told-blank _ 4 _ (length ns) _
     at (suc n) = λ h k. refl
-
-told-blank : {A : Type 0} (numbers : A → List ℕ) (each n room : ℕ) (xs : List A) → CountBlank (toldBy numbers each n room xs)
-unfolding Told.toldBy Told.toldIn
-told-blank numbers each zero room xs h k = at (ltb room (each * length xs)) h k
-  where
-    at : (t : Bool) → CountBlank (toldIn numbers (firstOf (rule 14 t ∷ [])) xs)
-    at true h k = absurd (k refl)
-    at false h k = absurd (h refl)
-told-blank numbers each (suc n) room xs h k = refl
 
 life-blank : (least : ℕ) (b : List ℕ) (k : ℕ) (ns : List ℕ) → ListedBlank (lifeLent least b k ns)
 unfolding Lent.lifeLent Life.lived

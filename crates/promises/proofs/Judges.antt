@@ -26,7 +26,6 @@ use Rattle.model.specs.Visited
 use Rattle.model.specs.Visited.{pageNumber}
 use Rattle.model.specs.Differ
 use Rattle.model.specs.Differ.{differ, deltaNumbers, tooLate, difference}
-use Rattle.model.specs.Told.{toldIn, toldBy}
 use Rattle.model.specs.Life
 use Rattle.model.specs.Histories.{begins, commits, abandons, inserts, deletes}
 use Rattle.model.specs.Lent
@@ -151,20 +150,11 @@ difference-past least b u v ns = at (judged least b .number)
     at zero = differing-past (decode least b) u v (length ns)
     at (suc j) = refl
 
--- a call that tells
-told-past : {A : Type 0} (numbers : A → List ℕ) (each room : ℕ) (xs : List A) → Past 0 (toldBy numbers each 0 room xs .number)
-unfolding Told.toldBy Told.toldIn
-told-past numbers each room xs = at (ltb room (each * length xs))
-  where
-    at : (t : Bool) → Past 0 (toldIn numbers (firstOf (rule 14 t ∷ [])) xs .number)
-    at true = inr (omega arith)
-    at false = inl refl
-
 lived-past : (s : Store) (k room : ℕ) → Past 0 (Life.lived s k room .number)
 unfolding Life.lived Told.toldBy
 lived-past s k room = at (leb keyLimit k)
   where
-    at : (p : Bool) → Past 0 (toldBy Life.stretchNumbers 3 (firstOf (rule 5 p ∷ [])) room (Life.life s k) .number)
+    at : (p : Bool) → Past 0 (Told.toldBy Life.stretchNumbers 3 (firstOf (rule 5 p ∷ [])) room (Life.life s k) .number)
     at true = inr (omega arith)
     at false = told-past Life.stretchNumbers 3 room (Life.life s k)
 
