@@ -31,5 +31,6 @@ pub mod Bench
 pub mod Vectors
 pub mod Figures
 pub mod Samples
+pub mod Signed
 pub mod Lifetimes
 pub mod Proved

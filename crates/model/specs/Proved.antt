@@ -23,6 +23,8 @@ use Rattle.model.specs.Bench.{benchRun}
 use Rattle.model.specs.Vectors.{freshBytes, entryForty, fortyBytes}
 use Rattle.model.specs.Figures.{Figure, made, figures}
 use Rattle.model.specs.Samples.{twoLevels, fromElsewhere, served, visited, visitedPages}
+use Rattle.model.specs.Differ
+use Rattle.model.specs.Signed.{asked, answered, signed, byHand}
 use Rattle.model.specs.Lifetimes.{lifetimes}
 
 -- ---- what is computed with
@@ -120,6 +122,15 @@ from-elsewhere-sound = tt
 pub samples-served : T (all holds served)
 unfolding calling
 samples-served = tt
+
+-- ---- lists that would be signed
+
+pub differences-answered : asked ≡ answered
+unfolding Differ.difference Told.toldBy Told.toldIn
+differences-answered = refl
+
+pub signed-by-hand : signed ≡ byHand
+signed-by-hand = refl
 
 pub samples-visited : visited ≡ visitedPages
 unfolding Visited.visits Told.toldBy Told.toldIn
