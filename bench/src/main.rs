@@ -3,25 +3,20 @@
 
 mod bitwise;
 mod chart;
-mod crowd;
-mod hostile;
 mod judging;
 mod lives;
 mod lookups;
-mod measure;
 mod plain;
 mod plot;
 mod program;
 mod proved;
-mod quick;
-mod stores;
 mod updates;
-mod walked;
 mod worst;
 
 use std::hint::black_box;
 
-use measure::{in_turn, times, told, Times};
+use hostile::measure::{in_turn, times, told, Times};
+use hostile::stores;
 use reference::foreign::raise_current;
 use reference::image::Image;
 use reference::layout::{HIGHEST_VERSION, PAGE_BYTES};
