@@ -4,11 +4,10 @@ use Prim.Native.Nat.{ℕ, _+_, _-_, _≤_, _<_}
 use native.Mathlib.Omega.{arith}
 use mathlib.Core.Bool.{Bool, true, false}
 use mathlib.Core.Path.{_≡_, refl, ap, ap₂, sym, _∙_}
-use mathlib.Core.List.{List, [], _∷_, _++_}
+use mathlib.Core.List.{List, _++_}
 use lib.Dec.{ltb, eqb}
-use lib.ListN.{length, length-append}
 use borrow.Author.Tests.{ltb-true, ltb-false}
-use Rattle.model.specs.Basic.{pick, isEmpty}
+use Rattle.model.specs.Basic.{pick}
 use Rattle.model.specs.declared.Pair.{Pair}
 use Rattle.model.specs.declared.Delta.{Delta}
 use Rattle.model.specs.declared.Limits.{Limits}
@@ -21,9 +20,9 @@ use Rattle.cursor.specs.Leaf.{Below}
 use Rattle.differ.specs.declared.leaves.Ask.{Ask}
 use Rattle.differ.specs.declared.leaves.Side.{Side}
 use Rattle.differ.specs.Merge.{compared, told, left, Onward, left-start, left-end, left-on, left-step, above-above}
-use Rattle.differ.specs.Told.{Space, no-room, space-front, Tells, Telling, telling-start, telling-same, telling-step, telling-end}
+use Rattle.differ.specs.Told.{Space, space-front, Tells, Telling, telling-start, telling-same, telling-step, telling-end}
 use Rattle.differ.specs.Side.{rest, Ordered, At}
-use Rattle.differ.specs.Listing.{between, leftOf, few-from, from-start, from-end}
+use Rattle.differ.specs.Listing.{between, leftOf, from-start, from-end}
 use Rattle.differ.specs.Leaves.{asked, inLeaves, stretch-on}
 
 -- the smaller of two keys
@@ -112,14 +111,6 @@ module _ (p : List ℕ) (m : ℕ) (q : List ℕ) (n : ℕ) (a : Ask) where
 
 -- ---- two versions
 
-is-none : (ds : List Delta) → length ds ≡ 0 → ds ≡ []
-is-none [] e = refl
-is-none (d ∷ ds) e = absurd (omega arith)
-
-is-some : (ds es : List Delta) → (length ds ≡ 0 → ⊥) → isEmpty (ds ++ es) ≡ false
-is-some [] es n = absurd (n refl)
-is-some (d ∷ ds) es n = refl
-
 -- all that differs below a key is told
 pub record Between (l : Limits) (b : List ℕ) (u v : ℕ) (w : Bool) (ns₀ ns : List ℕ) (found key : ℕ) : Type 0 where
   pub limit : key ≤ keyLimit
@@ -132,8 +123,9 @@ module _ {l : Limits} {b : List ℕ} {u v : ℕ} (r : Readable l b u) (q : Reada
   pub between-end : {w : Bool} {ns₀ ns : List ℕ} {found key : ℕ} → Between l b u v w ns₀ ns found key → keyLimit ≤ key → Tells w ns₀ ns 0 found (between l b u v)
   between-end {key = key} h l = telling-end (telling-same (from-end r q key l) (h .tells))
 
-  -- the stretch from a key to the lower of the ends of its two leaves
-  module _ (key : ℕ) (x y : Under) (g : Below l b u 0 key x) (f : Below l b v 0 key y) (high : ℕ) (e : high ≡ pick (ltb (x .high) (y .high)) (x .high) (y .high)) where
+  module _ {w : Bool} {ns₀ ns : List ℕ} {found key : ℕ} (h : Between l b u v w ns₀ ns found key) (x y : Under) (g : Below l b u 0 key x) (f : Below l b v 0 key y)
+      (high : ℕ) (e : high ≡ pick (ltb (x .high) (y .high)) (x .high) (y .high)) where
+    -- the lower of two ends is behind the key
     lower : (high ≤ x .high) × (high ≤ y .high) × (key < high)
     lower = rw e (at (ltb (x .high) (y .high)) refl)
       where
@@ -147,34 +139,16 @@ module _ {l : Limits} {b : List ℕ} {u v : ℕ} (r : Readable l b u) (q : Reada
     pub high-top : high ≤ keyLimit
     high-top = omega (arith, lower .0, g .top)
 
-    abbrev ask : Bool → Ask
-    ask w = record { old = u; new = v; low = key; high = high - 1; write = w }
+    abbrev ask : Ask
+    ask = record { old = u; new = v; low = key; high = high - 1; write = w }
 
-    stretch-to : (w : Bool) → leftOf l b u v key ≡ inLeaves l b (ask w) x y ++ leftOf l b u v high
-    stretch-to w =
+    parts-of : Telling w ns₀ ns 0 found (between l b u v) (inLeaves l b ask x y ++ leftOf l b u v high)
+    parts-of =
         let one : high - 1 + 1 ≡ high = omega (arith, high-low) in
-        stretch-on (ask w) r q x y g f (omega (arith, high-low)) (omega (arith, high-low, lower .0)) (omega (arith, high-low, lower .1)) ∙ ap (λ (k : ℕ). inLeaves l b (ask w) x y ++ leftOf l b u v k) one
+        telling-same (stretch-on ask r q x y g f (omega (arith, high-low)) (omega (arith, high-low, lower .0)) (omega (arith, high-low, lower .1)) ∙ ap (λ (k : ℕ). inLeaves l b ask x y ++ leftOf l b u v k) one) (h .tells)
 
-    -- told, or only counted
-    module _ {w : Bool} {ns₀ ns : List ℕ} {found : ℕ} (h : Between l b u v w ns₀ ns found key) where
-      parts-of : Telling w ns₀ ns 0 found (between l b u v) (inLeaves l b (ask w) x y ++ leftOf l b u v high)
-      parts-of = telling-same (stretch-to w) (h .tells)
+    pub between-space : Space w ns found (inLeaves l b ask x y)
+    between-space = space-front (inLeaves l b ask x y) (leftOf l b u v high) (parts-of .space)
 
-      pub between-space : Space w ns found (inLeaves l b (ask w) x y)
-      between-space = space-front (inLeaves l b (ask w) x y) (leftOf l b u v high) (parts-of .space)
-
-      pub between-step : (ns′ : List ℕ) (found′ : ℕ) → Tells w ns ns′ found found′ (inLeaves l b (ask w) x y) → Between l b u v w ns₀ ns′ found′ high
-      between-step ns′ found′ t = record { limit = high-top; tells = telling-step (inLeaves l b (ask w) x y) (leftOf l b u v high) parts-of ns′ found′ t }
-
-    -- whether anything differs
-    pub few-here : {ns : List ℕ} → Space false ns 0 (inLeaves l b (ask false) x y)
-    few-here = no-room (omega (arith, few-from r q key, ap (λ (ds : List Delta). length ds) (stretch-to false), length-append (inLeaves l b (ask false) x y) (leftOf l b u v high)))
-
-    pub none-here : {ns ns′ : List ℕ} {n : ℕ} → Tells false ns ns′ 0 n (inLeaves l b (ask false) x y) → n ≡ 0 → isEmpty (leftOf l b u v key) ≡ isEmpty (leftOf l b u v high)
-    none-here t z =
-        let e : inLeaves l b (ask false) x y ≡ [] = is-none (inLeaves l b (ask false) x y) (omega (arith, t .count)) in
-        ap (λ (ds : List Delta). isEmpty ds) (stretch-to false ∙ ap (λ (ds : List Delta). ds ++ leftOf l b u v high) e)
-
-    pub some-here : {ns ns′ : List ℕ} {n : ℕ} → Tells false ns ns′ 0 n (inLeaves l b (ask false) x y) → (n ≡ 0 → ⊥) → false ≡ isEmpty (leftOf l b u v key)
-    some-here t z =
-        sym (ap (λ (ds : List Delta). isEmpty ds) (stretch-to false) ∙ is-some (inLeaves l b (ask false) x y) (leftOf l b u v high) (λ (i : length (inLeaves l b (ask false) x y) ≡ 0). z (omega (arith, t .count))))
+    pub between-step : (ns′ : List ℕ) (found′ : ℕ) → Tells w ns ns′ found found′ (inLeaves l b ask x y) → Between l b u v w ns₀ ns′ found′ high
+    between-step ns′ found′ t = record { limit = high-top; tells = telling-step (inLeaves l b ask x y) (leftOf l b u v high) parts-of ns′ found′ t }

@@ -1,7 +1,6 @@
 pub mod Append
 pub mod Merge
 pub mod Told
-pub mod Same
 pub mod Listing
 pub mod Side
 pub mod Quiet

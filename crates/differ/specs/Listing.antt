@@ -5,29 +5,26 @@ use native.Mathlib.Omega.{arith}
 use mathlib.Core.Bool.{Bool, true, false}
 use mathlib.Core.Path.{_≡_, ap, sym, _∙_}
 use mathlib.Core.List.{List, [], _∷_, _++_}
-use lib.Dec.{leb}
 use lib.ListN.{length, drop}
 use borrow.Author.Tests.{lt-ltb, le-ltb, eq-eqb, ne-eqb}
-use Rattle.model.specs.Basic.{pick, isEmpty}
+use Rattle.model.specs.Basic.{pick}
 use Rattle.model.specs.declared.Pair.{Pair}
 use Rattle.model.specs.declared.Limits.{Limits}
 use Rattle.model.specs.Walk.{settings, keyLimit}
 use Rattle.model.specs.Layout.{decode}
 use Rattle.model.specs.Calls.{rule, firstOf}
 use Rattle.model.specs.Lent.{listed}
-use Rattle.model.proofs.Edit.{rising-those}
 use Rattle.model.proofs.Lookups.{rising, settings-rise, settings-low}
 use Rattle.model.proofs.Local.{inRange}
 use Rattle.store.specs.Sure.{sure}
 use Rattle.walk.specs.Counted.{withList}
 use Rattle.walk.specs.Sure.{Readable}
-use Rattle.cursor.specs.First.{atOrAbove, leads, above-in}
+use Rattle.cursor.specs.First.{atOrAbove, leads}
 use Rattle.model.specs.declared.Delta.{Delta}
 use Rattle.model.specs.Told.{toldIn, toldBy}
 use Rattle.model.specs.Differ.{differ, deltaNumbers}
 use Rattle.differ.specs.Append.{few-differ}
 use Rattle.differ.specs.Merge.{compared, told, left, Onward, left-start, left-end, left-on, left-step}
-use Rattle.differ.specs.Same.{samePairs, same-none}
 use Rattle.differ.specs.Told.{numbers, written, written-not, written-all, Space, Tells}
 
 -- what differs between two versions of a store
@@ -78,16 +75,6 @@ module _ {l : Limits} {b : List ℕ} {u v : ℕ} (r : Readable l b u) (q : Reada
   -- no more than keys
   pub few-between : length (between l b u v) ≤ keyLimit
   few-between = few-differ keyLimit us ws (reads-rising r) (reads-rising q) (reads-low r) (reads-low q)
-
-  pub few-from : (k : ℕ) → length (leftOf l b u v k) ≤ keyLimit
-  unfolding left
-  few-from k =
-      few-differ keyLimit (atOrAbove k us) (atOrAbove k ws) (rising-those (λ (x : Pair). leb k (x .key)) us (reads-rising r)) (rising-those (λ (x : Pair). leb k (x .key)) ws (reads-rising q))
-      (above-in k 0 keyLimit us (reads-low r)) (above-in k 0 keyLimit ws (reads-low q))
-
-  -- nothing differs exactly where the settings are the same
-  pub same-start : samePairs us ws ≡ isEmpty (leftOf l b u v 0)
-  same-start = same-none us ws (reads-rising r) (reads-rising q) ∙ ap (λ (ds : List Delta). isEmpty ds) (sym from-start)
 
 -- ---- the answer
 

@@ -11,14 +11,11 @@ ghost use mathlib.Core.Path.{_≡_};
 ghost use lib.ListN.{length};
 ghost use Rattle.model.specs.Basic.{pick};
 ghost use lib.Dec.{ltb};
-ghost use Rattle.model.specs.Walk.{settings};
-ghost use Rattle.model.specs.Layout.{decode};
 ghost use Rattle.model.specs.Told.{toldBy};
 ghost use Rattle.model.specs.Differ.{deltaNumbers};
 ghost use Rattle.model.specs.Lent.{listed};
 ghost use Rattle.walk.specs.Counted.{withList};
 ghost use Rattle.walk.specs.Sure.{Readable};
-ghost use Rattle.differ.specs.Same.{samePairs};
 ghost use Rattle.differ.specs.Told.{Space, Tells};
 ghost use Rattle.differ.specs.Listing.{between, nextOf};
 
@@ -68,32 +65,6 @@ fn tell(s: &[u8], l: Limits, u: u32, v: u32, list: &mut [u32], write: bool) -> u
         key = high;
     }
     found
-}
-
-// Whether versions u and v of a sound store have the same settings, by the same steps; it ends at the first two leaves that differ.
-pub fn alike(s: &[u8], l: Limits, u: u32, v: u32) -> bool
-    requires { ⌜ Readable l (now s) u × Readable l (now s) v ⌝ }
-    ensures { λ r. ⌜ r ≡ samePairs (settings (decode (l .least) (now (s .entry))) u) (settings (decode (l .least) (now (s .entry))) v) ⌝ }
-{
-    let mut none = [0; 1];
-    let mut key = 0;
-    while key < KEYS {
-        let x = cursor::leaf_for(s, l, u, key);
-        let y = cursor::leaf_for(s, l, v, key);
-        let high = lower(x.high, y.high);
-        let a = Ask {
-            old: u,
-            new: v,
-            low: key,
-            high: high - 1,
-            write: false,
-        };
-        if leaves::tell(s, l, a, x, y, &mut none, 0) != 0 {
-            return false;
-        }
-        key = high;
-    }
-    true
 }
 
 // What differs from version u to version v of a sound store: the count, and key, kind, old value and new value of each in the

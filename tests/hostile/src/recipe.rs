@@ -287,7 +287,7 @@ pub const ROWS: [Row; 16] = [
     row(
         "moving, a storm behind it",
         "moving",
-        &[44, 0, 1],
+        &[43, 0, 1],
         &[790, 0, 1],
     ),
     row(

@@ -26,17 +26,17 @@ lower-requires : tie.Need-lower-requires Inv-loop μ-loop
 lower-requires c κs = search needs
 
 sub-t14 : tie.Need-sub-t14 Inv-loop μ-loop
-sub-t14 c = omega (arith, high-low (c .before .before .before .before .before .before .before .pre .0) (c .before .before .before .before .before .before .before .pre .1) (c .before .before .before .before .loop .key) (c .before .before .leaf-for .result) (c .before .leaf-for2 .result) (c .before .before .leaf-for .ensures) (c .before .leaf-for2 .ensures) (c .lower .result) (c .lower .ensures))
+sub-t14 c = omega (arith, high-low (c .before .before .before .before .before .before .before .pre .0) (c .before .before .before .before .before .before .before .pre .1) (c .before .before .before .before .loop .inv) (c .before .before .leaf-for .result) (c .before .leaf-for2 .result) (c .before .before .leaf-for .ensures) (c .before .leaf-for2 .ensures) (c .lower .result) (c .lower .ensures))
 
 tell-requires : tie.Need-tell-requires Inv-loop μ-loop
 tell-requires c κs =
-    (c .before .before .before .before .before .before .before .before .pre .0, c .before .before .before .before .before .before .before .before .pre .1, c .before .before .before .leaf-for .ensures, c .before .before .leaf-for2 .ensures, between-space (c .before .before .before .before .before .before .before .before .pre .0) (c .before .before .before .before .before .before .before .before .pre .1) (c .before .before .before .before .before .loop .key) (c .before .before .before .leaf-for .result) (c .before .before .leaf-for2 .result) (c .before .before .before .leaf-for .ensures) (c .before .before .leaf-for2 .ensures) (c .before .lower .result) (c .before .lower .ensures) (c .before .before .before .before .before .loop .inv))
+    (c .before .before .before .before .before .before .before .before .pre .0, c .before .before .before .before .before .before .before .before .pre .1, c .before .before .before .leaf-for .ensures, c .before .before .leaf-for2 .ensures, between-space (c .before .before .before .before .before .before .before .before .pre .0) (c .before .before .before .before .before .before .before .before .pre .1) (c .before .before .before .before .before .loop .inv) (c .before .before .before .leaf-for .result) (c .before .before .leaf-for2 .result) (c .before .before .before .leaf-for .ensures) (c .before .before .leaf-for2 .ensures) (c .before .lower .result) (c .before .lower .ensures))
 
 loop-less : tie.Need-loop-less Inv-loop μ-loop
-loop-less c = omega (arith, high-low (c .before .before .before .before .before .before .before .before .before .before .before .pre .0) (c .before .before .before .before .before .before .before .before .before .before .before .pre .1) (c .before .before .before .before .before .before .before .before .loop .key) (c .before .before .before .before .before .before .leaf-for .result) (c .before .before .before .before .before .leaf-for2 .result) (c .before .before .before .before .before .before .leaf-for .ensures) (c .before .before .before .before .before .leaf-for2 .ensures) (c .before .before .before .before .lower .result) (c .before .before .before .before .lower .ensures), high-top (c .before .before .before .before .before .before .before .before .before .before .before .pre .0) (c .before .before .before .before .before .before .before .before .before .before .before .pre .1) (c .before .before .before .before .before .before .before .before .loop .key) (c .before .before .before .before .before .before .leaf-for .result) (c .before .before .before .before .before .leaf-for2 .result) (c .before .before .before .before .before .before .leaf-for .ensures) (c .before .before .before .before .before .leaf-for2 .ensures) (c .before .before .before .before .lower .result) (c .before .before .before .before .lower .ensures))
+loop-less c = omega (arith, high-low (c .before .before .before .before .before .before .before .before .before .before .before .pre .0) (c .before .before .before .before .before .before .before .before .before .before .before .pre .1) (c .before .before .before .before .before .before .before .before .loop .inv) (c .before .before .before .before .before .before .leaf-for .result) (c .before .before .before .before .before .leaf-for2 .result) (c .before .before .before .before .before .before .leaf-for .ensures) (c .before .before .before .before .before .leaf-for2 .ensures) (c .before .before .before .before .lower .result) (c .before .before .before .before .lower .ensures), high-top (c .before .before .before .before .before .before .before .before .before .before .before .pre .0) (c .before .before .before .before .before .before .before .before .before .before .before .pre .1) (c .before .before .before .before .before .before .before .before .loop .inv) (c .before .before .before .before .before .before .leaf-for .result) (c .before .before .before .before .before .leaf-for2 .result) (c .before .before .before .before .before .before .leaf-for .ensures) (c .before .before .before .before .before .leaf-for2 .ensures) (c .before .before .before .before .lower .result) (c .before .before .before .before .lower .ensures))
 
 loop-again : tie.Need-loop-again Inv-loop μ-loop
-loop-again c = between-step (c .before .before .before .before .before .before .before .before .before .before .before .pre .0) (c .before .before .before .before .before .before .before .before .before .before .before .pre .1) (c .before .before .before .before .before .before .before .before .loop .key) (c .before .before .before .before .before .before .leaf-for .result) (c .before .before .before .before .before .leaf-for2 .result) (c .before .before .before .before .before .before .leaf-for .ensures) (c .before .before .before .before .before .leaf-for2 .ensures) (c .before .before .before .before .lower .result) (c .before .before .before .before .lower .ensures) (c .before .before .before .before .before .before .before .before .loop .inv) _ _ (c .before .before .tell .ensures)
+loop-again c = between-step (c .before .before .before .before .before .before .before .before .before .before .before .pre .0) (c .before .before .before .before .before .before .before .before .before .before .before .pre .1) (c .before .before .before .before .before .before .before .before .loop .inv) (c .before .before .before .before .before .before .leaf-for .result) (c .before .before .before .before .before .leaf-for2 .result) (c .before .before .before .before .before .before .leaf-for .ensures) (c .before .before .before .before .before .leaf-for2 .ensures) (c .before .before .before .before .lower .result) (c .before .before .before .before .lower .ensures) _ _ (c .before .before .tell .ensures)
 
 same-length : tie.Need-same-length Inv-loop μ-loop
 same-length c = search needs

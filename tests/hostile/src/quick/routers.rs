@@ -6,7 +6,7 @@
 use reference::layout::{FEWEST_LIVE, HIGHEST_LEVEL, LEAF};
 
 use super::read::Reading;
-use super::stretch::{entries, fine_over, past, past_behind, Stretch};
+use super::stretch::{fine_over, high_over, past, past_behind, Stretch};
 use super::{numbers, part};
 
 /// From the highest level down: where the levels above hold, at no version do two
@@ -83,16 +83,15 @@ fn under<R: Reading>(
     *left -= 1;
     let head = R::head(page);
     if head.level == LEAF {
-        return entries::<R>(page, head.count)
-            .all(|entry| stretch.within(entry).is_empty() || entry.key < high);
+        return high_over::<R>(page, head.count, high, stretch);
     }
     (0..head.count).all(|place| {
         let router = R::entry(page, place);
-        let mut last = stretch.within(router);
-        if last.is_empty() {
+        let own = stretch.within(router);
+        if own.is_empty() {
             return true;
         }
-        last.from = past_behind::<R>(page, head.count, place + 1, last.from);
+        let last = past_behind::<R>(page, head.count, place + 1, own);
         let child = part(store, router.value as usize);
         router.key < high && under::<R>(store, child, high, last, left)
     })
