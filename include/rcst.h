@@ -33,8 +33,9 @@
  *   11  key not alive (delete)
  *   12  the page rules need a page and none is free (insert, delete)
  *   13  the page rules need a 257th slot of the root directory (insert, delete)
- *   14  list holds fewer numbers than two for each setting found (range), four
- *       for each difference (difference), one for each page visited (visits)
+ *   14  list holds fewer numbers than two for each setting found (range), three
+ *       for each stretch (life), four for each difference (difference), one for
+ *       each page visited (visits)
  *
  * Every number but 0 leaves store and list untouched, byte for byte. After 12 or
  * 13 the update is still open: it may be committed as it is, or abandoned.
@@ -63,6 +64,9 @@ extern "C" {
 #define RCST_HIGHEST_INSERT_KEY 16776959u
 #define RCST_HIGHEST_VERSION 1048574u
 #define RCST_MOST_LEVELS 7u
+
+/* The end of a stretch that is still alive. */
+#define RCST_ALIVE 1048575u
 
 /* Makes a fresh store over any bytes: version 0, no settings. Gives 0 or 1. */
 uint32_t rcst_fresh(uint8_t *store, size_t length);
@@ -131,6 +135,17 @@ uint32_t rcst_visits(const uint8_t *store, size_t length, uint32_t key, uint32_t
  */
 uint32_t rcst_difference(const uint8_t *store, size_t length, uint32_t old_version, uint32_t new_version, uint32_t *list, size_t room,
                          size_t *count);
+
+/*
+ * Tells when a setting was changed: every stretch of committed versions in which
+ * the key held one value, oldest first. Gives 0, 1 to 5 or 14. With 0 they stand in
+ * the list as start, end, value, three numbers each, and nothing behind them is
+ * touched; a stretch goes from start up to but not including end, and its end is
+ * RCST_ALIVE if the current version is in it. Neighbours with equal values are one
+ * stretch. An open update is not shown. *count is the number of stretches with 0
+ * and with 14, else 0.
+ */
+uint32_t rcst_life(const uint8_t *store, size_t length, uint32_t key, uint32_t *list, size_t room, size_t *count);
 
 #ifdef __cplusplus
 }

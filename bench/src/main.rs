@@ -4,6 +4,7 @@
 mod bitwise;
 mod chart;
 mod judging;
+mod lives;
 mod lookups;
 mod plain;
 mod plot;
@@ -24,12 +25,13 @@ use reference::{calls, store};
 
 /// All tables, or the one that the first argument names.
 fn main() {
-    let tables: [(&str, fn()); 10] = [
+    let tables: [(&str, fn()); 11] = [
         ("bytes", byte_layer),
         ("quick", judging::judging),
         ("check", check_of_histories),
         ("empty", empty_commits),
         ("lookups", lookups::lookups),
+        ("lives", lives::lives),
         ("hostile", hostile_stores),
         ("worst", worst::worst),
         ("updates", updates::updates),

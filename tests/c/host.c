@@ -127,10 +127,32 @@ static void differences(void) {
     expect(rcst_difference(store, sizeof store, 3, 3, list, 13, &count) == 6, "also twice the same");
 }
 
+static void lives(void) {
+    static uint8_t store[16 * RCST_PAGE_BYTES];
+    uint32_t list[7] = {1, 2, 3, 4, 5, 6, 7};
+    size_t count = 9;
+
+    expect(rcst_fresh(store, sizeof store) == 0, "a fresh store of 16 pages");
+    expect(rcst_life(store, sizeof store, 40, list, 0, &count) == 0 && count == 0, "a key that never was has no stretch");
+    expect(rcst_open(store, sizeof store) == 0 && rcst_insert(store, sizeof store, 40, 7) == 0, "setting 40 is 7");
+    expect(rcst_life(store, sizeof store, 40, list, 0, &count) == 0 && count == 0, "an open update is not shown");
+    expect(rcst_commit(store, sizeof store) == 0, "version 1");
+    expect(rcst_open(store, sizeof store) == 0 && rcst_delete(store, sizeof store, 40) == 0, "ended ..");
+    expect(rcst_insert(store, sizeof store, 40, 9) == 0 && rcst_commit(store, sizeof store) == 0, ".. and set anew in version 2");
+    expect(rcst_life(store, sizeof store, 40, list, 5, &count) == 14 && count == 2, "two stretches are six numbers");
+    expect(list[0] == 1 && list[4] == 5, "and nothing written");
+    expect(rcst_life(store, sizeof store, 40, list, 7, &count) == 0 && count == 2, "two stretches");
+    expect(list[0] == 1 && list[1] == 2 && list[2] == 7, "7 from version 1 up to 2");
+    expect(list[3] == 2 && list[4] == RCST_ALIVE && list[5] == 9, "9 from version 2 on");
+    expect(list[6] == 7, "and nothing behind is touched");
+    expect(rcst_life(store, sizeof store, RCST_HIGHEST_KEY + 1, list, 7, &count) == 5 && count == 0, "a key too large");
+}
+
 int main(void) {
     fresh_and_check();
     releases();
     settings();
     differences();
+    lives();
     return failures != 0;
 }

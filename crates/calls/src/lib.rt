@@ -1,10 +1,12 @@
 // The calls, for any bytes and any numbers lent: each is its guard, which judges the store and then goes through the call's
 // refusals in order, and a core that rests on a sound store.
 mod differing;
+mod living;
 mod updating;
 mod visiting;
 
 pub use differing::difference;
+pub use living::life;
 use model::Limits;
 use model::Looked;
 pub use updating::delete;

@@ -4,7 +4,7 @@ ghost use mathlib.Core.Path.{_≡_};
 ghost use Rattle.model.specs.Layout.{bit};
 ghost use Rattle.model.specs.Judged.{judged};
 ghost use Rattle.model.specs.Calls.{lookedNumber, lookedFound, lookedValue};
-ghost use Rattle.model.specs.Lent.{freshLent, openLent, insertLent, deleteLent, commitLent, abandonLent, lookupLent, rangeLent, differenceLent, visitsLent};
+ghost use Rattle.model.specs.Lent.{freshLent, openLent, insertLent, deleteLent, commitLent, abandonLent, lookupLent, rangeLent, lifeLent, differenceLent, visitsLent};
 ghost use Rattle.calls.specs.Turning.{ended};
 
 // Makes a fresh store.
@@ -167,6 +167,18 @@ pub extern "C" fn rcst_difference(
     ensures written { λ _. ⌜ now (list .exit) ≡ differenceLent 4 (now (store .entry)) old new (now (list .entry)) .list ⌝ }
 {
     let r = calls::difference(store, old, new, list);
+    *count = r.count;
+    r.number
+}
+
+// The stretches of committed versions in which a key held one value go to `list`, their number to `count`.
+#[no_mangle]
+pub extern "C" fn rcst_life(store: &[u8], key: u32, list: &mut [u32], count: &mut usize) -> u32
+    ensures number { λ r. ⌜ r ≡ lifeLent 4 (now (store .entry)) key (now (list .entry)) .number ⌝ }
+    ensures stretches { λ _. ⌜ now (count .exit) ≡ lifeLent 4 (now (store .entry)) key (now (list .entry)) .count ⌝ }
+    ensures written { λ _. ⌜ now (list .exit) ≡ lifeLent 4 (now (store .entry)) key (now (list .entry)) .list ⌝ }
+{
+    let r = calls::life(store, key, list);
     *count = r.count;
     r.number
 }

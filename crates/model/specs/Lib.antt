@@ -12,6 +12,7 @@ pub mod Calls
 pub mod Told
 pub mod Visited
 pub mod Differ
+pub mod Life
 pub mod Settings
 pub mod Histories
 pub mod Field
@@ -31,4 +32,5 @@ pub mod Vectors
 pub mod Figures
 pub mod Samples
 pub mod Signed
+pub mod Lifetimes
 pub mod Proved

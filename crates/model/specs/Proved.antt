@@ -10,6 +10,7 @@ use Rattle.model.specs.Climb
 use Rattle.model.specs.Calls
 use Rattle.model.specs.Told
 use Rattle.model.specs.Visited
+use Rattle.model.specs.Life
 use Rattle.model.specs.Sound
 use Rattle.model.specs.Sound.{sound}
 use Rattle.model.specs.Field
@@ -24,6 +25,7 @@ use Rattle.model.specs.Figures.{Figure, made, figures}
 use Rattle.model.specs.Samples.{twoLevels, fromElsewhere, served, visited, visitedPages}
 use Rattle.model.specs.Differ
 use Rattle.model.specs.Signed.{asked, answered, signed, byHand}
+use Rattle.model.specs.Lifetimes.{lifetimes}
 
 -- ---- what is computed with
 
@@ -81,6 +83,15 @@ bench-run = tt
 pub bench-sound : T (all soundWay benchRun)
 unfolding calling judging
 bench-sound = tt
+
+-- 2026-01: lives written out; the stores that these begin with are sound
+pub lifetimes-run : T (all holds lifetimes)
+unfolding calling Told.toldIn Told.toldBy Life.lifeOf Life.lived
+lifetimes-run = tt
+
+pub lifetimes-sound : T (all (λ (h : History). sound 4 (h .store)) lifetimes)
+unfolding judging
+lifetimes-sound = tt
 
 -- ---- outside vectors
 

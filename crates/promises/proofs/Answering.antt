@@ -21,15 +21,18 @@ use Rattle.model.specs.Told
 use Rattle.model.specs.Told.{toldBy}
 use Rattle.model.specs.Differ
 use Rattle.model.specs.Differ.{differ, deltaNumbers, difference}
+use Rattle.model.specs.Life
+use Rattle.model.specs.Life.{lifeOf, lived, stretchNumbers}
 use Rattle.model.specs.Histories.{begins, commits, abandons, inserts, deletes}
 use Rattle.model.specs.Settings.{Machine}
 use Rattle.model.specs.Lent
 use Rattle.model.specs.Lent.{judgedFirst, listed}
-use Rattle.model.specs.Ended.{toInsert, toDelete, toLookup, toRange, toDifference, ofLooked, ofListed, ended}
+use Rattle.model.specs.Ended.{toInsert, toDelete, toLookup, toRange, toLife, toDifference, ofLooked, ofListed, ended}
+use Rattle.model.proofs.Lives.{life-ext}
 use Rattle.model.proofs.Lookups.{lookup-is, settings-rise}
 use Rattle.model.proofs.Ranges.{range-is}
 use Rattle.promises.specs.Beside.{Beside}
-use Rattle.promises.specs.Answers.{lastIn, lookupTests, rangeTests, differenceTests, openTests, endTests, lookedIn, rangedFrom, toldFrom, aliveIn, Gives, Answers}
+use Rattle.promises.specs.Answers.{lastIn, lookupTests, rangeTests, differenceTests, openTests, endTests, lookedIn, rangedFrom, livedIn, toldFrom, aliveIn, Gives, Answers, lifeTests}
 use Rattle.promises.proofs.High.{begin-number, commit-number, abandon-number, insert-number, delete-number}
 use Rattle.promises.proofs.Lending.{change-number}
 use Rattle.promises.proofs.Agreed.{Agreed}
@@ -110,6 +113,31 @@ module _ (least : ℕ) (four : 4 ≤ least) (eight : least ≤ 8) (x : Beside) (
       ap (λ (n : ℕ). ofListed (x .bytes) (judgedFirst n (λ j. record { number = j; count = 0; list = ns }) (listed ns (difference s u v (length ns))))) (a .accepted)
       ∙ ap (λ (r : Ranged). ofListed (x .bytes) (listed ns r)) (difference-here u v (length ns))
 
+  -- ---- a life
+
+  committed : (v : ℕ) → v ≤ s .current → v ≤ last s
+  committed v h = omega (arith, at (s .opened) (s .current))
+    where
+      at : (o : Bool) (n : ℕ) → n ≤ lastOf o n
+      at true n = omega arith
+      at false n = omega arith
+
+  lived-here : (k room : ℕ) → lived s k room ≡ livedIn m k room
+  unfolding Life.lived Told.toldBy
+  lived-here k room = at (leb keyLimit k) refl ∙ ap (λ (c : ℕ). toldBy stretchNumbers 3 (firstOf (lifeTests k)) room (lifeOf c (λ (v : ℕ). find k (m .shows v)))) (a .agrees .current)
+    where
+      at : (p : Bool) → leb keyLimit k ≡ p
+          → toldBy stretchNumbers 3 (firstOf (rule 5 p ∷ [])) room (lifeOf (s .current) (lookup s k)) ≡ toldBy stretchNumbers 3 (firstOf (rule 5 p ∷ [])) room (lifeOf (s .current) (λ (v : ℕ). find k (m .shows v)))
+      at true e = refl
+      at false e =
+          ap (toldBy stretchNumbers 3 0 room) (life-ext (s .current) (lookup s k) (λ (v : ℕ). find k (m .shows v)) (λ v h. lookup-here k v (leb-false keyLimit k e) (committed v h)))
+
+  life-answers : (k : ℕ) (ns : List ℕ) → ended least (toLife k) (x .bytes) ns ≡ ofListed (x .bytes) (listed ns (livedIn m k (length ns)))
+  unfolding Lent.lifeLent
+  life-answers k ns =
+      ap (λ (n : ℕ). ofListed (x .bytes) (judgedFirst n (λ j. record { number = j; count = 0; list = ns }) (listed ns (lived s k (length ns))))) (a .accepted)
+      ∙ ap (λ (r : Ranged). ofListed (x .bytes) (listed ns r)) (lived-here k (length ns))
+
   -- ---- numbers
 
   alive-here : s .opened ≡ true → (k : ℕ) → k < keyLimit → isSome (lookup s k (next s)) ≡ aliveIn m k
@@ -152,6 +180,7 @@ module _ (least : ℕ) (four : 4 ≤ least) (eight : least ≤ 8) (x : Beside) (
     lookup = lookup-answers;
     range = range-answers;
     difference = difference-answers;
+    life = life-answers;
     order = λ v h. ap (inOrder (λ (p q : Pair). ltb (p .key) (q .key))) (sym (a .agrees .shows v (omega (arith, last-is)))) ∙ settings-rise least (omega arith) s (a .agrees .is-sound) v (omega (arith, last-is));
     count = λ v h. ap (λ (us : List Pair). length us + x .tally .removed v) (sym (a .agrees .shows v (omega (arith, last-is)))) ∙ a .counts .is v (omega (arith, last-is));
     opens = λ ns. change-number least (x .bytes) (a .accepted) begins ns ∙ begin-number least s ∙ ap₂ (λ (o : Bool) (n : ℕ). firstOf (openTests o n)) (a .agrees .opened) (a .agrees .current);

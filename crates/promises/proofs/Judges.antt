@@ -26,10 +26,11 @@ use Rattle.model.specs.Visited
 use Rattle.model.specs.Visited.{pageNumber}
 use Rattle.model.specs.Differ
 use Rattle.model.specs.Differ.{differ, deltaNumbers, tooLate, difference}
+use Rattle.model.specs.Life
 use Rattle.model.specs.Histories.{begins, commits, abandons, inserts, deletes}
 use Rattle.model.specs.Lent
-use Rattle.model.specs.Lent.{left, judgedFirst, listed, lookupLent, rangeLent, differenceLent, visitsLent}
-use Rattle.model.specs.Ended.{Asked, toFresh, toCheck, toOpen, toCommit, toAbandon, toInsert, toDelete, toLookup, toRange, toDifference, toVisits, ofOutcome, ended}
+use Rattle.model.specs.Lent.{left, judgedFirst, listed, lookupLent, rangeLent, lifeLent, differenceLent, visitsLent}
+use Rattle.model.specs.Ended.{Asked, toFresh, toCheck, toOpen, toCommit, toAbandon, toInsert, toDelete, toLookup, toRange, toLife, toDifference, toVisits, ofOutcome, ended}
 use Rattle.model.proofs.Lists.{both-true, both-intro}
 use Rattle.model.proofs.Members.{bool-cases, not-both}
 use Rattle.model.proofs.Judging.{unbroken, whole}
@@ -149,6 +150,22 @@ difference-past least b u v ns = at (judged least b .number)
     at zero = differing-past (decode least b) u v (length ns)
     at (suc j) = refl
 
+lived-past : (s : Store) (k room : ℕ) → Past 0 (Life.lived s k room .number)
+unfolding Life.lived Told.toldBy
+lived-past s k room = at (leb keyLimit k)
+  where
+    at : (p : Bool) → Past 0 (Told.toldBy Life.stretchNumbers 3 (firstOf (rule 5 p ∷ [])) room (Life.life s k) .number)
+    at true = inr (omega arith)
+    at false = told-past Life.stretchNumbers 3 room (Life.life s k)
+
+life-past : (least : ℕ) (b : List ℕ) (k : ℕ) (ns : List ℕ) → Past (judged least b .number) (lifeLent least b k ns .number)
+unfolding Lent.lifeLent
+life-past least b k ns = at (judged least b .number)
+  where
+    at : (j : ℕ) → Past j (judgedFirst j (λ n. record { number = n; count = 0; list = ns }) (listed ns (Life.lived (decode least b) k (length ns))) .number)
+    at zero = lived-past (decode least b) k (length ns)
+    at (suc j) = refl
+
 past-same : (j : ℕ) → Past j j
 past-same zero = inl refl
 past-same (suc j) = refl
@@ -166,6 +183,7 @@ call-past least (toLookup k v) b ns h = lookup-past least b k v
 call-past least (toRange lo hi v) b ns h = range-past least b lo hi v ns
 call-past least (toVisits k v) b ns h = visits-past least b k v ns
 call-past least (toDifference u v) b ns h = difference-past least b u v ns
+call-past least (toLife k) b ns h = life-past least b k ns
 
 -- bytes on which it gives 0 are accepted
 pub zero-accepts : (least : ℕ) (c : Asked) (b ns : List ℕ) → notMaking (kindOf c) ≡ true → ended least c b ns .number ≡ 0 → Accepts least b

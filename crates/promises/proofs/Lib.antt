@@ -10,6 +10,8 @@ pub mod Changed
 pub mod Projected
 pub mod Stays
 pub mod Differences
+pub mod Stretches
+pub mod Lives
 pub mod Restored
 pub mod KeptOut
 pub mod Replaying

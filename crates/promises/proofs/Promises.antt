@@ -1,5 +1,5 @@
 -- The promises, each under its name: what it says stands in specs/Demand1, Demand2, Demand3, in a file for each request of document 02
--- (OldReadings, Bench, Differences), in Replayed and Fakes.
+-- (OldReadings, Bench, Differences, Lives), in Replayed and Fakes.
 -- Assumes nothing.
 use Prim.Native.Nat.{ℕ}
 use native.Mathlib.Omega.{arith}
@@ -33,6 +33,7 @@ use Rattle.promises.specs.Demand2.{EncodedSound, AcceptedSound, SoundSta
 use Rattle.promises.specs.Demand3.{Abandoned}
 use Rattle.promises.specs.OldReadings.{PagesStay, VisitsTold, VisitsStay}
 use Rattle.promises.specs.Differences.{DifferenceGiven, DifferenceSays, DifferenceNone, DifferenceExchanged, DifferenceStays}
+use Rattle.promises.specs.Lives.{LifeGiven, LivesAgree, StretchesApart, OpenUnshown, LeftAlone}
 use Rattle.promises.specs.Replayed.{TableLent}
 use Rattle.promises.specs.Bench.{KeptOut}
 use Rattle.promises.specs.Fakes.{FakesStopped}
@@ -44,6 +45,7 @@ use Rattle.promises.proofs.Answering.{answers}
 use Rattle.promises.proofs.Changed as changed
 use Rattle.promises.proofs.Stays as stays
 use Rattle.promises.proofs.Differences as differ
+use Rattle.promises.proofs.Lives as lives
 use Rattle.promises.proofs.Restored as restored
 use Rattle.promises.proofs.KeptOut as bench
 use Rattle.promises.proofs.Replaying as replaying
@@ -190,6 +192,23 @@ difference-exchanged = differ.difference-exchanged
 
 pub difference-stays : DifferenceStays
 difference-stays = differ.difference-stays
+
+-- ---- 2026-01, the life of a key
+
+pub life-given : LifeGiven
+life-given = lives.life-given
+
+pub lives-agree : LivesAgree
+lives-agree = lives.lives-agree
+
+pub stretches-apart : StretchesApart
+stretches-apart = lives.stretches-apart
+
+pub open-unshown : OpenUnshown
+open-unshown = lives.open-unshown
+
+pub left-alone : LeftAlone
+left-alone = lives.left-alone
 
 -- ---- fakes
 

@@ -94,7 +94,7 @@ module _ (least : ℕ) (four : 4 ≤ least) (eight : least ≤ 8) (b : List ℕ)
   pub later : Leaves least b (together least (lent (decode least b)) (callsOf ts) .store) (runBytes least b ts)
   later = ran least four eight ts m f b ok (lent (decode least b)) refl
 
-  goes : Onward (decode least b) (decode least (runBytes least b ts))
+  pub goes : Onward (decode least b) (decode least (runBytes least b ts))
   goes =
       subst (Onward (decode least b)) (sym (later .holds))
       (goes-on least four (callsOf ts) (calls-fit ts f) (lent (decode least b)) (lent-agrees least (decode least b) (held-sound least four eight b ok)))

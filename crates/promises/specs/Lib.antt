@@ -3,6 +3,7 @@ pub mod Runs
 pub mod Beside
 pub mod Answers
 pub mod Views
+pub mod Lives
 pub mod Demand1
 pub mod Demand2
 pub mod Demand3

@@ -7,7 +7,7 @@ use Rattle.model.specs.Basic.{all}
 use Rattle.model.specs.Histories.{Call, begins, commits, abandons, inserts, deletes}
 use Rattle.model.specs.Settings
 use Rattle.model.specs.Lent.{Outcome}
-use Rattle.model.specs.Ended.{Asked, toFresh, toCheck, toOpen, toCommit, toAbandon, toInsert, toDelete, toLookup, toRange, toDifference, toVisits, Ended, ended}
+use Rattle.model.specs.Ended.{Asked, toFresh, toCheck, toOpen, toCommit, toAbandon, toInsert, toDelete, toLookup, toRange, toLife, toDifference, toVisits, Ended, ended}
 
 -- a call, and the list lent with it; each may bring another list
 pub record Turn : Type 0 where
@@ -47,6 +47,7 @@ kindOf (toLookup k v) = reading
 kindOf (toRange lo hi v) = reading
 kindOf (toVisits k v) = reading
 kindOf (toDifference u v) = reading
+kindOf (toLife k) = reading
 
 -- the call that asks for a change
 abbrev pub asks : Call → Asked
@@ -73,6 +74,16 @@ abbrev pub staying : Kind → Bool
 staying making = false
 staying (changing c) = Settings.isInside c
 staying reading = true
+
+-- all but making fresh and commit: the committed versions are the same ones after it
+abbrev pub uncommitting : Kind → Bool
+uncommitting making = false
+uncommitting (changing begins) = true
+uncommitting (changing commits) = false
+uncommitting (changing abandons) = true
+uncommitting (changing (inserts k x)) = true
+uncommitting (changing (deletes k)) = true
+uncommitting reading = true
 
 -- each call of a list so
 abbrev pub each : (Kind → Bool) → List Turn → Bool

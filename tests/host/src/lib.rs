@@ -52,6 +52,14 @@ mod c {
             room: usize,
             count: *mut usize,
         ) -> u32;
+        pub fn rcst_life(
+            store: *const u8,
+            length: usize,
+            key: u32,
+            list: *mut u32,
+            room: usize,
+            count: *mut usize,
+        ) -> u32;
     }
 }
 
@@ -163,6 +171,23 @@ pub fn difference(store: &[u8], old: u32, new: u32, list: &mut [u32]) -> (u32, u
     (number, count)
 }
 
+/// The number and the count of stretches in which the key held one value;
+/// these go to the list, start, end and value each.
+pub fn life(store: &[u8], key: u32, list: &mut [u32]) -> (u32, usize) {
+    let mut count = 0;
+    let number = unsafe {
+        c::rcst_life(
+            store.as_ptr(),
+            store.len(),
+            key,
+            list.as_mut_ptr(),
+            list.len(),
+            &mut count,
+        )
+    };
+    (number, count)
+}
+
 /// The proved library.
 pub struct Proved;
 
@@ -192,6 +217,10 @@ impl Engine for Proved {
             }
             Call::Range(low, high, version, _) => {
                 let (number, count) = range(store, low, high, version, list);
+                Answer::counted((number, count as u32))
+            }
+            Call::Life(key, _) => {
+                let (number, count) = life(store, key, list);
                 Answer::counted((number, count as u32))
             }
             Call::Difference(old, new, _) => {

@@ -82,6 +82,15 @@ pub fn difference(bytes: &[u8], old: u32, new: u32, list: &mut [u32]) -> (u32, u
     }
 }
 
+/// The number and the count of stretches of committed versions in which the
+/// key held one value; three numbers each are written to the front of `list`.
+pub fn life(bytes: &[u8], key: u32, list: &mut [u32]) -> (u32, u32) {
+    match judged(bytes) {
+        Some(refusal) => (refusal, 0),
+        None => unjudged::life(bytes, key, list),
+    }
+}
+
 /// The number by which judging refuses the store, if it does.
 fn judged(bytes: &[u8]) -> Option<u32> {
     match judging::judge(bytes) {

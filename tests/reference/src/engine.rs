@@ -23,6 +23,8 @@ pub enum Call {
     Visits(u32, u32, usize),
     /// The old version, the new one, and how many numbers the lent list holds.
     Difference(u32, u32, usize),
+    /// Key, and how many numbers the lent list holds.
+    Life(u32, usize),
 }
 
 impl Call {
@@ -31,7 +33,8 @@ impl Call {
         match self {
             Call::Range(_, _, _, length)
             | Call::Visits(_, _, length)
-            | Call::Difference(_, _, length) => length,
+            | Call::Difference(_, _, length)
+            | Call::Life(_, length) => length,
             _ => 0,
         }
     }
@@ -40,7 +43,7 @@ impl Call {
     pub fn takes_list(self) -> bool {
         matches!(
             self,
-            Call::Range(..) | Call::Visits(..) | Call::Difference(..)
+            Call::Range(..) | Call::Visits(..) | Call::Difference(..) | Call::Life(..)
         )
     }
 
@@ -50,6 +53,7 @@ impl Call {
             Call::Range(low, high, version, _) => Call::Range(low, high, version, length),
             Call::Visits(key, version, _) => Call::Visits(key, version, length),
             Call::Difference(old, new, _) => Call::Difference(old, new, length),
+            Call::Life(key, _) => Call::Life(key, length),
             _ => self,
         }
     }
@@ -66,7 +70,7 @@ pub struct Answer {
     pub found: bool,
     pub value: u32,
     /// Range: the count of settings found. Visits: of pages. Difference: of
-    /// differences.
+    /// differences. Life: of stretches.
     pub count: u32,
 }
 
@@ -131,5 +135,6 @@ pub fn apply(call: Call, store: &mut [u8], list: &mut [u32]) -> Answer {
         }
         Call::Visits(key, version, _) => Answer::counted(calls::visits(store, key, version, list)),
         Call::Difference(old, new, _) => Answer::counted(calls::difference(store, old, new, list)),
+        Call::Life(key, _) => Answer::counted(calls::life(store, key, list)),
     }
 }

@@ -251,10 +251,11 @@ impl History {
 
     fn read(&mut self) -> Call {
         let version = self.some_version();
-        match self.rng.below(6) {
+        match self.rng.below(7) {
             0 | 1 => return Call::Lookup(self.some_key(), version),
             2 => return Call::Visits(self.some_key(), version, self.rng.below(8) as usize),
             3 => return self.difference(),
+            4 => return self.life(),
             _ => {}
         }
         let (one, other) = match self.rng.below(3) {
@@ -281,6 +282,12 @@ impl History {
         Call::Difference(old, new, self.some_length(wanted))
     }
 
+    fn life(&mut self) -> Call {
+        let key = self.some_key();
+        let wanted = self.model.lived(key).len();
+        Call::Life(key, self.some_length(wanted))
+    }
+
     /// A call that is refused, for one reason or for several at once.
     fn bad_call(&mut self) -> Call {
         let too_large = match self.rng.below(3) {
@@ -298,7 +305,7 @@ impl History {
         };
         let (key, version) = (self.some_key(), self.some_version());
         let word = self.rng.word();
-        match self.rng.below(17) {
+        match self.rng.below(18) {
             0 => Call::Insert(too_large, word),
             1 => Call::Delete(too_large),
             2 => Call::Lookup(too_large, version),
@@ -316,6 +323,7 @@ impl History {
             13 => Call::Insert(bench, word),
             14 => Call::Difference(late, version, 4),
             15 => Call::Difference(version, late, 0),
+            16 => Call::Life(too_large, 3),
             _ => Call::Range(too_large, too_large, version, 4),
         }
     }

@@ -7,7 +7,7 @@
 //! - [`bits`], [`layout`], [`store`]: where each number stands in the bytes;
 //! - [`check`]: when a store is sound, a module for each rule;
 //! - [`walk`]: lookups and ranges; [`update`] over a [`draft`]: the page rules;
-//!   [`mod@abandon`]; [`mod@difference`];
+//!   [`mod@abandon`]; [`mod@difference`]; [`mod@life`];
 //! - [`unjudged`]: the calls on a store known to be sound, and [`calls`]: the
 //!   calls as the console has them, on any bytes;
 //! - [`console`]: the line language.
@@ -39,6 +39,7 @@ pub mod foreign;
 pub mod history;
 pub mod image;
 pub mod layout;
+pub mod life;
 pub mod lines;
 pub mod model;
 pub mod number;

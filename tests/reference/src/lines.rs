@@ -85,7 +85,9 @@ impl Session {
         match call {
             Call::Fresh => format!("store {}", self.pages),
             // There is no line for these; a lookup judges the store as well.
-            Call::Check | Call::Difference(..) => format!("get 0 {}", self.history.model().last()),
+            Call::Check | Call::Difference(..) | Call::Life(..) => {
+                format!("get 0 {}", self.history.model().last())
+            }
             Call::Open => "open".to_string(),
             Call::Insert(key, value) => format!("insert {key} {value}"),
             Call::Delete(key) => format!("delete {key}"),

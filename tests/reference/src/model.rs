@@ -11,7 +11,7 @@ use crate::difference::differences;
 use crate::engine::{Answer, Call};
 use crate::image::Image;
 use crate::layout::{FIRST_BENCH_KEY, HIGHEST_KEY, HIGHEST_VERSION};
-use crate::{number, store, walk};
+use crate::{life, number, store, walk};
 
 pub type Settings = BTreeMap<u32, u32>;
 
@@ -93,6 +93,7 @@ impl Model {
             }
             Call::Visits(key, version, _) => Answer::of(self.number_of_reading(key, version)),
             Call::Difference(old, new, length) => self.answer_to_difference(old, new, length),
+            Call::Life(key, length) => self.answer_to_life(key, length),
         }
     }
 
@@ -186,6 +187,25 @@ impl Model {
         }
     }
 
+    /// What the life of a key is to write.
+    pub fn lived(&self, key: u32) -> Vec<u32> {
+        let value =
+            |(version, settings): (&u32, &Settings)| (*version, settings.get(&key).copied());
+        life::stretches(self.committed.iter().map(value)).concat()
+    }
+
+    fn answer_to_life(&self, key: u32, length: usize) -> Answer {
+        if key > HIGHEST_KEY {
+            return Answer::of(number::ARGUMENT);
+        }
+        let wanted = self.lived(key).len();
+        let short = length < wanted;
+        Answer {
+            count: wanted as u32 / 3,
+            ..Answer::of(if short { number::LIST_TOO_SHORT } else { 0 })
+        }
+    }
+
     /// Makes the change of a call that was accepted.
     pub fn record(&mut self, call: Call) {
         match call {
@@ -205,7 +225,7 @@ impl Model {
             }
             Call::Abandon => self.open = None,
             Call::Check | Call::Lookup(..) | Call::Range(..) => {}
-            Call::Visits(..) | Call::Difference(..) => {}
+            Call::Visits(..) | Call::Difference(..) | Call::Life(..) => {}
         }
     }
 

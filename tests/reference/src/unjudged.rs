@@ -8,7 +8,7 @@
 use crate::difference::differences;
 use crate::layout::{Header, FIRST_BENCH_KEY, HIGHEST_KEY, HIGHEST_VERSION};
 use crate::update::{self, Change};
-use crate::{abandon, number, store, walk};
+use crate::{abandon, life, number, store, walk};
 
 pub fn open(bytes: &mut [u8]) -> u32 {
     let header = store::header(bytes);
@@ -159,6 +159,14 @@ pub fn difference(bytes: &[u8], old: u32, new: u32, list: &mut [u32]) -> (u32, u
     }
     let settings = |version| walk::settings(bytes, version);
     write_rows(&differences(&settings(old), &settings(new)), list)
+}
+
+/// The number and the count of stretches in the life of a key.
+pub fn life(bytes: &[u8], key: u32, list: &mut [u32]) -> (u32, u32) {
+    if key > HIGHEST_KEY {
+        return (number::ARGUMENT, 0);
+    }
+    write_rows(&life::by_turning_points(bytes, key), list)
 }
 
 /// Writes the rows to the front of a list that holds them all; the number and

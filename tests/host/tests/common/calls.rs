@@ -61,6 +61,12 @@ pub fn difference(bytes: &[u8], old: u32, new: u32, list: &mut [u32]) -> (u32, u
     (answer.number, answer.count)
 }
 
+pub fn life(bytes: &[u8], key: u32, list: &mut [u32]) -> (u32, u32) {
+    let answer = call(Call::Life(key, list.len()), &mut bytes.to_vec());
+    reference::calls::life(bytes, key, list);
+    (answer.number, answer.count)
+}
+
 /// The list is lent to the reference once more, to be read by the case.
 pub fn range(bytes: &[u8], low: u32, high: u32, version: u32, list: &mut [u32]) -> (u32, u32) {
     let range = Call::Range(low, high, version, list.len());

@@ -59,6 +59,7 @@ fn call(word: &[u8], numbers: &[u32]) -> Option<Call> {
         (b"get", [key, version]) => Call::Lookup(*key, *version),
         (b"range", [low, high, version]) => Call::Range(*low, *high, *version, 0),
         (b"diff", [old, new]) => Call::Difference(*old, *new, 0),
+        (b"life", [key]) => Call::Life(*key, 0),
         (b"visits", [key, version]) => Call::Visits(*key, *version, 0),
         _ => return None,
     };
@@ -91,6 +92,7 @@ fn write_call(call: Call, to: &mut fmt::Formatter) -> fmt::Result {
         Call::Lookup(key, version) => write!(to, "get {key} {version}"),
         Call::Range(low, high, version, _) => write!(to, "range {low} {high} {version}"),
         Call::Difference(old, new, _) => write!(to, "diff {old} {new}"),
+        Call::Life(key, _) => write!(to, "life {key}"),
         Call::Visits(key, version, _) => write!(to, "visits {key} {version}"),
     }
 }

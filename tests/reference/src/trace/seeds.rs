@@ -150,7 +150,7 @@ impl Writer {
             _ => self.rng.below(12),
         };
         let (key, other) = (self.any_key(), self.any_key());
-        let call = match self.rng.below(13) {
+        let call = match self.rng.below(14) {
             0 => Call::Check,
             1 => Call::Open,
             2 => Call::Insert(key, other),
@@ -160,6 +160,7 @@ impl Writer {
             6 | 7 => Call::Visits(key, version, 7),
             8 | 9 => Call::Lookup(key, version),
             10 => Call::Difference(version, self.rng.below(12), 40),
+            11 => Call::Life(key, 9),
             _ => Call::Range(key, other, version, self.rng.below(400) as usize),
         };
         self.write_call(call);
@@ -198,6 +199,8 @@ pub const MALFORMED: &[&str] = &[
     "insert 1 4294967296",
     "get 1",
     "range 1 2",
+    "life",
+    "life 1 2",
     "diff 1",
     "diff 1 2 3",
     "difference 1 2",

@@ -108,7 +108,7 @@ fn results(call: Call, answer: Answer, list: &[u32]) -> String {
             let found = u32::from(answer.found);
             format!(" found={found} value={}", answer.value)
         }
-        Call::Range(..) | Call::Difference(..) => {
+        Call::Range(..) | Call::Difference(..) | Call::Life(..) => {
             let list = hash::of_numbers(list);
             format!(" count={} list={list:016x}", answer.count)
         }

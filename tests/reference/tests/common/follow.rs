@@ -113,7 +113,7 @@ impl Follower {
             }
             Call::Fresh => self.settings = (0, 0),
             Call::Check | Call::Lookup(..) | Call::Range(..) => return,
-            Call::Visits(..) | Call::Difference(..) => return,
+            Call::Visits(..) | Call::Difference(..) | Call::Life(..) => return,
         }
         self.every_reached_page_is_filled();
     }
@@ -152,6 +152,7 @@ impl Follower {
 fn compare_list(call: Call, answer: Answer, list: &[u32], bytes: &[u8], model: &Model) {
     let written = match (call, answer.number) {
         (Call::Range(low, high, version, _), number::DONE) => model.listed(low, high, version),
+        (Call::Life(key, _), number::DONE) => model.lived(key),
         (Call::Difference(old, new, _), number::DONE) => model.differing(old, new),
         (Call::Visits(key, version, _), number::DONE) => pages_on_the_way(bytes, key, version),
         _ => Vec::new(),
