@@ -20,6 +20,7 @@ pub mod Walks
 pub mod Fits
 pub mod Lookups
 pub mod Ranges
+pub mod Same
 pub mod Fitted
 pub mod Redo
 pub mod Inv

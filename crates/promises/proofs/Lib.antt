@@ -12,5 +12,6 @@ pub mod Stays
 pub mod Restored
 pub mod Replaying
 pub mod Fakes
+pub mod Releasing
 pub mod Promises
 pub mod Sampled

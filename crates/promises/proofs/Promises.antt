@@ -1,4 +1,4 @@
--- The promises, each under its name: what it says stands in specs/Demand1, Demand2, Demand3, Replayed and Fakes.
+-- The promises, each under its name: what it says stands in specs/Demand1, Demand2, Demand3, Replayed, Releases and Fakes.
 -- Assumes nothing.
 use Prim.Native.Nat.{ℕ}
 use native.Mathlib.Omega.{arith}
@@ -31,6 +31,7 @@ use Rattle.promises.specs.Demand1.{Unique, Refused, Blank, Judges, Untru
 use Rattle.promises.specs.Demand2.{EncodedSound, AcceptedSound, SoundStays, FreshSound, History, HistoryLent, Found, SettingsChange, AnswersStay, ViewsStay, ByTheRules, ReadsOnly, Balanced, Levels, Lacking}
 use Rattle.promises.specs.Demand3.{Abandoned}
 use Rattle.promises.specs.Replayed.{TableLent}
+use Rattle.promises.specs.Releases.{EmptyReleases}
 use Rattle.promises.specs.Fakes.{FakesStopped}
 use Rattle.promises.proofs.Encoded as encoded
 use Rattle.promises.proofs.Judges as judging
@@ -41,6 +42,7 @@ use Rattle.promises.proofs.Changed as changed
 use Rattle.promises.proofs.Stays as stays
 use Rattle.promises.proofs.Restored as restored
 use Rattle.promises.proofs.Replaying as replaying
+use Rattle.promises.proofs.Releasing as releasing
 use Rattle.promises.proofs.Fakes as fakes
 
 -- ---- demand 1
@@ -153,6 +155,12 @@ table = replaying.table-lent
 
 pub abandoned : Abandoned
 abandoned = restored.abandoned
+
+-- ---- requests of document 02
+
+-- 2026-05
+pub empty-releases : EmptyReleases
+empty-releases = releasing.empty-releases
 
 -- ---- fakes
 

@@ -8,3 +8,4 @@ pub mod Demand2
 pub mod Demand3
 pub mod Replayed
 pub mod Fakes
+pub mod Releases
