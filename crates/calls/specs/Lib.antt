@@ -2,3 +2,4 @@ pub mod Guard
 pub mod Reading
 pub mod Turning
 pub mod Updating
+pub mod Differing

@@ -20,6 +20,8 @@ pub mod Walks
 pub mod Fits
 pub mod Lookups
 pub mod Ranges
+pub mod Merging
+pub mod Differs
 pub mod Same
 pub mod Fitted
 pub mod Redo

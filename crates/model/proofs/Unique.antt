@@ -1,5 +1,5 @@
--- The nine calls on lent bytes, taken as one. `unique`: no second outcome meets a call's contract. `refused`: every number but 0 leaves
--- store and list untouched. `blank`: with such a number every result is 0, but for check's rule with 4 and a range's count with 14.
+-- The calls on lent bytes, taken as one. `unique`: no second outcome meets a call's contract. `refused`: every number but 0 leaves
+-- store and list untouched. `blank`: with such a number every result is 0, but for check's rule with 4 and with 14 the count of a range or a difference.
 -- Assumes nothing.
 use Prim.Native.Nat.{ℕ, zero, suc, _*_}
 use mathlib.Core.Bool.{Bool, true, false}
@@ -21,9 +21,12 @@ use Rattle.model.specs.Climb
 use Rattle.model.specs.Climb.{Result}
 use Rattle.model.specs.Calls
 use Rattle.model.specs.Calls.{lookedNumber, lookedFound, lookedValue, Ranged, rule, firstOf}
-use Rattle.model.specs.Ended.{Asked, toFresh, toCheck, toOpen, toCommit, toAbandon, toInsert, toDelete, toLookup, toRange, Ended, ended, Meets, Untouched, Named, Zeros}
+use Rattle.model.specs.Told
+use Rattle.model.specs.Told.{toldIn, toldBy}
+use Rattle.model.specs.Differ
+use Rattle.model.specs.Ended.{Asked, toFresh, toCheck, toOpen, toCommit, toAbandon, toInsert, toDelete, toLookup, toRange, toDifference, Ended, ended, Meets, Untouched, Named, Zeros}
 use Rattle.model.specs.Lent
-use Rattle.model.specs.Lent.{Outcome, Listed, listed, left, judgedFirst, openLent, insertLent, deleteLent, commitLent, abandonLent, freshLent, lookupLent, rangeLent}
+use Rattle.model.specs.Lent.{Outcome, Listed, listed, left, judgedFirst, openLent, insertLent, deleteLent, commitLent, abandonLent, freshLent, lookupLent, rangeLent, differenceLent}
 
 -- Two outcomes that meet a call's contract are the same: number, results, store and list.
 pub unique : (least : ℕ) (c : Asked) (b ns : List ℕ) (e f : Ended) → Meets least c b ns e → Meets least c b ns f → e ≡ f
@@ -54,27 +57,47 @@ fresh-same least b = at (lengthOk least b)
     at true h = absurd (h refl)
     at false h = refl
 
-module _ (least : ℕ) (b : List ℕ) (lo hi v : ℕ) (ns : List ℕ) where
-  abbrev ListSame : Listed → Type 0
-  ListSame r = r .number ≢ 0 → r .list ≡ ns
+abbrev ListSame : List ℕ → Listed → Type 0
+ListSame ns r = r .number ≢ 0 → r .list ≡ ns
 
-  room-same : (n : ℕ) (xs : List Pair) → ListSame (listed ns (Calls.rangedIn n xs))
+module _ (least : ℕ) (b : List ℕ) (lo hi v : ℕ) (ns : List ℕ) where
+  room-same : (n : ℕ) (xs : List Pair) → ListSame ns (listed ns (Calls.rangedIn n xs))
   unfolding Calls.rangedIn
   room-same zero xs h = absurd (h refl)
   room-same (suc n) xs h = refl
 
-  by-same : (n : ℕ) (xs : List Pair) → ListSame (listed ns (Calls.rangedBy n (length ns) xs))
+  by-same : (n : ℕ) (xs : List Pair) → ListSame ns (listed ns (Calls.rangedBy n (length ns) xs))
   unfolding Calls.rangedBy
   by-same zero xs = room-same _ xs
   by-same (suc n) xs = λ h. refl
 
-  range-same : ListSame (rangeLent least b lo hi v ns)
+  range-same : ListSame ns (rangeLent least b lo hi v ns)
   unfolding Lent.rangeLent Calls.range
   range-same = at (judged least b .number)
     where
-      at : (n : ℕ) → ListSame (judgedFirst n (λ m. record { number = m; count = 0; list = ns }) (listed ns (Calls.range (decode least b) lo hi v (length ns))))
+      at : (n : ℕ) → ListSame ns (judgedFirst n (λ m. record { number = m; count = 0; list = ns }) (listed ns (Calls.range (decode least b) lo hi v (length ns))))
       at zero = by-same _ _
       at (suc n) = λ h. refl
+
+-- a call that tells
+module _ {A : Type 0} (numbers : A → List ℕ) (each : ℕ) where
+  told-in-same : (ns : List ℕ) (n : ℕ) (xs : List A) → ListSame ns (listed ns (toldIn numbers n xs))
+  unfolding Told.toldIn
+  told-in-same ns zero xs h = absurd (h refl)
+  told-in-same ns (suc n) xs h = refl
+
+  told-same : (ns : List ℕ) (n : ℕ) (xs : List A) → ListSame ns (listed ns (toldBy numbers each n (length ns) xs))
+  unfolding Told.toldBy
+  told-same ns zero xs = told-in-same ns _ xs
+  told-same ns (suc n) xs = λ h. refl
+
+difference-same : (least : ℕ) (b : List ℕ) (u v : ℕ) (ns : List ℕ) → ListSame ns (differenceLent least b u v ns)
+unfolding Lent.differenceLent Differ.difference
+difference-same least b u v ns = at (judged least b .number)
+  where
+    at : (n : ℕ) → ListSame ns (judgedFirst n (λ m. record { number = m; count = 0; list = ns }) (listed ns (Differ.difference (decode least b) u v (length ns))))
+    at zero = told-same Differ.deltaNumbers 4 ns _ _
+    at (suc n) = λ h. refl
 
 leaves : (least : ℕ) (c : Asked) (b ns : List ℕ) → ended least c b ns .number ≢ 0 → Untouched b ns (ended least c b ns)
 unfolding Lent.openLent Lent.commitLent Lent.abandonLent Lent.insertLent Lent.deleteLent
@@ -87,6 +110,7 @@ leaves least (toInsert k x) b ns h = record { store = lent-same least _ b h; lis
 leaves least (toDelete k) b ns h = record { store = lent-same least _ b h; list = refl }
 leaves least (toLookup k v) b ns h = record { store = refl; list = refl }
 leaves least (toRange lo hi v) b ns h = record { store = refl; list = range-same least b lo hi v ns h }
+leaves least (toDifference u v) b ns h = record { store = refl; list = difference-same least b u v ns h }
 
 pub refused : (least : ℕ) (c : Asked) (b ns : List ℕ) (e : Ended) → Meets least c b ns e → e .number ≢ 0 → Untouched b ns e
 refused least c b ns e m h = subst (Untouched b ns) (sym m) (leaves least c b ns (subst (λ (x : Ended). x .number ≢ 0) m h))
@@ -138,6 +162,23 @@ range-blank least b lo hi v ns = at (judged least b .number)
     at zero = count-blank _ (length ns) _
     at (suc n) = λ h k. refl
 
+told-blank : {A : Type 0} (numbers : A → List ℕ) (each n room : ℕ) (xs : List A) → CountBlank (toldBy numbers each n room xs)
+unfolding Told.toldBy Told.toldIn
+told-blank numbers each zero room xs h k = at (ltb room (each * length xs)) h k
+  where
+    at : (t : Bool) → CountBlank (toldIn numbers (firstOf (rule 14 t ∷ [])) xs)
+    at true h k = absurd (k refl)
+    at false h k = absurd (h refl)
+told-blank numbers each (suc n) room xs h k = refl
+
+difference-blank : (least : ℕ) (b : List ℕ) (u v : ℕ) (ns : List ℕ) → ListedBlank (differenceLent least b u v ns)
+unfolding Lent.differenceLent Differ.difference
+difference-blank least b u v ns = at (judged least b .number)
+  where
+    at : (n : ℕ) → ListedBlank (judgedFirst n (λ m. record { number = m; count = 0; list = ns }) (listed ns (Differ.difference (decode least b) u v (length ns))))
+    at zero = told-blank Differ.deltaNumbers 4 _ (length ns) _
+    at (suc n) = λ h k. refl
+
 zero-one : (x : ℕ) → x ≡ 0 → Zeros (x ∷ [])
 zero-one x e = rw e
 
@@ -151,6 +192,7 @@ blanks least (toInsert i x) b ns h k = refl
 blanks least (toDelete i) b ns h k = refl
 blanks least (toLookup i v) b ns h k = looked-blank (lookupLent least b i v) h
 blanks least (toRange lo hi v) b ns h k = zero-one _ (range-blank least b lo hi v ns h k)
+blanks least (toDifference u v) b ns h k = zero-one _ (difference-blank least b u v ns h k)
 
 pub blank : (least : ℕ) (c : Asked) (b ns : List ℕ) (e : Ended) → Meets least c b ns e → e .number ≢ 0 → (Named c (e .number) → ⊥) → Zeros (e .results)
 blank least c b ns e m h k =

@@ -11,6 +11,7 @@ use Rattle.model.specs.Layout.{sizeOf, encode, decode}
 use Rattle.model.specs.Judged.{lengthOk, judged}
 use Rattle.model.specs.Climb.{Result, done, refused}
 use Rattle.model.specs.Calls.{insert, delete, begin, commit, abandon, get, range, Ranged}
+use Rattle.model.specs.Differ.{difference}
 
 -- the number that a call gives, and the store's bytes after it
 pub record Outcome : Type 0 where
@@ -52,7 +53,7 @@ freshLent least b = pick (lengthOk least b) (record { number = 0; store = encode
 unfoldable pub lookupLent : ℕ → List ℕ → ℕ → ℕ → Looked
 lookupLent least b k v = judgedFirst (judged least b .number) (λ n. Refused n) (get (decode least b) k v)
 
--- a range's number, its count, and the caller's list after it: "touches nothing behind"
+-- the number of a call that tells, its count, and the caller's list after it: "touches nothing behind"
 pub record Listed : Type 0 where
   pub number : ℕ
   pub count : ℕ
@@ -64,3 +65,8 @@ listed ns r = record { number = r .number; count = r .count; list = r .written +
 unfoldable pub rangeLent : ℕ → List ℕ → ℕ → ℕ → ℕ → List ℕ → Listed
 rangeLent least b lo hi v ns =
     judgedFirst (judged least b .number) (λ n. record { number = n; count = 0; list = ns }) (listed ns (range (decode least b) lo hi v (length ns)))
+
+-- 2026-03: "Refusals 1 to 4, 6 and 14 apply"
+unfoldable pub differenceLent : ℕ → List ℕ → ℕ → ℕ → List ℕ → Listed
+differenceLent least b u v ns =
+    judgedFirst (judged least b .number) (λ n. record { number = n; count = 0; list = ns }) (listed ns (difference (decode least b) u v (length ns)))

@@ -10,6 +10,8 @@ pub mod Sound
 pub mod Rules
 pub mod Climb
 pub mod Calls
+pub mod Told
+pub mod Differ
 pub mod Settings
 pub mod Histories
 pub mod Field

@@ -20,6 +20,14 @@ pub struct Pair {
     pub value: u32,
 }
 
+// What differs at a key between two versions: 0 added, 1 removed, 2 changed; the old value and the new, zero where there is none.
+pub struct Delta {
+    pub key: u32,
+    pub kind: u32,
+    pub old: u32,
+    pub new: u32,
+}
+
 // A slot of the root directory.
 pub struct Slot {
     pub version: u32,

@@ -13,20 +13,24 @@ use Rattle.model.specs.Basic.{inOrder}
 use Rattle.model.specs.declared.Pair.{Pair}
 use Rattle.model.specs.declared.Looked.the-variants.{Refused}
 use Rattle.model.specs.Store.{Store, next, last, lastOf}
-use Rattle.model.specs.Walk.{keyLimit, find, lookup, between, rangeOf}
+use Rattle.model.specs.Walk.{keyLimit, find, lookup, settings, between, rangeOf}
 use Rattle.model.specs.Layout.{decode}
 use Rattle.model.specs.Calls
 use Rattle.model.specs.Same.{samePairs}
 use Rattle.model.specs.Calls.{unchanged, isSome, rule, firstOf, lookedBy, Ranged, rangedBy, get, range}
+use Rattle.model.specs.Told
+use Rattle.model.specs.Told.{toldBy}
+use Rattle.model.specs.Differ
+use Rattle.model.specs.Differ.{differ, deltaNumbers, difference}
 use Rattle.model.specs.Histories.{begins, commits, abandons, inserts, deletes}
 use Rattle.model.specs.Settings.{Machine}
 use Rattle.model.specs.Lent
 use Rattle.model.specs.Lent.{judgedFirst, listed}
-use Rattle.model.specs.Ended.{toInsert, toDelete, toLookup, toRange, ofLooked, ofListed, ended}
+use Rattle.model.specs.Ended.{toInsert, toDelete, toLookup, toRange, toDifference, ofLooked, ofListed, ended}
 use Rattle.model.proofs.Lookups.{lookup-is, settings-rise}
 use Rattle.model.proofs.Ranges.{range-is}
 use Rattle.promises.specs.Beside.{Beside}
-use Rattle.promises.specs.Answers.{lastIn, lookupTests, rangeTests, openTests, endTests, commitTests, insertTests, deleteTests, lookedIn, rangedFrom, aliveIn, unchangedIn, Gives, Answers}
+use Rattle.promises.specs.Answers.{lastIn, lookupTests, rangeTests, differenceTests, openTests, endTests, commitTests, insertTests, deleteTests, lookedIn, rangedFrom, toldFrom, aliveIn, unchangedIn, Gives, Answers}
 use Rattle.promises.proofs.High.{begin-number, commit-number, abandon-number, insert-number, delete-number}
 use Rattle.promises.proofs.Lending.{change-number}
 use Rattle.promises.proofs.Agreed.{Agreed}
@@ -88,6 +92,25 @@ module _ (least : ℕ) (four : 4 ≤ least) (eight : least ≤ 8) (x : Beside) (
       ap (λ (n : ℕ). ofListed (x .bytes) (judgedFirst n (λ j. record { number = j; count = 0; list = ns }) (listed ns (range s lo hi v (length ns))))) (a .accepted)
       ∙ ap (λ (r : Ranged). ofListed (x .bytes) (listed ns r)) (range-here lo hi v (length ns))
 
+  -- ---- a difference
+
+  difference-here : (u v room : ℕ) → difference s u v room ≡ toldFrom m u v room
+  unfolding Differ.difference Told.toldBy
+  difference-here u v room =
+      at (ltb (last s) u) refl (ltb (last s) v) refl ∙ ap (λ (l : ℕ). toldBy deltaNumbers 4 (firstOf (differenceTests l u v)) room (differ (m .shows u) (m .shows v))) last-is
+    where
+      at : (p : Bool) → ltb (last s) u ≡ p → (q : Bool) → ltb (last s) v ≡ q → toldBy deltaNumbers 4 (firstOf (rule 6 (p || q) ∷ [])) room (differ (settings s u) (settings s v))
+          ≡ toldBy deltaNumbers 4 (firstOf (rule 6 (p || q) ∷ [])) room (differ (m .shows u) (m .shows v))
+      at true e q f = refl
+      at false e true f = refl
+      at false e false f = ap₂ (λ (us ws : List Pair). toldBy deltaNumbers 4 0 room (differ us ws)) (a .agrees .shows u (ltb-false (last s) u e)) (a .agrees .shows v (ltb-false (last s) v f))
+
+  difference-answers : (u v : ℕ) (ns : List ℕ) → ended least (toDifference u v) (x .bytes) ns ≡ ofListed (x .bytes) (listed ns (toldFrom m u v (length ns)))
+  unfolding Lent.differenceLent
+  difference-answers u v ns =
+      ap (λ (n : ℕ). ofListed (x .bytes) (judgedFirst n (λ j. record { number = j; count = 0; list = ns }) (listed ns (difference s u v (length ns))))) (a .accepted)
+      ∙ ap (λ (r : Ranged). ofListed (x .bytes) (listed ns r)) (difference-here u v (length ns))
+
   -- ---- numbers
 
   alive-here : s .opened ≡ true → (k : ℕ) → k < keyLimit → isSome (lookup s k (next s)) ≡ aliveIn m k
@@ -138,6 +161,7 @@ module _ (least : ℕ) (four : 4 ≤ least) (eight : least ≤ 8) (x : Beside) (
     accepted = a .accepted;
     lookup = lookup-answers;
     range = range-answers;
+    difference = difference-answers;
     order = λ v h. ap (inOrder (λ (p q : Pair). ltb (p .key) (q .key))) (sym (a .agrees .shows v (omega (arith, last-is)))) ∙ settings-rise least (omega arith) s (a .agrees .is-sound) v (omega (arith, last-is));
     count = λ v h. ap (λ (us : List Pair). length us + x .tally .removed v) (sym (a .agrees .shows v (omega (arith, last-is)))) ∙ a .counts .is v (omega (arith, last-is));
     opens = λ ns. change-number least (x .bytes) (a .accepted) begins ns ∙ begin-number least s ∙ ap₂ (λ (o : Bool) (n : ℕ). firstOf (openTests o n)) (a .agrees .opened) (a .agrees .current);

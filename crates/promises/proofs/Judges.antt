@@ -12,7 +12,8 @@ use lib.ListN.{length}
 use Rattle.model.specs.Basic.{pick}
 use Rattle.model.specs.declared.Looked.the-variants.{Refused as Stopped}
 use Rattle.model.specs.Store.{Store, fresh, last}
-use Rattle.model.specs.Walk.{keyLimit, lookup, rangeOf}
+use Rattle.model.specs.declared.Delta.{Delta}
+use Rattle.model.specs.Walk.{keyLimit, lookup, rangeOf, settings}
 use Rattle.model.specs.Sound.{sound}
 use Rattle.model.specs.Layout.{sizeOf, encode, decode}
 use Rattle.model.specs.Clean.{clean}
@@ -21,10 +22,13 @@ use Rattle.model.specs.Judged.{lengthOk, magicOk, editionOk, brokenIn, judged, 
 use Rattle.model.specs.Climb.{Result, done, refused}
 use Rattle.model.specs.Calls
 use Rattle.model.specs.Calls.{rule, firstOf, lookedBy, lookedAt, lookedNumber, get, range}
+use Rattle.model.specs.Told
+use Rattle.model.specs.Differ
+use Rattle.model.specs.Differ.{differ, deltaNumbers, tooLate, difference}
 use Rattle.model.specs.Histories.{begins, commits, abandons, inserts, deletes}
 use Rattle.model.specs.Lent
-use Rattle.model.specs.Lent.{left, judgedFirst, listed, lookupLent, rangeLent}
-use Rattle.model.specs.Ended.{Asked, toFresh, toCheck, toOpen, toCommit, toAbandon, toInsert, toDelete, toLookup, toRange, ofOutcome, ended}
+use Rattle.model.specs.Lent.{left, judgedFirst, listed, lookupLent, rangeLent, differenceLent}
+use Rattle.model.specs.Ended.{Asked, toFresh, toCheck, toOpen, toCommit, toAbandon, toInsert, toDelete, toLookup, toRange, toDifference, ofOutcome, ended}
 use Rattle.model.proofs.Lists.{both-true, both-intro}
 use Rattle.model.proofs.Members.{bool-cases, not-both}
 use Rattle.model.proofs.Judging.{unbroken, whole}
@@ -102,6 +106,29 @@ range-past least b lo hi v ns = at (judged least b .number)
     at zero = ranged-past (decode least b) lo hi v (length ns)
     at (suc j) = refl
 
+differing-past : (s : Store) (u v room : ℕ) → Past 0 (difference s u v room .number)
+unfolding Differ.difference Told.toldBy Told.toldIn
+differing-past s u v room = at (tooLate s u v)
+  where
+    ds : List Delta
+    ds = differ (settings s u) (settings s v)
+
+    list : (t : Bool) → Past 0 (Told.toldIn deltaNumbers (firstOf (rule 14 t ∷ [])) ds .number)
+    list true = inr (omega arith)
+    list false = inl refl
+
+    at : (p : Bool) → Past 0 (Told.toldBy deltaNumbers 4 (firstOf (rule 6 p ∷ [])) room ds .number)
+    at true = inr (omega arith)
+    at false = list (ltb room (4 * length ds))
+
+difference-past : (least : ℕ) (b : List ℕ) (u v : ℕ) (ns : List ℕ) → Past (judged least b .number) (differenceLent least b u v ns .number)
+unfolding Lent.differenceLent
+difference-past least b u v ns = at (judged least b .number)
+  where
+    at : (j : ℕ) → Past j (judgedFirst j (λ n. record { number = n; count = 0; list = ns }) (listed ns (difference (decode least b) u v (length ns))) .number)
+    at zero = differing-past (decode least b) u v (length ns)
+    at (suc j) = refl
+
 past-same : (j : ℕ) → Past j j
 past-same zero = inl refl
 past-same (suc j) = refl
@@ -117,6 +144,7 @@ call-past least (toInsert k x) b ns h = change-past least b _ (λ s. call-high l
 call-past least (toDelete k) b ns h = change-past least b _ (λ s. call-high least s (deletes k))
 call-past least (toLookup k v) b ns h = lookup-past least b k v
 call-past least (toRange lo hi v) b ns h = range-past least b lo hi v ns
+call-past least (toDifference u v) b ns h = difference-past least b u v ns
 
 -- bytes on which it gives 0 are accepted
 pub zero-accepts : (least : ℕ) (c : Asked) (b ns : List ℕ) → notMaking (kindOf c) ≡ true → ended least c b ns .number ≡ 0 → Accepts least b

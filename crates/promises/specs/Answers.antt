@@ -14,9 +14,11 @@ use Rattle.model.specs.Store.{lastOf}
 use Rattle.model.specs.Walk.{keyLimit, find, between}
 use Rattle.model.specs.Same.{samePairs}
 use Rattle.model.specs.Calls.{isSome, Rule, rule, firstOf, lookedBy, Ranged, rangedBy}
+use Rattle.model.specs.Told.{toldBy}
+use Rattle.model.specs.Differ.{differ, deltaNumbers}
 use Rattle.model.specs.Settings.{Machine}
 use Rattle.model.specs.Lent.{listed}
-use Rattle.model.specs.Ended.{toOpen, toCommit, toAbandon, toInsert, toDelete, toLookup, toRange, ended, ofLooked, ofListed}
+use Rattle.model.specs.Ended.{toOpen, toCommit, toAbandon, toInsert, toDelete, toLookup, toRange, toDifference, ended, ofLooked, ofListed}
 use Rattle.promises.specs.Accepts.{Accepts}
 use Rattle.promises.specs.Beside.{Beside}
 
@@ -33,6 +35,10 @@ lookupTests last k v = rule 5 (leb keyLimit k) ∷ rule 6 (ltb last v) ∷ []
 -- 5 "key too large, or range low above high"
 abbrev pub rangeTests : ℕ → ℕ → ℕ → ℕ → List Rule
 rangeTests last lo hi v = rule 5 (leb keyLimit lo || leb keyLimit hi || ltb hi lo) ∷ rule 6 (ltb last v) ∷ []
+
+-- 6 of either version
+abbrev pub differenceTests : ℕ → ℕ → ℕ → List Rule
+differenceTests last u v = rule 6 (ltb last u || ltb last v) ∷ []
 
 -- 8 "update already open", 9 "current is 1,048,574"
 abbrev pub openTests : Bool → ℕ → List Rule
@@ -64,6 +70,10 @@ lookedIn m k v = lookedBy (firstOf (lookupTests (lastIn m) k v)) (find k (m .sho
 abbrev pub rangedFrom : Machine → ℕ → ℕ → ℕ → ℕ → Ranged
 rangedFrom m lo hi v room = rangedBy (firstOf (rangeTests (lastIn m) lo hi v)) room (between lo hi (m .shows v))
 
+-- what differs between two versions, with 14 if the list has not the room
+abbrev pub toldFrom : Machine → ℕ → ℕ → ℕ → Ranged
+toldFrom m u v room = toldBy deltaNumbers 4 (firstOf (differenceTests (lastIn m) u v)) room (differ (m .shows u) (m .shows v))
+
 -- whether a key is alive at the open version
 abbrev pub aliveIn : Machine → ℕ → Bool
 aliveIn m k = isSome (find k (m .shows (suc (m .current))))
@@ -83,6 +93,7 @@ pub record Answers (least : ℕ) (x : Beside) : Type 0 where
   -- readings
   pub lookup : (k v : ℕ) (ns : List ℕ) → ended least (toLookup k v) (x .bytes) ns ≡ ofLooked (x .bytes) ns (lookedIn (x .machine) k v)
   pub range : (lo hi v : ℕ) (ns : List ℕ) → ended least (toRange lo hi v) (x .bytes) ns ≡ ofListed (x .bytes) (listed ns (rangedFrom (x .machine) lo hi v (length ns)))
+  pub difference : (u v : ℕ) (ns : List ℕ) → ended least (toDifference u v) (x .bytes) ns ≡ ofListed (x .bytes) (listed ns (toldFrom (x .machine) u v (length ns)))
   -- "in key order", no key twice
   pub order : (v : ℕ) → v ≤ lastIn (x .machine) → inOrder (λ (p q : Pair). ltb (p .key) (q .key)) (x .machine .shows v) ≡ true
   -- "their number is those inserts less those deletes"

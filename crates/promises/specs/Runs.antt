@@ -8,7 +8,7 @@ use Rattle.model.specs.Basic.{all}
 use Rattle.model.specs.Histories.{Call, begins, commits, abandons, inserts, deletes}
 use Rattle.model.specs.Settings
 use Rattle.model.specs.Lent.{Outcome}
-use Rattle.model.specs.Ended.{Asked, toFresh, toCheck, toOpen, toCommit, toAbandon, toInsert, toDelete, toLookup, toRange, Ended, ended}
+use Rattle.model.specs.Ended.{Asked, toFresh, toCheck, toOpen, toCommit, toAbandon, toInsert, toDelete, toLookup, toRange, toDifference, Ended, ended}
 
 -- a call, and the list lent with it; each may bring another list
 pub record Turn : Type 0 where
@@ -46,6 +46,7 @@ kindOf (toInsert k x) = changing (inserts k x)
 kindOf (toDelete k) = changing (deletes k)
 kindOf (toLookup k v) = reading
 kindOf (toRange lo hi v) = reading
+kindOf (toDifference u v) = reading
 
 -- the call that asks for a change
 abbrev pub asks : Call → Asked

@@ -1,0 +1,46 @@
+-- `put` meets its contract. Assumes nothing.
+use borrow.Author.Tests.{not-true, not-false}
+use Rattle.differ.specs.Listing.{told-same, told-one}
+use Rattle.differ.specs.Told.{tells-none, tells-counted, tells-put}
+use Rattle.model.specs.declared.Delta.{Delta}
+use lib.ListN.{length}
+use mathlib.Core.List.{List}
+use mathlib.Core.Path.{ap}
+use native.Mathlib.Omega.{arith}
+use borrow.Author.Needs.{needs}
+use Rattle.differ.proofs.put.Statement.{statement}
+use Rattle.differ.proofs.put.Tie as tie
+
+returns : tie.Need-returns
+returns c =
+    let a = c .before .before .before .args in
+    rw (told-same (a .d) (c .if1 .taken)) (tells-none (a .write) (a .list .now) (a .k))
+
+add-result : tie.Need-add-result
+add-result c = search needs
+
+returns-2 : tie.Need-returns-2
+returns-2 c =
+    let a = c .before .before .before .before .args in
+    rw (told-one (a .d) (c .before .if1 .left)) (tells-counted (a .write) (a .list .now) (a .k) (a .d) (not-true _ (c .if2 .taken)))
+
+put-four-requires : tie.Need-put-four-requires
+put-four-requires c κs =
+    let a = c .before .before .before .before .before .args in
+    omega (arith, c .before .before .before .before .before .pre .0 (not-false _ (c .before .if2 .left)), ap (λ (ds : List Delta). length ds) (told-one (a .d) (c .before .before .if1 .left)))
+
+add-result-2 : tie.Need-add-result-2
+add-result-2 c = search needs
+
+same-length : tie.Need-same-length
+same-length c = search needs
+
+returns-3 : tie.Need-returns-3
+returns-3 c =
+    let a = c .before .before .before .before .before .before .before .before .args in
+    rw (told-one (a .d) (c .before .before .before .before .before .if1 .left)) (tells-put (a .write) (a .list .now) _ (a .k) (a .d) (not-false _ (c .before .before .before .before .if2 .left)) (c .before .before .put-four .ensures))
+
+pub put-spec : {M : Type 1} → statement M
+put-spec =
+    tie.close
+    (tie.spec returns add-result returns-2 put-four-requires add-result-2 same-length returns-3)

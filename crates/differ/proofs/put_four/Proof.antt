@@ -1,0 +1,80 @@
+-- `put_four` meets its contract. Assumes nothing.
+use Rattle.differ.specs.Told.{put-four}
+use lib.ListN.{length-set}
+use native.Mathlib.Omega.{arith}
+use borrow.Author.Needs.{needs}
+use Rattle.differ.proofs.put_four.Statement.{statement}
+use Rattle.differ.proofs.put_four.Tie as tie
+
+mul-list : tie.Need-mul-list
+mul-list c = search needs
+
+mul-list-2 : tie.Need-mul-list-2
+mul-list-2 c = search needs
+
+slice-write-list : tie.Need-slice-write-list
+slice-write-list c = search needs
+
+mul-list-3 : tie.Need-mul-list-3
+mul-list-3 c = search needs
+
+add-list : tie.Need-add-list
+add-list c = search needs
+
+mul-list-4 : tie.Need-mul-list-4
+mul-list-4 c = search needs
+
+slice-write-list-2 : tie.Need-slice-write-list-2
+slice-write-list-2 c = simp length-set (omega (arith, c .pre))
+
+mul-list-5 : tie.Need-mul-list-5
+mul-list-5 c = search needs
+
+add-list-2 : tie.Need-add-list-2
+add-list-2 c = search needs
+
+mul-list-6 : tie.Need-mul-list-6
+mul-list-6 c = search needs
+
+slice-write-list-3 : tie.Need-slice-write-list-3
+slice-write-list-3 c = simp length-set (omega (arith, c .pre))
+
+mul-list-7 : tie.Need-mul-list-7
+mul-list-7 c = search needs
+
+add-list-3 : tie.Need-add-list-3
+add-list-3 c = search needs
+
+mul-list-8 : tie.Need-mul-list-8
+mul-list-8 c = search needs
+
+slice-write-list-4 : tie.Need-slice-write-list-4
+slice-write-list-4 c = simp length-set (omega (arith, c .pre))
+
+same-length : tie.Need-same-length
+same-length c = search needs
+
+returns : tie.Need-returns
+returns c = put-four (c .args .list .now) (c .args .k) (c .args .d)
+
+pub put-four-spec : {M : Type 1} → statement M
+put-four-spec =
+    tie.close
+    (tie.spec
+    mul-list
+    mul-list-2
+    slice-write-list
+    mul-list-3
+    add-list
+    mul-list-4
+    slice-write-list-2
+    mul-list-5
+    add-list-2
+    mul-list-6
+    slice-write-list-3
+    mul-list-7
+    add-list-3
+    mul-list-8
+    slice-write-list-4
+    same-length
+    returns)

@@ -1,0 +1,4 @@
+pub mod Merge
+pub mod Told
+pub mod Same
+pub mod Listing
