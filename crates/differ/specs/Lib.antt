@@ -1,4 +1,3 @@
 pub mod Merge
 pub mod Told
-pub mod Same
 pub mod Listing

@@ -25,7 +25,8 @@ use Rattle.model.specs.declared.Delta.{Delta}
 use Rattle.model.specs.Told.{toldIn, toldBy}
 use Rattle.model.specs.Differ.{differ, deltaNumbers}
 use Rattle.differ.specs.Merge.{compared, told, left, Onward, left-start, left-end, left-on, left-step}
-use Rattle.differ.specs.Same.{samePairs, same-none}
+use Rattle.model.specs.Same.{samePairs}
+use Rattle.model.proofs.Same.{same-none}
 use Rattle.differ.specs.Told.{numbers, written, written-not, written-all, Room, Tells}
 
 -- what differs between two versions of a store

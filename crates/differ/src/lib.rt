@@ -16,7 +16,7 @@ ghost use Rattle.model.specs.Lent.{listed};
 ghost use Rattle.walk.specs.Counted.{withList};
 ghost use Rattle.walk.specs.Sure.{Readable};
 ghost use Rattle.differ.specs.Merge.{compared, told};
-ghost use Rattle.differ.specs.Same.{samePairs};
+ghost use Rattle.model.specs.Same.{samePairs};
 ghost use Rattle.differ.specs.Told.{written, Room, Tells};
 ghost use Rattle.differ.specs.Listing.{between, nextOf};
 

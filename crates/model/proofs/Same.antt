@@ -1,22 +1,26 @@
--- Settings that are the same, key for key: they are equal, and no lookup tells them apart. An insert undone by a delete.
+-- Settings that are the same, key for key: they are equal, nothing differs between them, and no lookup tells them apart. An insert undone by a
+-- delete.
 -- Assumes nothing.
-use Prim.Native.Nat.{ℕ, _≤_, _<_}
+use Prim.Native.Nat.{ℕ}
 use native.Mathlib.Omega.{arith}
 use mathlib.Core.Bool.{Bool, true, false, _&&_, not}
 use mathlib.Core.Option.{Option, none, some}
 use mathlib.Core.Path.{_≡_, refl, ap, ap₂, sym, _∙_}
-use mathlib.Core.List.{List, [], _∷_}
+use mathlib.Core.List.{List, [], _∷_, _++_}
 use lib.Dec.{ltb, eqb}
-use borrow.Author.Tests.{eqb-true, eq-eqb, ne-eqb, ltb-true, ltb-false}
-use Rattle.model.specs.Basic.{all, pick, keep, those}
+use borrow.Author.Tests.{eqb-true, eqb-false, eq-eqb, ne-eqb, ltb-true}
+use Rattle.model.specs.Basic.{all, pick, keep, those, isEmpty}
 use Rattle.model.specs.declared.Pair.{Pair}
+use Rattle.model.specs.declared.Delta.{Delta}
 use Rattle.model.specs.Entry.{pair, placed, enterPair}
 use Rattle.model.specs.Walk.{find}
 use Rattle.model.specs.Same.{samePairs}
+use Rattle.model.specs.Differ.{changed, differ}
 use Rattle.model.proofs.Lists.{both-true, all-cons}
 use Rattle.model.proofs.Members.{not-both}
-use Rattle.model.proofs.Edit.{lt, missing}
+use Rattle.model.proofs.Edit.{missing}
 use Rattle.model.proofs.Lookups.{rising}
+use Rattle.model.proofs.Merging.{above, find-above, by-merge, old-first, new-first, both-first}
 
 -- ---- the test says that they are equal
 
@@ -34,13 +38,34 @@ pub equal-same : (xs : List Pair) → samePairs xs xs ≡ true
 equal-same [] = refl
 equal-same (x ∷ xs) = rw (eq-eqb (x .key) (x .key) refl, eq-eqb (x .value) (x .value) refl, equal-same xs)
 
--- ---- key for key
+-- ---- nothing differs between them
 
-find-above : (k j : ℕ) (ys : List Pair) → k ≤ j → all (λ (y : Pair). ltb j (y .key)) ys ≡ true → find k ys ≡ none
-find-above k j [] h a = refl
-find-above k j (y ∷ ys) h a =
-    let (p, q) = all-cons (λ (z : Pair). ltb j (z .key)) y ys a in
-    rw (ne-eqb (y .key) k (λ (e : y .key ≡ k). omega (arith, ltb-true j (y .key) p))) (find-above k j ys h q)
+old-alone : (x : Pair) (xs ws : List Pair) → above (x .key) ws ≡ true → samePairs (x ∷ xs) ws ≡ false
+old-alone x xs [] a = refl
+old-alone x xs (y ∷ ys) a =
+    let h = ltb-true (x .key) (y .key) (all-cons (λ (z : Pair). ltb (x .key) (z .key)) y ys a .0) in
+    rw (ne-eqb (x .key) (y .key) (λ (z : x .key ≡ y .key). omega arith))
+
+new-alone : (us : List Pair) (y : Pair) (ys : List Pair) → above (y .key) us ≡ true → samePairs us (y ∷ ys) ≡ false
+new-alone [] y ys a = refl
+new-alone (x ∷ xs) y ys a =
+    let h = ltb-true (y .key) (x .key) (all-cons (λ (z : Pair). ltb (y .key) (z .key)) x xs a .0) in
+    rw (ne-eqb (x .key) (y .key) (λ (z : x .key ≡ y .key). omega arith))
+
+pub same-none : (us ws : List Pair) → rising us ≡ true → rising ws ≡ true → samePairs us ws ≡ isEmpty (differ us ws)
+same-none = by-merge (λ us ws. samePairs us ws ≡ isEmpty (differ us ws)) refl
+    (λ x xs ws a b ih. old-alone x xs ws b ∙ sym (ap (λ (ds : List Delta). isEmpty ds) (old-first x xs ws b)))
+    (λ us y ys a b ih. new-alone us y ys a ∙ sym (ap (λ (ds : List Delta). isEmpty ds) (new-first us y ys a)))
+    (λ x xs y ys e a b ih.
+        ap (λ (c : Bool). c && (eqb (x .value) (y .value) && samePairs xs ys)) (eq-eqb (x .key) (y .key) e)
+        ∙ values x xs y ys (eqb (x .value) (y .value)) ih ∙ sym (ap (λ (ds : List Delta). isEmpty ds) (both-first x xs y ys e b)))
+  where
+    values : (x : Pair) (xs : List Pair) (y : Pair) (ys : List Pair) (c : Bool) → samePairs xs ys ≡ isEmpty (differ xs ys)
+        → (c && samePairs xs ys) ≡ isEmpty (pick c [] (changed x (y .value) ∷ []) ++ differ xs ys)
+    values x xs y ys true ih = ih
+    values x xs y ys false ih = refl
+
+-- ---- key for key
 
 find-head : (x : Pair) (xs : List Pair) → find (x .key) (x ∷ xs) ≡ some (x .value)
 find-head x xs = rw (eq-eqb (x .key) (x .key) refl)
@@ -54,42 +79,31 @@ not-some n e = let z : _≡_ {A = ℕ} 0 1 = cc in omega arith
 value-is : (a b : ℕ) → some a ≡ some b → a ≡ b
 value-is a b e = cc
 
--- the first key of one is the first of the other
-first-low : (x : Pair) (xs : List Pair) (y : Pair) (ys : List Pair) → all (lt y) ys ≡ true → find (x .key) (x ∷ xs) ≡ find (x .key) (y ∷ ys) → x .key < y .key → ⊥
-first-low x xs y ys a e h =
-    not-some (x .value) (sym (sym (find-head x xs) ∙ e ∙ find-tail (x .key) y ys (λ (q : y .key ≡ x .key). omega arith) ∙ find-above (x .key) (y .key) ys (omega arith) a))
+module _ (f : ℕ → Bool) where
+  abbrev Finds : List Pair → List Pair → Type 0
+  Finds us ws = all (λ (x : Pair). f (x .key)) us ≡ true → all (λ (x : Pair). f (x .key)) ws ≡ true → ((k : ℕ) → f k ≡ true → find k us ≡ find k ws) → us ≡ ws
 
--- Lists that rise, and find the same for each key that either has, are equal.
-pub finds-equal : (f : ℕ → Bool) (xs ys : List Pair) → rising xs ≡ true → rising ys ≡ true → all (λ (x : Pair). f (x .key)) xs ≡ true → all (λ (x : Pair). f (x .key)) ys ≡ true
-    → ((k : ℕ) → f k ≡ true → find k xs ≡ find k ys) → xs ≡ ys
-finds-equal f [] [] r q i j h = refl
-finds-equal f [] (y ∷ ys) r q i j h = absurd (not-some (y .value) (h (y .key) (all-cons (λ (x : Pair). f (x .key)) y ys j .0) ∙ find-head y ys))
-finds-equal f (x ∷ xs) [] r q i j h = absurd (not-some (x .value) (sym (h (x .key) (all-cons (λ (z : Pair). f (z .key)) x xs i .0)) ∙ find-head x xs))
-finds-equal f (x ∷ xs) (y ∷ ys) r q i j h =
-    let (a, r′) = both-true (all (lt x) xs) (rising xs) r in
-    let (b, q′) = both-true (all (lt y) ys) (rising ys) q in
-    let (fx, i′) = all-cons (λ (z : Pair). f (z .key)) x xs i in
-    let (fy, j′) = all-cons (λ (z : Pair). f (z .key)) y ys j in
-    let key : x .key ≡ y .key = same (ltb (x .key) (y .key)) refl (ltb (y .key) (x .key)) refl (first-low x xs y ys b (h (x .key) fx)) (first-low y ys x xs a (sym (h (y .key) fy))) in
-    let value : x .value ≡ y .value = value-is (x .value) (y .value) (sym (find-head x xs) ∙ h (x .key) fx ∙ ap (λ (k : ℕ). find k (y ∷ ys)) key ∙ find-head y ys) in
-    ap₂ {C = List Pair} (λ (z : Pair) (zs : List Pair). z ∷ zs) (ap₂ (λ (k v : ℕ). record { key = k; value = v }) key value)
-    (finds-equal f xs ys r′ q′ i′ j′ (λ k g. rest key a b k g (eqb (x .key) k) refl))
-  where
-    same : (p : Bool) → ltb (x .key) (y .key) ≡ p → (o : Bool) → ltb (y .key) (x .key) ≡ o → (x .key < y .key → ⊥) → (y .key < x .key → ⊥) → x .key ≡ y .key
-    same true e o g n m = absurd (n (ltb-true (x .key) (y .key) e))
-    same false e true g n m = absurd (m (ltb-true (y .key) (x .key) g))
-    same false e false g n m = omega (arith, ltb-false (x .key) (y .key) e, ltb-false (y .key) (x .key) g)
+  both-find : (x : Pair) (xs : List Pair) (y : Pair) (ys : List Pair) → x .key ≡ y .key → above (x .key) xs ≡ true → above (y .key) ys ≡ true → Finds xs ys → Finds (x ∷ xs) (y ∷ ys)
+  both-find x xs y ys e a b ih i j h =
+      let (g, i′) = all-cons (λ (z : Pair). f (z .key)) x xs i in
+      let j′ = all-cons (λ (z : Pair). f (z .key)) y ys j .1 in
+      let v : x .value ≡ y .value = value-is (x .value) (y .value) (sym (find-head x xs) ∙ h (x .key) g ∙ ap (λ (k : ℕ). find k (y ∷ ys)) e ∙ find-head y ys) in
+      ap₂ {C = List Pair} (λ (z : Pair) (zs : List Pair). z ∷ zs) (ap₂ (λ (k n : ℕ). record { key = k; value = n }) e v) (ih i′ j′ (λ k l. rest k l (eqb (x .key) k) refl))
+    where
+      rest : (k : ℕ) → f k ≡ true → (p : Bool) → eqb (x .key) k ≡ p → find k xs ≡ find k ys
+      rest k l true z =
+          let u : x .key ≡ k = eqb-true (x .key) k z in
+          ap (λ (n : ℕ). find n xs) (sym u) ∙ find-above (x .key) xs a ∙ sym (find-above (y .key) ys b) ∙ ap (λ (n : ℕ). find n ys) (sym e ∙ u)
+      rest k l false z =
+          let n : x .key ≡ k → ⊥ = eqb-false (x .key) k z in
+          sym (find-tail k x xs n) ∙ h k l ∙ find-tail k y ys (λ (u : y .key ≡ k). n (e ∙ u))
 
-    rest : x .key ≡ y .key → all (lt x) xs ≡ true → all (lt y) ys ≡ true → (k : ℕ) → f k ≡ true → (p : Bool) → eqb (x .key) k ≡ p → find k xs ≡ find k ys
-    rest e a b k g true z =
-        let u : x .key ≡ k = eqb-true (x .key) k z in
-        find-above k (x .key) xs (omega arith) a ∙ sym (find-above k (y .key) ys (omega arith) b)
-    rest e a b k g false z =
-        let n : x .key ≡ k → ⊥ = not-key z in
-        sym (find-tail k x xs n) ∙ h k g ∙ find-tail k y ys (λ (u : y .key ≡ k). n (e ∙ u))
-      where
-        not-key : eqb (x .key) k ≡ false → x .key ≡ k → ⊥
-        not-key z u = not-both (eqb (x .key) k) (eq-eqb (x .key) k u) z
+  -- Lists that stand by key, and find the same for each key that either has, are equal.
+  pub finds-equal : (us ws : List Pair) → rising us ≡ true → rising ws ≡ true → Finds us ws
+  finds-equal = by-merge Finds (λ i j h. refl)
+      (λ x xs ws a b ih i j h. absurd (not-some (x .value) (sym (sym (find-head x xs) ∙ h (x .key) (all-cons (λ (z : Pair). f (z .key)) x xs i .0) ∙ find-above (x .key) ws b))))
+      (λ us y ys a b ih i j h. absurd (not-some (y .value) (sym (find-above (y .key) us a) ∙ h (y .key) (all-cons (λ (z : Pair). f (z .key)) y ys j .0) ∙ find-head y ys)))
+      both-find
 
 -- ---- an insert undone by a delete
 

@@ -1,6 +1,6 @@
 -- `alike` meets its contract. Assumes nothing.
 use Rattle.differ.specs.Listing.{leftOf, from-end, from-on, same-start, same-not, same-on}
-use Rattle.differ.specs.Same.{samePairs}
+use Rattle.model.specs.Same.{samePairs}
 use Rattle.model.specs.declared.Delta.{Delta}
 use Rattle.model.specs.Layout.{decode}
 use Rattle.model.specs.Walk.{settings, keyLimit}
