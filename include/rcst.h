@@ -29,7 +29,8 @@
  *   11  key not alive (delete)
  *   12  the page rules need a page and none is free (insert, delete)
  *   13  the page rules need a 257th slot of the root directory (insert, delete)
- *   14  list holds fewer numbers than twice the settings found (range)
+ *   14  list holds fewer numbers than two for each setting found (range), or
+ *       four for each difference (difference)
  *
  * Every number but 0 leaves store and list untouched, byte for byte. After 12 or
  * 13 the update is still open: it may be committed as it is, or abandoned.
@@ -101,6 +102,17 @@ uint32_t rcst_lookup(const uint8_t *store, size_t length, uint32_t key, uint32_t
  */
 uint32_t rcst_range(const uint8_t *store, size_t length, uint32_t low, uint32_t high, uint32_t version, uint32_t *list, size_t room,
                     size_t *count);
+
+/*
+ * Finds what differs from version old to version new: any two versions that can
+ * be read, either may be the later one. Gives 0, 1 to 4, 6 or 14. With 0 the
+ * differences stand in the list, four numbers each, in key order: the key; 0 if
+ * it was added, 1 if it was removed, 2 if it has another value; its value at
+ * old; its value at new. A value is 0 where there is none. Nothing behind them
+ * is touched. *count is the number of differences with 0 and with 14, else 0.
+ */
+uint32_t rcst_difference(const uint8_t *store, size_t length, uint32_t old_version, uint32_t new_version, uint32_t *list, size_t room,
+                         size_t *count);
 
 #ifdef __cplusplus
 }

@@ -88,9 +88,41 @@ static void settings(void) {
     expect(memcmp(before, store, sizeof store) == 0, "every byte is what it was");
 }
 
+/* What changed between last month's release and this one. */
+static void differences(void) {
+    static uint8_t store[16 * RCST_PAGE_BYTES];
+    static const uint32_t signed_list[12] = {40, 2, 7, 9, 41, 1, 300, 0, 42, 0, 0, 5};
+    uint32_t list[13] = {0};
+    size_t count = 9;
+
+    rcst_fresh(store, sizeof store);
+    rcst_open(store, sizeof store);
+    rcst_insert(store, sizeof store, 40, 7);
+    rcst_insert(store, sizeof store, 41, 300);
+    rcst_insert(store, sizeof store, 43, 1);
+    expect(rcst_commit(store, sizeof store) == 0, "last month's release");
+    rcst_open(store, sizeof store);
+    rcst_delete(store, sizeof store, 40);
+    rcst_insert(store, sizeof store, 40, 9);
+    rcst_delete(store, sizeof store, 41);
+    rcst_insert(store, sizeof store, 42, 5);
+    expect(rcst_commit(store, sizeof store) == 0, "this month's release");
+    list[12] = 77;
+    expect(rcst_difference(store, sizeof store, 1, 2, list, 11, &count) == 14 && count == 3, "eleven numbers are too few for three differences");
+    expect(list[0] == 0, "and nothing is written");
+    expect(rcst_difference(store, sizeof store, 1, 2, list, 13, &count) == 0 && count == 3, "three differences");
+    expect(memcmp(list, signed_list, sizeof signed_list) == 0, "changed, removed, added; by key");
+    expect(list[12] == 77, "and nothing behind is touched");
+    expect(rcst_difference(store, sizeof store, 2, 1, list, 13, &count) == 0 && list[5] == 0 && list[7] == 300, "the other way round 41 is added");
+    expect(rcst_difference(store, sizeof store, 2, 2, list, 13, &count) == 0 && count == 0, "nothing differs from itself");
+    expect(rcst_difference(store, sizeof store, 3, 1, list, 13, &count) == 6 && count == 0, "a version above last");
+    expect(rcst_difference(store, sizeof store, 3, 3, list, 13, &count) == 6, "also twice the same");
+}
+
 int main(void) {
     fresh_and_check();
     releases();
     settings();
+    differences();
     return failures != 0;
 }

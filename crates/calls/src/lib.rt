@@ -1,7 +1,9 @@
 // The calls, for any bytes and any numbers lent: each is its guard, which judges the store and then goes through the call's
 // refusals in order, and a core that rests on a sound store.
+mod differing;
 mod updating;
 
+pub use differing::difference;
 use model::Limits;
 use model::Looked;
 pub use updating::delete;
@@ -9,12 +11,11 @@ pub use updating::insert;
 use walk::Counted;
 ghost use mathlib.Core.Path.{_≡_};
 ghost use Rattle.model.specs.Limits.{Edition};
-ghost use Rattle.model.specs.Lent.{openLent, commitLent, abandonLent, lookupLent, rangeLent, differenceLent};
+ghost use Rattle.model.specs.Lent.{openLent, commitLent, abandonLent, lookupLent, rangeLent};
 ghost use Rattle.walk.specs.Counted.{withList};
 ghost use Rattle.calls.specs.Guard.{guarded};
 ghost use Rattle.calls.specs.Reading.{reading, badRange};
 ghost use Rattle.calls.specs.Turning.{opening, closing, ended};
-ghost use Rattle.calls.specs.Differing.{later};
 
 // "Keys are 0 to 16,777,215".
 const KEYS: u32 = 16777216;
@@ -35,7 +36,7 @@ fn bad_range(low: u32, high: u32) -> bool
     high < low
 }
 
-// The guard of lookup and range: judging, then 5 where the keys are wrong, then 6. Offered to callers that read many times from a
+// The guard of lookup, range and difference: judging, then 5 where the keys are wrong, then 6. Offered to callers that read many times from a
 // store that nobody writes in between.
 pub fn guard_reading(s: &[u8], l: Limits, bad: bool, v: u32) -> u32
     requires { ⌜ Edition l ⌝ }
@@ -154,30 +155,4 @@ pub fn range(s: &[u8], low: u32, high: u32, v: u32, list: &mut [u32]) -> Counted
         };
     }
     walk::range(s, l, low, high, v, list)
-}
-
-// The later of two versions.
-fn later(u: u32, v: u32) -> u32
-    ensures { λ r. ⌜ r ≡ later u v ⌝ }
-{
-    if u < v {
-        return v;
-    }
-    u
-}
-
-// What differs from version u to version v, in key order: the count, and key, kind (0 added, 1 removed, 2 changed), old value, new
-// value of each in the caller's list.
-pub fn difference(s: &[u8], u: u32, v: u32, list: &mut [u32]) -> Counted
-    ensures { λ r. ⌜ withList r (now (list .exit)) ≡ differenceLent 4 (now (s .entry)) u v (now (list .entry)) ⌝ }
-{
-    let l = model::edition_one();
-    let n = guard_reading(s, l, false, later(u, v));
-    if n != 0 {
-        return Counted {
-            number: n,
-            count: 0,
-        };
-    }
-    differ::difference(s, l, u, v, list)
 }

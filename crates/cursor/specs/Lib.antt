@@ -1,3 +1,4 @@
 pub mod First
 pub mod Reaches
 pub mod Leaf
+pub mod Stretch

@@ -50,7 +50,7 @@ fn step(s: &[u8], l: Limits, v: u32, key: u32, u: Under, up: usize) -> Under
 }
 
 // The leaf for a key.
-fn leaf_for(s: &[u8], l: Limits, v: u32, key: u32) -> Under
+pub fn leaf_for(s: &[u8], l: Limits, v: u32, key: u32) -> Under
     requires { ⌜ Readable l (now s) v × (key < keyLimit) ⌝ }
     ensures { λ r. ⌜ Below l (now (s .entry)) v 0 key r ⌝ }
 {

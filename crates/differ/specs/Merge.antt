@@ -3,22 +3,21 @@
 use Prim.Native.Nat.{ℕ, _+_, _≤_, _<_}
 use native.Mathlib.Omega.{arith}
 use mathlib.Core.Bool.{Bool, true, false}
-use mathlib.Core.Option.{Option, some}
 use mathlib.Core.Path.{_≡_, refl, ap, ap₂, sym, _∙_, subst}
 use mathlib.Core.List.{List, [], _∷_, _++_, map}
 use lib.Dec.{leb, ltb, eqb}
-use borrow.Author.Tests.{leb-true, leb-false, ltb-true, ltb-false, lt-ltb, le-ltb, le-leb, lt-leb, eq-eqb, ne-eqb}
-use Rattle.model.specs.Basic.{those, keep, pick}
+use borrow.Author.Tests.{leb-true, leb-false, ltb-true, ltb-false, lt-ltb, le-ltb, le-leb, lt-leb}
+use Rattle.model.specs.Basic.{keep, pick}
 use Rattle.model.specs.declared.Pair.{Pair}
 use Rattle.model.specs.Entry.{pair, within}
 use Rattle.model.specs.declared.Delta.{Delta}
 use Rattle.model.specs.Walk.{keyLimit}
-use Rattle.model.specs.Differ.{added, removed, changed, against, differ}
+use Rattle.model.specs.Differ.{added, removed, changed, differ}
 use Rattle.model.proofs.Lists.{both-true, both-intro, all-cons}
 use Rattle.model.proofs.Local.{inRange}
 use Rattle.model.proofs.Lookups.{rising}
 use Rattle.model.proofs.Edit.{rising-those}
-use Rattle.model.proofs.Merging.{above, above-lower, above-cons, old-first, new-first, both-first}
+use Rattle.model.proofs.Merging.{above, above-lower, old-first, new-first, both-first}
 use Rattle.cursor.specs.First.{atOrAbove, leads, above-none, above-all, above-in}
 
 -- what two cursors say of the smaller of their keys: 3 where both have it with one value

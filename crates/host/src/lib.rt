@@ -4,7 +4,7 @@ ghost use mathlib.Core.Path.{_≡_};
 ghost use Rattle.model.specs.Layout.{bit};
 ghost use Rattle.model.specs.Judged.{judged};
 ghost use Rattle.model.specs.Calls.{lookedNumber, lookedFound, lookedValue};
-ghost use Rattle.model.specs.Lent.{freshLent, openLent, insertLent, deleteLent, commitLent, abandonLent, lookupLent, rangeLent};
+ghost use Rattle.model.specs.Lent.{freshLent, openLent, insertLent, deleteLent, commitLent, abandonLent, lookupLent, rangeLent, differenceLent};
 ghost use Rattle.calls.specs.Turning.{ended};
 
 // Makes a fresh store.
@@ -131,6 +131,24 @@ pub extern "C" fn rcst_range(
     ensures written { λ _. ⌜ now (list .exit) ≡ rangeLent 4 (now (store .entry)) low high version (now (list .entry)) .list ⌝ }
 {
     let r = calls::range(store, low, high, version, list);
+    *count = r.count;
+    r.number
+}
+
+// What differs from version `old` to version `new` goes to `list`, the number of differences to `count`.
+#[no_mangle]
+pub extern "C" fn rcst_difference(
+    store: &[u8],
+    old: u32,
+    new: u32,
+    list: &mut [u32],
+    count: &mut usize,
+) -> u32
+    ensures number { λ r. ⌜ r ≡ differenceLent 4 (now (store .entry)) old new (now (list .entry)) .number ⌝ }
+    ensures differences { λ _. ⌜ now (count .exit) ≡ differenceLent 4 (now (store .entry)) old new (now (list .entry)) .count ⌝ }
+    ensures written { λ _. ⌜ now (list .exit) ≡ differenceLent 4 (now (store .entry)) old new (now (list .entry)) .list ⌝ }
+{
+    let r = calls::difference(store, old, new, list);
     *count = r.count;
     r.number
 }

@@ -6,18 +6,17 @@ use mathlib.Core.Bool.{Bool, true, false, _||_, not}
 use mathlib.Core.Option.{Option, none, some}
 use mathlib.Core.Path.{_≡_, refl, ap, ap₂, sym, _∙_, subst}
 use mathlib.Core.List.{List, [], _∷_, _++_, map}
-use lib.Dec.{leb, ltb, eqb}
-use borrow.Author.Tests.{ltb-true, lt-ltb, le-ltb, eqb-true, eqb-false, eq-eqb, ne-eqb}
-use Rattle.model.specs.Basic.{all, any, those, keep, pick, inOrder, isEmpty}
+use lib.Dec.{ltb, eqb}
+use borrow.Author.Tests.{ltb-true, le-ltb, eqb-true, eqb-false, eq-eqb, ne-eqb}
+use Rattle.model.specs.Basic.{all, those, keep, pick, inOrder, isEmpty}
 use Rattle.model.specs.declared.Pair.{Pair}
 use Rattle.model.specs.declared.Delta.{Delta}
-use Rattle.model.specs.Entry.{pair, enterPair, within}
+use Rattle.model.specs.Entry.{pair, enterPair}
 use Rattle.model.specs.Walk.{find}
 use Rattle.model.specs.Differ.{added, removed, changed, against, differ, of, names, saysOf, appliedOne, apply, exchanged}
 use Rattle.model.proofs.Lists.{both-true, both-intro, all-cons}
-use Rattle.model.proofs.Local.{inRange}
 use Rattle.model.proofs.Lookups.{rising}
-use Rattle.model.proofs.Merging.{above, above-lower, find-above, old-first, new-first, both-first, by-merge}
+use Rattle.model.proofs.Merging.{above, find-above, old-first, new-first, both-first, by-merge}
 
 -- ---- a test of every difference, from a test of every key
 
@@ -39,7 +38,7 @@ module _ (f : ℕ → Bool) where
       (λ x xs ws a b ih i j. let (p, q) = all-cons (λ (z : Pair). f (z .key)) x xs i in subst Keys (sym (old-first x xs ws b)) (both-intro (f (x .key)) _ p (ih q j)))
       (λ us y ys a b ih i j. let (p, q) = all-cons (λ (z : Pair). f (z .key)) y ys j in subst Keys (sym (new-first us y ys a)) (both-intro (f (y .key)) _ p (ih i q)))
       (λ x xs y ys e a b ih i j. let (p, q) = all-cons (λ (z : Pair). f (z .key)) x xs i in
-          subst Keys (sym (both-first x xs y ys e b)) (keys-against x (some (y .value)) (differ xs ys) p (ih q (all-cons (λ (z : Pair). f (z .key)) y ys j .1))))
+      subst Keys (sym (both-first x xs y ys e b)) (keys-against x (some (y .value)) (differ xs ys) p (ih q (all-cons (λ (z : Pair). f (z .key)) y ys j .1))))
 
 -- ---- "in key order", and no key twice
 
@@ -53,14 +52,14 @@ pub in-order : (us ws : List Pair) → rising us ≡ true → rising ws ≡ true
 in-order us ws r q = by-merge (λ us ws. rising us ≡ true → rising ws ≡ true → Stand (differ us ws))
     (λ i j. refl)
     (λ x xs ws a b ih i j. let p = both-true (above (x .key) xs) (rising xs) i .1 in
-        subst Stand (sym (old-first x xs ws b)) (both-intro _ (inOrder before (differ xs ws)) (keys-so (ltb (x .key)) xs ws p j a b) (ih p j)))
+    subst Stand (sym (old-first x xs ws b)) (both-intro _ (inOrder before (differ xs ws)) (keys-so (ltb (x .key)) xs ws p j a b) (ih p j)))
     (λ us y ys a b ih i j. let p = both-true (above (y .key) ys) (rising ys) j .1 in
-        subst Stand (sym (new-first us y ys a)) (both-intro _ (inOrder before (differ us ys)) (keys-so (ltb (y .key)) us ys i p a b) (ih i p)))
+    subst Stand (sym (new-first us y ys a)) (both-intro _ (inOrder before (differ us ys)) (keys-so (ltb (y .key)) us ys i p a b) (ih i p)))
     (λ x xs y ys e a b ih i j.
-        let p = both-true (above (x .key) xs) (rising xs) i .1 in
-        let o = both-true (above (y .key) ys) (rising ys) j .1 in
-        let c : above (x .key) ys ≡ true = rw e b in
-        subst Stand (sym (both-first x xs y ys e b)) (at x (y .value) (differ xs ys) (keys-so (ltb (x .key)) xs ys p o a c) (ih p o) (eqb (x .value) (y .value))))
+    let p = both-true (above (x .key) xs) (rising xs) i .1 in
+    let o = both-true (above (y .key) ys) (rising ys) j .1 in
+    let c : above (x .key) ys ≡ true = rw e b in
+    subst Stand (sym (both-first x xs y ys e b)) (at x (y .value) (differ xs ys) (keys-so (ltb (x .key)) xs ys p o a c) (ih p o) (eqb (x .value) (y .value))))
     us ws r q r q
   where
     at : (x : Pair) (z : ℕ) (ds : List Delta) → all (λ (d : Delta). ltb (x .key) (d .key)) ds ≡ true → Stand ds → (b : Bool) → Stand (pick b [] (changed x z ∷ []) ++ ds)
@@ -217,7 +216,7 @@ applied us ws r q = by-merge (λ us ws. rising us ≡ true → rising ws ≡ tru
         at h true f = apply-behind x (differ xs ys) xs h ∙ ap (λ (z : ℕ). pair (x .key) z ∷ apply (differ xs ys) xs) (eqb-true (x .value) (y .value) f)
         at h false f =
             let g : appliedOne (changed x (y .value)) (x ∷ xs) ≡ pair (x .key) (y .value) ∷ xs =
-                rw (eq-eqb (x .key) (x .key) refl) (ap (enterPair (pair (x .key) (y .value))) (without (x .key) xs a) ∙ in-front (pair (x .key) (y .value)) xs a) in
+            rw (eq-eqb (x .key) (x .key) refl) (ap (enterPair (pair (x .key) (y .value))) (without (x .key) xs a) ∙ in-front (pair (x .key) (y .value)) xs a) in
             ap (apply (differ xs ys)) g ∙ apply-behind (pair (x .key) (y .value)) (differ xs ys) xs h
 
 -- ---- equal settings, and the two sides exchanged

@@ -27,7 +27,7 @@ all-enterPair f p y (u ∷ us) ok =
     at true here rest ih = both-intro (f p) _ y (both-intro (f u) _ here rest)
     at false here rest ih = both-intro (f u) _ here ih
 
-all-those : (f g : Pair → Bool) (us : List Pair) → all f us ≡ true → all f (those g us) ≡ true
+pub all-those : (f g : Pair → Bool) (us : List Pair) → all f us ≡ true → all f (those g us) ≡ true
 all-those f g [] ok = refl
 all-those f g (u ∷ us) ok = at (g u) (all-cons f u us ok .0) (all-those f g us (all-cons f u us ok .1))
   where

@@ -1,5 +1,5 @@
 -- The calls on lent bytes, taken as one. `unique`: no second outcome meets a call's contract. `refused`: every number but 0 leaves
--- store and list untouched. `blank`: with such a number every result is 0, but for check's rule with 4 and with 14 the count of a range or a difference.
+-- store and list untouched. `blank`: with such a number every result is 0, but for check's rule with 4 and the count of a call that tells a list with 14.
 -- Assumes nothing.
 use Prim.Native.Nat.{ℕ, zero, suc, _*_}
 use mathlib.Core.Bool.{Bool, true, false}
@@ -22,7 +22,6 @@ use Rattle.model.specs.Climb.{Result}
 use Rattle.model.specs.Calls
 use Rattle.model.specs.Calls.{lookedNumber, lookedFound, lookedValue, Ranged, rule, firstOf}
 use Rattle.model.specs.Told
-use Rattle.model.specs.Told.{toldIn, toldBy}
 use Rattle.model.specs.Differ
 use Rattle.model.specs.Ended.{Asked, toFresh, toCheck, toOpen, toCommit, toAbandon, toInsert, toDelete, toLookup, toRange, toDifference, Ended, ended, Meets, Untouched, Named, Zeros}
 use Rattle.model.specs.Lent
@@ -79,24 +78,24 @@ module _ (least : ℕ) (b : List ℕ) (lo hi v : ℕ) (ns : List ℕ) where
       at zero = by-same _ _
       at (suc n) = λ h. refl
 
--- a call that tells
-module _ {A : Type 0} (numbers : A → List ℕ) (each : ℕ) where
-  told-in-same : (ns : List ℕ) (n : ℕ) (xs : List A) → ListSame ns (listed ns (toldIn numbers n xs))
+-- a call that tells a list
+module _ {A : Type 0} (numbers : A → List ℕ) (each : ℕ) (ns : List ℕ) where
+  told-in-same : (n : ℕ) (xs : List A) → ListSame ns (listed ns (Told.toldIn numbers n xs))
   unfolding Told.toldIn
-  told-in-same ns zero xs h = absurd (h refl)
-  told-in-same ns (suc n) xs h = refl
+  told-in-same zero xs h = absurd (h refl)
+  told-in-same (suc n) xs h = refl
 
-  told-same : (ns : List ℕ) (n : ℕ) (xs : List A) → ListSame ns (listed ns (toldBy numbers each n (length ns) xs))
+  told-same : (n : ℕ) (xs : List A) → ListSame ns (listed ns (Told.toldBy numbers each n (length ns) xs))
   unfolding Told.toldBy
-  told-same ns zero xs = told-in-same ns _ xs
-  told-same ns (suc n) xs = λ h. refl
+  told-same zero xs = told-in-same _ xs
+  told-same (suc n) xs = λ h. refl
 
 difference-same : (least : ℕ) (b : List ℕ) (u v : ℕ) (ns : List ℕ) → ListSame ns (differenceLent least b u v ns)
 unfolding Lent.differenceLent Differ.difference
 difference-same least b u v ns = at (judged least b .number)
   where
     at : (n : ℕ) → ListSame ns (judgedFirst n (λ m. record { number = m; count = 0; list = ns }) (listed ns (Differ.difference (decode least b) u v (length ns))))
-    at zero = told-same Differ.deltaNumbers 4 ns _ _
+    at zero = told-same _ 4 ns _ _
     at (suc n) = λ h. refl
 
 leaves : (least : ℕ) (c : Asked) (b ns : List ℕ) → ended least c b ns .number ≢ 0 → Untouched b ns (ended least c b ns)
@@ -162,11 +161,11 @@ range-blank least b lo hi v ns = at (judged least b .number)
     at zero = count-blank _ (length ns) _
     at (suc n) = λ h k. refl
 
-told-blank : {A : Type 0} (numbers : A → List ℕ) (each n room : ℕ) (xs : List A) → CountBlank (toldBy numbers each n room xs)
+told-blank : {A : Type 0} (numbers : A → List ℕ) (each n room : ℕ) (xs : List A) → CountBlank (Told.toldBy numbers each n room xs)
 unfolding Told.toldBy Told.toldIn
 told-blank numbers each zero room xs h k = at (ltb room (each * length xs)) h k
   where
-    at : (t : Bool) → CountBlank (toldIn numbers (firstOf (rule 14 t ∷ [])) xs)
+    at : (t : Bool) → CountBlank (Told.toldIn numbers (firstOf (rule 14 t ∷ [])) xs)
     at true h k = absurd (k refl)
     at false h k = absurd (h refl)
 told-blank numbers each (suc n) room xs h k = refl
@@ -176,7 +175,7 @@ unfolding Lent.differenceLent Differ.difference
 difference-blank least b u v ns = at (judged least b .number)
   where
     at : (n : ℕ) → ListedBlank (judgedFirst n (λ m. record { number = m; count = 0; list = ns }) (listed ns (Differ.difference (decode least b) u v (length ns))))
-    at zero = told-blank Differ.deltaNumbers 4 _ (length ns) _
+    at zero = told-blank _ 4 _ (length ns) _
     at (suc n) = λ h k. refl
 
 zero-one : (x : ℕ) → x ≡ 0 → Zeros (x ∷ [])

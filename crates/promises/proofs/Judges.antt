@@ -12,7 +12,6 @@ use lib.ListN.{length}
 use Rattle.model.specs.Basic.{pick}
 use Rattle.model.specs.declared.Looked.the-variants.{Refused as Stopped}
 use Rattle.model.specs.Store.{Store, fresh, last}
-use Rattle.model.specs.declared.Delta.{Delta}
 use Rattle.model.specs.Walk.{keyLimit, lookup, rangeOf, settings}
 use Rattle.model.specs.Sound.{sound}
 use Rattle.model.specs.Layout.{sizeOf, encode, decode}
@@ -106,20 +105,22 @@ range-past least b lo hi v ns = at (judged least b .number)
     at zero = ranged-past (decode least b) lo hi v (length ns)
     at (suc j) = refl
 
+-- a call that tells a list, where no number before 14 is given
+told-past : {A : Type 0} (numbers : A → List ℕ) (each room : ℕ) (xs : List A) → Past 0 (Told.toldBy numbers each 0 room xs .number)
+unfolding Told.toldBy Told.toldIn
+told-past numbers each room xs = at (ltb room (each * length xs))
+  where
+    at : (t : Bool) → Past 0 (Told.toldIn numbers (firstOf (rule 14 t ∷ [])) xs .number)
+    at true = inr (omega arith)
+    at false = inl refl
+
 differing-past : (s : Store) (u v room : ℕ) → Past 0 (difference s u v room .number)
-unfolding Differ.difference Told.toldBy Told.toldIn
+unfolding Differ.difference Told.toldBy
 differing-past s u v room = at (tooLate s u v)
   where
-    ds : List Delta
-    ds = differ (settings s u) (settings s v)
-
-    list : (t : Bool) → Past 0 (Told.toldIn deltaNumbers (firstOf (rule 14 t ∷ [])) ds .number)
-    list true = inr (omega arith)
-    list false = inl refl
-
-    at : (p : Bool) → Past 0 (Told.toldBy deltaNumbers 4 (firstOf (rule 6 p ∷ [])) room ds .number)
+    at : (p : Bool) → Past 0 (Told.toldBy deltaNumbers 4 (firstOf (rule 6 p ∷ [])) room (differ (settings s u) (settings s v)) .number)
     at true = inr (omega arith)
-    at false = list (ltb room (4 * length ds))
+    at false = told-past deltaNumbers 4 room (differ (settings s u) (settings s v))
 
 difference-past : (least : ℕ) (b : List ℕ) (u v : ℕ) (ns : List ℕ) → Past (judged least b .number) (differenceLent least b u v ns .number)
 unfolding Lent.differenceLent

@@ -9,6 +9,7 @@ pub mod Answering
 pub mod Changed
 pub mod Projected
 pub mod Stays
+pub mod Differences
 pub mod Restored
 pub mod Replaying
 pub mod Fakes

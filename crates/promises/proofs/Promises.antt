@@ -1,4 +1,4 @@
--- The promises, each under its name: what it says stands in specs/Demand1, Demand2, Demand3, Replayed, Releases and Fakes.
+-- The promises, each under its name: what it says stands in specs/Demand1, Demand2, Demand3, Differences, Releases, Replayed and Fakes.
 -- Assumes nothing.
 use Prim.Native.Nat.{ℕ}
 use native.Mathlib.Omega.{arith}
@@ -30,6 +30,7 @@ use Rattle.promises.specs.Beside.{along, fromFresh, fromLent}
 use Rattle.promises.specs.Demand1.{Unique, Refused, Blank, Judges, Untrusted, OneForm, FreshMade}
 use Rattle.promises.specs.Demand2.{EncodedSound, AcceptedSound, SoundStays, FreshSound, History, HistoryLent, Found, SettingsChange, AnswersStay, ViewsStay, ByTheRules, ReadsOnly, Balanced, Levels, Lacking}
 use Rattle.promises.specs.Demand3.{Abandoned}
+use Rattle.promises.specs.Differences.{DifferenceGiven, DifferenceSays, DifferenceNone, DifferenceExchanged, DifferenceStays}
 use Rattle.promises.specs.Replayed.{TableLent}
 use Rattle.promises.specs.Releases.{EmptyReleases}
 use Rattle.promises.specs.Fakes.{FakesStopped}
@@ -40,6 +41,7 @@ use Rattle.promises.proofs.Agreed.{many-turns, fresh-agreed, lent-agree
 use Rattle.promises.proofs.Answering.{answers}
 use Rattle.promises.proofs.Changed as changed
 use Rattle.promises.proofs.Stays as stays
+use Rattle.promises.proofs.Differences as differ
 use Rattle.promises.proofs.Restored as restored
 use Rattle.promises.proofs.Replaying as replaying
 use Rattle.promises.proofs.Releasing as releasing
@@ -156,9 +158,25 @@ table = replaying.table-lent
 pub abandoned : Abandoned
 abandoned = restored.abandoned
 
--- ---- requests of document 02
+-- ---- what differs between two versions
 
--- 2026-05
+pub difference-given : DifferenceGiven
+difference-given = differ.difference-given
+
+pub difference-says : DifferenceSays
+difference-says = differ.difference-says
+
+pub difference-none : DifferenceNone
+difference-none = differ.difference-none
+
+pub difference-exchanged : DifferenceExchanged
+difference-exchanged = differ.difference-exchanged
+
+pub difference-stays : DifferenceStays
+difference-stays = differ.difference-stays
+
+-- ---- an empty release is no release
+
 pub empty-releases : EmptyReleases
 empty-releases = releasing.empty-releases
 

@@ -65,7 +65,7 @@ module _ (least : ℕ) (four : 4 ≤ least) (eight : least ≤ 8) (b : List ℕ)
   abbrev b′ : List ℕ
   b′ = runBytes least b ts
 
-  later : Leaves least b (together least (lent (decode least b)) (callsOf ts) .store) (runBytes least b ts)
+  pub later : Leaves least b (together least (lent (decode least b)) (callsOf ts) .store) (runBytes least b ts)
   later = ran least four eight ts m f b ok (lent (decode least b)) refl
 
   goes : Onward (decode least b) (decode least (runBytes least b ts))
@@ -78,13 +78,13 @@ module _ (least : ℕ) (four : 4 ≤ least) (eight : least ≤ 8) (b : List ℕ)
   low false n = omega arith
 
   module _ (v : ℕ) (h : v ≤ decode least b .current) where
-    view : Alike (decode least b) v (decode least (runBytes least b ts)) v
+    pub view : Alike (decode least b) v (decode least (runBytes least b ts)) v
     view = goes .steady v h
 
-    old : v ≤ last (decode least b)
+    pub old : v ≤ last (decode least b)
     old = omega (arith, low (decode least b .opened) (decode least b .current))
 
-    new : v ≤ last (decode least (runBytes least b ts))
+    pub new : v ≤ last (decode least (runBytes least b ts))
     new = omega (arith, goes .current, low (decode least (runBytes least b ts) .opened) (decode least (runBytes least b ts) .current))
 
     same-view : SameView (decode least b) (decode least (runBytes least b ts)) v

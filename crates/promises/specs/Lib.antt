@@ -6,6 +6,7 @@ pub mod Views
 pub mod Demand1
 pub mod Demand2
 pub mod Demand3
+pub mod Differences
 pub mod Replayed
 pub mod Fakes
 pub mod Releases

@@ -29,7 +29,7 @@ pub struct Query {
 }
 
 // Whether an entry is alive at v.
-fn alive_at(e: Entry, v: u32) -> bool
+pub fn alive_at(e: Entry, v: u32) -> bool
     ensures { λ r. ⌜ r ≡ liveAt v e ⌝ }
 {
     if v < e.start {

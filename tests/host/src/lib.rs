@@ -34,6 +34,15 @@ mod c {
             room: usize,
             count: *mut usize,
         ) -> u32;
+        pub fn rcst_difference(
+            store: *const u8,
+            length: usize,
+            old: u32,
+            new: u32,
+            list: *mut u32,
+            room: usize,
+            count: *mut usize,
+        ) -> u32;
     }
 }
 
@@ -100,6 +109,25 @@ pub fn range(store: &[u8], low: u32, high: u32, version: u32, list: &mut [u32]) 
             low,
             high,
             version,
+            list.as_mut_ptr(),
+            list.len(),
+            &mut count,
+        )
+    };
+    (number, count)
+}
+
+/// The number and the count of differences from version `old` to version
+/// `new`; these go to the list: key, kind (0 added, 1 removed, 2 changed), old
+/// value and new value of each.
+pub fn difference(store: &[u8], old: u32, new: u32, list: &mut [u32]) -> (u32, usize) {
+    let mut count = 0;
+    let number = unsafe {
+        c::rcst_difference(
+            store.as_ptr(),
+            store.len(),
+            old,
+            new,
             list.as_mut_ptr(),
             list.len(),
             &mut count,

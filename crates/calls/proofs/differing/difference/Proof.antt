@@ -4,9 +4,8 @@ use Rattle.calls.specs.Reading.{reads}
 use Rattle.calls.specs.Guard.{four-is, edition}
 use mathlib.Core.Path.{sym, _∙_}
 use borrow.Author.Needs.{needs}
-use Rattle.calls.proofs.difference.Statement.{statement}
-use Rattle.calls.proofs.difference.Tie as tie
-use Rattle.calls.proofs.difference.Reads as reads
+use Rattle.calls.proofs.differing.difference.Statement.{statement}
+use Rattle.calls.proofs.differing.difference.Tie as tie
 
 edition-one-requires : tie.Need-edition-one-requires
 edition-one-requires c κs = search needs
@@ -21,7 +20,7 @@ returns : tie.Need-returns
 returns c =
     let a = c .before .before .before .before .before .before .args in
     let g = rw (four-is (c .before .before .before .edition-one .result) (c .before .before .before .edition-one .ensures), c .before .before .later .ensures) at (c .before .guard-reading .ensures) in
-    difference-refused 4 (a .s .now) (a .u) (a .v) (a .list .now) (c .before .guard-reading .result) g (c .if1 .taken)
+    difference-refused 4 (a .s .now) (a .old) (a .new) (a .list .now) (c .before .guard-reading .result) g (c .if1 .taken)
 
 difference-requires : tie.Need-difference-requires
 difference-requires c κs =
@@ -29,7 +28,7 @@ difference-requires c κs =
     let d = edition (c .before .before .before .before .edition-one .result) (c .before .before .before .before .edition-one .ensures) in
     let z = sym (c .before .before .guard-reading .ensures) ∙ c .before .if1 .left in
     let r = rw (c .before .before .before .later .ensures) at (reads d (a .s .now) _ _ z) in
-    (reads-old (a .u) (a .v) r, reads-new (a .u) (a .v) r)
+    (reads-old (a .old) (a .new) r, reads-new (a .old) (a .new) r)
 
 same-length : tie.Need-same-length
 same-length c = search needs
@@ -39,7 +38,7 @@ returns-2 c =
     let a = c .before .before .before .before .before .before .before .before .before .before .args in
     let q = four-is (c .before .before .before .before .before .before .before .edition-one .result) (c .before .before .before .before .before .before .before .edition-one .ensures) in
     let g = rw (q, c .before .before .before .before .before .before .later .ensures) at (c .before .before .before .before .before .guard-reading .ensures) in
-    rw q at (c .before .before .difference .ensures) ∙ difference-done 4 (a .s .now) (a .u) (a .v) (a .list .now) (c .before .before .before .before .before .guard-reading .result) g (c .before .before .before .before .if1 .left)
+    rw q at (c .before .before .difference .ensures) ∙ difference-done 4 (a .s .now) (a .old) (a .new) (a .list .now) (c .before .before .before .before .before .guard-reading .result) g (c .before .before .before .before .if1 .left)
 
 pub difference-spec : {M : Type 1} → statement M
 difference-spec =

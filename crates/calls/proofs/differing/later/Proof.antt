@@ -1,7 +1,7 @@
 -- `later` meets its contract. Assumes nothing.
 use borrow.Author.Tests.{lt-ltb, le-ltb}
-use Rattle.calls.proofs.later.Statement.{statement}
-use Rattle.calls.proofs.later.Tie as tie
+use Rattle.calls.proofs.differing.later.Statement.{statement}
+use Rattle.calls.proofs.differing.later.Tie as tie
 
 returns : tie.Need-returns
 returns c = simp (lt-ltb _ _ (c .if1 .taken))
