@@ -1,5 +1,6 @@
 pub mod Guard
 pub mod Reading
 pub mod Turning
+pub mod Committing
 pub mod Updating
 pub mod Differing

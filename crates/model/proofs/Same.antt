@@ -57,8 +57,8 @@ same-none = by-merge (λ us ws. samePairs us ws ≡ isEmpty (differ us ws)) refl
     (λ x xs ws a b ih. old-alone x xs ws b ∙ sym (ap (λ (ds : List Delta). isEmpty ds) (old-first x xs ws b)))
     (λ us y ys a b ih. new-alone us y ys a ∙ sym (ap (λ (ds : List Delta). isEmpty ds) (new-first us y ys a)))
     (λ x xs y ys e a b ih.
-        ap (λ (c : Bool). c && (eqb (x .value) (y .value) && samePairs xs ys)) (eq-eqb (x .key) (y .key) e)
-        ∙ values x xs y ys (eqb (x .value) (y .value)) ih ∙ sym (ap (λ (ds : List Delta). isEmpty ds) (both-first x xs y ys e b)))
+    ap (λ (c : Bool). c && (eqb (x .value) (y .value) && samePairs xs ys)) (eq-eqb (x .key) (y .key) e)
+    ∙ values x xs y ys (eqb (x .value) (y .value)) ih ∙ sym (ap (λ (ds : List Delta). isEmpty ds) (both-first x xs y ys e b)))
   where
     values : (x : Pair) (xs : List Pair) (y : Pair) (ys : List Pair) (c : Bool) → samePairs xs ys ≡ isEmpty (differ xs ys)
         → (c && samePairs xs ys) ≡ isEmpty (pick c [] (changed x (y .value) ∷ []) ++ differ xs ys)

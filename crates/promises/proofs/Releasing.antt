@@ -1,16 +1,17 @@
 -- 15 is given exactly when the open version's settings equal the current version's, key for key.
 -- Assumes nothing.
-use Prim.Native.Nat.{ℕ, zero, suc, _≤_, _<_}
+use Prim.Native.Nat.{ℕ, zero, suc, _*_, _≤_, _<_}
 use native.Mathlib.Omega.{arith}
 use mathlib.Core.Bool.{Bool, true, false, not}
 use mathlib.Core.Path.{_≡_, refl, ap, ap₂, sym, _∙_, subst}
 use mathlib.Core.Option.{Option, none, some}
 use mathlib.Core.List.{List, [], _∷_}
 use lib.Dec.{leb, ltb, eqb}
-use lib.ListN.{getD}
-use borrow.Author.Tests.{ltb-true, lt-ltb, le-ltb, lt-leb, eq-eqb, ne-eqb}
-use Rattle.model.specs.Basic.{pick, those}
+use lib.ListN.{length, getD}
+use borrow.Author.Tests.{ltb-true, ltb-false, lt-ltb, le-ltb, lt-leb, eq-eqb, ne-eqb}
+use Rattle.model.specs.Basic.{those, isEmpty}
 use Rattle.model.specs.declared.Pair.{Pair}
+use Rattle.model.specs.declared.Delta.{Delta}
 use Rattle.model.specs.Entry.{pair, within, enterPair}
 use Rattle.model.specs.Store.{Store, next, last, lastOf}
 use Rattle.model.specs.Walk.{keyLimit, find, settings}
@@ -20,23 +21,25 @@ use Rattle.model.specs.Judged.{judged}
 use Rattle.model.specs.Calls.{isSome, unchanged, rule, firstOf, lookedAt, lookedBy, lookedFound, lookedValue}
 use Rattle.model.specs.Histories.{commits}
 use Rattle.model.specs.Settings.{Machine, edited}
-use Rattle.model.specs.Ended.{toCommit, toInsert, toDelete, toLookup, Ended, ofLooked, ended}
+use Rattle.model.specs.Ended.{toCommit, toInsert, toDelete, toLookup, toDifference, Ended, ofLooked, ended}
 use Rattle.model.proofs.Lists.{both-true}
 use Rattle.model.proofs.Members.{not-both}
 use Rattle.model.proofs.Lookups.{settings-rise, settings-low}
-use Rattle.model.proofs.Same.{same-equal, equal-same, finds-equal, enter-undone}
+use Rattle.model.proofs.Same.{same-equal, equal-same, same-none, finds-equal, enter-undone}
 use Rattle.model.proofs.Unique.{refused}
 use Rattle.promises.specs.Accepts.{Accepts}
 use Rattle.promises.specs.Runs.{Turn}
 use Rattle.promises.specs.Beside.{Beside, whenDone, stepped, onward, fromLent}
 use Rattle.promises.specs.Answers.{commitTests, lookupTests, lastIn, lookedIn, aliveIn, unchangedIn, Gives}
 use Rattle.promises.specs.Views.{SaysSame}
-use Rattle.promises.specs.Releases.{Opened, Equal, Commits, ExactlyWhen, KeyForKey, UndoneInsert, EmptyReleases}
+use Rattle.promises.specs.Differences.{Readable, differences}
+use Rattle.promises.specs.Releases.{Opened, Equal, Commits, ExactlyWhen, KeyForKey, NothingDiffers, UndoneInsert, EmptyReleases}
 use Rattle.promises.proofs.High.{commit-number}
 use Rattle.promises.proofs.Judges.{zero-accepts, untrusted}
 use Rattle.promises.proofs.Lending.{change-number}
 use Rattle.promises.proofs.Agreed.{Agreed, one-turn, lent-agreed}
 use Rattle.promises.proofs.Answering.{answers}
+use Rattle.promises.proofs.Differences.{difference-given}
 
 -- ---- exactly when
 
@@ -140,6 +143,52 @@ module _ (least : ℕ) (four : 4 ≤ least) (eight : least ≤ 8) (b : List ℕ)
       finds-equal (λ (k : ℕ). within 0 keyLimit k) (settings t (next t)) (settings t (t .current)) (rise (next t) (omega (arith, last-is))) (rise (t .current) (omega (arith, last-is)))
       (low (next t) (omega (arith, last-is))) (low (t .current) (omega (arith, last-is))) (find-by f)
 
+-- ---- nothing differs
+
+none-counted : (ds : List Delta) → isEmpty ds ≡ true → length ds ≡ 0
+none-counted [] e = refl
+none-counted (d ∷ ds) e = absurd (not-both false e refl)
+
+counted-none : (ds : List Delta) → length ds ≡ 0 → isEmpty ds ≡ true
+counted-none [] e = refl
+counted-none (d ∷ ds) e = absurd (omega arith)
+
+module _ (least : ℕ) (four : 4 ≤ least) (eight : least ≤ 8) (b : List ℕ) (o : Opened least b) (ms : List ℕ) where
+  abbrev z : Store
+  z = decode least b
+
+  upto : last z ≡ next z
+  upto = ap (λ (q : Bool). lastOf q (z .current)) (o .opened)
+
+  reads : Readable least b (z .current) (next z)
+  reads = record { four = four; eight = eight; accepted = o .accepted; old = omega (arith, upto); new = omega (arith, upto) }
+
+  abbrev ds : List Delta
+  ds = differences z (z .current) (next z)
+
+  -- with room or without, the count is given
+  count-is : ended least (toDifference (z .current) (next z)) b ms .results ≡ length ds ∷ []
+  count-is = at (ltb (length ms) (4 * length ds)) refl
+    where
+      at : (q : Bool) → ltb (length ms) (4 * length ds) ≡ q → ended least (toDifference (z .current) (next z)) b ms .results ≡ length ds ∷ []
+      at true e = ap (λ (x : Ended). x .results) (difference-given least b (z .current) (next z) reads .short ms (ltb-true (length ms) (4 * length ds) e))
+      at false e = ap (λ (x : Ended). x .results) (difference-given least b (z .current) (next z) reads .room ms (ltb-false (length ms) (4 * length ds) e))
+
+  none-is : unchanged z ≡ isEmpty ds
+  none-is =
+      let rise = settings-rise least (omega arith) z (lent-agreed least four eight b (o .accepted) .agrees .is-sound) in
+      same-none (settings z (z .current)) (settings z (next z)) (rise (z .current) (omega (arith, upto))) (rise (next z) (omega (arith, upto)))
+
+  equal-none : Equal z → ended least (toDifference (z .current) (next z)) b ms .results ≡ 0 ∷ []
+  equal-none e = count-is ∙ ap (λ (n : ℕ). n ∷ []) (none-counted ds (sym none-is ∙ equal-settings z e))
+
+  none-equal : ended least (toDifference (z .current) (next z)) b ms .results ≡ 0 ∷ [] → Equal z
+  none-equal e = same-settings z (none-is ∙ counted-none ds (ap (λ (xs : List ℕ). getD xs 0 0) (sym count-is ∙ e)))
+
+nothing-differs : NothingDiffers
+nothing-differs least four eight b o ns ms =
+    (λ e. equal-none least four eight b o ms (commits-so least b ns .empty .0 e .1), λ e. commits-so least b ns .empty .1 (o, none-equal least four eight b o ms e))
+
 -- ---- an insert undone by a delete
 
 absent-by : (p o alive : Bool) (n : ℕ) → Gives (firstOf (rule 5 p ∷ rule 7 (not o) ∷ rule 10 alive ∷ [])) n → n ≡ 0 → alive ≡ false
@@ -210,5 +259,6 @@ pub empty-releases : EmptyReleases
 empty-releases = record {
   exactly = commits-so;
   by-key = λ least four eight b o. (say-same least four eight b o, equal-by least four eight b o);
+  nothing-differs = nothing-differs;
   undone = λ least four eight b k x ns small d e. undone-so least four eight b k x ns small d e;
 }

@@ -7,6 +7,6 @@ pub mod Demand1
 pub mod Demand2
 pub mod Demand3
 pub mod Differences
+pub mod Releases
 pub mod Replayed
 pub mod Fakes
-pub mod Releases

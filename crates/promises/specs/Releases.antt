@@ -5,11 +5,11 @@ use Prim.Native.Nat.{ℕ, _≤_, _<_}
 use mathlib.Core.Bool.{true}
 use mathlib.Core.Path.{_≡_}
 use mathlib.Core.Logic.{_↔_}
-use mathlib.Core.List.{List}
+use mathlib.Core.List.{List, [], _∷_}
 use Rattle.model.specs.Store.{Store, next}
 use Rattle.model.specs.Walk.{settings}
 use Rattle.model.specs.Layout.{decode}
-use Rattle.model.specs.Ended.{toCommit, toInsert, toDelete, toLookup, ended, Untouched}
+use Rattle.model.specs.Ended.{toCommit, toInsert, toDelete, toLookup, toDifference, ended, Untouched}
 use Rattle.promises.specs.Accepts.{Accepts}
 use Rattle.promises.specs.Views.{SaysSame}
 
@@ -39,6 +39,12 @@ abbrev pub KeyForKey : Type 0
 KeyForKey = (least : ℕ) → 4 ≤ least → least ≤ 8 → (b : List ℕ) → Opened least b
     → Equal (decode least b) ↔ ((k : ℕ) (ns : List ℕ) → SaysSame (ended least (toLookup k (next (decode least b))) b ns) (ended least (toLookup k (decode least b .current)) b ns))
 
+-- ---- and exactly when the list of 2026-03, from the current version to the open one, is empty
+
+abbrev pub NothingDiffers : Type 0
+NothingDiffers = (least : ℕ) → 4 ≤ least → least ≤ 8 → (b : List ℕ) → Opened least b → (ns ms : List ℕ)
+    → ended least toCommit b ns .number ≡ 15 ↔ (ended least (toDifference (decode least b .current) (next (decode least b))) b ms .results ≡ 0 ∷ [])
+
 -- ---- "An insert undone by a delete counts as no change even if pages were split": a commit gives after the two what it gave before them
 
 abbrev pub UndoneInsert : Type 0
@@ -50,4 +56,5 @@ UndoneInsert = (least : ℕ) → 4 ≤ least → least ≤ 8 → (b : List ℕ) 
 pub record EmptyReleases : Type 0 where
   pub exactly : ExactlyWhen
   pub by-key : KeyForKey
+  pub nothing-differs : NothingDiffers
   pub undone : UndoneInsert

@@ -80,7 +80,8 @@ fn new_root(
     insert(bytes, 5, 50)
 }
 
-/// A store with `roots` roots, the last of them the current version's.
+/// A store with `roots` roots, the last of them the current version's. From the
+/// second new root on the settings stay: commits as they were before 2026-05.
 fn many_roots(pages: usize, roots: u32) -> Vec<u8> {
     let mut bytes = fresh(pages);
     for key in 1..=16 {
@@ -90,7 +91,7 @@ fn many_roots(pages: usize, roots: u32) -> Vec<u8> {
     while store::header(&bytes).roots < roots {
         unjudged::open(&mut bytes);
         assert_eq!(new_root(&mut bytes, unjudged::insert, unjudged::delete), 0);
-        unjudged::commit(&mut bytes);
+        unjudged::raw_commit(&mut bytes);
     }
     bytes
 }
