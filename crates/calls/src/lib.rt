@@ -101,7 +101,7 @@ fn guard_committing(s: &[u8], l: Limits) -> u32
         return n;
     }
     let h = store::header(s, l);
-    if differ::alike(s, l, h.current, h.current + 1) {
+    if release::unchanged(s, l, h.current) {
         return 15;
     }
     0

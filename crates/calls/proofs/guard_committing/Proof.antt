@@ -1,9 +1,7 @@
 -- `guard_committing` meets its contract. Assumes nothing.
-use Rattle.model.specs.declared.Header.{Header}
-use Rattle.calls.specs.Committing.{gives-closing, gives-test, unchanged-is, reads-current, reads-open}
+use Rattle.calls.specs.Committing.{gives-closing, gives-test, opens}
 use Rattle.calls.specs.Guard.{guard-sound}
 use Rattle.calls.specs.Turning.{closing}
-use Rattle.store.specs.Read.{current-lt}
 use Rattle.store.specs.Sure.{few, front}
 use Rattle.model.specs.Basic.{pick}
 use mathlib.Core.Path.{ap, sym, _∙_}
@@ -28,28 +26,22 @@ header-requires c κs =
     let h = guard-sound (a .l .least) (a .s .now) closing (sym (c .before .guard-closing .ensures) ∙ c .if1 .left) in
     (c .before .before .before .pre, omega (arith, front (c .before .before .before .pre) (a .s .now) h), few (c .before .before .before .pre) (a .s .now) h)
 
-add-alike : tie.Need-add-alike
-add-alike c = omega (arith, current-lt (c .before .before .before .before .before .args .l .least) (c .before .before .before .before .before .args .s .now), ap (λ (h : Header). h .current) (c .before .header .ensures))
-
-alike-requires : tie.Need-alike-requires
-alike-requires c κs =
-    let a = c .before .before .before .before .before .args in
-    let z = sym (c .before .before .before .guard-closing .ensures) ∙ c .before .before .if1 .left in
-    (reads-current (c .before .before .before .before .before .pre) (a .s .now) z (c .before .header .result) (c .before .header .ensures), reads-open (c .before .before .before .before .before .pre) (a .s .now) z (c .before .header .result) (c .before .header .ensures))
+unchanged-requires : tie.Need-unchanged-requires
+unchanged-requires c κs =
+    let a = c .before .before .before .before .args in
+    opens (c .before .before .before .before .pre) (a .s .now) (sym (c .before .before .guard-closing .ensures) ∙ c .before .if1 .left) (c .header .result) (c .header .ensures)
 
 returns-2 : tie.Need-returns-2
 returns-2 c =
-    let a = c .before .before .before .before .before .before .before .args in
-    let z = sym (c .before .before .before .before .before .guard-closing .ensures) ∙ c .before .before .before .before .if1 .left in
-    let e = c .before .alike .ensures ∙ unchanged-is (a .l .least) (a .s .now) (c .before .before .before .header .result) (c .before .before .before .header .ensures) in
-    sym (ap (λ (x : Bool). pick x 15 0) (c .if2 .taken)) ∙ gives-test (a .l .least) (a .s .now) z (c .before .alike .result) e
+    let a = c .before .before .before .before .before .before .args in
+    let z = sym (c .before .before .before .before .guard-closing .ensures) ∙ c .before .before .before .if1 .left in
+    sym (ap (λ (x : Bool). pick x 15 0) (c .if2 .taken)) ∙ gives-test (a .l .least) (a .s .now) z (c .before .unchanged .result) (c .before .unchanged .ensures)
 
 returns-3 : tie.Need-returns-3
 returns-3 c =
-    let a = c .before .before .before .before .before .before .before .args in
-    let z = sym (c .before .before .before .before .before .guard-closing .ensures) ∙ c .before .before .before .before .if1 .left in
-    let e = c .before .alike .ensures ∙ unchanged-is (a .l .least) (a .s .now) (c .before .before .before .header .result) (c .before .before .before .header .ensures) in
-    sym (ap (λ (x : Bool). pick x 15 0) (c .if2 .left)) ∙ gives-test (a .l .least) (a .s .now) z (c .before .alike .result) e
+    let a = c .before .before .before .before .before .before .args in
+    let z = sym (c .before .before .before .before .guard-closing .ensures) ∙ c .before .before .before .if1 .left in
+    sym (ap (λ (x : Bool). pick x 15 0) (c .if2 .left)) ∙ gives-test (a .l .least) (a .s .now) z (c .before .unchanged .result) (c .before .unchanged .ensures)
 
 pub guard-committing-spec : {M : Type 1} → statement M
 guard-committing-spec =
@@ -58,7 +50,6 @@ guard-committing-spec =
     guard-closing-requires
     returns
     header-requires
-    add-alike
-    alike-requires
+    unchanged-requires
     returns-2
     returns-3)
