@@ -3,6 +3,7 @@
 
 mod bitwise;
 mod chart;
+mod commits;
 mod crowd;
 mod hostile;
 mod judging;
@@ -29,11 +30,12 @@ use reference::{calls, store};
 
 /// All tables, or the one that the first argument names.
 fn main() {
-    let tables: [(&str, fn()); 10] = [
+    let tables: [(&str, fn()); 11] = [
         ("bytes", byte_layer),
         ("quick", judging::judging),
         ("check", check_of_histories),
         ("empty", empty_commits),
+        ("commits", commits::commits),
         ("lookups", lookups::lookups),
         ("hostile", hostile_stores),
         ("worst", worst::worst),
