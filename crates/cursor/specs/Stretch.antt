@@ -21,7 +21,7 @@ use Rattle.model.proofs.Lookups.{rising}
 use Rattle.model.proofs.Merging.{above, above-lower}
 use Rattle.walk.specs.Ends.{between-above}
 use Rattle.cursor.specs.First.{atOrAbove}
-use Rattle.cursor.specs.Reaches.{Reaches, leaf-range}
+use Rattle.cursor.specs.Reaches.{Reaches}
 
 -- keys elsewhere
 between-none : (k hi a b : ℕ) (xs : List Pair) → inRange a b xs ≡ true → (b ≤ k) ⊎ (hi < a) → between k hi xs ≡ []

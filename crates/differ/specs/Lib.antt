@@ -1,3 +1,8 @@
+pub mod Append
 pub mod Merge
 pub mod Told
 pub mod Listing
+pub mod Side
+pub mod Quiet
+pub mod Leaves
+pub mod Halfway

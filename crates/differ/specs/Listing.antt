@@ -1,14 +1,13 @@
 -- The difference of two versions of a sound store, as the code has it: counted, then written.
 -- Assumes nothing.
-use Prim.Native.Nat.{ℕ, _+_, _*_, _≤_, _<_}
+use Prim.Native.Nat.{ℕ, _+_, _*_, _^_, _≤_, _<_}
 use native.Mathlib.Omega.{arith}
 use mathlib.Core.Bool.{Bool, true, false}
 use mathlib.Core.Path.{_≡_, ap, sym, _∙_}
 use mathlib.Core.List.{List, [], _∷_, _++_}
-use lib.Dec.{eqb}
 use lib.ListN.{length, drop}
 use borrow.Author.Tests.{lt-ltb, le-ltb, eq-eqb, ne-eqb}
-use Rattle.model.specs.Basic.{pick, isEmpty}
+use Rattle.model.specs.Basic.{pick}
 use Rattle.model.specs.declared.Pair.{Pair}
 use Rattle.model.specs.declared.Limits.{Limits}
 use Rattle.model.specs.Walk.{settings, keyLimit}
@@ -24,10 +23,9 @@ use Rattle.cursor.specs.First.{atOrAbove, leads}
 use Rattle.model.specs.declared.Delta.{Delta}
 use Rattle.model.specs.Told.{toldIn, toldBy}
 use Rattle.model.specs.Differ.{differ, deltaNumbers}
+use Rattle.differ.specs.Append.{few-differ}
 use Rattle.differ.specs.Merge.{compared, told, left, Onward, left-start, left-end, left-on, left-step}
-use Rattle.model.specs.Same.{samePairs}
-use Rattle.model.proofs.Same.{same-none}
-use Rattle.differ.specs.Told.{numbers, written, written-not, written-all, Room, Tells}
+use Rattle.differ.specs.Told.{numbers, written, written-not, written-all, Space, Tells}
 
 -- what differs between two versions of a store
 abbrev pub between : Limits → List ℕ → ℕ → ℕ → List Delta
@@ -74,24 +72,9 @@ module _ {l : Limits} {b : List ℕ} {u v : ℕ} (r : Readable l b u) (q : Reada
     pub from-step : leftOf l b u v k ≡ told d ++ leftOf l b u v (d .key + 1)
     from-step = left-step us ws (reads-rising r) (reads-rising q) (reads-low r) (reads-low q) k h d e
 
-  -- nothing differs exactly where the settings are the same
-  pub same-start : samePairs us ws ≡ isEmpty (leftOf l b u v 0)
-  same-start = same-none us ws (reads-rising r) (reads-rising q) ∙ ap (λ (ds : List Delta). isEmpty ds) (sym from-start)
-
-  -- at a key: a difference, or on
-  module _ (k : ℕ) (h : k ≤ keyLimit) (d : Delta) (e : d ≡ compared (leads (atOrAbove k us)) (leads (atOrAbove k ws))) where
-    pub same-not : (d .kind ≡ 3 → ⊥) → false ≡ isEmpty (leftOf l b u v k)
-    same-not z = sym (ap (λ (ds : List Delta). isEmpty ds) (from-step k h d e ∙ ap (λ (ds : List Delta). ds ++ leftOf l b u v (d .key + 1)) (told-one d z)))
-
-    pub same-on : d .kind ≡ 3 → isEmpty (leftOf l b u v k) ≡ isEmpty (leftOf l b u v (d .key + 1))
-    same-on z = ap (λ (ds : List Delta). isEmpty ds) (from-step k h d e ∙ ap (λ (ds : List Delta). ds ++ leftOf l b u v (d .key + 1)) (told-same d z))
-
-pub told-few : (d : Delta) → length (told d) ≤ 1
-told-few d = at (eqb (d .kind) 3)
-  where
-    at : (b : Bool) → length {A = Delta} (pick b [] (d ∷ [])) ≤ 1
-    at true = omega arith
-    at false = omega arith
+  -- no more than keys
+  pub few-between : length (between l b u v) ≤ keyLimit
+  few-between = few-differ keyLimit us ws (reads-rising r) (reads-rising q) (reads-low r) (reads-low q)
 
 -- ---- the answer
 
@@ -116,8 +99,8 @@ module _ {ns ns1 : List ℕ} {r : ℕ} {ds : List Delta} (g : Tells false ns ns1
   list-short h = rw (counted, untouched) (sym (told-short ns ds (rw (counted, untouched) at h)))
 
   module _ (h : 4 * r ≤ length ns1) where
-    pub second-room : Room true ns1 0 ds
-    second-room e = omega (arith, counted)
+    pub second-room : length ds ≤ 2 ^ 40 → Space true ns1 0 ds
+    second-room few = record { few = omega arith; room = λ e. omega (arith, counted) }
 
     pub list-all : {ns2 : List ℕ} {r2 : ℕ} → Tells true ns1 ns2 0 r2 ds → withList (record { number = 0; count = r }) ns2 ≡ listed ns (toldBy deltaNumbers 4 0 (length ns) ds)
     list-all {ns2} k =

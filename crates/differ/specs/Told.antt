@@ -1,6 +1,6 @@
 -- What a difference leaves in the caller's list: four numbers each, and nothing behind is touched.
 -- Assumes nothing.
-use Prim.Native.Nat.{ℕ, suc, _+_, _*_, _≤_}
+use Prim.Native.Nat.{ℕ, suc, _+_, _*_, _^_, _≤_}
 use native.Mathlib.Omega.{arith}
 use mathlib.Core.Bool.{Bool, true, false}
 use mathlib.Core.Path.{_≡_, refl, ap, sym, _∙_}
@@ -67,20 +67,25 @@ pub written-not : (ns : List ℕ) (ds : List Delta) → written false ns 0 ds �
 unfolding written
 written-not ns ds = refl
 
--- differences behind the first k have room, where they are to be written
-abbrev pub Room : Bool → List ℕ → ℕ → List Delta → Type 0
-Room w ns k ds = w ≡ true → 4 * (k + length ds) ≤ length ns
+-- differences behind the first k can be counted, and written where they are to be
+pub record Space (w : Bool) (ns : List ℕ) (k : ℕ) (ds : List Delta) : Type 0 where
+  pub few : k + length ds ≤ 2 ^ 40
+  pub room : w ≡ true → 4 * (k + length ds) ≤ length ns
 
-pub no-room : (ns : List ℕ) (k : ℕ) (ds : List Delta) → Room false ns k ds
-no-room ns k ds e = absurd (let z : _≡_ {A = ℕ} 0 1 = cc in omega arith)
+-- where they are only counted no room is wanted
+pub no-room : {ns : List ℕ} {ds : List Delta} → length ds ≤ 2 ^ 40 → Space false ns 0 ds
+no-room h = record { few = omega arith; room = λ e. absurd (let z : _≡_ {A = ℕ} 0 1 = cc in omega arith) }
 
-pub room-front : (w : Bool) (ns : List ℕ) (k : ℕ) (xs ys : List Delta) → Room w ns k (xs ++ ys) → Room w ns k xs
-room-front w ns k xs ys r e = omega (arith, r e, length-append xs ys)
+pub space-front : {w : Bool} {ns : List ℕ} {k : ℕ} (xs ys : List Delta) → Space w ns k (xs ++ ys) → Space w ns k xs
+space-front xs ys s = record { few = omega (arith, s .few, length-append xs ys); room = λ e. omega (arith, s .room e, length-append xs ys) }
 
 -- a call that gives the new count and leaves the list so
 pub record Tells (w : Bool) (ns ns′ : List ℕ) (k r : ℕ) (ds : List Delta) : Type 0 where
   pub count : r ≡ k + length ds
   pub list : ns′ ≡ written w ns k ds
+
+pub tells-same : {w : Bool} {ns ns1 : List ℕ} {k k1 : ℕ} {xs ys : List Delta} → xs ≡ ys → Tells w ns ns1 k k1 xs → Tells w ns ns1 k k1 ys
+tells-same e g = rw e at g
 
 pub tells-none : (w : Bool) (ns : List ℕ) (k : ℕ) → Tells w ns ns k k []
 tells-none w ns k = record { count = omega arith; list = sym (written-none w ns k) }
@@ -89,28 +94,31 @@ pub tells-length : {w : Bool} {ns ns1 : List ℕ} {k k1 : ℕ} {ds : List Delta}
 tells-length {w} {ns} {k = k} {ds = ds} g = ap (λ (zs : List ℕ). length zs) (g .list) ∙ length-written w ns k ds
 
 -- what a loop that tells has: what is left of the whole, behind the first k, with the list as it is now
-pub record Telling (w : Bool) (ns₀ ns : List ℕ) (k : ℕ) (whole rest : List Delta) : Type 0 where
-  pub count : length whole ≡ k + length rest
-  pub list : written w ns₀ 0 whole ≡ written w ns k rest
+pub record Telling (w : Bool) (ns₀ ns : List ℕ) (k₀ k : ℕ) (whole rest : List Delta) : Type 0 where
+  pub count : k₀ + length whole ≡ k + length rest
+  pub list : written w ns₀ k₀ whole ≡ written w ns k rest
   pub same : length ns ≡ length ns₀
-  pub room : Room w ns k rest
+  pub space : Space w ns k rest
 
-pub telling-start : {w : Bool} {ns : List ℕ} {ds : List Delta} → Room w ns 0 ds → Telling w ns ns 0 ds ds
-telling-start r = record { count = omega arith; list = refl; same = refl; room = r }
+pub telling-start : {w : Bool} {ns : List ℕ} {k : ℕ} {ds : List Delta} → Space w ns k ds → Telling w ns ns k k ds ds
+telling-start s = record { count = refl; list = refl; same = refl; space = s }
 
-module _ {w : Bool} {ns₀ ns : List ℕ} {k : ℕ} {whole : List Delta} where
-  pub telling-step : (xs ys : List Delta) → Telling w ns₀ ns k whole (xs ++ ys) → (ns′ : List ℕ) (k′ : ℕ) → Tells w ns ns′ k k′ xs → Telling w ns₀ ns′ k′ whole ys
+module _ {w : Bool} {ns₀ ns : List ℕ} {k₀ k : ℕ} {whole : List Delta} where
+  pub telling-step : (xs ys : List Delta) → Telling w ns₀ ns k₀ k whole (xs ++ ys) → (ns′ : List ℕ) (k′ : ℕ) → Tells w ns ns′ k k′ xs → Telling w ns₀ ns′ k₀ k′ whole ys
   telling-step xs ys g ns′ k′ r = record {
     count = omega (arith, g .count, r .count, length-append xs ys);
     list = g .list ∙ written-append w ns k xs ys ∙ rw (r .list, r .count);
     same = tells-length r ∙ g .same;
-    room = λ e. omega (arith, g .room e, length-append xs ys, tells-length r, r .count);
+    space = record {
+      few = omega (arith, g .space .few, length-append xs ys, r .count);
+      room = λ e. omega (arith, g .space .room e, length-append xs ys, tells-length r, r .count);
+    };
   }
 
-  pub telling-same : {xs ys : List Delta} → xs ≡ ys → Telling w ns₀ ns k whole xs → Telling w ns₀ ns k whole ys
+  pub telling-same : {xs ys : List Delta} → xs ≡ ys → Telling w ns₀ ns k₀ k whole xs → Telling w ns₀ ns k₀ k whole ys
   telling-same e g = rw e at g
 
-  pub telling-end : Telling w ns₀ ns k whole [] → Tells w ns₀ ns 0 k whole
+  pub telling-end : Telling w ns₀ ns k₀ k whole [] → Tells w ns₀ ns k₀ k whole
   telling-end g = record { count = omega (arith, g .count); list = sym (g .list ∙ written-none w ns k) }
 
 -- one difference, counted or written

@@ -3,8 +3,8 @@ use Rattle.differ.specs.Told.{put-four}
 use lib.ListN.{length-set}
 use native.Mathlib.Omega.{arith}
 use borrow.Author.Needs.{needs}
-use Rattle.differ.proofs.put_four.Statement.{statement}
-use Rattle.differ.proofs.put_four.Tie as tie
+use Rattle.differ.proofs.telling.put_four.Statement.{statement}
+use Rattle.differ.proofs.telling.put_four.Tie as tie
 
 mul-list : tie.Need-mul-list
 mul-list c = search needs

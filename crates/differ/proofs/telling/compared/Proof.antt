@@ -1,7 +1,7 @@
 -- `compared` meets its contract. Assumes nothing.
 use borrow.Author.Tests.{lt-ltb, le-ltb, eq-eqb, ne-eqb}
-use Rattle.differ.proofs.compared.Statement.{statement}
-use Rattle.differ.proofs.compared.Tie as tie
+use Rattle.differ.proofs.telling.compared.Statement.{statement}
+use Rattle.differ.proofs.telling.compared.Tie as tie
 
 returns : tie.Need-returns
 returns c = simp (lt-ltb _ _ (c .if1 .taken))

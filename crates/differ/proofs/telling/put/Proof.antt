@@ -8,8 +8,8 @@ use mathlib.Core.List.{List}
 use mathlib.Core.Path.{ap}
 use native.Mathlib.Omega.{arith}
 use borrow.Author.Needs.{needs}
-use Rattle.differ.proofs.put.Statement.{statement}
-use Rattle.differ.proofs.put.Tie as tie
+use Rattle.differ.proofs.telling.put.Statement.{statement}
+use Rattle.differ.proofs.telling.put.Tie as tie
 
 returns : tie.Need-returns
 returns c =
@@ -17,7 +17,7 @@ returns c =
     rw (told-same (a .d) (c .if1 .taken)) (tells-none (a .write) (a .list .now) (a .k))
 
 add-result : tie.Need-add-result
-add-result c = search needs
+add-result c = omega (arith, c .before .before .before .before .pre .few, ap (λ (ds : List Delta). length ds) (told-one (c .before .before .before .before .args .d) (c .before .if1 .left)))
 
 returns-2 : tie.Need-returns-2
 returns-2 c =
@@ -27,10 +27,12 @@ returns-2 c =
 put-four-requires : tie.Need-put-four-requires
 put-four-requires c κs =
     let a = c .before .before .before .before .before .args in
-    omega (arith, c .before .before .before .before .before .pre .0 (not-false _ (c .before .if2 .left)), ap (λ (ds : List Delta). length ds) (told-one (a .d) (c .before .before .if1 .left)))
+    omega (arith, c .before .before .before .before .before .pre .room (not-false _ (c .before .if2 .left)), ap (λ (ds : List Delta). length ds) (told-one (a .d) (c .before .before .if1 .left)))
 
 add-result-2 : tie.Need-add-result-2
-add-result-2 c = search needs
+add-result-2 c =
+    let a = c .before .before .before .before .before .before .before .before .args in
+    omega (arith, c .before .before .before .before .before .before .before .before .pre .few, ap (λ (ds : List Delta). length ds) (told-one (a .d) (c .before .before .before .before .before .if1 .left)))
 
 same-length : tie.Need-same-length
 same-length c = search needs

@@ -1,0 +1,92 @@
+-- `leaves::tell` meets its contract. Assumes nothing.
+use Rattle.differ.specs.Leaves.{leaf-stands, rest-ordered, same-none, both-asked}
+use Rattle.differ.specs.Told.{Space, tells-same, tells-none}
+use Rattle.model.specs.declared.Delta.{Delta}
+use Rattle.walk.specs.Sure.{covers-inside}
+use Rattle.cursor.specs.Leaf.{below-covers}
+use Rattle.store.specs.Sure.{few}
+use mathlib.Core.Path.{sym, _∙_, subst}
+use mathlib.Core.List.{List}
+use borrow.Author.Needs.{needs}
+use Rattle.differ.proofs.leaves.tell.Statement.{statement}
+use Rattle.differ.proofs.leaves.tell.Tie as tie
+
+part-requires : tie.Need-part-requires
+part-requires c κs =
+    let a = c .before .before .args in
+    let r = c .before .before .pre .0 in
+    let q = c .before .before .pre .1 in
+    let g = c .before .before .pre .2 in
+    let f = c .before .before .pre .3 in
+    (r .edition, covers-inside r _ _ _ (below-covers r _ _ _ g) .part, few (r .edition) (a .s .now) (r .sound))
+
+head-of-requires : tie.Need-head-of-requires
+head-of-requires c κs = search needs
+
+same-requires : tie.Need-same-requires
+same-requires c κs =
+    let a = c .before .before .before .before .args in
+    let r = c .before .before .before .before .pre .0 in
+    let q = c .before .before .before .before .pre .1 in
+    let g = c .before .before .before .before .pre .2 in
+    let f = c .before .before .before .before .pre .3 in
+    leaf-stands r (a .a .low) (a .x) g _ _ (c .before .part .ensures .0) (c .head-of .ensures)
+
+returns : tie.Need-returns
+returns c =
+    let a = c .before .before .before .before .before .before .args in
+    let r = c .before .before .before .before .before .before .pre .0 in
+    let q = c .before .before .before .before .before .before .pre .1 in
+    let g = c .before .before .before .before .before .before .pre .2 in
+    let f = c .before .before .before .before .before .before .pre .3 in
+    let e = same-none (a .a) r q (a .x) (a .y) g f _ _ (c .before .before .before .part .ensures .0) (c .before .before .head-of .ensures) (sym (c .before .same .ensures) ∙ c .if1 .taken) in
+    tells-same (sym e) (tells-none (a .a .write) (a .list .now) (a .found))
+
+part-requires-2 : tie.Need-part-requires-2
+part-requires-2 c κs =
+    let a = c .before .before .before .before .before .before .args in
+    let r = c .before .before .before .before .before .before .pre .0 in
+    let q = c .before .before .before .before .before .before .pre .1 in
+    let g = c .before .before .before .before .before .before .pre .2 in
+    let f = c .before .before .before .before .before .before .pre .3 in
+    (q .edition, covers-inside q _ _ _ (below-covers q _ _ _ f) .part, few (q .edition) (a .s .now) (q .sound))
+
+head-of-requires-2 : tie.Need-head-of-requires-2
+head-of-requires-2 c κs = search needs
+
+merge-requires : tie.Need-merge-requires
+merge-requires c κs =
+    let a = c .before .before .before .before .before .before .before .before .before .args in
+    let r = c .before .before .before .before .before .before .before .before .before .pre .0 in
+    let q = c .before .before .before .before .before .before .before .before .before .pre .1 in
+    let g = c .before .before .before .before .before .before .before .before .before .pre .2 in
+    let f = c .before .before .before .before .before .before .before .before .before .pre .3 in
+    let e = both-asked (a .a) r q (a .x) (a .y) g f _ _ (c .before .before .before .before .before .before .part .ensures .0) (c .before .before .before .before .before .head-of .ensures) _ _ (c .before .before .part2 .ensures .0) (c .before .head-of2 .ensures) in
+    (leaf-stands r (a .a .low) (a .x) g _ _ (c .before .before .before .before .before .before .part .ensures .0) (c .before .before .before .before .before .head-of .ensures), leaf-stands q (a .a .low) (a .y) f _ _ (c .before .before .part2 .ensures .0) (c .before .head-of2 .ensures), rest-ordered r (a .a .low) (a .x) g _ _ (c .before .before .before .before .before .before .part .ensures .0) (c .before .before .before .before .before .head-of .ensures) (a .a .low) (a .a .high), rest-ordered q (a .a .low) (a .y) f _ _ (c .before .before .part2 .ensures .0) (c .before .head-of2 .ensures) (a .a .low) (a .a .high), subst (λ (ds : List Delta). Space (a .a .write) (a .list .now) (a .found) ds) (sym e) (c .before .before .before .before .before .before .before .before .before .pre .4))
+
+same-length : tie.Need-same-length
+same-length c = search needs
+
+returns-2 : tie.Need-returns-2
+returns-2 c =
+    let a = c .before .before .before .before .before .before .before .before .before .before .before .before .args in
+    let r = c .before .before .before .before .before .before .before .before .before .before .before .before .pre .0 in
+    let q = c .before .before .before .before .before .before .before .before .before .before .before .before .pre .1 in
+    let g = c .before .before .before .before .before .before .before .before .before .before .before .before .pre .2 in
+    let f = c .before .before .before .before .before .before .before .before .before .before .before .before .pre .3 in
+    let e = both-asked (a .a) r q (a .x) (a .y) g f _ _ (c .before .before .before .before .before .before .before .before .before .part .ensures .0) (c .before .before .before .before .before .before .before .before .head-of .ensures) _ _ (c .before .before .before .before .before .part2 .ensures .0) (c .before .before .before .before .head-of2 .ensures) in
+    tells-same e (c .before .before .merge .ensures)
+
+pub tell-spec : {M : Type 1} → statement M
+tell-spec =
+    tie.close
+    (tie.spec
+    part-requires
+    head-of-requires
+    same-requires
+    returns
+    part-requires-2
+    head-of-requires-2
+    merge-requires
+    same-length
+    returns-2)
