@@ -3,7 +3,7 @@
 use Prim.Native.Nat.{ℕ, zero, suc, _*_, _≤_, _<_}
 use native.Mathlib.Omega.{arith}
 use mathlib.Core.Bool.{Bool, true, false, not}
-use mathlib.Core.Path.{_≡_, refl, ap, ap₂, sym, _∙_, subst}
+use mathlib.Core.Path.{_≡_, refl, ap, ap₂, sym, _∙_}
 use mathlib.Core.Option.{Option, none, some}
 use mathlib.Core.List.{List, [], _∷_}
 use lib.Dec.{leb, ltb, eqb}
@@ -28,12 +28,11 @@ use Rattle.model.proofs.Lookups.{settings-rise, settings-low}
 use Rattle.model.proofs.Same.{same-equal, equal-same, same-none, finds-equal, enter-undone}
 use Rattle.model.proofs.Unique.{refused}
 use Rattle.promises.specs.Accepts.{Accepts}
-use Rattle.promises.specs.Runs.{Turn}
-use Rattle.promises.specs.Beside.{Beside, whenDone, stepped, onward, fromLent}
-use Rattle.promises.specs.Answers.{commitTests, lookupTests, lastIn, lookedIn, aliveIn, unchangedIn, Gives}
+use Rattle.promises.specs.Beside.{Beside, whenDone, onward, fromLent}
+use Rattle.promises.specs.Answers.{commitTests, aliveIn, unchangedIn, Gives}
 use Rattle.promises.specs.Views.{SaysSame}
 use Rattle.promises.specs.Differences.{Readable, differences}
-use Rattle.promises.specs.Releases.{Opened, Equal, Commits, ExactlyWhen, KeyForKey, NothingDiffers, UndoneInsert, EmptyReleases}
+use Rattle.promises.specs.Releases.{Opened, Equal, Commits, NothingDiffers, EmptyReleases}
 use Rattle.promises.proofs.High.{commit-number}
 use Rattle.promises.proofs.Judges.{zero-accepts, untrusted}
 use Rattle.promises.proofs.Lending.{change-number}

@@ -12,7 +12,7 @@ use Rattle.store.specs.Sure.{few}
 use Rattle.walk.specs.Sure.{inside, five, size}
 use Rattle.walk.specs.Scan.{from}
 use Rattle.release.specs.Settled.{settled}
-use Rattle.release.specs.Opened.{entries-are, key-low, all-stops, all-goes, all-done}
+use Rattle.release.specs.Places.{entries-are, key-low, all-stops, all-goes, all-done}
 use Rattle.release.proofs.entries_settled.Statement.{statement}
 use Rattle.release.proofs.entries_settled.Tie as tie
 

@@ -1,11 +1,9 @@
 -- `page_settled` meets its contract. Assumes nothing.
-use native.Mathlib.Omega.{arith}
 use mathlib.Core.Path.{ap, sym, _∙_}
 use borrow.Author.Needs.{needs}
 use Rattle.page.specs.declared.Head.{Head}
-use Rattle.page.specs.Head.{readHead}
 use Rattle.store.specs.Sure.{few, part-in}
-use Rattle.release.specs.Opened.{level-is, no-leaf, a-leaf}
+use Rattle.release.specs.Places.{level-is, no-leaf, a-leaf}
 use Rattle.release.proofs.page_settled.Statement.{statement}
 use Rattle.release.proofs.page_settled.Tie as tie
 
