@@ -13,6 +13,10 @@
  * and it ends by a commit, which makes it the current version for ever, or by an
  * abandon, after which every byte is what it was before the open.
  *
+ * Keys 16,776,960 and above belong to the test bench. Insert refuses them with
+ * 5; lookup, range and delete take them, so that a store that was shipped with
+ * bench keys can be read and cleaned.
+ *
  * Every call gives a number, of several that apply the smallest:
  *
  *    0  done
@@ -20,7 +24,7 @@
  *    2  first four bytes wrong
  *    3  edition not 1
  *    4  not sound
- *    5  key too large, or range low above high
+ *    5  key too large (insert: from 16,776,960 on), or range low above high
  *    6  version above the last one that can be read
  *    7  no update open (insert, delete, commit, abandon)
  *    8  update already open (open)
@@ -29,8 +33,9 @@
  *   11  key not alive (delete)
  *   12  the page rules need a page and none is free (insert, delete)
  *   13  the page rules need a 257th slot of the root directory (insert, delete)
- *   14  list holds fewer numbers than two for each setting found (range), or
- *       four for each difference (difference)
+ *   14  list holds fewer numbers than two for each setting found (range), three
+ *       for each stretch (life), four for each difference (difference), one for
+ *       each page visited (visits)
  *   15  the open version's settings equal the current version's, key for key
  *       (commit)
  *
@@ -39,9 +44,10 @@
  * 15 too: it may go on, be committed once it has changed something, or abandoned.
  *
  * The caller answers for what no library can see: that `store` points to
- * `length` bytes, and `list` to `room` numbers, which nobody else reads or
- * writes during the call, and that store and list do not overlap. Where a length
- * is 0 its pointer may be null. The pointers for results are never null.
+ * `length` bytes, and a list (`list`, `pages`) to `room` numbers, which nobody
+ * else reads or writes during the call, and that store and list do not overlap.
+ * Where a length is 0 its pointer may be null. The pointers for results are never
+ * null.
  */
 #ifndef RCST_H
 #define RCST_H
@@ -58,7 +64,12 @@ extern "C" {
 #define RCST_FEWEST_PAGES 6u
 #define RCST_MOST_PAGES 4096u
 #define RCST_HIGHEST_KEY 16777215u
+#define RCST_HIGHEST_INSERT_KEY 16776959u
 #define RCST_HIGHEST_VERSION 1048574u
+#define RCST_MOST_LEVELS 7u
+
+/* The end of a stretch that is still alive. */
+#define RCST_ALIVE 1048575u
 
 /* Makes a fresh store over any bytes: version 0, no settings. Gives 0 or 1. */
 uint32_t rcst_fresh(uint8_t *store, size_t length);
@@ -73,14 +84,14 @@ uint32_t rcst_check(const uint8_t *store, size_t length, uint32_t *rule);
 uint32_t rcst_open(uint8_t *store, size_t length);
 
 /*
- * Inserts a setting in the open update: a key that is not alive, and its value,
- * any 32 bits. Gives 0, 1 to 5, 7, 10, 12 or 13.
+ * Inserts a setting in the open update: a key up to RCST_HIGHEST_INSERT_KEY that
+ * is not alive, and its value, any 32 bits. Gives 0, 1 to 5, 7, 10, 12 or 13.
  */
 uint32_t rcst_insert(uint8_t *store, size_t length, uint32_t key, uint32_t value);
 
 /*
- * Deletes a setting in the open update: a key that is alive. A delete can need a
- * page or a slot too. Gives 0, 1 to 5, 7, 11, 12 or 13.
+ * Deletes a setting in the open update: a key that is alive, a bench key too. A
+ * delete can need a page or a slot too. Gives 0, 1 to 5, 7, 11, 12 or 13.
  */
 uint32_t rcst_delete(uint8_t *store, size_t length, uint32_t key);
 
@@ -110,6 +121,17 @@ uint32_t rcst_range(const uint8_t *store, size_t length, uint32_t low, uint32_t 
                     size_t *count);
 
 /*
+ * Tells by which pages a lookup of a key at a version goes: their numbers, from
+ * the root down to the leaf, one on each level, so 1 to RCST_MOST_LEVELS of them.
+ * A page's number is its place: page n starts at byte n * RCST_PAGE_BYTES. Gives
+ * 0, 1 to 6 or 14. With 0 the numbers stand in the list, and nothing behind them is
+ * touched. *count is how many they are with 0 and with 14, else 0. For a committed
+ * version it says the same for ever, whatever is called later, short of making the
+ * store fresh again.
+ */
+uint32_t rcst_visits(const uint8_t *store, size_t length, uint32_t key, uint32_t version, uint32_t *pages, size_t room, size_t *count);
+
+/*
  * Finds what differs from version old to version new: any two versions that can
  * be read, either may be the later one. Gives 0, 1 to 4, 6 or 14. With 0 the
  * differences stand in the list, four numbers each, in key order: the key; 0 if
@@ -119,6 +141,17 @@ uint32_t rcst_range(const uint8_t *store, size_t length, uint32_t low, uint32_t 
  */
 uint32_t rcst_difference(const uint8_t *store, size_t length, uint32_t old_version, uint32_t new_version, uint32_t *list, size_t room,
                          size_t *count);
+
+/*
+ * Tells when a setting was changed: every stretch of committed versions in which
+ * the key held one value, oldest first. Gives 0, 1 to 5 or 14. With 0 they stand in
+ * the list as start, end, value, three numbers each, and nothing behind them is
+ * touched; a stretch goes from start up to but not including end, and its end is
+ * RCST_ALIVE if the current version is in it. Neighbours with equal values are one
+ * stretch. An open update is not shown. *count is the number of stretches with 0
+ * and with 14, else 0.
+ */
+uint32_t rcst_life(const uint8_t *store, size_t length, uint32_t key, uint32_t *list, size_t room, size_t *count);
 
 #ifdef __cplusplus
 }

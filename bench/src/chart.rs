@@ -1,7 +1,7 @@
 //! A chart as plain SVG: panels side by side, both axes of each logarithmic,
 //! times from bottom to top.
 
-use crate::measure::told;
+use hostile::measure::told;
 
 pub struct Chart {
     pub title: String,

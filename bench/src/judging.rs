@@ -3,6 +3,11 @@
 
 use std::hint::black_box;
 
+use hostile::judge;
+use hostile::quick::read::{Fields, Loads};
+use hostile::stores;
+use hostile::stores::crowd::{crowd, Crowd};
+use hostile::stores::shared::{self, Shape, ROOTS};
 use reference::damage::kinds;
 use reference::foreign::raise_current;
 use reference::layout::{HIGHEST_VERSION, PAGE_BYTES};
@@ -10,25 +15,22 @@ use reference::rng::Rng;
 use reference::samples::sound_store;
 use reference::{calls, number};
 
-use crate::crowd::crowd;
-use crate::hostile::{self, Shape};
-use crate::measure::{in_turn, times, told, Times};
-use crate::quick::read::{Fields, Loads};
-use crate::{proved, quick, shape, stores};
+use crate::{proved, shape};
+use hostile::measure::{in_turn, times, told, Times};
 
 /// Judged by the proved library, and by the same algorithm in Rust: entries by
 /// two loads, and each field by itself.
 fn judged(store: &[u8]) -> Times {
-    let verdict = quick::number::<Loads>(store);
-    assert_eq!(quick::number::<Fields>(store), verdict);
+    let verdict = judge::number::<Loads>(store);
+    assert_eq!(judge::number::<Fields>(store), verdict);
     let mut lent = store.to_vec();
     let sound = verdict == number::DONE;
     let refused = if sound { number::NONE_OPEN } else { verdict };
     assert_eq!(proved::commit(&mut lent), refused);
     in_turn(&mut [
         &mut || proved::commit(black_box(&mut lent)).into(),
-        &mut || quick::number::<Loads>(black_box(store)).into(),
-        &mut || quick::number::<Fields>(black_box(store)).into(),
+        &mut || judge::number::<Loads>(black_box(store)).into(),
+        &mut || judge::number::<Fields>(black_box(store)).into(),
     ])
 }
 
@@ -55,8 +57,8 @@ fn same_verdicts() {
             let mut store = sound.clone();
             kind.make(&mut store, &mut Rng::new(seed));
             let (verdict, _) = calls::check(&store);
-            assert_eq!(quick::number::<Loads>(&store), verdict, "{}", kind.name);
-            assert_eq!(quick::number::<Fields>(&store), verdict, "{}", kind.name);
+            assert_eq!(judge::number::<Loads>(&store), verdict, "{}", kind.name);
+            assert_eq!(judge::number::<Fields>(&store), verdict, "{}", kind.name);
         }
     }
 }
@@ -86,13 +88,14 @@ fn hostile_rows() {
     row("each leaf cut to pieces", &stores::cut_leaves(3870));
     row(
         "255 roots over two leaves, routers cut to pieces",
-        &hostile::cut_roots(),
+        &shared::cut_roots(ROOTS),
     );
     let shape = |shared_level, shared, lives, wide| Shape {
         shared_level,
         shared,
         lives,
         wide,
+        roots: ROOTS,
     };
     for (name, shape) in [
         (
@@ -108,10 +111,15 @@ fn hostile_rows() {
             shape(3, 5, 4, 15),
         ),
     ] {
-        row(name, &hostile::in_turn(shape));
+        row(name, &shared::in_turn(shape).expect("room"));
     }
     let name = "100 pages over the same twenty at the same versions (unsound)";
-    row(name, &crowd());
+    let numbers = Crowd {
+        crowd: 100,
+        shared: 20,
+        lives: 17,
+    };
+    row(name, &crowd(numbers).expect("room"));
 }
 
 /// Two stores judged in turn, by the proved library and then in Rust.
@@ -120,8 +128,8 @@ fn beside(name: &str, one: &[u8], other: &[u8]) {
     let taken = in_turn(&mut [
         &mut || proved::commit(black_box(&mut lent)).into(),
         &mut || proved::commit(black_box(&mut other_lent)).into(),
-        &mut || quick::number::<Loads>(black_box(one)).into(),
-        &mut || quick::number::<Loads>(black_box(other)).into(),
+        &mut || judge::number::<Loads>(black_box(one)).into(),
+        &mut || judge::number::<Loads>(black_box(other)).into(),
     ]);
     println!(
         "| {name} | {} | {} | {} | {} |",

@@ -3,11 +3,12 @@
 
 use std::hint::black_box;
 
+use hostile::stores;
 use reference::layout::HIGHEST_KEY;
 use reference::model::Model;
 
-use crate::measure::{in_turn, times, told};
-use crate::{proved, stores};
+use crate::proved;
+use hostile::measure::{in_turn, times, told};
 
 /// Lookups in one go: of keys that lie evenly over all keys, so most are absent
 /// ones, whose way down is as long.

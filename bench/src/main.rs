@@ -4,24 +4,20 @@
 mod bitwise;
 mod chart;
 mod commits;
-mod crowd;
-mod hostile;
 mod judging;
+mod lives;
 mod lookups;
-mod measure;
 mod plain;
 mod plot;
 mod program;
 mod proved;
-mod quick;
-mod stores;
 mod updates;
-mod walked;
 mod worst;
 
 use std::hint::black_box;
 
-use measure::{in_turn, times, told, Times};
+use hostile::measure::{in_turn, times, told, Times};
+use hostile::stores;
 use reference::foreign::raise_current;
 use reference::image::Image;
 use reference::layout::{HIGHEST_VERSION, PAGE_BYTES};
@@ -30,13 +26,14 @@ use reference::{calls, store};
 
 /// All tables, or the one that the first argument names.
 fn main() {
-    let tables: [(&str, fn()); 11] = [
+    let tables: [(&str, fn()); 12] = [
         ("bytes", byte_layer),
         ("quick", judging::judging),
         ("check", check_of_histories),
         ("empty", empty_commits),
         ("commits", commits::commits),
         ("lookups", lookups::lookups),
+        ("lives", lives::lives),
         ("hostile", hostile_stores),
         ("worst", worst::worst),
         ("updates", updates::updates),

@@ -3,11 +3,12 @@
 
 use std::hint::black_box;
 
+use hostile::stores;
 use reference::number;
 
 use crate::chart::{Chart, Panel, Point, Series};
-use crate::measure::in_turn;
-use crate::{proved, stores, updates};
+use crate::{proved, updates};
+use hostile::measure::in_turn;
 
 const PATH: &str = concat!(env!("CARGO_MANIFEST_DIR"), "/../docs/growth.svg");
 

@@ -8,7 +8,7 @@ use std::process::{Command, Stdio};
 use reference::console::{self, Command as Line};
 use reference::lines::lines;
 
-use crate::measure::{in_turn_outside, times, told};
+use hostile::measure::{in_turn_outside, times, told};
 
 const LINES: usize = 10_000;
 

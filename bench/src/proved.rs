@@ -35,6 +35,14 @@ mod c {
         pub fn rcst_insert(store: *mut u8, length: usize, key: u32, value: u32) -> u32;
         pub fn rcst_delete(store: *mut u8, length: usize, key: u32) -> u32;
         pub fn rcst_commit(store: *mut u8, length: usize) -> u32;
+        pub fn rcst_life(
+            store: *const u8,
+            length: usize,
+            key: u32,
+            list: *mut u32,
+            room: usize,
+            count: *mut usize,
+        ) -> u32;
     }
 }
 
@@ -78,6 +86,22 @@ pub fn delete(store: &mut [u8], key: u32) -> u32 {
 /// 7 where no update is open: the call judges, and refuses.
 pub fn commit(store: &mut [u8]) -> u32 {
     unsafe { c::rcst_commit(store.as_mut_ptr(), store.len()) }
+}
+
+/// The number and the count of stretches, which go to the list.
+pub fn life(store: &[u8], key: u32, list: &mut [u32]) -> (u32, usize) {
+    let mut count = 0;
+    let number = unsafe {
+        c::rcst_life(
+            store.as_ptr(),
+            store.len(),
+            key,
+            list.as_mut_ptr(),
+            list.len(),
+            &mut count,
+        )
+    };
+    (number, count)
 }
 
 /// The sum, modulo 2^32, of what `count` lookups find, after one judging: of the

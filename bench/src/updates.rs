@@ -6,12 +6,13 @@
 
 use std::hint::black_box;
 
+use hostile::stores;
 use reference::layout::{HIGHEST_KEY, PAGE_BYTES};
 use reference::model::Model;
 use reference::{number, store, unjudged, walk};
 
-use crate::measure::{in_turn, times, told, Times};
-use crate::{proved, stores};
+use crate::proved;
+use hostile::measure::{in_turn, times, told, Times};
 
 /// So many keys, evenly over all keys, are inserted and then deleted again:
 /// few in a round, so that what they take and judging stand close together.

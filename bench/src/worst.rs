@@ -2,12 +2,12 @@
 
 use std::hint::black_box;
 
+use hostile::stores::walked::{broken_at_last, following, moving};
+use hostile::stores::with_stray;
 use reference::layout::PAGE_BYTES;
 
-use crate::measure::{in_turn, once, told};
-use crate::stores::with_stray;
-use crate::walked::{broken_at_last, following, moving};
 use crate::{judged, proved, shape};
+use hostile::measure::{in_turn, once, told};
 
 /// The reference program goes version by version, and judges only stores with
 /// fewer pages.

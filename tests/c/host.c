@@ -59,18 +59,24 @@ static void releases(void) {
 
 static void settings(void) {
     static uint8_t store[8 * RCST_PAGE_BYTES], before[8 * RCST_PAGE_BYTES];
-    uint32_t found = 9, value = 9, list[4] = {1, 2, 3, 4}, key;
+    uint32_t found = 9, value = 9, list[4] = {1, 2, 3, 4}, pages[RCST_MOST_LEVELS] = {0}, key;
     size_t count = 9;
 
     expect(rcst_fresh(store, sizeof store) == 0, "a fresh store of 8 pages");
     expect(rcst_insert(store, sizeof store, 40, 7) == 7, "no update is open");
+    expect(rcst_insert(store, sizeof store, RCST_HIGHEST_INSERT_KEY, 7) == 7, "nor for the highest key that goes in");
+    expect(rcst_insert(store, sizeof store, RCST_HIGHEST_INSERT_KEY + 1, 7) == 5, "a bench key comes first");
     expect(rcst_insert(store, sizeof store, RCST_HIGHEST_KEY + 1, 7) == 5, "a key too large comes first");
     expect(rcst_open(store, sizeof store) == 0, "an update opens");
+    expect(rcst_insert(store, sizeof store, RCST_HIGHEST_KEY, 7) == 5, "a bench key is refused");
+    expect(rcst_delete(store, sizeof store, RCST_HIGHEST_KEY) == 11, "a bench key may be deleted, and is not alive");
+    expect(rcst_lookup(store, sizeof store, RCST_HIGHEST_KEY, 1, &found, &value) == 0 && found == 0, "nor found");
     expect(rcst_insert(store, sizeof store, 40, 7) == 0, "an insert");
     expect(rcst_insert(store, sizeof store, 40, 8) == 10, "the key is alive");
     expect(rcst_delete(store, sizeof store, 41) == 11, "the key is not alive");
     expect(rcst_lookup(store, sizeof store, 40, 1, &found, &value) == 0 && found == 1 && value == 7, "the open version is readable");
     expect(rcst_commit(store, sizeof store) == 0, "a release");
+    expect(rcst_visits(store, sizeof store, 40, 1, pages, 1, &count) == 0 && count == 1 && pages[0] == 5, "a lookup goes by page 5 alone");
     memcpy(before, store, sizeof store);
     expect(rcst_open(store, sizeof store) == 0, "the next update");
     expect(rcst_delete(store, sizeof store, 40) == 0, "a delete");
@@ -83,6 +89,8 @@ static void settings(void) {
     }
     expect(key == 20, "a dead entry takes room too");
     expect(rcst_insert(store, sizeof store, key, key) == 12, "pages run out");
+    expect(rcst_visits(store, sizeof store, 40, 1, pages, RCST_MOST_LEVELS, &count) == 0 && count == 1 && pages[0] == 5, "the old version by the same page");
+    expect(rcst_visits(store, sizeof store, 40, 1, pages, 0, &count) == 14 && count == 1, "no room for its number");
     expect(rcst_range(store, sizeof store, 3, 4, 2, list, 4, &count) == 0 && count == 2, "two settings");
     expect(list[0] == 3 && list[1] == 3 && list[2] == 4 && list[3] == 4, "key, value, key, value");
     expect(rcst_abandon(store, sizeof store) == 0, "the update is abandoned");
@@ -120,10 +128,32 @@ static void differences(void) {
     expect(rcst_difference(store, sizeof store, 3, 3, list, 13, &count) == 6, "also twice the same");
 }
 
+static void lives(void) {
+    static uint8_t store[16 * RCST_PAGE_BYTES];
+    uint32_t list[7] = {1, 2, 3, 4, 5, 6, 7};
+    size_t count = 9;
+
+    expect(rcst_fresh(store, sizeof store) == 0, "a fresh store of 16 pages");
+    expect(rcst_life(store, sizeof store, 40, list, 0, &count) == 0 && count == 0, "a key that never was has no stretch");
+    expect(rcst_open(store, sizeof store) == 0 && rcst_insert(store, sizeof store, 40, 7) == 0, "setting 40 is 7");
+    expect(rcst_life(store, sizeof store, 40, list, 0, &count) == 0 && count == 0, "an open update is not shown");
+    expect(rcst_commit(store, sizeof store) == 0, "version 1");
+    expect(rcst_open(store, sizeof store) == 0 && rcst_delete(store, sizeof store, 40) == 0, "ended ..");
+    expect(rcst_insert(store, sizeof store, 40, 9) == 0 && rcst_commit(store, sizeof store) == 0, ".. and set anew in version 2");
+    expect(rcst_life(store, sizeof store, 40, list, 5, &count) == 14 && count == 2, "two stretches are six numbers");
+    expect(list[0] == 1 && list[4] == 5, "and nothing written");
+    expect(rcst_life(store, sizeof store, 40, list, 7, &count) == 0 && count == 2, "two stretches");
+    expect(list[0] == 1 && list[1] == 2 && list[2] == 7, "7 from version 1 up to 2");
+    expect(list[3] == 2 && list[4] == RCST_ALIVE && list[5] == 9, "9 from version 2 on");
+    expect(list[6] == 7, "and nothing behind is touched");
+    expect(rcst_life(store, sizeof store, RCST_HIGHEST_KEY + 1, list, 7, &count) == 5 && count == 0, "a key too large");
+}
+
 int main(void) {
     fresh_and_check();
     releases();
     settings();
     differences();
+    lives();
     return failures != 0;
 }

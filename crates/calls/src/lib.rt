@@ -1,13 +1,18 @@
 // The calls, for any bytes and any numbers lent: each is its guard, which judges the store and then goes through the call's
 // refusals in order, and a core that rests on a sound store.
 mod differing;
+mod living;
 mod updating;
+mod visiting;
 
 pub use differing::difference;
+pub use living::life;
 use model::Limits;
 use model::Looked;
 pub use updating::delete;
 pub use updating::insert;
+pub use updating::raw_insert;
+pub use visiting::visits;
 use walk::Counted;
 ghost use mathlib.Core.Path.{_≡_};
 ghost use Rattle.model.specs.Limits.{Edition};
@@ -36,8 +41,8 @@ fn bad_range(low: u32, high: u32) -> bool
     high < low
 }
 
-// The guard of lookup, range and difference: judging, then 5 where the keys are wrong, then 6. Offered to callers that read many times from a
-// store that nobody writes in between.
+// The guard of lookup, range, visits and difference: judging, then 5 where the keys are wrong, then 6. Offered to callers that read many
+// times from a store that nobody writes in between.
 pub fn guard_reading(s: &[u8], l: Limits, bad: bool, v: u32) -> u32
     requires { ⌜ Edition l ⌝ }
     ensures { λ r. ⌜ r ≡ guarded (l .least) (now (s .entry)) (reading bad v) ⌝ }

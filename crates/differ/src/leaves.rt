@@ -74,7 +74,7 @@ fn on(page: &[u8], n: usize, v: u32, low: u32, high: u32, x: Side, key: u32) -> 
 }
 
 // What differs from the stretch in the leaf p, of m entries, to that in the leaf q, of n, behind the first `found` of a list; gives how
-// many there are then. Each step leaves at least one setting of 2 times 20 behind.
+// many there are then. Each step leaves an entry of one of the two leaves behind.
 fn merge(p: &[u8], m: usize, q: &[u8], n: usize, a: Ask, list: &mut [u32], found: usize) -> usize
     requires { ⌜ Stands (now p) m × Stands (now q) n × Ordered (rest (now p) m (a .old) (a .low) (a .high) 0) × Ordered (rest (now q) n (a .new) (a .low) (a .high) 0) × Space (a .write) (now list) found (asked (now p) m (now q) n a) ⌝ }
     ensures { λ r. ⌜ Tells (a .write) (now (list .entry)) (now (list .exit)) found r (asked (now (p .entry)) m (now (q .entry)) n a) ⌝ }

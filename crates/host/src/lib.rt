@@ -4,7 +4,7 @@ ghost use mathlib.Core.Path.{_≡_};
 ghost use Rattle.model.specs.Layout.{bit};
 ghost use Rattle.model.specs.Judged.{judged};
 ghost use Rattle.model.specs.Calls.{lookedNumber, lookedFound, lookedValue};
-ghost use Rattle.model.specs.Lent.{freshLent, openLent, insertLent, deleteLent, commitLent, abandonLent, lookupLent, rangeLent, differenceLent};
+ghost use Rattle.model.specs.Lent.{freshLent, openLent, insertLent, deleteLent, commitLent, abandonLent, lookupLent, rangeLent, lifeLent, differenceLent, visitsLent};
 ghost use Rattle.calls.specs.Turning.{ended};
 
 // Makes a fresh store.
@@ -135,6 +135,24 @@ pub extern "C" fn rcst_range(
     r.number
 }
 
+// The numbers of the pages that a lookup of a key at a version visits, from the root down, go to `pages`, their number to `count`.
+#[no_mangle]
+pub extern "C" fn rcst_visits(
+    store: &[u8],
+    key: u32,
+    version: u32,
+    pages: &mut [u32],
+    count: &mut usize,
+) -> u32
+    ensures number { λ r. ⌜ r ≡ visitsLent 4 (now (store .entry)) key version (now (pages .entry)) .number ⌝ }
+    ensures visited { λ _. ⌜ now (count .exit) ≡ visitsLent 4 (now (store .entry)) key version (now (pages .entry)) .count ⌝ }
+    ensures written { λ _. ⌜ now (pages .exit) ≡ visitsLent 4 (now (store .entry)) key version (now (pages .entry)) .list ⌝ }
+{
+    let r = calls::visits(store, key, version, pages);
+    *count = r.count;
+    r.number
+}
+
 // What differs from version `old` to version `new` goes to `list`, the number of differences to `count`.
 #[no_mangle]
 pub extern "C" fn rcst_difference(
@@ -149,6 +167,18 @@ pub extern "C" fn rcst_difference(
     ensures written { λ _. ⌜ now (list .exit) ≡ differenceLent 4 (now (store .entry)) old new (now (list .entry)) .list ⌝ }
 {
     let r = calls::difference(store, old, new, list);
+    *count = r.count;
+    r.number
+}
+
+// The stretches of committed versions in which a key held one value go to `list`, their number to `count`.
+#[no_mangle]
+pub extern "C" fn rcst_life(store: &[u8], key: u32, list: &mut [u32], count: &mut usize) -> u32
+    ensures number { λ r. ⌜ r ≡ lifeLent 4 (now (store .entry)) key (now (list .entry)) .number ⌝ }
+    ensures stretches { λ _. ⌜ now (count .exit) ≡ lifeLent 4 (now (store .entry)) key (now (list .entry)) .count ⌝ }
+    ensures written { λ _. ⌜ now (list .exit) ≡ lifeLent 4 (now (store .entry)) key (now (list .entry)) .list ⌝ }
+{
+    let r = calls::life(store, key, list);
     *count = r.count;
     r.number
 }

@@ -7,8 +7,7 @@ pub mod Taking
 pub mod Steps
 pub mod Versions
 pub mod Quiet
-pub mod Roots
-pub mod Reached
-pub mod Runs
+pub mod Marked
 pub mod Rules
 pub mod Judge
+pub mod Named

@@ -1,5 +1,5 @@
 -- The walk over a stretch of versions with a list of pages that wait: what it tests, what it has seen, and what it tells. Assumes nothing.
-use Prim.Native.Nat.{ℕ, zero, suc, _+_, _*_, _-_, _^_, _<_, _≤_}
+use Prim.Native.Nat.{ℕ, zero, suc, _+_, _*_, _-_, _<_, _≤_}
 use mathlib.Core.Bool.{Bool, true, false, _&&_, _||_, not}
 use mathlib.Core.Path.{_≡_}
 use mathlib.Core.List.{List, [], _∷_, _++_, map}
@@ -12,8 +12,8 @@ use Rattle.model.specs.Page.{Page}
 use Rattle.model.specs.Store.{page}
 use Rattle.model.specs.Walk.{Seen, spread, seenAs, seenBelow, keyLimit}
 use Rattle.model.specs.Sound.{startsAt, fewest}
-use Rattle.model.specs.Layout.{readEntry, readEntries, decode, sizeOf}
-use Rattle.local.specs.Local.{IsPage, countAt, levelAt, entryAt}
+use Rattle.model.specs.Layout.{readEntry, readEntries, decode}
+use Rattle.local.specs.Local.{IsPage, levelAt}
 use Rattle.judge.specs.declared.walk.Item.{Item}
 use Rattle.judge.specs.declared.walk.Walked.{Walked}
 
@@ -87,15 +87,6 @@ heft it = (it .upto - it .from) * weight (it .up)
 unfoldable pub weigh : List Item → ℕ → ℕ
 weigh items zero = 0
 weigh items (suc k) = heft (getD items k none) + weigh items k
-
--- ---- what holds of the bytes, once rules 1 and 3 hold
-
-pub record Linked (least : ℕ) (s : List ℕ) : Type 0 where
-  pub long : length s ≤ 2 ^ 21
-  pub most : sizeOf least s ≤ 4096
-  pub room : (n : ℕ) → IsPage least s n → countAt least s n ≤ 5 * least
-  pub child : (n i : ℕ) → IsPage least s n → 2 ≤ levelAt least s n → i < countAt least s n → IsPage least s (entryAt least s n i .value)
-  pub lower : (n i : ℕ) → IsPage least s n → 2 ≤ levelAt least s n → i < countAt least s n → levelAt least s (entryAt least s n i .value) + 1 ≡ levelAt least s n
 
 -- an item in its place k of the list, for a root U levels above the leaves
 pub record Fine (least : ℕ) (s : List ℕ) (U k : ℕ) (it : Item) : Type 0 where

@@ -19,7 +19,8 @@ use Rattle.model.specs.Walk.{Seen}
 use Rattle.model.specs.Layout.{readEntry, decode}
 use Rattle.local.specs.Local.{IsPage, countAt, levelAt}
 use Rattle.judge.specs.declared.walk.Item.{Item}
-use Rattle.judge.specs.Pending.{firstKey, stepOk, chainOk, passes, here, spanOf, kidsIn, none, restOf, pend, weight, heft, weigh, Linked, Fine, pairsFrom, Next, wholeIn}
+use Rattle.notes.specs.Linked.{Linked}
+use Rattle.judge.specs.Pending.{firstKey, stepOk, chainOk, passes, here, spanOf, kidsIn, none, restOf, pend, weight, heft, weigh, Fine, pairsFrom, Next, wholeIn}
 use Rattle.judge.specs.Live.{pairs-end, upper-first}
 use Rattle.judge.specs.Tests.{any-append, same-all}
 use Rattle.judge.specs.Walking.{Walking, Entering, kidWeight, weight-kids, pend-push, weigh-push, kids-none, kids-leaf, kids-next, pairs-here}

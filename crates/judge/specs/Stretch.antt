@@ -1,13 +1,13 @@
 -- Tests over what is seen at each version of a stretch. Assumes nothing.
 use Prim.Native.Nat.{ℕ, zero, suc, _+_, _-_, _<_, _≤_}
 use mathlib.Core.Path.{_≡_, refl, ap, ap₂, sym, _∙_}
-use mathlib.Core.Bool.{Bool, true, false, _&&_, _||_}
+use mathlib.Core.Bool.{Bool, true, false, _||_}
 use mathlib.Core.List.{List, [], _∷_, _++_, append-nil}
 use native.Mathlib.Omega.{arith}
-use Rattle.model.specs.Basic.{all, any, flatMap, count}
+use Rattle.model.specs.Basic.{any, flatMap, count}
 use Rattle.model.specs.Walk.{Seen}
 use Rattle.judge.specs.Pending.{over}
-use Rattle.judge.specs.Tests.{any-append, or-assoc, all-both}
+use Rattle.judge.specs.Tests.{any-append, or-assoc}
 
 -- x and what is behind it, twice
 twice : (x a b : Bool) → ((x || a) || (x || b)) ≡ (x || (a || b))
@@ -86,8 +86,3 @@ flat-nil f e (v ∷ vs) = rw (e v, flat-nil f e vs)
 
 pub over-nil : (f : ℕ → List Seen) (a b : ℕ) → ((v : ℕ) → f v ≡ []) → over f a b ≡ []
 over-nil f a b e = flat-nil f e (count a (b - a))
-
--- a test of each
-pub all-flat : (t : Seen → Bool) (f : ℕ → List Seen) (vs : List ℕ) → all t (flatMap f vs) ≡ all (λ (v : ℕ). all t (f v)) vs
-all-flat t f [] = refl
-all-flat t f (v ∷ vs) = all-both t (f v) (flatMap f vs) ∙ ap (λ (b : Bool). all t (f v) && b) (all-flat t f vs)

@@ -19,8 +19,10 @@ use Rattle.model.specs.Walk.{Seen}
 use Rattle.model.specs.Layout.{pageOf, decode}
 use Rattle.local.specs.Local.{IsPage, countAt, levelAt}
 use Rattle.judge.specs.declared.walk.Item.{Item}
-use Rattle.judge.specs.Pending.{openOk, chainOk, passes, here, seenOf, kids, spanOf, kidsIn, none, restOf, pend, Same, weight, heft, weigh, Linked, Fine, pairsFrom, Next, whole, wholeIn, isNumber, Tells}
-use Rattle.judge.specs.Versions.{Sooner, QuietPart}
+use Rattle.notes.specs.Linked.{Linked}
+use Rattle.judge.specs.Pending.{openOk, chainOk, passes, here, seenOf, kids, spanOf, kidsIn, none, restOf, pend, Same, weight, heft, weigh, Fine, pairsFrom, Next, whole, wholeIn, isNumber, Tells}
+use Rattle.notes.specs.Ready.{Sooner}
+use Rattle.judge.specs.Versions.{QuietPart}
 use Rattle.judge.specs.Quiet.{pairs-quiet}
 use Rattle.judge.specs.Tests.{any-append, same-all, all-true}
 use Rattle.judge.specs.Rules.{passes-six}

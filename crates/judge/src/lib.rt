@@ -5,7 +5,6 @@
 mod changes;
 mod live;
 mod reach;
-mod versions;
 mod walk;
 
 use model::Limits;
@@ -21,7 +20,8 @@ pub(crate) fn wide(x: u32) -> usize
     x as usize
 }
 
-// The lowest rule that the bytes break, or 0. Rule 7 follows from rules 1 and 3 (model/proofs/Judging, `seventh-by`), so it is not tested.
+// The lowest rule that the bytes break, or 0. Rules 4 and 5 are named by the notes. Rule 6 is first looked for at the last version, by the
+// reach walk, and then at every other by the sums and the slots. Rule 7 follows from rules 1 and 3 (model/proofs/Judging, `seventh-by`), so it is not tested.
 fn broken(s: &[u8], l: Limits, size: usize) -> u32
     requires { ⌜ Edition l × Sized (l .least) (now s) size ⌝ }
     ensures { λ r. ⌜ r ≡ brokenIn (l .least) (now (s .entry)) ⌝ }
@@ -36,13 +36,14 @@ fn broken(s: &[u8], l: Limits, size: usize) -> u32
     if !local::third_rule(s, l, h) {
         return 3;
     }
-    if versions::stretches(s, l, h, 4) != 0 {
-        return 4;
+    let rule = notes::broken(s, l, h);
+    if rule != 0 {
+        return rule;
     }
-    if versions::stretches(s, l, h, 5) != 0 {
-        return 5;
+    if !reach::version_ok(s, l, h, h.last()) {
+        return 6;
     }
-    if reach::versions(s, l, h) != 0 {
+    if !quick::led(s, l) {
         return 6;
     }
     0

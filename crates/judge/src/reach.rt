@@ -1,19 +1,17 @@
-// Rule 6 at every version up to last. Only those are walked at which a slot, a page or a router starts or ends: at every other one the same
-// pages are used and reached as at the one before.
+// Rule 6 at one version, by a walk and its marks.
 use model::Header;
 use model::Limits;
 use page::Head;
 ghost use mathlib.Core.Path.{_≡_};
 ghost use mathlib.Core.Bool.{_&&_, not};
-ghost use Prim.Native.Nat.{_+_, _-_, _≤_};
+ghost use Prim.Native.Nat.{_-_, _≤_};
 ghost use lib.Dec.{eqb};
-ghost use Rattle.model.specs.Basic.{pick, all, count};
 ghost use Rattle.model.specs.Entry.{within};
 ghost use Rattle.model.specs.Limits.{Edition};
-ghost use Rattle.model.specs.Store.{lastOf};
 ghost use Rattle.model.specs.Sound.{same};
 ghost use Rattle.model.specs.Layout.{readPages, sizeOf};
-ghost use Rattle.judge.specs.Versions.{versionOk, markedWell, Ready};
+ghost use Rattle.notes.specs.Ready.{Ready};
+ghost use Rattle.judge.specs.Versions.{versionOk, markedWell};
 
 fn used_at(h: Head, v: u32) -> bool
     ensures { λ r. ⌜ r ≡ (not (eqb (h .level) 0) && within (h .start) (h .end) v) ⌝ }
@@ -55,11 +53,11 @@ fn reached(s: &[u8], l: Limits, h: Header, marks: [bool; 4096], v: u32) -> bool
 }
 
 // Rule 6 at one version.
-fn version_ok(s: &[u8], l: Limits, h: Header, v: u32) -> bool
+pub(crate) fn version_ok(s: &[u8], l: Limits, h: Header, v: u32) -> bool
     requires { ⌜ Edition l × Ready (l .least) (now s) h × (v ≤ 1048574) ⌝ }
     ensures { λ r. ⌜ r ≡ versionOk (l .least) 6 (now (s .entry)) v ⌝ }
 {
-    let root = crate::versions::root_at(s, l, h, v);
+    let root = notes::root_at(s, l, h, v);
     let f = page::head_of(store::part(s, l, root), l);
     let up = crate::wide(f.level) - 1;
     let w = crate::walk::walk(s, l, root, up, v, v + 1, 6);
@@ -68,20 +66,4 @@ fn version_ok(s: &[u8], l: Limits, h: Header, v: u32) -> bool
     }
     let marks = w.marks;
     reached(s, l, h, marks, v)
-}
-
-// Rule 6 at every version: 6 if it is broken, else 0.
-pub(crate) fn versions(s: &[u8], l: Limits, h: Header) -> u32
-    requires { ⌜ Edition l × Ready (l .least) (now s) h ⌝ }
-    ensures { λ r. ⌜ r ≡ pick (all (versionOk (l .least) 6 (now (s .entry))) (count 0 (lastOf (h .opened) (h .current) + 1))) 0 6 ⌝ }
-{
-    let end = h.last() + 1;
-    let mut v = 0;
-    while v < end {
-        if !version_ok(s, l, h, v) {
-            return 6;
-        }
-        v = crate::changes::next_change(s, l, h, v, end);
-    }
-    0
 }

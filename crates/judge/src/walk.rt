@@ -7,7 +7,8 @@ ghost use Prim.Native.Nat.{_+_, _≤_, _<_};
 ghost use Rattle.model.specs.Basic.{pick};
 ghost use Rattle.model.specs.Limits.{Edition};
 ghost use Rattle.local.specs.Local.{IsPage, levelAt};
-ghost use Rattle.judge.specs.Pending.{Linked, Tells, restOf};
+ghost use Rattle.notes.specs.Linked.{Linked};
+ghost use Rattle.judge.specs.Pending.{Tells, restOf};
 
 // A page that waits for the walk, at each version from `from` up to, not including, `upto`: how far above the leaves, whether it is the
 // root, and the keys that it may hold.

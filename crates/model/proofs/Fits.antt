@@ -25,7 +25,7 @@ use Rattle.model.proofs.Given.{Sound, from-tests, GoodEntry, span-of, e
 use Rattle.model.proofs.Walks.{Reach, Self, reach-self, seen-reached, IsSeen, reached-under}
 use Rattle.model.proofs.Back.{endsWell}
 use Rattle.model.specs.Climb.{Result, refused, update}
-use Rattle.model.specs.Calls.{Rule, rule, numbered, isSome, insert, delete}
+use Rattle.model.specs.Calls.{Rule, numbered, isSome, benchLimit, insertTests, deleteTests, rawInsert, insert, delete}
 use Rattle.model.proofs.Undo.{TamePage, Good, Next, Beside, WayGood, Ready, Undone, update-undone}
 use Rattle.model.proofs.Edit.{leaf-insert, leaf-delete, length-enter, keep-all, dropped-one}
 use Rattle.model.proofs.Main.{Fit, leafPairs, Changed, update-changes}
@@ -392,17 +392,17 @@ is-some o h = not-false (isSome o) h
 
 -- an insert is refused, or is an update of a key that is not alive; a delete, of one that is
 pub insert-by : (P : Result → Type 0) (least : ℕ) (s : Store) (k x : ℕ) → ((n : ℕ) → P (refused n))
-    → (s .opened ≡ true → k < keyLimit → lookup s k (next s) ≡ none → P (update least s k (record { drop = []; take = pair k x ∷ [] }))) → P (insert least s k x)
+    → (s .opened ≡ true → k < keyLimit → lookup s k (next s) ≡ none → P (rawInsert least s k x)) → P (insert least s k x)
 unfolding insert
 insert-by P least s k x a b =
-    numbered-by P (rule 5 (leb keyLimit k) ∷ rule 7 (not (s .opened)) ∷ rule 10 (isSome (lookup s k (next s))) ∷ []) (update least s k (record { drop = []; take = pair k x ∷ [] })) a
-    (λ f. b (not-false (s .opened) (f .1 .0)) (leb-false keyLimit k (f .0)) (is-none (lookup s k (next s)) (f .1 .1 .0)))
+    numbered-by P (insertTests k (s .opened) (isSome (lookup s k (next s)))) (rawInsert least s k x) a
+    (λ f. b (not-false (s .opened) (f .1 .0)) (omega (arith, leb-false benchLimit k (f .0))) (is-none (lookup s k (next s)) (f .1 .1 .0)))
 
 pub delete-by : (P : Result → Type 0) (least : ℕ) (s : Store) (k : ℕ) → ((n : ℕ) → P (refused n))
     → (s .opened ≡ true → k < keyLimit → isSome (lookup s k (next s)) ≡ true → P (update least s k (record { drop = k ∷ []; take = [] }))) → P (delete least s k)
 unfolding delete
 delete-by P least s k a b =
-    numbered-by P (rule 5 (leb keyLimit k) ∷ rule 7 (not (s .opened)) ∷ rule 11 (not (isSome (lookup s k (next s)))) ∷ []) (update least s k (record { drop = k ∷ []; take = [] })) a
+    numbered-by P (deleteTests k (s .opened) (isSome (lookup s k (next s)))) (update least s k (record { drop = k ∷ []; take = [] })) a
     (λ f. b (not-false (s .opened) (f .1 .0)) (leb-false keyLimit k (f .0)) (is-some (lookup s k (next s)) (f .1 .1 .0)))
 
 -- For every sound store: an abandon after an accepted insert or delete leaves what an abandon before it leaves, and the settings at the open version change by the change alone.
@@ -410,15 +410,21 @@ module _ (least : ℕ) (two-or-more : 2 ≤ least) (s : Store) (sure : T (sound 
   given : Sound least s
   given = from-tests least s (holds-true (sound least s) sure)
 
+  -- of an insert behind its tests, bench keys too
+  pub raw-undone : s .opened ≡ true → (k x : ℕ) → k < keyLimit → Undone s (rawInsert least s k x)
+  raw-undone o k x h = update-undone least s k (record { drop = []; take = pair k x ∷ [] }) (ready least two-or-more s given o k h)
+
+  pub raw-changes : s .opened ≡ true → (k x : ℕ) → k < keyLimit → lookup s k (next s) ≡ none → Changed s (record { drop = []; take = pair k x ∷ [] }) (rawInsert least s k x)
+  raw-changes o k x h z = update-changes least s k (record { drop = []; take = pair k x ∷ [] }) (fit-insert least two-or-more s given o k h x z)
+
   pub insert-undone : (k x : ℕ) → Undone s (insert least s k x)
-  insert-undone k x = insert-by (Undone s) least s k x (λ n. tt) (λ o h z. update-undone least s k (record { drop = []; take = pair k x ∷ [] }) (ready least two-or-more s given o k h))
+  insert-undone k x = insert-by (Undone s) least s k x (λ n. tt) (λ o h z. raw-undone o k x h)
 
   pub delete-undone : (k : ℕ) → Undone s (delete least s k)
   delete-undone k = delete-by (Undone s) least s k (λ n. tt) (λ o h z. update-undone least s k (record { drop = k ∷ []; take = [] }) (ready least two-or-more s given o k h))
 
   pub insert-changes : (k x : ℕ) → Changed s (record { drop = []; take = pair k x ∷ [] }) (insert least s k x)
-  insert-changes k x = insert-by (Changed s (record { drop = []; take = pair k x ∷ [] })) least s k x (λ n. tt)
-      (λ o h z. update-changes least s k (record { drop = []; take = pair k x ∷ [] }) (fit-insert least two-or-more s given o k h x z))
+  insert-changes k x = insert-by (Changed s (record { drop = []; take = pair k x ∷ [] })) least s k x (λ n. tt) (λ o h z. raw-changes o k x h z)
 
   pub delete-changes : (k : ℕ) → Changed s (record { drop = k ∷ []; take = [] }) (delete least s k)
   delete-changes k = delete-by (Changed s (record { drop = k ∷ []; take = [] })) least s k (λ n. tt)

@@ -3,6 +3,7 @@
 use Prim.Native.Nat.{ℕ, suc, _≤_, _<_}
 use native.Mathlib.Omega.{arith}
 use mathlib.Core.Bool.{Bool, true, false, _||_, not}
+use mathlib.Core.Option.{none}
 use mathlib.Core.Path.{_≡_, refl, ap, ap₂, sym, _∙_, subst}
 use mathlib.Core.Logic.{_⊎_, inl, inr, _≢_}
 use mathlib.Core.List.{List, [], _∷_}
@@ -16,7 +17,7 @@ use Rattle.model.specs.Store.{Store, next, lastOf, last, fresh}
 use Rattle.model.specs.Walk.{rangeOf, between, settings, lookup, find, keyLimit}
 use Rattle.model.specs.Sound.{sound}
 use Rattle.model.specs.Climb.{Result, done, refused}
-use Rattle.model.specs.Calls.{rule, insert, delete, begin, committed, unchanged, commit, abandon, abandoned}
+use Rattle.model.specs.Calls.{rule, rawInsert, insert, delete, begin, committed, unchanged, commit, abandon, abandoned}
 use Rattle.model.specs.Histories.{Call, begins, commits, abandons, inserts, deletes, callBy}
 use Rattle.model.specs.Settings.{Machine, put, edited, step, Both, onward, together, fits, beginning}
 use Rattle.model.proofs.Lists.{all-cons}
@@ -25,10 +26,10 @@ use Rattle.model.proofs.Local.{applied}
 use Rattle.model.proofs.Given.{Sound, to-tests}
 use Rattle.model.proofs.Main.{Changed}
 use Rattle.model.proofs.Edit.{keep-all}
-use Rattle.model.proofs.Fits.{numbered-by, insert-by, delete-by, insert-changes, delete-changes}
+use Rattle.model.proofs.Fits.{numbered-by, insert-by, delete-by, raw-changes, delete-changes}
 use Rattle.model.proofs.Ranges.{range-is}
 use Rattle.model.proofs.Lookups.{lookup-is}
-use Rattle.model.proofs.Preserve.{Sounds, insert-keeps, delete-keeps}
+use Rattle.model.proofs.Preserve.{Sounds, raw-keeps, delete-keeps}
 use Rattle.model.proofs.Turns.{store, commit-sound, begin-sound, begin-shows, fresh-sound, fresh-shows}
 use Rattle.model.proofs.Abandon.{abandon-sound, steady-kept}
 use Rattle.model.proofs.Alike.{alike-settings}
@@ -146,12 +147,13 @@ module _ (least : ℕ) (four : 4 ≤ least) (b : Both) (a : Agrees least b) wher
   delete-same : (k : ℕ) (us : List Pair) → applied (record { drop = k ∷ []; take = [] }) us ≡ those (λ (y : Pair). not (eqb (y .key) k)) us
   delete-same k us = λ i. those (λ (y : Pair). not (or-false (eqb (y .key) k) i)) us
 
+  -- an insert behind its tests, bench keys too
+  pub raw-call : s .opened ≡ true → (k x : ℕ) → k < keyLimit → lookup s k (next s) ≡ none → x < 4294967296 → Then (inserts k x) (rawInsert least s k x)
+  raw-call o k x low absent h =
+      edit-then o (inserts k x) (record { drop = []; take = pair k x ∷ [] }) (enterPair (pair k x)) (insert-same k x) (λ n. refl) (rawInsert least s k x) (raw-keeps least four s d o k x low absent h) (raw-changes least two s sure o k x low absent)
+
   inserts-then : (k x : ℕ) → x < 4294967296 → Then (inserts k x) (insert least s k x)
-  inserts-then k x h = at (bool-cases (s .opened))
-    where
-      at : (s .opened ≡ true) ⊎ (s .opened ≡ false) → Then (inserts k x) (insert least s k x)
-      at (inl o) = edit-then o (inserts k x) (record { drop = []; take = pair k x ∷ [] }) (enterPair (pair k x)) (insert-same k x) (λ n. refl) (insert least s k x) (insert-keeps least four s d o k x h) (insert-changes least two s sure k x)
-      at (inr o) = insert-by (Then (inserts k x)) least s k x (λ n. a) (λ y low z. absurd (not-both (s .opened) y o))
+  inserts-then k x h = insert-by (Then (inserts k x)) least s k x (λ n. a) (λ o low absent. raw-call o k x low absent h)
 
   deletes-then : (k : ℕ) → Then (deletes k) (delete least s k)
   deletes-then k = at (bool-cases (s .opened))

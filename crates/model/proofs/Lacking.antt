@@ -21,7 +21,7 @@ use Rattle.model.specs.Rules.{Group, Parts, one, two, Rebuilt, rebuilt, 
 use Rattle.model.specs.Climb
 use Rattle.model.specs.Climb.{Rooted, stays, moves, lacks, goOn, climb, workRoot, Result, done, refused, rooted, update}
 use Rattle.model.specs.Calls
-use Rattle.model.specs.Calls.{Rule, rule, numbered, isSome, insert, delete}
+use Rattle.model.specs.Calls.{Rule, numbered, firstOf, isSome, insertTests, deleteTests, rawInsert, insert, delete}
 use Rattle.model.specs.Sound.{sound}
 use Rattle.model.specs.Layout.{decode}
 use Rattle.model.specs.Judged
@@ -229,43 +229,45 @@ Others n [] = Unit {0}
 Others n (x ∷ xs) = (x .number ≡ n → ⊥) × Others n xs
 
 -- a number that none of the rules has comes from what follows them
-late : (n : ℕ) (xs : List Rule) (r : Result) → Others n xs → numbered xs r ≡ refused n → Fail xs × (r ≡ refused n)
-late n [] r o e = (tt, e)
-late n (x ∷ xs) r o e = at (x .holds) refl e (λ f. late n xs r (o .1) f)
+late : (n : ℕ) (xs : List Rule) (r : Result) → Others n xs → numbered xs r ≡ refused n → (firstOf xs ≡ 0) × (r ≡ refused n)
+late n [] r o e = (refl, e)
+late n (x ∷ xs) r o e = at (x .holds) e (λ f. late n xs r (o .1) f)
   where
-    at : (b : Bool) → x .holds ≡ b → elim b as (λ z. Result) [ true ↦ refused (x .number) | false ↦ numbered xs r ] ≡ refused n
-        → (numbered xs r ≡ refused n → Fail xs × (r ≡ refused n)) → Fail (x ∷ xs) × (r ≡ refused n)
-    at true h e ih = absurd (o .0 cc)
-    at false h e ih = let (f, g) = ih e in ((h, f), g)
+    at : (b : Bool) → elim b as (λ z. Result) [ true ↦ refused (x .number) | false ↦ numbered xs r ] ≡ refused n
+        → (numbered xs r ≡ refused n → (firstOf xs ≡ 0) × (r ≡ refused n)) → (_≡_ {A = ℕ} (elim b [ true ↦ x .number | false ↦ firstOf xs ]) 0) × (r ≡ refused n)
+    at true e ih = absurd (o .0 cc)
+    at false e ih = ih e
 
-passed : (xs : List Rule) (r : Result) → Fail xs → numbered xs r ≡ r
-passed [] r f = refl
-passed (x ∷ xs) r f = rw (f .0) (passed xs r (f .1))
+-- where none of them holds, it is what follows
+passed : (xs : List Rule) (r : Result) → Others 0 xs → firstOf xs ≡ 0 → numbered xs r ≡ r
+passed [] r o e = refl
+passed (x ∷ xs) r o e = at (x .holds) e (λ f. passed xs r (o .1) f)
+  where
+    at : (b : Bool) → _≡_ {A = ℕ} (elim b [ true ↦ x .number | false ↦ firstOf xs ]) 0 → (firstOf xs ≡ 0 → numbered xs r ≡ r)
+        → _≡_ {A = Result} (elim b [ true ↦ refused (x .number) | false ↦ numbered xs r ]) r
+    at true e ih = absurd (o .0 e)
+    at false e ih = ih e
 
 module _ (least : ℕ) (s : Store) where
   insert-gives : (n k x : ℕ) → 12 ≤ n → insert least s k x ≡ refused n ↔ (InsertTried s k × (update least s k (inserting k x) ≡ refused n))
   unfolding Calls.insert
   insert-gives n k x h = (
-    λ e.
-        let (f, g) = late n rules (update least s k (inserting k x)) (λ z. omega arith, (λ z. omega arith, (λ z. omega arith, tt))) e in
-        (record { key = leb-false keyLimit k (f .0); opened = not-false (s .opened) (f .1 .0); absent = f .1 .1 .0 }, g),
-    λ t. passed rules (update least s k (inserting k x)) (lt-leb keyLimit k (t .0 .key), (ap not (t .0 .opened), (t .0 .absent, tt))) ∙ t .1,
+    late n tests (rawInsert least s k x) (λ z. omega arith, (λ z. omega arith, (λ z. omega arith, tt))),
+    λ t. passed tests (rawInsert least s k x) (λ z. omega arith, (λ z. omega arith, (λ z. omega arith, tt))) (t .0) ∙ t .1,
   )
     where
-      rules : List Rule
-      rules = rule 5 (leb keyLimit k) ∷ rule 7 (not (s .opened)) ∷ rule 10 (isSome (lookup s k (next s))) ∷ []
+      tests : List Rule
+      tests = insertTests k (s .opened) (isSome (lookup s k (next s)))
 
   delete-gives : (n k : ℕ) → 12 ≤ n → delete least s k ≡ refused n ↔ (DeleteTried s k × (update least s k (deleting k) ≡ refused n))
   unfolding Calls.delete
   delete-gives n k h = (
-    λ e.
-        let (f, g) = late n rules (update least s k (deleting k)) (λ z. omega arith, (λ z. omega arith, (λ z. omega arith, tt))) e in
-        (record { key = leb-false keyLimit k (f .0); opened = not-false (s .opened) (f .1 .0); present = not-false (isSome (lookup s k (next s))) (f .1 .1 .0) }, g),
-    λ t. passed rules (update least s k (deleting k)) (lt-leb keyLimit k (t .0 .key), (ap not (t .0 .opened), (ap not (t .0 .present), tt))) ∙ t .1,
+    late n tests (update least s k (deleting k)) (λ z. omega arith, (λ z. omega arith, (λ z. omega arith, tt))),
+    λ t. passed tests (update least s k (deleting k)) (λ z. omega arith, (λ z. omega arith, (λ z. omega arith, tt))) (t .0) ∙ t .1,
   )
     where
-      rules : List Rule
-      rules = rule 5 (leb keyLimit k) ∷ rule 7 (not (s .opened)) ∷ rule 11 (not (isSome (lookup s k (next s)))) ∷ []
+      tests : List Rule
+      tests = deleteTests k (s .opened) (isSome (lookup s k (next s)))
 
 both : {A B C D : Type 0} → (A ↔ (B × C)) → (C ↔ D) → A ↔ (B × D)
 both f g = (λ a. let (b, c) = f .0 a in (b, g .0 c), λ d. f .1 (d .0, g .1 (d .1)))

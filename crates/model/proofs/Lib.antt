@@ -51,6 +51,8 @@ pub mod PlanSizes
 pub mod Lacking
 pub mod Unique
 pub mod Steady
+pub mod Lives
+pub mod Telling
 pub mod Sampled
 pub mod Rising
 pub mod Judging

@@ -3,6 +3,7 @@
 use Prim.Native.Nat.{ℕ, zero, suc, _*_, _≤_, _<_}
 use native.Mathlib.Omega.{arith}
 use mathlib.Core.Bool.{Bool, true, false, _&&_, not}
+use mathlib.Core.Option.{none}
 use mathlib.Core.Path.{_≡_, refl, ap, sym, _∙_, subst}
 use mathlib.Core.Logic.{_⊎_, inl, inr}
 use mathlib.Core.List.{List, [], _∷_, map}
@@ -16,11 +17,11 @@ use Rattle.model.specs.Entry.{pair, alive, pairOf, liveAt}
 use Rattle.model.specs.Page.{Page, Change, isFree, pairsAt, wanted}
 use Rattle.model.specs.declared.Slot.{Slot}
 use Rattle.model.specs.Store.{Store, page, next, last}
-use Rattle.model.specs.Walk.{rootAt, heightOf, settings, way, keyLimit}
+use Rattle.model.specs.Walk.{rootAt, heightOf, settings, way, lookup, keyLimit}
 use Rattle.model.specs.Sound.{isPage, inside}
 use Rattle.model.specs.Climb
 use Rattle.model.specs.Climb.{Rooted, stays, moves, lacks, Result, done, refused, climb, update}
-use Rattle.model.specs.Calls.{insert, delete}
+use Rattle.model.specs.Calls.{rawInsert, insert, delete}
 use Rattle.model.proofs.Lists.{both-true, both-intro}
 use Rattle.model.proofs.Members.{not-both, either-true, bool-cases, all-in}
 use Rattle.model.proofs.Given.{Sound, GoodEntry, Span, span-of, entry-of, used-in, high-used}
@@ -249,11 +250,15 @@ module _ (least : ℕ) (four : 4 ≤ least) (s : Store) (d : Sound least s) (o :
   few-page : (n : ℕ) → page ps n .level ≡ 1 → length (pairsAt w (page ps n)) ≤ 5 * least
   few-page n e = omega (arith, few-shown (page ps n .entries), d .pages n (level-used (page ps n) 0 e) .few)
 
-  pub insert-keeps : (k x : ℕ) → x < 4294967296 → Sounds (insert least s k x)
-  insert-keeps k x h = insert-by Sounds least s k x (λ n. tt)
-      (λ _ low absent. update-sound k (record { drop = []; take = pair k x ∷ [] }) low (fit-insert least two′ s d o k low x absent)
+  -- an insert behind its tests, bench keys too
+  pub raw-keeps : (k x : ℕ) → k < keyLimit → lookup s k w ≡ none → x < 4294967296 → Sounds (rawInsert least s k x)
+  raw-keeps k x low absent h =
+      update-sound k (record { drop = []; take = pair k x ∷ [] }) low (fit-insert least two′ s d o k low x absent)
       (both-intro _ _ (both-intro _ _ (lt-ltb k keyLimit low) (lt-ltb x 4294967296 h)) refl)
-      (λ n e. omega (arith, length-enter (pair k x) (those (λ (y : Pair). true) (pairsAt w (page ps n))), few-those (λ (y : Pair). true) (pairsAt w (page ps n)), few-page n e)))
+      (λ n e. omega (arith, length-enter (pair k x) (those (λ (y : Pair). true) (pairsAt w (page ps n))), few-those (λ (y : Pair). true) (pairsAt w (page ps n)), few-page n e))
+
+  pub insert-keeps : (k x : ℕ) → x < 4294967296 → Sounds (insert least s k x)
+  insert-keeps k x h = insert-by Sounds least s k x (λ n. tt) (λ _ low absent. raw-keeps k x low absent h)
 
   pub delete-keeps : (k : ℕ) → Sounds (delete least s k)
   delete-keeps k = delete-by Sounds least s k (λ n. tt)

@@ -46,7 +46,7 @@ module _ (v u r : ℕ) (low : v ≤ u) (high : u < r) where
   ltb-still x (inl l) = le-ltb v x l ∙ sym (le-ltb u x (omega arith))
   ltb-still x (inr l) = lt-ltb v x (omega arith) ∙ sym (lt-ltb u x (omega arith))
 
-  within-still : (a b : ℕ) → Out v r a → Out v r b → within a b v ≡ within a b u
+  pub within-still : (a b : ℕ) → Out v r a → Out v r b → within a b v ≡ within a b u
   within-still a b p q = ap₂ _&&_ (leb-still a p) (ltb-still b q)
 
   those-still : (es : List Entry) → ((e : Entry) → In e es → Out v r (e .start)) → ((e : Entry) → In e es → Out v r (e .end)) → those (liveAt v) es ≡ those (liveAt u) es

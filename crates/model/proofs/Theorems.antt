@@ -18,7 +18,7 @@ use Rattle.model.specs.Store.{Store, page, next, last, lastOf}
 use Rattle.model.specs.Walk.{settings, lookup, find, rootAt, heightOf, Seen, seen, keyLimit}
 use Rattle.model.specs.Sound.{sound, fewest}
 use Rattle.model.specs.Climb.{Result, done, refused, update}
-use Rattle.model.specs.Calls.{isSome, insert, delete}
+use Rattle.model.specs.Calls.{isSome, rawInsert, insert, delete}
 use Rattle.model.specs.Histories.{Call, callBy, after}
 use Rattle.model.specs.Settings.{Machine, onward, fits, lent}
 use Rattle.model.proofs.Lists.{both-true}
@@ -27,7 +27,7 @@ use Rattle.model.proofs.Edit.{lt, length-enter, keep-all, those-one}
 use Rattle.model.proofs.Given.{Sound, from-tests, to-tests}
 use Rattle.model.proofs.Main.{Changed, update-changes}
 use Rattle.model.proofs.Walks.{seen-reached}
-use Rattle.model.proofs.Fits.{insert-by, delete-by, fit-insert, fit-delete, shows-all, count-of}
+use Rattle.model.proofs.Fits.{insert-by, delete-by, raw-changes, fit-delete, shows-all, count-of}
 use Rattle.model.proofs.Lookups.{lookup-is, settings-rise}
 use Rattle.model.proofs.Count.{root-low, root-lower}
 use Rattle.model.proofs.History.{one-call}
@@ -110,7 +110,7 @@ module _ (least : ℕ) (two : 2 ≤ least) (s : Store) (sure : T (sound least s)
   less k (refused n) o h e = tt
 
   pub insert-counts : (k x : ℕ) → OneMore s (insert least s k x)
-  insert-counts k x = insert-by (OneMore s) least s k x (λ n. tt) (λ o low z. more k x (update least s k (record { drop = []; take = pair k x ∷ [] })) (update-changes least s k (record { drop = []; take = pair k x ∷ [] }) (fit-insert least two s d o k low x z)))
+  insert-counts k x = insert-by (OneMore s) least s k x (λ n. tt) (λ o low z. more k x (rawInsert least s k x) (raw-changes least two s sure o k x low z))
 
   pub delete-counts : (k : ℕ) → OneLess s (delete least s k)
   delete-counts k = delete-by (OneLess s) least s k (λ n. tt)

@@ -22,10 +22,12 @@ use Rattle.model.specs.Climb.{Result}
 use Rattle.model.specs.Calls
 use Rattle.model.specs.Calls.{lookedNumber, lookedFound, lookedValue, Ranged, rule, firstOf}
 use Rattle.model.specs.Told
+use Rattle.model.specs.Visited
 use Rattle.model.specs.Differ
-use Rattle.model.specs.Ended.{Asked, toFresh, toCheck, toOpen, toCommit, toAbandon, toInsert, toDelete, toLookup, toRange, toDifference, Ended, ended, Meets, Untouched, Named, Zeros}
+use Rattle.model.specs.Life
+use Rattle.model.specs.Ended.{Asked, toFresh, toCheck, toOpen, toCommit, toAbandon, toInsert, toDelete, toLookup, toRange, toLife, toDifference, toVisits, Ended, ended, Meets, Untouched, Named, Zeros}
 use Rattle.model.specs.Lent
-use Rattle.model.specs.Lent.{Outcome, Listed, listed, left, judgedFirst, openLent, insertLent, deleteLent, commitLent, abandonLent, freshLent, lookupLent, rangeLent, differenceLent}
+use Rattle.model.specs.Lent.{Outcome, Listed, listed, left, judgedFirst, openLent, insertLent, deleteLent, commitLent, abandonLent, freshLent, lookupLent, rangeLent, lifeLent, differenceLent, visitsLent}
 
 -- Two outcomes that meet a call's contract are the same: number, results, store and list.
 pub unique : (least : ℕ) (c : Asked) (b ns : List ℕ) (e f : Ended) → Meets least c b ns e → Meets least c b ns f → e ≡ f
@@ -90,12 +92,28 @@ module _ {A : Type 0} (numbers : A → List ℕ) (each : ℕ) (ns : List ℕ) wh
   told-same zero xs = told-in-same _ xs
   told-same (suc n) xs = λ h. refl
 
+visits-same : (least : ℕ) (b : List ℕ) (k v : ℕ) (ns : List ℕ) → ListSame ns (visitsLent least b k v ns)
+unfolding Lent.visitsLent Visited.visits
+visits-same least b k v ns = at (judged least b .number)
+  where
+    at : (n : ℕ) → ListSame ns (judgedFirst n (λ m. record { number = m; count = 0; list = ns }) (listed ns (Visited.visits (decode least b) k v (length ns))))
+    at zero = told-same _ 1 ns _ _
+    at (suc n) = λ h. refl
+
 difference-same : (least : ℕ) (b : List ℕ) (u v : ℕ) (ns : List ℕ) → ListSame ns (differenceLent least b u v ns)
 unfolding Lent.differenceLent Differ.difference
 difference-same least b u v ns = at (judged least b .number)
   where
     at : (n : ℕ) → ListSame ns (judgedFirst n (λ m. record { number = m; count = 0; list = ns }) (listed ns (Differ.difference (decode least b) u v (length ns))))
     at zero = told-same _ 4 ns _ _
+    at (suc n) = λ h. refl
+
+life-same : (least : ℕ) (b : List ℕ) (k : ℕ) (ns : List ℕ) → ListSame ns (lifeLent least b k ns)
+unfolding Lent.lifeLent Life.lived
+life-same least b k ns = at (judged least b .number)
+  where
+    at : (n : ℕ) → ListSame ns (judgedFirst n (λ m. record { number = m; count = 0; list = ns }) (listed ns (Life.lived (decode least b) k (length ns))))
+    at zero = told-same Life.stretchNumbers 3 ns _ _
     at (suc n) = λ h. refl
 
 leaves : (least : ℕ) (c : Asked) (b ns : List ℕ) → ended least c b ns .number ≢ 0 → Untouched b ns (ended least c b ns)
@@ -109,7 +127,9 @@ leaves least (toInsert k x) b ns h = record { store = lent-same least _ b h; lis
 leaves least (toDelete k) b ns h = record { store = lent-same least _ b h; list = refl }
 leaves least (toLookup k v) b ns h = record { store = refl; list = refl }
 leaves least (toRange lo hi v) b ns h = record { store = refl; list = range-same least b lo hi v ns h }
+leaves least (toVisits k v) b ns h = record { store = refl; list = visits-same least b k v ns h }
 leaves least (toDifference u v) b ns h = record { store = refl; list = difference-same least b u v ns h }
+leaves least (toLife k) b ns h = record { store = refl; list = life-same least b k ns h }
 
 pub refused : (least : ℕ) (c : Asked) (b ns : List ℕ) (e : Ended) → Meets least c b ns e → e .number ≢ 0 → Untouched b ns e
 refused least c b ns e m h = subst (Untouched b ns) (sym m) (leaves least c b ns (subst (λ (x : Ended). x .number ≢ 0) m h))
@@ -170,12 +190,28 @@ told-blank numbers each zero room xs h k = at (ltb room (each * length xs)) h k
     at false h k = absurd (h refl)
 told-blank numbers each (suc n) room xs h k = refl
 
+visits-blank : (least : ℕ) (b : List ℕ) (i v : ℕ) (ns : List ℕ) → ListedBlank (visitsLent least b i v ns)
+unfolding Lent.visitsLent Visited.visits
+visits-blank least b i v ns = at (judged least b .number)
+  where
+    at : (n : ℕ) → ListedBlank (judgedFirst n (λ m. record { number = m; count = 0; list = ns }) (listed ns (Visited.visits (decode least b) i v (length ns))))
+    at zero = told-blank _ 1 _ (length ns) _
+    at (suc n) = λ h k. refl
+
 difference-blank : (least : ℕ) (b : List ℕ) (u v : ℕ) (ns : List ℕ) → ListedBlank (differenceLent least b u v ns)
 unfolding Lent.differenceLent Differ.difference
 difference-blank least b u v ns = at (judged least b .number)
   where
     at : (n : ℕ) → ListedBlank (judgedFirst n (λ m. record { number = m; count = 0; list = ns }) (listed ns (Differ.difference (decode least b) u v (length ns))))
     at zero = told-blank _ 4 _ (length ns) _
+    at (suc n) = λ h k. refl
+
+life-blank : (least : ℕ) (b : List ℕ) (k : ℕ) (ns : List ℕ) → ListedBlank (lifeLent least b k ns)
+unfolding Lent.lifeLent Life.lived
+life-blank least b k ns = at (judged least b .number)
+  where
+    at : (n : ℕ) → ListedBlank (judgedFirst n (λ m. record { number = m; count = 0; list = ns }) (listed ns (Life.lived (decode least b) k (length ns))))
+    at zero = told-blank Life.stretchNumbers 3 _ (length ns) _
     at (suc n) = λ h k. refl
 
 zero-one : (x : ℕ) → x ≡ 0 → Zeros (x ∷ [])
@@ -191,7 +227,9 @@ blanks least (toInsert i x) b ns h k = refl
 blanks least (toDelete i) b ns h k = refl
 blanks least (toLookup i v) b ns h k = looked-blank (lookupLent least b i v) h
 blanks least (toRange lo hi v) b ns h k = zero-one _ (range-blank least b lo hi v ns h k)
+blanks least (toVisits i v) b ns h k = zero-one _ (visits-blank least b i v ns h k)
 blanks least (toDifference u v) b ns h k = zero-one _ (difference-blank least b u v ns h k)
+blanks least (toLife i) b ns h k = zero-one _ (life-blank least b i ns h k)
 
 pub blank : (least : ℕ) (c : Asked) (b ns : List ℕ) (e : Ended) → Meets least c b ns e → e .number ≢ 0 → (Named c (e .number) → ⊥) → Zeros (e .results)
 blank least c b ns e m h k =

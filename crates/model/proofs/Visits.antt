@@ -1,14 +1,17 @@
--- The pages that lookups and ranges visit: a lookup's are the root and the way down, and what is found depends on no other page.
+-- The pages that lookups and ranges visit: a lookup's are the root and the way down, as many as the root's level says, and what is found
+-- depends on no other page.
 -- Assumes nothing.
 use Prim.Native.Nat.{ℕ, zero, suc}
 use mathlib.Core.Path.{_≡_, refl, ap, ap₂, sym, _∙_}
 use mathlib.Core.Logic.{inl, inr}
 use mathlib.Core.List.{List, [], _∷_, _++_, map, reverse, reverse-cons, append-assoc, append-nil}
+use lib.ListN.{length}
 use Rattle.model.specs.Basic.{flatMap}
 use Rattle.model.specs.declared.Pair.{Pair}
 use Rattle.model.specs.Page.{Page, pairsAt}
 use Rattle.model.specs.Store.{Store, page}
 use Rattle.model.specs.Walk.{rootAt, heightOf, Around, around, wayDown, way, pathDown, lookupVisits, between, followed, rangeBelow, rangePath}
+use Rattle.model.specs.Visited.{pageNumber}
 use Rattle.model.proofs.Members.{In, in-left, in-right}
 
 -- ---- the root, then the way down
@@ -38,6 +41,21 @@ pub visits-way : (s : Store) (k v : ℕ) → lookupVisits s k v ≡ rootAt (s .s
 visits-way s k v =
     let r : ℕ = rootAt (s .slots) v in
     path-lower (heightOf (s .pages) r) (s .pages) v k r ∙ ap {B = List ℕ} (λ (ns : List ℕ). r ∷ ns) (sym (way-lower (heightOf (s .pages) r) (s .pages) v k r []))
+
+-- ---- how many they are, and how they are told
+
+length-path : (l : ℕ) (ps : List Page) (v k n : ℕ) → length (pathDown l ps v k n) ≡ suc l
+length-path zero ps v k n = refl
+length-path (suc l) ps v k n = ap suc (length-path l ps v k (around k (pairsAt v (page ps n)) .own .value))
+
+-- A lookup visits one page on each level, from the root's down to the leaf's.
+pub visits-count : (s : Store) (k v : ℕ) → length (lookupVisits s k v) ≡ suc (heightOf (s .pages) (rootAt (s .slots) v))
+visits-count s k v = let r : ℕ = rootAt (s .slots) v in length-path (heightOf (s .pages) r) (s .pages) v k r
+
+-- Each is told by its own number, so what is told is the list itself.
+pub pages-told : (ns : List ℕ) → flatMap pageNumber ns ≡ ns
+pages-told [] = refl
+pages-told (n ∷ ns) = ap {B = List ℕ} (λ (ms : List ℕ). n ∷ ms) (pages-told ns)
 
 -- ---- what is found depends on the pages visited alone
 

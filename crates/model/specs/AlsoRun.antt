@@ -32,9 +32,9 @@ stops n m = record { number = n; count = m; written = [] }
 
 abbrev pub alsoRun : List History
 alsoRun =
-    -- "keys 16,777,215 and 16,777,216"
+    -- "keys 16,777,215 and 16,777,216"; with 2026-06 "01's cases at 16,777,215 become a refusal for insert"
     history 6 (begins ∷ insertKey 16777215 ∷ [])
-    (gives 0 ∷ looks 16777215 1 (Value 16777315) ∷ looks 16777216 1 (Refused 5) ∷ ranges 16777215 16777215 1 2 (finds (16777215 ∷ [])) ∷ ranges 16777215 16777216 1 2 (stops 5 0) ∷ [])
+    (gives 5 ∷ bytesOf (from 4 6 (begins ∷ []) .store) ∷ looks 16777215 1 Absent ∷ looks 16777216 1 (Refused 5) ∷ ranges 16777215 16777215 1 2 (finds []) ∷ ranges 16777215 16777216 1 2 (stops 5 0) ∷ [])
     ∷ history 6 (begins ∷ insertKey 16777216 ∷ []) (gives 5 ∷ bytesOf (from 4 6 (begins ∷ []) .store) ∷ [])
     ∷ history 6 (begins ∷ deletes 16777215 ∷ []) (gives 11 ∷ [])
     ∷ history 6 (begins ∷ deletes 16777216 ∷ []) (gives 5 ∷ [])

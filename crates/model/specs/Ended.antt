@@ -12,7 +12,7 @@ use Rattle.model.specs.declared.Verdict.{Verdict}
 use Rattle.model.specs.Layout.{bit}
 use Rattle.model.specs.Judged.{judged}
 use Rattle.model.specs.Calls.{lookedNumber, lookedFound, lookedValue}
-use Rattle.model.specs.Lent.{Outcome, Listed, openLent, insertLent, deleteLent, commitLent, abandonLent, freshLent, lookupLent, rangeLent, differenceLent}
+use Rattle.model.specs.Lent.{Outcome, Listed, openLent, insertLent, deleteLent, commitLent, abandonLent, freshLent, lookupLent, rangeLent, lifeLent, differenceLent, visitsLent}
 
 -- the calls, with the numbers that they take
 pub data Asked : Type 0 where
@@ -21,7 +21,9 @@ pub data Asked : Type 0 where
   toDelete : ℕ → Asked
   toLookup : ℕ → ℕ → Asked
   toRange : ℕ → ℕ → ℕ → Asked
+  toVisits : ℕ → ℕ → Asked
   toDifference : ℕ → ℕ → Asked
+  toLife : ℕ → Asked
 
 -- what a call gives and leaves: its number, its other results, the store's bytes and the caller's list after it
 pub record Ended : Type 0 where
@@ -53,7 +55,9 @@ ended least (toInsert k x) b ns = ofOutcome ns (insertLent least b k x)
 ended least (toDelete k) b ns = ofOutcome ns (deleteLent least b k)
 ended least (toLookup k v) b ns = ofLooked b ns (lookupLent least b k v)
 ended least (toRange lo hi v) b ns = ofListed b (rangeLent least b lo hi v ns)
+ended least (toVisits k v) b ns = ofListed b (visitsLent least b k v ns)
 ended least (toDifference u v) b ns = ofListed b (differenceLent least b u v ns)
+ended least (toLife k) b ns = ofListed b (lifeLent least b k ns)
 
 -- a call's contract, said of an outcome
 abbrev pub Meets : ℕ → Asked → List ℕ → List ℕ → Ended → Type 0
@@ -75,7 +79,9 @@ Named (toInsert k x) n = ⊥
 Named (toDelete k) n = ⊥
 Named (toLookup k v) n = ⊥
 Named (toRange lo hi v) n = n ≡ 14
+Named (toVisits k v) n = n ≡ 14
 Named (toDifference u v) n = n ≡ 14
+Named (toLife k) n = n ≡ 14
 
 abbrev pub Zeros : List ℕ → Type 0
 Zeros xs = all (λ (x : ℕ). eqb x 0) xs ≡ true

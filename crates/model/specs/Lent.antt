@@ -11,7 +11,9 @@ use Rattle.model.specs.Layout.{sizeOf, encode, decode}
 use Rattle.model.specs.Judged.{lengthOk, judged}
 use Rattle.model.specs.Climb.{Result, done, refused}
 use Rattle.model.specs.Calls.{insert, delete, begin, commit, abandon, get, range, Ranged}
+use Rattle.model.specs.Visited.{visits}
 use Rattle.model.specs.Differ.{difference}
+use Rattle.model.specs.Life.{lived}
 
 -- the number that a call gives, and the store's bytes after it
 pub record Outcome : Type 0 where
@@ -66,6 +68,15 @@ unfoldable pub rangeLent : ℕ → List ℕ → ℕ → ℕ → ℕ → List ℕ
 rangeLent least b lo hi v ns =
     judgedFirst (judged least b .number) (λ n. record { number = n; count = 0; list = ns }) (listed ns (range (decode least b) lo hi v (length ns)))
 
+unfoldable pub visitsLent : ℕ → List ℕ → ℕ → ℕ → List ℕ → Listed
+visitsLent least b k v ns =
+    judgedFirst (judged least b .number) (λ n. record { number = n; count = 0; list = ns }) (listed ns (visits (decode least b) k v (length ns)))
+
 unfoldable pub differenceLent : ℕ → List ℕ → ℕ → ℕ → List ℕ → Listed
 differenceLent least b u v ns =
     judgedFirst (judged least b .number) (λ n. record { number = n; count = 0; list = ns }) (listed ns (difference (decode least b) u v (length ns)))
+
+-- 2026-01: "Refusals 1 to 5 and 14 apply as in 01, in that order."
+unfoldable pub lifeLent : ℕ → List ℕ → ℕ → List ℕ → Listed
+lifeLent least b k ns =
+    judgedFirst (judged least b .number) (λ n. record { number = n; count = 0; list = ns }) (listed ns (lived (decode least b) k (length ns)))

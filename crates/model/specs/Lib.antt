@@ -11,7 +11,9 @@ pub mod Rules
 pub mod Climb
 pub mod Calls
 pub mod Told
+pub mod Visited
 pub mod Differ
+pub mod Life
 pub mod Settings
 pub mod Histories
 pub mod Field
@@ -26,8 +28,11 @@ pub mod Plan
 pub mod Replay
 pub mod Table
 pub mod AlsoRun
+pub mod Bench
 pub mod Releases
 pub mod Vectors
 pub mod Figures
 pub mod Samples
+pub mod Signed
+pub mod Lifetimes
 pub mod Proved

@@ -14,10 +14,10 @@ use Rattle.model.specs.declared.Slot.{Slot}
 use Rattle.model.specs.Entry.{pair}
 use Rattle.model.specs.Page.{Page, Change, wanted, active}
 use Rattle.model.specs.Store.{Store, page, freeOnes, next}
-use Rattle.model.specs.Walk.{Around, rootAt, way, lookup, keyLimit}
+use Rattle.model.specs.Walk.{Around, rootAt, way, lookup}
 use Rattle.model.specs.Rules.{Group, gatherBy, rebuilt, rebuild, roomy, upward, work}
 use Rattle.model.specs.Climb.{moves, climb, refused}
-use Rattle.model.specs.Calls.{isSome, insert, delete}
+use Rattle.model.specs.Calls.{isSome, firstOf, insertTests, deleteTests, insert, delete}
 use Rattle.model.specs.Layout.{decode}
 use Rattle.model.specs.Judged.{judged}
 use Rattle.model.specs.Lent.{insertLent, deleteLent}
@@ -92,17 +92,13 @@ inserting k x = record { drop = []; take = pair k x ∷ [] }
 abbrev pub deleting : ℕ → Change
 deleting k = record { drop = k ∷ []; take = [] }
 
--- none of 5, 7 and 10 is due
-pub record InsertTried (s : Store) (k : ℕ) : Type 0 where
-  pub key : k < keyLimit
-  pub opened : s .opened ≡ true
-  pub absent : isSome (lookup s k (next s)) ≡ false
+-- none of insert's tests holds: 5, 7 and 10
+abbrev pub InsertTried : Store → ℕ → Type 0
+InsertTried s k = firstOf (insertTests k (s .opened) (isSome (lookup s k (next s)))) ≡ 0
 
--- none of 5, 7 and 11 is due
-pub record DeleteTried (s : Store) (k : ℕ) : Type 0 where
-  pub key : k < keyLimit
-  pub opened : s .opened ≡ true
-  pub present : isSome (lookup s k (next s)) ≡ true
+-- none of delete's: 5, 7 and 11
+abbrev pub DeleteTried : Store → ℕ → Type 0
+DeleteTried s k = firstOf (deleteTests k (s .opened) (isSome (lookup s k (next s)))) ≡ 0
 
 -- Of a store: insert and delete give 12 and 13 exactly when their update lacks a page, or a slot.
 pub record Lacks (least : ℕ) (s : Store) : Type 0 where

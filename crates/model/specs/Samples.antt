@@ -1,11 +1,14 @@
 -- Two sound stores, written out: the premises that proofs take can be met.
 -- Assumes nothing.
+use Prim.Native.Nat.{ℕ}
 use mathlib.Core.Bool.{true}
 use mathlib.Core.List.{List, [], _∷_, _++_}
 use lib.ListN.{replicate}
 use Rattle.model.specs.Entry.{alive}
 use Rattle.model.specs.Page.{free}
 use Rattle.model.specs.Store.{Store}
+use Rattle.model.specs.Calls.{Ranged}
+use Rattle.model.specs.Visited.{visits}
 use Rattle.model.specs.Histories.{inserts, deletes}
 use Rattle.model.specs.Replay.{History, gives, looks}
 use Rattle.model.specs.declared.Looked.the-variants.{Value, Absent}
@@ -56,3 +59,18 @@ served =
       facts = gives 0 ∷ looks 5 4 (Value 50) ∷ looks 2 4 Absent ∷ looks 2 3 (Value 102) ∷ looks 10 1 (Value 110) ∷ [];
     }
     ∷ []
+
+-- The pages that lookups in the first visit, with what is told of them: at version 1 through page 7, which the open update killed, at
+-- version 2 through 9 or 10, at version 0 the fresh store's root alone; then 14, 5 and 6.
+abbrev told : ℕ → ℕ → List ℕ → Ranged
+told n c ns = record { number = n; count = c; written = ns }
+
+abbrev pub visited : List Ranged
+visited =
+    visits twoLevels 25 1 2 ∷ visits twoLevels 25 2 2 ∷ visits twoLevels 60 2 9 ∷ visits twoLevels 25 0 1 ∷ visits twoLevels 25 1 1
+    ∷ visits twoLevels 16777216 3 0 ∷ visits twoLevels 16777215 3 0 ∷ []
+
+abbrev pub visitedPages : List Ranged
+visitedPages =
+    told 0 2 (8 ∷ 7 ∷ []) ∷ told 0 2 (8 ∷ 9 ∷ []) ∷ told 0 2 (8 ∷ 10 ∷ []) ∷ told 0 1 (5 ∷ []) ∷ told 14 2 []
+    ∷ told 5 0 [] ∷ told 6 0 [] ∷ []

@@ -28,6 +28,13 @@ pub struct Delta {
     pub new: u32,
 }
 
+// A stretch of versions in which a key holds one value: from start up to but not including end.
+pub struct Stretch {
+    pub start: u32,
+    pub end: u32,
+    pub value: u32,
+}
+
 // A slot of the root directory.
 pub struct Slot {
     pub version: u32,

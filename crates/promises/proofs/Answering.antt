@@ -17,20 +17,23 @@ use Rattle.model.specs.Walk.{keyLimit, find, lookup, settings, between, rangeOf
 use Rattle.model.specs.Layout.{decode}
 use Rattle.model.specs.Calls
 use Rattle.model.specs.Same.{samePairs}
-use Rattle.model.specs.Calls.{unchanged, isSome, rule, firstOf, lookedBy, Ranged, rangedBy, get, range}
+use Rattle.model.specs.Calls.{unchanged, isSome, rule, benchLimit, insertTests, deleteTests, firstOf, lookedBy, Ranged, rangedBy, get, range}
 use Rattle.model.specs.Told
 use Rattle.model.specs.Told.{toldBy}
 use Rattle.model.specs.Differ
 use Rattle.model.specs.Differ.{differ, deltaNumbers, difference}
+use Rattle.model.specs.Life
+use Rattle.model.specs.Life.{lifeOf, lived, stretchNumbers}
 use Rattle.model.specs.Histories.{begins, commits, abandons, inserts, deletes}
 use Rattle.model.specs.Settings.{Machine}
 use Rattle.model.specs.Lent
 use Rattle.model.specs.Lent.{judgedFirst, listed}
-use Rattle.model.specs.Ended.{toInsert, toDelete, toLookup, toRange, toDifference, ofLooked, ofListed, ended}
+use Rattle.model.specs.Ended.{toInsert, toDelete, toLookup, toRange, toLife, toDifference, ofLooked, ofListed, ended}
+use Rattle.model.proofs.Lives.{life-ext}
 use Rattle.model.proofs.Lookups.{lookup-is, settings-rise}
 use Rattle.model.proofs.Ranges.{range-is}
 use Rattle.promises.specs.Beside.{Beside}
-use Rattle.promises.specs.Answers.{lastIn, lookupTests, rangeTests, differenceTests, openTests, endTests, commitTests, insertTests, deleteTests, lookedIn, rangedFrom, toldFrom, aliveIn, unchangedIn, Gives, Answers}
+use Rattle.promises.specs.Answers.{lastIn, lookupTests, rangeTests, differenceTests, openTests, endTests, commitTests, lookedIn, rangedFrom, livedIn, toldFrom, aliveIn, unchangedIn, Gives, Answers, lifeTests}
 use Rattle.promises.proofs.High.{begin-number, commit-number, abandon-number, insert-number, delete-number}
 use Rattle.promises.proofs.Lending.{change-number}
 use Rattle.promises.proofs.Agreed.{Agreed}
@@ -111,6 +114,31 @@ module _ (least : ℕ) (four : 4 ≤ least) (eight : least ≤ 8) (x : Beside) (
       ap (λ (n : ℕ). ofListed (x .bytes) (judgedFirst n (λ j. record { number = j; count = 0; list = ns }) (listed ns (difference s u v (length ns))))) (a .accepted)
       ∙ ap (λ (r : Ranged). ofListed (x .bytes) (listed ns r)) (difference-here u v (length ns))
 
+  -- ---- a life
+
+  committed : (v : ℕ) → v ≤ s .current → v ≤ last s
+  committed v h = omega (arith, at (s .opened) (s .current))
+    where
+      at : (o : Bool) (n : ℕ) → n ≤ lastOf o n
+      at true n = omega arith
+      at false n = omega arith
+
+  lived-here : (k room : ℕ) → lived s k room ≡ livedIn m k room
+  unfolding Life.lived Told.toldBy
+  lived-here k room = at (leb keyLimit k) refl ∙ ap (λ (c : ℕ). toldBy stretchNumbers 3 (firstOf (lifeTests k)) room (lifeOf c (λ (v : ℕ). find k (m .shows v)))) (a .agrees .current)
+    where
+      at : (p : Bool) → leb keyLimit k ≡ p
+          → toldBy stretchNumbers 3 (firstOf (rule 5 p ∷ [])) room (lifeOf (s .current) (lookup s k)) ≡ toldBy stretchNumbers 3 (firstOf (rule 5 p ∷ [])) room (lifeOf (s .current) (λ (v : ℕ). find k (m .shows v)))
+      at true e = refl
+      at false e =
+          ap (toldBy stretchNumbers 3 0 room) (life-ext (s .current) (lookup s k) (λ (v : ℕ). find k (m .shows v)) (λ v h. lookup-here k v (leb-false keyLimit k e) (committed v h)))
+
+  life-answers : (k : ℕ) (ns : List ℕ) → ended least (toLife k) (x .bytes) ns ≡ ofListed (x .bytes) (listed ns (livedIn m k (length ns)))
+  unfolding Lent.lifeLent
+  life-answers k ns =
+      ap (λ (n : ℕ). ofListed (x .bytes) (judgedFirst n (λ j. record { number = j; count = 0; list = ns }) (listed ns (lived s k (length ns))))) (a .accepted)
+      ∙ ap (λ (r : Ranged). ofListed (x .bytes) (listed ns r)) (lived-here k (length ns))
+
   -- ---- numbers
 
   alive-here : s .opened ≡ true → (k : ℕ) → k < keyLimit → isSome (lookup s k (next s)) ≡ aliveIn m k
@@ -118,24 +146,28 @@ module _ (least : ℕ) (four : 4 ≤ least) (eight : least ≤ 8) (x : Beside) (
       ap isSome (lookup-here k (next s) low (omega (arith, ap (λ (q : Bool). lastOf q (s .current)) o))) ∙ ap (λ (n : ℕ). isSome (find k (m .shows (suc n)))) (a .agrees .current)
 
   -- where 5 and 7 are not due, the last test may be made on the machine
-  tests-same : (n k : ℕ) (f : Bool → Bool) → firstOf (rule 5 (leb keyLimit k) ∷ rule 7 (not (s .opened)) ∷ rule n (f (isSome (lookup s k (next s)))) ∷ [])
-      ≡ firstOf (rule 5 (leb keyLimit k) ∷ rule 7 (not (m .opened)) ∷ rule n (f (aliveIn m k)) ∷ [])
-  tests-same n k f =
-      at (leb keyLimit k) refl (s .opened) refl
-      ∙ ap (λ (o : Bool). firstOf (rule 5 (leb keyLimit k) ∷ rule 7 (not o) ∷ rule n (f (aliveIn m k)) ∷ [])) (a .agrees .opened)
+  tests-same : (k : ℕ) (large : Bool) → (large ≡ false → k < keyLimit) → (n : ℕ) (f : Bool → Bool)
+      → firstOf (rule 5 large ∷ rule 7 (not (s .opened)) ∷ rule n (f (isSome (lookup s k (next s)))) ∷ []) ≡ firstOf (rule 5 large ∷ rule 7 (not (m .opened)) ∷ rule n (f (aliveIn m k)) ∷ [])
+  tests-same k large low n f = at large low (s .opened) refl ∙ ap (λ (o : Bool). firstOf (rule 5 large ∷ rule 7 (not o) ∷ rule n (f (aliveIn m k)) ∷ [])) (a .agrees .opened)
     where
-      at : (p : Bool) → leb keyLimit k ≡ p → (o : Bool) → s .opened ≡ o → firstOf (rule 5 p ∷ rule 7 (not o) ∷ rule n (f (isSome (lookup s k (next s)))) ∷ [])
-          ≡ firstOf (rule 5 p ∷ rule 7 (not o) ∷ rule n (f (aliveIn m k)) ∷ [])
+      at : (p : Bool) → (p ≡ false → k < keyLimit) → (o : Bool) → s .opened ≡ o
+          → firstOf (rule 5 p ∷ rule 7 (not o) ∷ rule n (f (isSome (lookup s k (next s)))) ∷ []) ≡ firstOf (rule 5 p ∷ rule 7 (not o) ∷ rule n (f (aliveIn m k)) ∷ [])
       at true e o g = refl
       at false e false g = refl
-      at false e true g = ap (λ (t : Bool). firstOf (rule n (f t) ∷ [])) (alive-here g k (leb-false keyLimit k e))
+      at false e true g = ap (λ (t : Bool). firstOf (rule n (f t) ∷ [])) (alive-here g k (e refl))
+
+  insert-same : (k : ℕ) → firstOf (insertTests k (s .opened) (isSome (lookup s k (next s)))) ≡ firstOf (insertTests k (m .opened) (aliveIn m k))
+  insert-same k = tests-same k (leb benchLimit k) (λ e. omega (arith, leb-false benchLimit k e)) 10 (λ (t : Bool). t)
+
+  delete-same : (k : ℕ) → firstOf (deleteTests k (s .opened) (isSome (lookup s k (next s)))) ≡ firstOf (deleteTests k (m .opened) (aliveIn m k))
+  delete-same k = tests-same k (leb keyLimit k) (leb-false keyLimit k) 11 not
 
   insert-gives : (k v : ℕ) (ns : List ℕ) → Gives (firstOf (insertTests k (m .opened) (aliveIn m k))) (ended least (toInsert k v) (x .bytes) ns .number)
-  insert-gives k v ns = subst (λ (n : ℕ). Gives n (ended least (toInsert k v) (x .bytes) ns .number)) (tests-same 10 k (λ (t : Bool). t))
+  insert-gives k v ns = subst (λ (n : ℕ). Gives n (ended least (toInsert k v) (x .bytes) ns .number)) (insert-same k)
       (subst (Gives (firstOf (insertTests k (s .opened) (isSome (lookup s k (next s)))))) (sym (change-number least (x .bytes) (a .accepted) (inserts k v) ns)) (insert-number least s k v))
 
   delete-gives : (k : ℕ) (ns : List ℕ) → Gives (firstOf (deleteTests k (m .opened) (aliveIn m k))) (ended least (toDelete k) (x .bytes) ns .number)
-  delete-gives k ns = subst (λ (n : ℕ). Gives n (ended least (toDelete k) (x .bytes) ns .number)) (tests-same 11 k not)
+  delete-gives k ns = subst (λ (n : ℕ). Gives n (ended least (toDelete k) (x .bytes) ns .number)) (delete-same k)
       (subst (Gives (firstOf (deleteTests k (s .opened) (isSome (lookup s k (next s)))))) (sym (change-number least (x .bytes) (a .accepted) (deletes k) ns)) (delete-number least s k))
 
   ends : firstOf (endTests (s .opened)) ≡ firstOf (endTests (m .opened))
@@ -162,6 +194,7 @@ module _ (least : ℕ) (four : 4 ≤ least) (eight : least ≤ 8) (x : Beside) (
     lookup = lookup-answers;
     range = range-answers;
     difference = difference-answers;
+    life = life-answers;
     order = λ v h. ap (inOrder (λ (p q : Pair). ltb (p .key) (q .key))) (sym (a .agrees .shows v (omega (arith, last-is)))) ∙ settings-rise least (omega arith) s (a .agrees .is-sound) v (omega (arith, last-is));
     count = λ v h. ap (λ (us : List Pair). length us + x .tally .removed v) (sym (a .agrees .shows v (omega (arith, last-is)))) ∙ a .counts .is v (omega (arith, last-is));
     opens = λ ns. change-number least (x .bytes) (a .accepted) begins ns ∙ begin-number least s ∙ ap₂ (λ (o : Bool) (n : ℕ). firstOf (openTests o n)) (a .agrees .opened) (a .agrees .current);

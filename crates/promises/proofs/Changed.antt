@@ -13,7 +13,7 @@ use Rattle.model.specs.Entry.{pair, enterPair}
 use Rattle.model.specs.Store.{last, lastOf}
 use Rattle.model.specs.Walk.{keyLimit, settings}
 use Rattle.model.specs.Layout.{decode}
-use Rattle.model.specs.Calls.{rule, firstOf}
+use Rattle.model.specs.Calls.{rule, firstOf, benchLimit, insertTests, deleteTests}
 use Rattle.model.specs.Settings.{Machine, edited, put}
 use Rattle.model.specs.Ended.{toInsert, toDelete, ended}
 use Rattle.promises.specs.Accepts.{Accepts}
@@ -25,11 +25,17 @@ use Rattle.promises.proofs.Judges.{zero-accepts}
 use Rattle.promises.proofs.Agreed.{Agreed, one-turn, lent-agreed}
 use Rattle.promises.proofs.Answering.{answers}
 
--- where an update's first tests pass, one is open
+-- where no test of an insert or a delete holds, an update is open
 opened-by : (p o q : Bool) (m n : ℕ) → 5 ≤ m → Gives (firstOf (rule 5 p ∷ rule 7 (not o) ∷ rule m q ∷ [])) n → n ≡ 0 → o ≡ true
 opened-by true o q m n h g e = absurd (omega arith)
 opened-by false false q m n h g e = absurd (omega arith)
 opened-by false true q m n h g e = refl
+
+insert-opened : (k : ℕ) (o alive : Bool) (n : ℕ) → Gives (firstOf (insertTests k o alive)) n → n ≡ 0 → o ≡ true
+insert-opened k o alive n g e = opened-by (leb benchLimit k) o alive 10 n (omega arith) g e
+
+pub delete-opened : (k : ℕ) (o alive : Bool) (n : ℕ) → Gives (firstOf (deleteTests k o alive)) n → n ≡ 0 → o ≡ true
+delete-opened k o alive n g e = opened-by (leb keyLimit k) o (not alive) 11 n (omega arith) g e
 
 module _ (least : ℕ) (four : 4 ≤ least) (eight : least ≤ 8) (b : List ℕ) (t : Turn) (ok : Accepts least b) (fit : fitting (kindOf (t .call)) ≡ true) (done : ended least (t .call) b (t .list) .number ≡ 0)
     (o : decode least b .opened ≡ true) (g : List Pair → List Pair) (is : stepped (kindOf (t .call)) (fromLent least b .machine) ≡ edited g (fromLent least b .machine)) where
@@ -62,12 +68,12 @@ settings-change = record {
       let ok = zero-accepts least (toInsert k x) b ns refl done in
       let t : Turn = record { call = toInsert k x; list = ns } in
       changes least four eight b t ok (lt-ltb x 4294967296 small) done
-      (opened-by (leb keyLimit k) (decode least b .opened) (aliveIn (fromLent least b .machine) k) 10 (ended least (toInsert k x) b ns .number) (omega arith)
+      (insert-opened k (decode least b .opened) (aliveIn (fromLent least b .machine) k) (ended least (toInsert k x) b ns .number)
       (answers least four eight (fromLent least b) (lent-agreed least four eight b ok) .inserts k x ns) done) (enterPair (pair k x)) refl;
   delete = λ least four eight b k ns done.
       let ok = zero-accepts least (toDelete k) b ns refl done in
       let t : Turn = record { call = toDelete k; list = ns } in
       changes least four eight b t ok refl done
-      (opened-by (leb keyLimit k) (decode least b .opened) (not (aliveIn (fromLent least b .machine) k)) 11 (ended least (toDelete k) b ns .number) (omega arith)
+      (delete-opened k (decode least b .opened) (aliveIn (fromLent least b .machine) k) (ended least (toDelete k) b ns .number)
       (answers least four eight (fromLent least b) (lent-agreed least four eight b ok) .deletes k ns) done) (those (λ (y : Pair). not (eqb (y .key) k))) refl;
 }

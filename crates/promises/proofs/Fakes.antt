@@ -9,7 +9,7 @@ use mathlib.Core.Option.{none, some}
 use mathlib.Core.List.{List, [], _∷_, _++_, map}
 use lib.Dec.{leb, ltb, eqb, lit≤}
 use lib.ListN.{length}
-use borrow.Author.Tests.{eqb-true, lt-ltb, le-ltb, eq-eqb}
+use borrow.Author.Tests.{eqb-true, lt-ltb, le-ltb, eq-eqb, lt-leb, leb-false}
 use Rattle.model.specs.Basic.{pick, count, eqList}
 use Rattle.model.specs.declared.Pair.{Pair}
 use Rattle.model.specs.declared.Entry.{Entry}
@@ -21,7 +21,7 @@ use Rattle.model.specs.Walk.{keyLimit, find, settings, between}
 use Rattle.model.specs.Layout.{decode}
 use Rattle.model.specs.Climb.{Result, done}
 use Rattle.model.specs.Calls
-use Rattle.model.specs.Calls.{isSome, rule, firstOf, lookedBy, rangedBy, begin}
+use Rattle.model.specs.Calls.{isSome, rule, firstOf, benchLimit, insertTests, lookedBy, rangedBy, begin}
 use Rattle.model.specs.Histories.{begins, inserts, after}
 use Rattle.model.specs.Settings.{Machine, step, put}
 use Rattle.model.specs.Replay.{gives, keys, holding}
@@ -134,12 +134,15 @@ module _ (f : Implementation) (honest : Honest f) where
       at false true e h ih = let z : _≡_ {A = ℕ} 0 1 = cc in absurd (omega arith)
       at false false e h ih = ap (λ (q : Bool). pick q (some (u .value)) (find k (enterPair (pair k x) us))) e ∙ ih h
 
-  -- none of 5, 7 and 10 was due
-  clear : (p o q : Bool) (n : ℕ) → Gives (firstOf (rule 5 p ∷ rule 7 (not o) ∷ rule 10 q ∷ [])) n → n ≡ 0 → (p ≡ false) × ((o ≡ true) × (q ≡ false))
-  clear true o q n g e = absurd (omega arith)
-  clear false false q n g e = absurd (omega arith)
-  clear false true true n g e = absurd (omega arith)
-  clear false true false n g e = (refl, (refl, refl))
+  -- none of insert's tests held
+  clear : (k : ℕ) (o q : Bool) (n : ℕ) → Gives (firstOf (insertTests k o q)) n → n ≡ 0 → (leb keyLimit k ≡ false) × ((o ≡ true) × (q ≡ false))
+  clear k o q n g e = at (leb benchLimit k) refl o q g
+    where
+      at : (p : Bool) → leb benchLimit k ≡ p → (o q : Bool) → Gives (firstOf (rule 5 p ∷ rule 7 (not o) ∷ rule 10 q ∷ [])) n → (leb keyLimit k ≡ false) × ((o ≡ true) × (q ≡ false))
+      at true f o q g = absurd (omega arith)
+      at false f false q g = absurd (omega arith)
+      at false f true true g = absurd (omega arith)
+      at false f true false g = (lt-leb keyLimit k (omega (arith, leb-false benchLimit k f)), (refl, refl))
 
   -- the machine after it
   found : (k v : ℕ) (m : Machine) → leb keyLimit k ≡ false → m .opened ≡ true → isSome (find k (m .shows (suc (m .current)))) ≡ false
@@ -159,7 +162,7 @@ module _ (f : Implementation) (honest : Honest f) where
       let x : Beside = fromLent 4 b in
       let t : Turn = record { call = toInsert k v; list = ns } in
       let a : Agreed 4 (fromLent 4 b) = lent-agreed 4 (lit≤ tt) (lit≤ tt) b ok in
-      let (low, (o, absent)) = clear (leb keyLimit k) (decode 4 b .opened) (aliveIn (fromLent 4 b .machine) k) (ended 4 (toInsert k v) b ns .number) (answers 4 (lit≤ tt) (lit≤ tt) (fromLent 4 b) a .inserts k v ns) e in
+      let (low, (o, absent)) = clear k (decode 4 b .opened) (aliveIn (fromLent 4 b .machine) k) (ended 4 (toInsert k v) b ns .number) (answers 4 (lit≤ tt) (lit≤ tt) (fromLent 4 b) a .inserts k v ns) e in
       let after-it = answers 4 (lit≤ tt) (lit≤ tt) (onward 4 x t) (one-turn 4 (lit≤ tt) (lit≤ tt) x a t (lt-ltb v 4294967296 small)) .lookup k (suc (decode 4 b .current)) ms in
       ap (λ (y : Ended). y .results) after-it
       ∙ ap (λ (n : ℕ). ofLooked [] ms (lookedIn (whenDone n (step (fromLent 4 b .machine) (inserts k v)) (fromLent 4 b .machine)) k (suc (decode 4 b .current))) .results) e

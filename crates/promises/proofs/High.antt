@@ -13,10 +13,10 @@ use Rattle.model.specs.Walk.{lookup}
 use Rattle.model.specs.Climb
 use Rattle.model.specs.Climb.{Rooted, stays, moves, lacks, Result, done, refused, update}
 use Rattle.model.specs.Calls
-use Rattle.model.specs.Calls.{Rule, numbered, firstOf, isSome, insert, delete, begin, committed, unchanged, commit, abandon, abandoned}
+use Rattle.model.specs.Calls.{Rule, numbered, firstOf, isSome, insertTests, deleteTests, insert, delete, begin, committed, unchanged, commit, abandon, abandoned}
 use Rattle.model.specs.Needs.{inserting, deleting}
 use Rattle.model.specs.Histories.{Call, begins, commits, abandons, inserts, deletes, callBy}
-use Rattle.promises.specs.Answers.{openTests, endTests, commitTests, insertTests, deleteTests, Gives}
+use Rattle.promises.specs.Answers.{openTests, endTests, commitTests, Gives}
 
 -- the number that a result stands for
 abbrev pub numberOf : Result → ℕ

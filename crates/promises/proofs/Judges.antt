@@ -12,7 +12,7 @@ use lib.ListN.{length}
 use Rattle.model.specs.Basic.{pick}
 use Rattle.model.specs.declared.Looked.the-variants.{Refused as Stopped}
 use Rattle.model.specs.Store.{Store, fresh, last}
-use Rattle.model.specs.Walk.{keyLimit, lookup, rangeOf, settings}
+use Rattle.model.specs.Walk.{keyLimit, lookup, rangeOf, settings, lookupVisits}
 use Rattle.model.specs.Sound.{sound}
 use Rattle.model.specs.Layout.{sizeOf, encode, decode}
 use Rattle.model.specs.Clean.{clean}
@@ -22,12 +22,15 @@ use Rattle.model.specs.Climb.{Result, done, refused}
 use Rattle.model.specs.Calls
 use Rattle.model.specs.Calls.{rule, firstOf, lookedBy, lookedAt, lookedNumber, get, range}
 use Rattle.model.specs.Told
+use Rattle.model.specs.Visited
+use Rattle.model.specs.Visited.{pageNumber}
 use Rattle.model.specs.Differ
 use Rattle.model.specs.Differ.{differ, deltaNumbers, tooLate, difference}
+use Rattle.model.specs.Life
 use Rattle.model.specs.Histories.{begins, commits, abandons, inserts, deletes}
 use Rattle.model.specs.Lent
-use Rattle.model.specs.Lent.{left, judgedFirst, listed, lookupLent, rangeLent, differenceLent}
-use Rattle.model.specs.Ended.{Asked, toFresh, toCheck, toOpen, toCommit, toAbandon, toInsert, toDelete, toLookup, toRange, toDifference, ofOutcome, ended}
+use Rattle.model.specs.Lent.{left, judgedFirst, listed, lookupLent, rangeLent, lifeLent, differenceLent, visitsLent}
+use Rattle.model.specs.Ended.{Asked, toFresh, toCheck, toOpen, toCommit, toAbandon, toInsert, toDelete, toLookup, toRange, toLife, toDifference, toVisits, ofOutcome, ended}
 use Rattle.model.proofs.Lists.{both-true, both-intro}
 use Rattle.model.proofs.Members.{bool-cases, not-both}
 use Rattle.model.proofs.Judging.{unbroken, whole}
@@ -114,6 +117,23 @@ told-past numbers each room xs = at (ltb room (each * length xs))
     at true = inr (omega arith)
     at false = inl refl
 
+visited-past : (s : Store) (k v room : ℕ) → Past 0 (Visited.visits s k v room .number)
+unfolding Visited.visits Told.toldBy
+visited-past s k v room = at (leb keyLimit k) (ltb (last s) v)
+  where
+    at : (p q : Bool) → Past 0 (Told.toldBy pageNumber 1 (firstOf (rule 5 p ∷ rule 6 q ∷ [])) room (lookupVisits s k v) .number)
+    at true q = inr (omega arith)
+    at false true = inr (omega arith)
+    at false false = told-past pageNumber 1 room (lookupVisits s k v)
+
+visits-past : (least : ℕ) (b : List ℕ) (k v : ℕ) (ns : List ℕ) → Past (judged least b .number) (visitsLent least b k v ns .number)
+unfolding Lent.visitsLent
+visits-past least b k v ns = at (judged least b .number)
+  where
+    at : (j : ℕ) → Past j (judgedFirst j (λ n. record { number = n; count = 0; list = ns }) (listed ns (Visited.visits (decode least b) k v (length ns))) .number)
+    at zero = visited-past (decode least b) k v (length ns)
+    at (suc j) = refl
+
 differing-past : (s : Store) (u v room : ℕ) → Past 0 (difference s u v room .number)
 unfolding Differ.difference Told.toldBy
 differing-past s u v room = at (tooLate s u v)
@@ -128,6 +148,22 @@ difference-past least b u v ns = at (judged least b .number)
   where
     at : (j : ℕ) → Past j (judgedFirst j (λ n. record { number = n; count = 0; list = ns }) (listed ns (difference (decode least b) u v (length ns))) .number)
     at zero = differing-past (decode least b) u v (length ns)
+    at (suc j) = refl
+
+lived-past : (s : Store) (k room : ℕ) → Past 0 (Life.lived s k room .number)
+unfolding Life.lived Told.toldBy
+lived-past s k room = at (leb keyLimit k)
+  where
+    at : (p : Bool) → Past 0 (Told.toldBy Life.stretchNumbers 3 (firstOf (rule 5 p ∷ [])) room (Life.life s k) .number)
+    at true = inr (omega arith)
+    at false = told-past Life.stretchNumbers 3 room (Life.life s k)
+
+life-past : (least : ℕ) (b : List ℕ) (k : ℕ) (ns : List ℕ) → Past (judged least b .number) (lifeLent least b k ns .number)
+unfolding Lent.lifeLent
+life-past least b k ns = at (judged least b .number)
+  where
+    at : (j : ℕ) → Past j (judgedFirst j (λ n. record { number = n; count = 0; list = ns }) (listed ns (Life.lived (decode least b) k (length ns))) .number)
+    at zero = lived-past (decode least b) k (length ns)
     at (suc j) = refl
 
 past-same : (j : ℕ) → Past j j
@@ -145,7 +181,9 @@ call-past least (toInsert k x) b ns h = change-past least b _ (λ s. call-high l
 call-past least (toDelete k) b ns h = change-past least b _ (λ s. call-high least s (deletes k))
 call-past least (toLookup k v) b ns h = lookup-past least b k v
 call-past least (toRange lo hi v) b ns h = range-past least b lo hi v ns
+call-past least (toVisits k v) b ns h = visits-past least b k v ns
 call-past least (toDifference u v) b ns h = difference-past least b u v ns
+call-past least (toLife k) b ns h = life-past least b k ns
 
 -- bytes on which it gives 0 are accepted
 pub zero-accepts : (least : ℕ) (c : Asked) (b ns : List ℕ) → notMaking (kindOf c) ≡ true → ended least c b ns .number ≡ 0 → Accepts least b

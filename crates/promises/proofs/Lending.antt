@@ -17,7 +17,7 @@ use Rattle.model.specs.Histories.{Call, begins, commits, abandons, inserts, del
 use Rattle.model.specs.Settings
 use Rattle.model.specs.Lent
 use Rattle.model.specs.Lent.{left, judgedFirst}
-use Rattle.model.specs.Ended.{Asked, toFresh, toCheck, toOpen, toCommit, toAbandon, toInsert, toDelete, toLookup, toRange, toDifference, Ended, ofOutcome, ended}
+use Rattle.model.specs.Ended.{Asked, toFresh, toCheck, toOpen, toCommit, toAbandon, toInsert, toDelete, toLookup, toRange, toLife, toDifference, toVisits, Ended, ofOutcome, ended}
 use Rattle.model.proofs.Members.{true-holds}
 use Rattle.model.proofs.Given.{to-tests}
 use Rattle.model.proofs.Turns.{fresh-sound}
@@ -50,7 +50,9 @@ by-kind least P f g h (toInsert k x) = g (inserts k x)
 by-kind least P f g h (toDelete k) = g (deletes k)
 by-kind least P f g h (toLookup k v) = h (toLookup k v) refl (λ b ns. refl)
 by-kind least P f g h (toRange lo hi v) = h (toRange lo hi v) refl (λ b ns. refl)
+by-kind least P f g h (toVisits k v) = h (toVisits k v) refl (λ b ns. refl)
 by-kind least P f g h (toDifference u v) = h (toDifference u v) refl (λ b ns. refl)
+by-kind least P f g h (toLife k) = h (toLife k) refl (λ b ns. refl)
 
 -- ---- a change
 

@@ -10,7 +10,10 @@ pub mod Changed
 pub mod Projected
 pub mod Stays
 pub mod Differences
+pub mod Stretches
+pub mod Lives
 pub mod Restored
+pub mod KeptOut
 pub mod Replaying
 pub mod Fakes
 pub mod Releasing

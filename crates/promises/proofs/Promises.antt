@@ -1,4 +1,5 @@
--- The promises, each under its name: what it says stands in specs/Demand1, Demand2, Demand3, Differences, Releases, Replayed and Fakes.
+-- The promises, each under its name: what it says stands in specs/Demand1, Demand2, Demand3, in a file for each request of document 02
+-- (OldReadings, Bench, Differences, Lives, Releases), in Replayed and Fakes.
 -- Assumes nothing.
 use Prim.Native.Nat.{ℕ}
 use native.Mathlib.Omega.{arith}
@@ -30,8 +31,11 @@ use Rattle.promises.specs.Beside.{along, fromFresh, fromLent}
 use Rattle.promises.specs.Demand1.{Unique, Refused, Blank, Judges, Untrusted, OneForm, FreshMade}
 use Rattle.promises.specs.Demand2.{EncodedSound, AcceptedSound, SoundStays, FreshSound, History, HistoryLent, Found, SettingsChange, AnswersStay, ViewsStay, ByTheRules, ReadsOnly, Balanced, Levels, Lacking}
 use Rattle.promises.specs.Demand3.{Abandoned}
+use Rattle.promises.specs.OldReadings.{PagesStay, VisitsTold, VisitsStay}
 use Rattle.promises.specs.Differences.{DifferenceGiven, DifferenceSays, DifferenceNone, DifferenceExchanged, DifferenceStays}
+use Rattle.promises.specs.Lives.{LifeGiven, LivesAgree, StretchesApart, OpenUnshown, LeftAlone}
 use Rattle.promises.specs.Replayed.{TableLent}
+use Rattle.promises.specs.Bench.{KeptOut}
 use Rattle.promises.specs.Releases.{EmptyReleases}
 use Rattle.promises.specs.Fakes.{FakesStopped}
 use Rattle.promises.proofs.Encoded as encoded
@@ -42,7 +46,9 @@ use Rattle.promises.proofs.Answering.{answers}
 use Rattle.promises.proofs.Changed as changed
 use Rattle.promises.proofs.Stays as stays
 use Rattle.promises.proofs.Differences as differ
+use Rattle.promises.proofs.Lives as lives
 use Rattle.promises.proofs.Restored as restored
+use Rattle.promises.proofs.KeptOut as bench
 use Rattle.promises.proofs.Replaying as replaying
 use Rattle.promises.proofs.Releasing as releasing
 use Rattle.promises.proofs.Fakes as fakes
@@ -101,6 +107,9 @@ found least four eight b ok = history-lent least four eight b ok [] refl
 pub settings-change : SettingsChange
 settings-change = changed.settings-change
 
+pub kept-out : KeptOut
+kept-out = bench.kept-out
+
 pub answers-stay : AnswersStay
 answers-stay = stays.answers-stay
 
@@ -158,6 +167,17 @@ table = replaying.table-lent
 pub abandoned : Abandoned
 abandoned = restored.abandoned
 
+-- ---- request 2026-13
+
+pub pages-stay : PagesStay
+pages-stay = stays.pages-stay
+
+pub visits-told : VisitsTold
+visits-told = stays.visits-told
+
+pub visits-stay : VisitsStay
+visits-stay = stays.visits-stay
+
 -- ---- what differs between two versions
 
 pub difference-given : DifferenceGiven
@@ -174,6 +194,23 @@ difference-exchanged = differ.difference-exchanged
 
 pub difference-stays : DifferenceStays
 difference-stays = differ.difference-stays
+
+-- ---- 2026-01, the life of a key
+
+pub life-given : LifeGiven
+life-given = lives.life-given
+
+pub lives-agree : LivesAgree
+lives-agree = lives.lives-agree
+
+pub stretches-apart : StretchesApart
+stretches-apart = lives.stretches-apart
+
+pub open-unshown : OpenUnshown
+open-unshown = lives.open-unshown
+
+pub left-alone : LeftAlone
+left-alone = lives.left-alone
 
 -- ---- an empty release is no release
 

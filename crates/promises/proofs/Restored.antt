@@ -64,7 +64,7 @@ still-open least (t ∷ ts) x h o =
     let (f, g) = both-true (staying (kindOf (t .call)) (turned least (x .bytes) t .number)) (inside least (turned least (x .bytes) t .store) ts) h in
     still-open least ts (onward least x t) g (when-open (turned least (x .bytes) t .number) (kindOf (t .call)) (x .machine) f o)
 
-along-bytes : (least : ℕ) (ts : List Turn) (x : Beside) → along least x ts .bytes ≡ runBytes least (x .bytes) ts
+pub along-bytes : (least : ℕ) (ts : List Turn) (x : Beside) → along least x ts .bytes ≡ runBytes least (x .bytes) ts
 along-bytes least [] x = refl
 along-bytes least (t ∷ ts) x = along-bytes least ts (onward least x t)
 

@@ -14,7 +14,7 @@ use Rattle.model.specs.Judged
 use Rattle.model.specs.Calls.{firstOf}
 use Rattle.model.specs.Histories.{begins, commits}
 use Rattle.model.specs.Settings.{start, step}
-use Rattle.model.specs.Ended.{toCheck, toOpen, toCommit, toInsert, toDelete, toLookup, toRange, Asked, ended}
+use Rattle.model.specs.Ended.{toCheck, toOpen, toCommit, toInsert, toDelete, toLookup, toRange, toLife, toVisits, Asked, ended}
 use Rattle.model.specs.Samples.{twoLevels, fromElsewhere}
 use Rattle.model.specs.Proved.{two-levels-sound, from-elsewhere-sound}
 use Rattle.model.proofs.Members.{true-holds}
@@ -37,7 +37,8 @@ turn c = record { call = c; list = [] }
 abbrev pub calls : List Turn
 calls =
     turn toCommit ∷ turn toCheck ∷ turn (toInsert 5 50) ∷ turn (toInsert 5 51) ∷ turn (toDelete 2) ∷ turn toOpen ∷ turn (toLookup 5 2)
-    ∷ record { call = toRange 0 100 2; list = 0 ∷ 0 ∷ [] } ∷ []
+    ∷ record { call = toRange 0 100 2; list = 0 ∷ 0 ∷ [] } ∷ record { call = toVisits 5 1; list = 0 ∷ 0 ∷ [] }
+    ∷ turn (toLife 5) ∷ []
 
 -- what the promises ask of bytes and of calls
 pub record Met : Type 0 where

@@ -13,12 +13,13 @@ use Rattle.model.specs.declared.Looked.{Looked}
 use Rattle.model.specs.Store.{lastOf}
 use Rattle.model.specs.Walk.{keyLimit, find, between}
 use Rattle.model.specs.Same.{samePairs}
-use Rattle.model.specs.Calls.{isSome, Rule, rule, firstOf, lookedBy, Ranged, rangedBy}
+use Rattle.model.specs.Calls.{isSome, Rule, rule, insertTests, deleteTests, firstOf, lookedBy, Ranged, rangedBy}
 use Rattle.model.specs.Told.{toldBy}
 use Rattle.model.specs.Differ.{differ, deltaNumbers}
+use Rattle.model.specs.Life.{lifeOf, stretchNumbers}
 use Rattle.model.specs.Settings.{Machine}
 use Rattle.model.specs.Lent.{listed}
-use Rattle.model.specs.Ended.{toOpen, toCommit, toAbandon, toInsert, toDelete, toLookup, toRange, toDifference, ended, ofLooked, ofListed}
+use Rattle.model.specs.Ended.{toOpen, toCommit, toAbandon, toInsert, toDelete, toLookup, toRange, toLife, toDifference, ended, ofLooked, ofListed}
 use Rattle.promises.specs.Accepts.{Accepts}
 use Rattle.promises.specs.Beside.{Beside}
 
@@ -26,7 +27,7 @@ use Rattle.promises.specs.Beside.{Beside}
 abbrev pub lastIn : Machine → ℕ
 lastIn m = lastOf (m .opened) (m .current)
 
--- ---- the tests of each call's refusals, smallest number first
+-- ---- the tests of each call's refusals, smallest number first; insert's and delete's stand with the calls (model/specs/Calls)
 
 -- 5 "key too large", 6 "version above last"
 abbrev pub lookupTests : ℕ → ℕ → ℕ → List Rule
@@ -40,6 +41,10 @@ rangeTests last lo hi v = rule 5 (leb keyLimit lo || leb keyLimit hi || ltb hi l
 abbrev pub differenceTests : ℕ → ℕ → ℕ → List Rule
 differenceTests last u v = rule 6 (ltb last u || ltb last v) ∷ []
 
+-- 5 "key too large"
+abbrev pub lifeTests : ℕ → List Rule
+lifeTests k = rule 5 (leb keyLimit k) ∷ []
+
 -- 8 "update already open", 9 "current is 1,048,574"
 abbrev pub openTests : Bool → ℕ → List Rule
 openTests opened current = rule 8 opened ∷ rule 9 (leb 1048574 current) ∷ []
@@ -51,14 +56,6 @@ endTests opened = rule 7 (not opened) ∷ []
 -- commit: 15 of 2026-05, "after 7"
 abbrev pub commitTests : Bool → Bool → List Rule
 commitTests opened same = rule 7 (not opened) ∷ rule 15 same ∷ []
-
--- 10 "key alive"
-abbrev pub insertTests : ℕ → Bool → Bool → List Rule
-insertTests k opened alive = rule 5 (leb keyLimit k) ∷ rule 7 (not opened) ∷ rule 10 alive ∷ []
-
--- 11 "key not alive"
-abbrev pub deleteTests : ℕ → Bool → Bool → List Rule
-deleteTests k opened alive = rule 5 (leb keyLimit k) ∷ rule 7 (not opened) ∷ rule 11 (not alive) ∷ []
 
 -- ---- what the machine's settings answer
 
@@ -73,6 +70,10 @@ rangedFrom m lo hi v room = rangedBy (firstOf (rangeTests (lastIn m) lo hi v)) r
 -- what differs between two versions, with 14 if the list has not the room
 abbrev pub toldFrom : Machine → ℕ → ℕ → ℕ → Ranged
 toldFrom m u v room = toldBy deltaNumbers 4 (firstOf (differenceTests (lastIn m) u v)) room (differ (m .shows u) (m .shows v))
+
+-- the life of a key, by what the committed versions show
+abbrev pub livedIn : Machine → ℕ → ℕ → Ranged
+livedIn m k room = toldBy stretchNumbers 3 (firstOf (lifeTests k)) room (lifeOf (m .current) (λ (v : ℕ). find k (m .shows v)))
 
 -- whether a key is alive at the open version
 abbrev pub aliveIn : Machine → ℕ → Bool
@@ -94,6 +95,7 @@ pub record Answers (least : ℕ) (x : Beside) : Type 0 where
   pub lookup : (k v : ℕ) (ns : List ℕ) → ended least (toLookup k v) (x .bytes) ns ≡ ofLooked (x .bytes) ns (lookedIn (x .machine) k v)
   pub range : (lo hi v : ℕ) (ns : List ℕ) → ended least (toRange lo hi v) (x .bytes) ns ≡ ofListed (x .bytes) (listed ns (rangedFrom (x .machine) lo hi v (length ns)))
   pub difference : (u v : ℕ) (ns : List ℕ) → ended least (toDifference u v) (x .bytes) ns ≡ ofListed (x .bytes) (listed ns (toldFrom (x .machine) u v (length ns)))
+  pub life : (k : ℕ) (ns : List ℕ) → ended least (toLife k) (x .bytes) ns ≡ ofListed (x .bytes) (listed ns (livedIn (x .machine) k (length ns)))
   -- "in key order", no key twice
   pub order : (v : ℕ) → v ≤ lastIn (x .machine) → inOrder (λ (p q : Pair). ltb (p .key) (q .key)) (x .machine .shows v) ≡ true
   -- "their number is those inserts less those deletes"

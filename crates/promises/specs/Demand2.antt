@@ -87,7 +87,7 @@ abbrev pub ByTheRules : Type 0
 ByTheRules = (least : ℕ) → 4 ≤ least → least ≤ 8 → (b : List ℕ) → Bytes b → Accepts least b → (c : Call) (ns : List ℕ)
     → ended least (asks c) b ns .store ≡ encode least (after (decode least b) (callBy least (decode least b) c) .store)
 
--- check, lookup and range leave the store's bytes, whatever these are
+-- check, lookup, range and visits leave the store's bytes, whatever these are
 abbrev pub ReadsOnly : Type 0
 ReadsOnly = (least : ℕ) (c : Asked) (b ns : List ℕ) → kindOf c ≡ reading → ended least c b ns .store ≡ b
 

@@ -3,10 +3,13 @@ pub mod Runs
 pub mod Beside
 pub mod Answers
 pub mod Views
+pub mod Lives
 pub mod Demand1
 pub mod Demand2
 pub mod Demand3
+pub mod OldReadings
 pub mod Differences
 pub mod Releases
 pub mod Replayed
+pub mod Bench
 pub mod Fakes

@@ -8,7 +8,7 @@ use Rattle.model.specs.Basic.{all}
 use Rattle.model.specs.Histories.{Call, begins, commits, abandons, inserts, deletes}
 use Rattle.model.specs.Settings
 use Rattle.model.specs.Lent.{Outcome}
-use Rattle.model.specs.Ended.{Asked, toFresh, toCheck, toOpen, toCommit, toAbandon, toInsert, toDelete, toLookup, toRange, toDifference, Ended, ended}
+use Rattle.model.specs.Ended.{Asked, toFresh, toCheck, toOpen, toCommit, toAbandon, toInsert, toDelete, toLookup, toRange, toLife, toDifference, toVisits, Ended, ended}
 
 -- a call, and the list lent with it; each may bring another list
 pub record Turn : Type 0 where
@@ -46,7 +46,9 @@ kindOf (toInsert k x) = changing (inserts k x)
 kindOf (toDelete k) = changing (deletes k)
 kindOf (toLookup k v) = reading
 kindOf (toRange lo hi v) = reading
+kindOf (toVisits k v) = reading
 kindOf (toDifference u v) = reading
+kindOf (toLife k) = reading
 
 -- the call that asks for a change
 abbrev pub asks : Call → Asked
@@ -79,6 +81,16 @@ staying reading n = true
 abbrev pub inside : ℕ → List ℕ → List Turn → Bool
 inside least b [] = true
 inside least b (t ∷ ts) = staying (kindOf (t .call)) (turned least b t .number) && inside least (turned least b t .store) ts
+
+-- all but making fresh and commit: the committed versions are the same ones after it
+abbrev pub uncommitting : Kind → Bool
+uncommitting making = false
+uncommitting (changing begins) = true
+uncommitting (changing commits) = false
+uncommitting (changing abandons) = true
+uncommitting (changing (inserts k x)) = true
+uncommitting (changing (deletes k)) = true
+uncommitting reading = true
 
 -- each call of a list so
 abbrev pub each : (Kind → Bool) → List Turn → Bool

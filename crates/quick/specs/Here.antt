@@ -1,62 +1,23 @@
--- Page n as the code holds it, its part p and its front h, and what its entries lead to. Assumes nothing.
-use Prim.Native.Nat.{ℕ, _+_, _*_, _-_, _^_, _<_, _≤_}
+-- Page n as the code holds it, its part p and its front h: its entries stand in order. Assumes nothing.
+use Prim.Native.Nat.{ℕ, _*_}
 use mathlib.Core.Bool.{true}
-use mathlib.Core.Path.{_≡_, refl, ap, sym, _∙_}
+use mathlib.Core.Path.{_≡_, ap, sym, _∙_}
 use mathlib.Core.List.{List}
-use native.Mathlib.Omega.{arith}
-use native.Mathlib.Nat.{sub-zero}
 use lib.ListN.{length}
 use Rattle.model.specs.Basic.{inOrder}
 use Rattle.model.specs.Entry.{before}
 use Rattle.model.specs.declared.Limits.{Limits}
 use Rattle.model.specs.Limits.{Edition}
-use Rattle.model.specs.Layout.{pageOf, readEntry, readEntries}
+use Rattle.model.specs.Layout.{pageOf, readEntries}
 use Rattle.page.specs.declared.Head.{Head}
 use Rattle.page.specs.Head.{readHead}
-use Rattle.local.specs.Local.{IsPage, headAt, levelAt, countAt, entryAt}
-use Rattle.local.specs.Sizes.{part-fits}
+use Rattle.local.specs.Local.{IsPage}
+use Rattle.notes.specs.Here.{entries-are}
 use Rattle.quick.specs.Good.{Good}
-use Rattle.quick.specs.Part.{Stands}
 
-module _ {l : Limits} (d : Edition l) (s : List ℕ) (g : Good (l .least) s) (n : ℕ) (k : IsPage (l .least) s n) where
-  -- what a reader of the part asks
-  pub part-asks : (n * (64 * l .least) + 64 * l .least ≤ length s) × (length s ≤ 2 ^ 40)
-  part-asks = (part-fits (l .least) (d .four) s n (k .1), omega (arith, g .long))
+module _ {l : Limits} (d : Edition l) (s : List ℕ) (g : Good (l .least) s) (n : ℕ) (k : IsPage (l .least) s n) (p : List ℕ) (part : (p ≡ pageOf (l .least) s n) × (length p ≡ 64 * l .least)) where
+  pub order-part : inOrder before (readEntries p 128 (readHead (l .least) p .count)) ≡ true
+  order-part = rw (part .0) (g .order n k)
 
-  module _ (p : List ℕ) (part : (p ≡ pageOf (l .least) s n) × (length p ≡ 64 * l .least)) where
-    pub head-asks : (16 ≤ length p) × (length p ≤ 2 ^ 40)
-    head-asks = (omega (arith, part .1, d .four), omega (arith, part .1, d .eight))
-
-    pub room-here : readHead (l .least) p .count ≤ 5 * l .least
-    room-here = rw (part .0) (g .room n k)
-
-    module _ (h : Head) (front : h ≡ readHead (l .least) p) where
-      pub front-is : h ≡ headAt (l .least) s n
-      front-is = front ∙ ap (readHead (l .least)) (part .0)
-
-      pub level-is : h .level ≡ levelAt (l .least) s n
-      level-is = ap (λ (x : Head). x .level) front-is
-
-      pub count-is : h .count ≡ countAt (l .least) s n
-      count-is = ap (λ (x : Head). x .count) front-is
-
-      pub few : h .count ≤ 40
-      few = omega (arith, count-is, g .room n k, d .eight)
-
-      pub stands-here : Stands p (h .count)
-      stands-here = record { room = omega (arith, count-is, g .room n k, part .1, d .four); long = omega (arith, part .1, d .eight) }
-
-      pub entries-are : readEntries (pageOf (l .least) s n) 128 (countAt (l .least) s n) ≡ readEntries p 128 (h .count)
-      entries-are = rw (← part .0, ← count-is)
-
-      pub entries-start : readEntries (pageOf (l .least) s n) 128 (countAt (l .least) s n) ≡ readEntries p (128 + 96 * 0) (h .count - 0)
-      entries-start = entries-are ∙ rw sub-zero refl
-
-      pub order-here : 1 ≤ levelAt (l .least) s n → inOrder before (readEntries p 128 (h .count)) ≡ true
-      order-here u = ap (inOrder before) (sym entries-are) ∙ g .order n k u
-
-      pub child-here : (i m : ℕ) → 2 ≤ levelAt (l .least) s n → i < h .count → m ≡ readEntry p (128 + 96 * i) .value → IsPage (l .least) s m × (levelAt (l .least) s m + 1 ≡ levelAt (l .least) s n)
-      child-here i m u lt e =
-          let q : m ≡ entryAt (l .least) s n i .value = e ∙ ap (λ (x : List ℕ). readEntry x (128 + 96 * i) .value) (part .0) in
-          let j : i < countAt (l .least) s n = omega (arith, count-is) in
-          (rw q (g .child n i k u j), rw q (g .lower n i k u j))
+  pub order-here : (h : Head) → h ≡ readHead (l .least) p → inOrder before (readEntries p 128 (h .count)) ≡ true
+  order-here h front = ap (inOrder before) (sym (entries-are d s (g .linked) n k p part h front)) ∙ g .order n k

@@ -1,5 +1,7 @@
 pub mod Good
+pub mod Within
 pub mod Part
+pub mod Order
 pub mod Here
 pub mod Under
 pub mod Routers
@@ -9,3 +11,4 @@ pub mod Slots
 pub mod Sums
 pub mod Number
 pub mod Led
+pub mod Noted

@@ -1,7 +1,7 @@
 -- Quick judging, one test after the other. Assumes nothing.
 use Prim.Native.Nat.{ℕ}
-use mathlib.Core.Bool.{true, false, _&&_}
-use mathlib.Core.Path.{_≡_, refl}
+use mathlib.Core.Bool.{Bool, true, false, _&&_}
+use mathlib.Core.Path.{_≡_, refl, ap}
 use mathlib.Core.List.{List}
 use lib.Dec.{eqb}
 use lib.ListN.{drop}
@@ -18,19 +18,11 @@ use Rattle.model.specs.Quick.{apart, childrenFine, slotsFine, spansMet, quick, 
 
 -- ---- rules 4 to 6
 
-module _ (least : ℕ) (s : Store) where
-  pub quick-spans : spansMet s 5 (drop 5 (s .pages)) ≡ false → quick least s ≡ false
-  unfolding quick
-  quick-spans a = rw a
-
-  module _ (a : spansMet s 5 (drop 5 (s .pages)) ≡ true) where
-    pub quick-slots : slotsFine least (s .pages) (s .slots) ≡ false → quick least s ≡ false
-    unfolding quick
-    quick-slots b = rw (a, b)
-
-    pub quick-pages : slotsFine least (s .pages) (s .slots) ≡ true → quick least s ≡ pagesPass (λ (p : Page). inOrder apart (p .entries) && childrenFine least (s .pages) (p .level) (p .entries)) s
-    unfolding quick
-    quick-pages b = rw (a, b)
+-- where sums and slots are found right, the pages are left
+pub quick-pages : (least : ℕ) (s : Store) → (spansMet s 5 (drop 5 (s .pages)) && slotsFine least (s .pages) (s .slots)) ≡ true
+    → quick least s ≡ pagesPass (λ (p : Page). inOrder apart (p .entries) && childrenFine least (s .pages) (p .level) (p .entries)) s
+unfolding quick
+quick-pages least s e = ap (λ (b : Bool). b && pagesPass (λ (p : Page). inOrder apart (p .entries) && childrenFine least (s .pages) (p .level) (p .entries)) s) e
 
 -- ---- rules 1 to 6
 

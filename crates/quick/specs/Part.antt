@@ -1,11 +1,14 @@
 -- One page's tests, one entry at a time for a loop. Assumes nothing.
-use Prim.Native.Nat.{ℕ, _+_, _*_, _-_, _^_, _<_, _≤_}
+use Prim.Native.Nat.{ℕ, _+_, _*_, _-_, _<_, _≤_, min, max}
 use mathlib.Core.Bool.{Bool, true, false, _&&_, _||_, not}
-use mathlib.Core.Path.{_≡_, refl, ap, _∙_}
-use mathlib.Core.List.{List}
+use mathlib.Core.Path.{_≡_, refl, ap, sym, _∙_}
+use mathlib.Core.Logic.{_⊎_, inl, inr}
+use mathlib.Core.List.{List, [], _∷_}
 use native.Mathlib.Omega.{arith}
 use lib.Dec.{leb, ltb, eqb}
 use lib.ListN.{length}
+use borrow.Author.Tests.{le-leb, lt-leb}
+use Rattle.bits.specs.Put.{less}
 use Rattle.model.specs.declared.Entry.{Entry}
 use Rattle.model.specs.Basic.{all, those, keep, pick}
 use Rattle.model.specs.Layout.{readEntry, readEntries, decodePage}
@@ -16,11 +19,6 @@ use Rattle.page.specs.declared.Head.{Head}
 use Rattle.page.specs.Head.{readHead}
 use Rattle.page.specs.Read.{level-of, entries-of, entries-step, entries-end}
 
--- a part that has room for its entries
-pub record Stands (p : List ℕ) (n : ℕ) : Type 0 where
-  pub room : 16 + 12 * n ≤ length p
-  pub long : length p ≤ 2 ^ 40
-
 -- where the entry ends inside the stretch, m are alive
 abbrev pub endFine : ℕ → ℕ → ℕ → List Entry → Entry → Bool
 endFine m a b es e = not (ltb a (e .end) && ltb (e .end) b) || leb m (liveCount (e .end) es)
@@ -28,6 +26,26 @@ endFine m a b es e = not (ltb a (e .end) && ltb (e .end) b) || leb m (liveCount 
 -- throughout the stretch the live keys are under h
 abbrev pub highOver : ℕ → ℕ → ℕ → List Entry → Bool
 highOver h a b es = all (λ (e : Entry). not (meets a b e) || ltb (e .key) h) es
+
+-- ---- from a on no entry leads back
+
+pub past-more : (a : ℕ) (e : Entry) → a ≤ past a e
+past-more a e = at (leb (e .start) a)
+  where
+    at : (t : Bool) → a ≤ pick t (max a (e .end)) a
+    at true = omega arith
+    at false = omega arith
+
+pub past-grows : (a : ℕ) (es : List Entry) → a ≤ pastAll a es
+past-grows a [] = omega arith
+past-grows a (e ∷ es) = omega (arith, past-more a e, past-grows (past a e) es)
+
+pub leb-min : (m x : ℕ) → leb m (min m x) ≡ leb m x
+leb-min m x = at (less x m)
+  where
+    at : (x < m) ⊎ (m ≤ x) → leb m (min m x) ≡ leb m x
+    at (inl l) = lt-leb m (min m x) (omega arith) ∙ sym (lt-leb m x l)
+    at (inr l) = le-leb m (min m x) (omega arith) ∙ sym (le-leb m x l)
 
 -- ---- what is left from place i on
 

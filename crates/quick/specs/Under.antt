@@ -5,9 +5,8 @@ use mathlib.Core.Path.{_≡_, refl, ap, sym, _∙_}
 use mathlib.Core.List.{List, [], _∷_}
 use native.Mathlib.Omega.{arith}
 use lib.Dec.{leb, ltb}
-use borrow.Author.Tests.{le-ltb, leb-true, ltb-false}
+use borrow.Author.Tests.{le-ltb, leb-true, leb-false, ltb-false}
 use Rattle.model.specs.declared.Entry.{Entry}
-use Rattle.model.specs.Basic.{pick}
 use Rattle.model.specs.Page.{Page}
 use Rattle.model.specs.Store.{page}
 use Rattle.model.specs.Layout.{readEntry, readEntries, pageOf, decode}
@@ -16,11 +15,11 @@ use Rattle.page.specs.Read.{entries-step, entries-end, entries-of}
 use Rattle.store.specs.Read.{page-at}
 use Rattle.local.specs.Local.{IsPage, countAt}
 use Rattle.quick.specs.declared.under.Way.{Way}
-use Rattle.quick.specs.Part.{highOver}
+use Rattle.quick.specs.Part.{highOver, past-more}
 
 -- where entry e is the last one alive, those behind it being es: its key is under h, and its page is asked for that stretch
 abbrev pub wayIf : Bool → ℕ → ℕ → ℕ → Entry → List Entry → Way
-wayIf true h a b e es = record { fine = ltb (e .key) h; from = pastAll (max a (e .start)) es; upto = min b (e .end); page = e .value }
+wayIf true h a b e es = record { fine = ltb (e .key) h; from = min (min b (e .end)) (pastAll (max a (e .start)) es); upto = min b (e .end); page = e .value }
 wayIf false h a b e es = record { fine = true; from = 0; upto = 0; page = e .value }
 
 abbrev pub wayOf : ℕ → ℕ → ℕ → Entry → List Entry → Way
@@ -42,13 +41,6 @@ lasts-empty f h a b (e ∷ es) l = rw (meets-empty a b e l, lasts-empty f h a b 
 pub under-empty : (up : ℕ) (ps : List Page) (h a b n : ℕ) → b ≤ a → under up ps h a b n ≡ true
 under-empty zero ps h a b n l = lasts-empty (λ (c d m : ℕ). true) h a b (page ps n .entries) l
 under-empty (suc up) ps h a b n l = lasts-empty (under up ps h) h a b (page ps n .entries) l
-
-past-more : (a : ℕ) (e : Entry) → a ≤ past a e
-past-more a e = at (leb (e .start) a)
-  where
-    at : (t : Bool) → a ≤ pick t (max a (e .end)) a
-    at true = omega arith
-    at false = omega arith
 
 pub nexts-empty : (f : ℕ → ℕ → ℕ → Bool) (a b : ℕ) (es : List Entry) → b ≤ a → nexts f a b es ≡ true
 nexts-empty f a b [] l = refl
@@ -74,9 +66,9 @@ last-is f g h a b e es = at (meets a b e)
     c : ℕ
     c = pastAll (max a (e .start)) es
 
-    by : (t : Bool) → leb d c ≡ t → (t || f c d (e .value)) ≡ f c d (e .value)
-    by true q = sym (g c d (e .value) (leb-true d c q))
-    by false q = refl
+    by : (t : Bool) → leb d c ≡ t → (t || f c d (e .value)) ≡ f (min d c) d (e .value)
+    by true q = sym (g (min d c) d (e .value) (omega (arith, leb-true d c q)))
+    by false q = let z : c ≡ min d c = omega (arith, leb-false d c q) in ap (λ (x : ℕ). f x d (e .value)) z
 
     at : (t : Bool) → (not t || (ltb (e .key) h && (leb d c || f c d (e .value)))) ≡ (wayIf t h a b e es .fine && f (wayIf t h a b e es .from) (wayIf t h a b e es .upto) (wayIf t h a b e es .page))
     at true = ap (λ (x : Bool). ltb (e .key) h && x) (by (leb d c) refl)

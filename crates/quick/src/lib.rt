@@ -9,17 +9,22 @@ mod routers;
 mod slots;
 mod sums;
 mod under;
+mod within;
 
+use model::Header;
 use model::Limits;
 ghost use mathlib.Core.Path.{_≡_};
-ghost use Prim.Native.Nat.{_≤_, _^_};
-ghost use lib.ListN.{length};
+ghost use mathlib.Core.Bool.{_&&_};
+ghost use Prim.Native.Nat.{_+_, _*_, _≤_, _^_};
+ghost use lib.ListN.{length, drop};
 ghost use Rattle.model.specs.Limits.{Edition};
 ghost use Rattle.model.specs.Layout.{decode};
 ghost use Rattle.model.specs.Judged.{editionOk, judged, isSound};
-ghost use Rattle.model.specs.Quick.{quick, quickIn};
+ghost use Rattle.model.specs.Quick.{spansMet, slotsFine, quick, quickIn};
 ghost use Rattle.local.specs.Local.{Sized};
+ghost use Rattle.notes.specs.Ready.{Ready};
 ghost use Rattle.quick.specs.Good.{Good};
+ghost use Rattle.quick.specs.Noted.{Ruled};
 ghost use Rattle.quick.specs.Slots.{GoodSlots};
 
 pub(crate) fn wide(x: u32) -> usize
@@ -28,18 +33,40 @@ pub(crate) fn wide(x: u32) -> usize
     x as usize
 }
 
-// Rules 4 to 6, where rules 1 to 3 hold. The tests that are one pass over the store come first.
-fn quick(s: &[u8], l: Limits) -> bool
+// The sums and the slots: rule 6, once rules 4 and 5 hold (notes/specs/Six, `six-by`). Each is one pass over the store.
+pub fn led(s: &[u8], l: Limits) -> bool
     requires { ⌜ Edition l × Good (l .least) (now s) × GoodSlots (l .least) (now s) ⌝ }
-    ensures { λ r. ⌜ r ≡ quick (l .least) (decode (l .least) (now (s .entry))) ⌝ }
+    ensures { λ r. ⌜ r ≡ (spansMet (decode (l .least) (now (s .entry))) 5 (drop 5 (decode (l .least) (now (s .entry)) .pages)) && slotsFine (l .least) (decode (l .least) (now (s .entry)) .pages) (decode (l .least) (now (s .entry)) .slots)) ⌝ }
 {
     if !sums::spans_met(s, l) {
         return false;
     }
-    if !slots::slots_fine(s, l) {
+    slots::slots_fine(s, l)
+}
+
+// How many pages `under` may read in all, by the number of pages alone.
+fn budget(size: usize) -> u32
+    requires { ⌜ size ≤ 4096 ⌝ }
+    ensures { λ r. ⌜ r ≡ 16 * size + 1024 ⌝ }
+{
+    (16 * size + 1024) as u32
+}
+
+// Rules 4 to 6, where rules 1 to 3 hold. Both ways are exact: the pages within the budget, which is quick on what a history leaves, and,
+// where that is used up, the notes, which no bytes can keep busy.
+fn quick(s: &[u8], l: Limits, h: Header) -> bool
+    requires { ⌜ Edition l × Good (l .least) (now s) × GoodSlots (l .least) (now s) × Ready (l .least) (now s) h × Ruled (l .least) (decode (l .least) (now s)) ⌝ }
+    ensures { λ r. ⌜ r ≡ quick (l .least) (decode (l .least) (now (s .entry))) ⌝ }
+{
+    if !led(s, l) {
         return false;
     }
-    pages::pages_fine(s, l)
+    let size = store::size(s, l);
+    let w = pages::pages_fine(s, l, budget(size));
+    if 0 < w.left {
+        return w.fine;
+    }
+    notes::broken(s, l, h) == 0
 }
 
 // Rules 1 to 6 of lent bytes, which make `size` pages.
@@ -57,7 +84,7 @@ fn rules_hold(s: &[u8], l: Limits, size: usize) -> bool
     if !local::third_rule(s, l, h) {
         return false;
     }
-    quick(s, l)
+    quick(s, l, h)
 }
 
 fn of_edition(s: &[u8], l: Limits) -> bool

@@ -1,48 +1,104 @@
 // Every page in itself: "No live key stands twice in a page", and its routers.
+use crate::within::Within;
 use model::Limits;
-ghost use mathlib.Core.Path.{_≡_};
 ghost use mathlib.Core.Bool.{_&&_};
-ghost use Rattle.model.specs.Basic.{inOrder};
+ghost use Prim.Native.Nat.{_-_};
+ghost use Rattle.model.specs.Basic.{all, inOrder};
 ghost use Rattle.model.specs.Limits.{Edition};
 ghost use Rattle.model.specs.Page.{Page};
 ghost use Rattle.model.specs.Sound.{pagesPass};
-ghost use Rattle.model.specs.Layout.{pageOf, decodePage, decode};
+ghost use Rattle.model.specs.Layout.{pageOf, decodePage, decode, readPages, sizeOf};
 ghost use Rattle.model.specs.Quick.{apart, childrenFine};
 ghost use Rattle.local.specs.Local.{IsPage};
 ghost use Rattle.quick.specs.Good.{Good};
-ghost use Rattle.quick.specs.Pages.{ownFine};
+ghost use Rattle.quick.specs.Pages.{ownFine, atLevel};
+ghost use Rattle.quick.specs.Within.{Answers};
 
 // Page n. Of a free page nothing is asked.
-fn page_fine(s: &[u8], l: Limits, n: usize) -> bool
+fn page_fine(s: &[u8], l: Limits, n: usize, left: u32) -> Within
     requires { ⌜ Edition l × Good (l .least) (now s) × IsPage (l .least) (now s) n ⌝ }
-    ensures { λ r. ⌜ r ≡ ownFine (l .least) (decode (l .least) (now (s .entry)) .pages) (decodePage (l .least) (pageOf (l .least) (now (s .entry)) n)) ⌝ }
+    ensures { λ r. ⌜ Answers left (ownFine (l .least) (decode (l .least) (now (s .entry)) .pages) (decodePage (l .least) (pageOf (l .least) (now (s .entry)) n))) r ⌝ }
 {
     let p = store::part(s, l, n);
     let f = page::head_of(p, l);
     if f.level == 0 {
-        return true;
+        return Within {
+            fine: true,
+            left: left,
+        };
     }
     if !crate::part::all_apart(p, f.count) {
-        return false;
+        return Within {
+            fine: false,
+            left: left,
+        };
     }
     if f.level == 1 {
-        return true;
+        return Within {
+            fine: true,
+            left: left,
+        };
     }
     let up = crate::wide(f.level - 2);
-    crate::routers::routers_fine(s, l, up, n)
+    crate::routers::routers_fine(s, l, up, n, left)
 }
 
-pub(crate) fn pages_fine(s: &[u8], l: Limits) -> bool
+// Page n, if it is of level k.
+fn fine_at(s: &[u8], l: Limits, n: usize, k: u32, left: u32) -> Within
+    requires { ⌜ Edition l × Good (l .least) (now s) × IsPage (l .least) (now s) n ⌝ }
+    ensures { λ r. ⌜ Answers left (atLevel k (l .least) (decode (l .least) (now (s .entry)) .pages) (decodePage (l .least) (pageOf (l .least) (now (s .entry)) n))) r ⌝ }
+{
+    let p = store::part(s, l, n);
+    let f = page::head_of(p, l);
+    if f.level != k {
+        return Within {
+            fine: true,
+            left: left,
+        };
+    }
+    page_fine(s, l, n, left)
+}
+
+// The pages of level k.
+fn level_fine(s: &[u8], l: Limits, k: u32, left: u32) -> Within
     requires { ⌜ Edition l × Good (l .least) (now s) ⌝ }
-    ensures { λ r. ⌜ r ≡ pagesPass (λ (p : Page). inOrder apart (p .entries) && childrenFine (l .least) (decode (l .least) (now (s .entry)) .pages) (p .level) (p .entries)) (decode (l .least) (now (s .entry))) ⌝ }
+    ensures { λ r. ⌜ Answers left (all (atLevel k (l .least) (decode (l .least) (now (s .entry)) .pages)) (readPages (l .least) (now (s .entry)) 5 (sizeOf (l .least) (now (s .entry)) - 5))) r ⌝ }
 {
     let size = store::size(s, l);
+    let mut rest = left;
     let mut n = 5;
     while n < size {
-        if !page_fine(s, l, n) {
-            return false;
+        let r = fine_at(s, l, n, k, rest);
+        if !r.fine {
+            return r;
         }
+        rest = r.left;
         n += 1;
     }
-    true
+    Within {
+        fine: true,
+        left: rest,
+    }
+}
+
+// From the highest level, 7, down: where the levels above hold, at no version do two ways lead to one page, so that a crowd of pages over
+// the same ones shows before what stands below them is looked at again and again.
+pub(crate) fn pages_fine(s: &[u8], l: Limits, left: u32) -> Within
+    requires { ⌜ Edition l × Good (l .least) (now s) ⌝ }
+    ensures { λ r. ⌜ Answers left (pagesPass (λ (p : Page). inOrder apart (p .entries) && childrenFine (l .least) (decode (l .least) (now (s .entry)) .pages) (p .level) (p .entries)) (decode (l .least) (now (s .entry)))) r ⌝ }
+{
+    let mut rest = left;
+    let mut k = 8;
+    while 1 < k {
+        k -= 1;
+        let r = level_fine(s, l, k, rest);
+        if !r.fine {
+            return r;
+        }
+        rest = r.left;
+    }
+    Within {
+        fine: true,
+        left: rest,
+    }
 }

@@ -2,7 +2,7 @@
 use model::Limits;
 ghost use mathlib.Core.Path.{_≡_};
 ghost use mathlib.Core.Bool.{true};
-ghost use Prim.Native.Nat.{_+_, _*_, _-_, _≤_};
+ghost use Prim.Native.Nat.{_+_, _*_, _-_, _≤_, min};
 ghost use lib.ListN.{length};
 ghost use Rattle.model.specs.Basic.{all, those, inOrder};
 ghost use Rattle.model.specs.Entry.{before};
@@ -12,10 +12,11 @@ ghost use Rattle.model.specs.Quick.{apart, lowOver, keyOver, liveCount, manyOve
 ghost use Rattle.model.proofs.QuickLaws.{throughout};
 ghost use Rattle.model.proofs.Rising.{firstOk};
 ghost use Rattle.page.specs.Head.{readHead};
-ghost use Rattle.quick.specs.Part.{Stands, endFine, highOver};
+ghost use Rattle.notes.specs.Linked.{Stands};
+ghost use Rattle.quick.specs.Part.{endFine, highOver};
 
 // The live keys are at least low.
-fn low_over(page: &[u8], n: usize, low: u32, a: u32, b: u32) -> bool
+fn low_each(page: &[u8], n: usize, low: u32, a: u32, b: u32) -> bool
     requires { ⌜ Stands (now page) n ⌝ }
     ensures { λ r. ⌜ r ≡ lowOver low a b (readEntries (now (page .entry)) 128 n) ⌝ }
 {
@@ -30,8 +31,23 @@ fn low_over(page: &[u8], n: usize, low: u32, a: u32, b: u32) -> bool
     true
 }
 
+// The same. Entries stand by key, so that where the first one's is at least low all are.
+fn low_over(page: &[u8], n: usize, low: u32, a: u32, b: u32) -> bool
+    requires { ⌜ Stands (now page) n × (inOrder before (readEntries (now page) 128 n) ≡ true) ⌝ }
+    ensures { λ r. ⌜ r ≡ lowOver low a b (readEntries (now (page .entry)) 128 n) ⌝ }
+{
+    if n == 0 {
+        return true;
+    }
+    let e = page::entry_at(page, 0);
+    if low <= e.key {
+        return true;
+    }
+    low_each(page, n, low, a, b)
+}
+
 // The live keys are under h.
-pub(crate) fn high_over(page: &[u8], n: usize, h: u32, a: u32, b: u32) -> bool
+fn high_each(page: &[u8], n: usize, h: u32, a: u32, b: u32) -> bool
     requires { ⌜ Stands (now page) n ⌝ }
     ensures { λ r. ⌜ r ≡ highOver h a b (readEntries (now (page .entry)) 128 n) ⌝ }
 {
@@ -46,6 +62,21 @@ pub(crate) fn high_over(page: &[u8], n: usize, h: u32, a: u32, b: u32) -> bool
     true
 }
 
+// The same. Entries stand by key, so that where the last one's is under h all are.
+pub(crate) fn high_over(page: &[u8], n: usize, h: u32, a: u32, b: u32) -> bool
+    requires { ⌜ Stands (now page) n × (inOrder before (readEntries (now page) 128 n) ≡ true) ⌝ }
+    ensures { λ r. ⌜ r ≡ highOver h a b (readEntries (now (page .entry)) 128 n) ⌝ }
+{
+    if n == 0 {
+        return true;
+    }
+    let e = page::entry_at(page, n - 1);
+    if e.key < h {
+        return true;
+    }
+    high_each(page, n, h, a, b)
+}
+
 // An entry with the key k is alive throughout.
 fn key_over(page: &[u8], n: usize, k: u32, a: u32, b: u32) -> bool
     requires { ⌜ Stands (now page) n ⌝ }
@@ -54,6 +85,9 @@ fn key_over(page: &[u8], n: usize, k: u32, a: u32, b: u32) -> bool
     let mut t = a;
     let mut i = 0;
     while i < n {
+        if b <= t {
+            return true;
+        }
         let e = page::entry_at(page, i);
         t = crate::entry::past_key(k, t, e);
         i += 1;
@@ -61,28 +95,35 @@ fn key_over(page: &[u8], n: usize, k: u32, a: u32, b: u32) -> bool
     b <= t
 }
 
-// How far from a on the entries from place i on stand one after another.
-pub(crate) fn past_behind(page: &[u8], n: usize, i: usize, a: u32) -> u32
+// How far from a on the entries from place i on stand one after another, up to b.
+pub(crate) fn past_behind(page: &[u8], n: usize, i: usize, a: u32, b: u32) -> u32
     requires { ⌜ Stands (now page) n × (i ≤ n) ⌝ }
-    ensures { λ r. ⌜ r ≡ pastAll a (readEntries (now (page .entry)) (128 + 96 * i) (n - i)) ⌝ }
+    ensures { λ r. ⌜ r ≡ min b (pastAll a (readEntries (now (page .entry)) (128 + 96 * i) (n - i))) ⌝ }
 {
     let mut t = a;
     let mut k = i;
     while k < n {
+        if b <= t {
+            return b;
+        }
         let e = page::entry_at(page, k);
         t = crate::entry::past(t, e);
         k += 1;
     }
-    t
+    crate::entry::smaller(b, t)
 }
 
-fn live_count(page: &[u8], n: usize, v: u32) -> usize
+// How many are alive at v. Once there are m no more are counted.
+fn live_count(page: &[u8], n: usize, m: usize, v: u32) -> usize
     requires { ⌜ Stands (now page) n ⌝ }
-    ensures { λ r. ⌜ r ≡ liveCount v (readEntries (now (page .entry)) 128 n) ⌝ }
+    ensures { λ r. ⌜ r ≡ min m (liveCount v (readEntries (now (page .entry)) 128 n)) ⌝ }
 {
     let mut c = 0;
     let mut i = 0;
     while i < n {
+        if m <= c {
+            return c;
+        }
         let e = page::entry_at(page, i);
         c += crate::entry::live_one(e, v);
         i += 1;
@@ -90,13 +131,17 @@ fn live_count(page: &[u8], n: usize, v: u32) -> usize
     c
 }
 
-fn through_count(page: &[u8], n: usize, a: u32, b: u32) -> usize
+// How many are alive throughout. Once there are m no more are counted.
+fn through_count(page: &[u8], n: usize, m: usize, a: u32, b: u32) -> usize
     requires { ⌜ Stands (now page) n ⌝ }
-    ensures { λ r. ⌜ r ≡ length (those (throughout a b) (readEntries (now (page .entry)) 128 n)) ⌝ }
+    ensures { λ r. ⌜ r ≡ min m (length (those (throughout a b) (readEntries (now (page .entry)) 128 n))) ⌝ }
 {
     let mut c = 0;
     let mut i = 0;
     while i < n {
+        if m <= c {
+            return c;
+        }
         let e = page::entry_at(page, i);
         c += crate::entry::through_one(e, a, b);
         i += 1;
@@ -113,7 +158,7 @@ fn end_fine(page: &[u8], n: usize, i: usize, m: usize, a: u32, b: u32) -> bool
     if !crate::entry::ends_in(e, a, b) {
         return true;
     }
-    m <= live_count(page, n, e.end)
+    m <= live_count(page, n, m, e.end)
 }
 
 fn ends_over(page: &[u8], n: usize, m: usize, a: u32, b: u32) -> bool
@@ -136,11 +181,11 @@ fn many_over(page: &[u8], n: usize, m: usize, a: u32, b: u32) -> bool
     ensures { λ r. ⌜ r ≡ manyOver m a b (readEntries (now (page .entry)) 128 n) ⌝ }
 {
     if a < b {
-        if m <= through_count(page, n, a, b) {
+        if m <= through_count(page, n, m, a, b) {
             return true;
         }
     }
-    if live_count(page, n, a) < m {
+    if live_count(page, n, m, a) < m {
         return false;
     }
     ends_over(page, n, m, a, b)
@@ -148,7 +193,7 @@ fn many_over(page: &[u8], n: usize, m: usize, a: u32, b: u32) -> bool
 
 // A page to which a slot or a router leads throughout the stretch, with that low key.
 pub(crate) fn fine_over(page: &[u8], l: Limits, m: usize, low: u32, a: u32, b: u32) -> bool
-    requires { ⌜ Edition l × (length (now page) ≡ 64 * l .least) × (readHead (l .least) (now page) .count ≤ 5 * l .least) ⌝ }
+    requires { ⌜ Edition l × (length (now page) ≡ 64 * l .least) × (readHead (l .least) (now page) .count ≤ 5 * l .least) × (inOrder before (readEntries (now page) 128 (readHead (l .least) (now page) .count)) ≡ true) ⌝ }
     ensures { λ r. ⌜ r ≡ fineOver m low a b (decodePage (l .least) (now (page .entry))) ⌝ }
 {
     let h = page::head_of(page, l);

@@ -4,10 +4,12 @@ ghost use mathlib.Core.Path.{_≡_};
 ghost use Prim.Native.Nat.{_+_, _*_, _-_, _≤_, _<_};
 ghost use lib.ListN.{length};
 ghost use lib.Dec.{leb};
-ghost use Rattle.model.specs.Basic.{pick};
+ghost use mathlib.Core.Bool.{true};
+ghost use Rattle.model.specs.Basic.{pick, inOrder};
+ghost use Rattle.model.specs.Entry.{before};
 ghost use Rattle.model.specs.Limits.{Edition};
 ghost use Rattle.model.specs.Store.{page};
-ghost use Rattle.model.specs.Layout.{decode, decodePage, readHeader, readSlots};
+ghost use Rattle.model.specs.Layout.{decode, decodePage, readHeader, readEntries, readSlots};
 ghost use Rattle.model.specs.Quick.{upto, slotFine, slotsFine};
 ghost use Rattle.page.specs.Head.{readHead};
 ghost use Rattle.local.specs.Local.{slotAt};
@@ -38,7 +40,7 @@ fn root_least(level: u32) -> usize
 
 // A page that is the root throughout the stretch.
 fn root_fine(page: &[u8], l: Limits, a: u32, b: u32) -> bool
-    requires { ⌜ Edition l × (length (now page) ≡ 64 * l .least) × (readHead (l .least) (now page) .count ≤ 5 * l .least) ⌝ }
+    requires { ⌜ Edition l × (length (now page) ≡ 64 * l .least) × (readHead (l .least) (now page) .count ≤ 5 * l .least) × (inOrder before (readEntries (now page) 128 (readHead (l .least) (now page) .count)) ≡ true) ⌝ }
     ensures { λ r. ⌜ r ≡ slotFine (l .least) a b (decodePage (l .least) (now (page .entry))) ⌝ }
 {
     let h = page::head_of(page, l);

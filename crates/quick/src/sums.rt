@@ -8,7 +8,7 @@ ghost use Rattle.model.specs.Layout.{pageOf, decode, decodePage, readEntry, rea
 ghost use Rattle.model.specs.Quick.{spansMet};
 ghost use Rattle.local.specs.Local.{IsPage};
 ghost use Rattle.quick.specs.Good.{Good};
-ghost use Rattle.quick.specs.Part.{Stands};
+ghost use Rattle.notes.specs.Linked.{Stands};
 ghost use Rattle.quick.specs.Slots.{GoodSlots};
 ghost use Rattle.quick.specs.Sums.{Sums, addTo, addSlots, addEntries, addPage, addPages, pageMet, allMet};
 

@@ -1,14 +1,18 @@
 // "A key lies from its page's low key up to, not including, the next one's": the pages that routers lead to, throughout their spans.
+use crate::within::Within;
 use model::Limits;
 ghost use mathlib.Core.Path.{_≡_};
 ghost use Prim.Native.Nat.{_+_, _*_, _-_, _≤_};
+ghost use lib.Dec.{ltb};
+ghost use Rattle.model.specs.Basic.{pick};
 ghost use Rattle.model.specs.Limits.{Edition};
 ghost use Rattle.model.specs.Layout.{readEntry, readEntries, decode};
 ghost use Rattle.model.specs.Quick.{under};
 ghost use Rattle.local.specs.Local.{IsPage, levelAt};
 ghost use Rattle.quick.specs.Good.{Good};
-ghost use Rattle.quick.specs.Part.{Stands};
+ghost use Rattle.notes.specs.Linked.{Stands};
 ghost use Rattle.quick.specs.Under.{wayOf};
+ghost use Rattle.quick.specs.Within.{Answers};
 
 // Where an entry is the last one alive: whether its key is fine, and the stretch for which its page is asked.
 pub(crate) struct Way {
@@ -33,8 +37,8 @@ fn way_at(page: &[u8], n: usize, i: usize, h: u32, a: u32, b: u32) -> Way
         };
     }
     let c = crate::entry::larger(a, e.start);
-    let from = crate::part::past_behind(page, n, i + 1, c);
     let upto = crate::entry::smaller(b, e.end);
+    let from = crate::part::past_behind(page, n, i + 1, c, upto);
     Way {
         fine: e.key < h,
         from: from,
@@ -43,31 +47,63 @@ fn way_at(page: &[u8], n: usize, i: usize, h: u32, a: u32, b: u32) -> Way
     }
 }
 
-// Throughout the stretch the live keys under page n, `up` levels above the leaves, are under h.
-pub(crate) fn under(s: &[u8], l: Limits, up: usize, h: u32, a: u32, b: u32, n: usize) -> bool
+// Throughout the stretch the live keys under page n, `up` levels above the leaves, are under h. A page that is read takes one from what
+// is left, and where nothing is left none is read: no more are read than were left at first, whatever the bytes.
+pub(crate) fn under(
+    s: &[u8],
+    l: Limits,
+    up: usize,
+    h: u32,
+    a: u32,
+    b: u32,
+    n: usize,
+    left: u32,
+) -> Within
     requires { ⌜ Edition l × Good (l .least) (now s) × IsPage (l .least) (now s) n × (levelAt (l .least) (now s) n ≡ up + 1) ⌝ }
-    ensures { λ r. ⌜ r ≡ under up (decode (l .least) (now (s .entry)) .pages) h a b n ⌝ }
+    ensures { λ r. ⌜ Answers (left - pick (ltb a b) 1 0) (under up (decode (l .least) (now (s .entry)) .pages) h a b n) r ⌝ }
 {
     if b <= a {
-        return true;
+        return Within {
+            fine: true,
+            left: left,
+        };
+    }
+    if left == 0 {
+        return Within {
+            fine: false,
+            left: 0,
+        };
     }
     let p = store::part(s, l, n);
     let f = page::head_of(p, l);
     let count = f.count;
     if up == 0 {
-        return crate::part::high_over(p, count, h, a, b);
+        let fine = crate::part::high_over(p, count, h, a, b);
+        return Within {
+            fine: fine,
+            left: left - 1,
+        };
     }
+    let mut rest = left - 1;
     let mut i = 0;
     while i < count {
         let w = way_at(p, count, i, h, a, b);
         if !w.fine {
-            return false;
+            return Within {
+                fine: false,
+                left: rest,
+            };
         }
         let m = crate::wide(w.page);
-        if !under(s, l, up - 1, h, w.from, w.upto, m) {
-            return false;
+        let r = under(s, l, up - 1, h, w.from, w.upto, m, rest);
+        if !r.fine {
+            return r;
         }
+        rest = r.left;
         i += 1;
     }
-    true
+    Within {
+        fine: true,
+        left: rest,
+    }
 }

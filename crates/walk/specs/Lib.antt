@@ -9,3 +9,4 @@ pub mod Covers
 pub mod Down
 pub mod Sure
 pub mod Here
+pub mod Visited

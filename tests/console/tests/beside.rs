@@ -23,6 +23,43 @@ fn the_example_word_for_word() {
     assert_eq!(answers((input + "\n").as_bytes()), expected);
 }
 
+/// 2026-06: "Insert refuses them with 5. Lookup, range and delete still take
+/// them".
+#[test]
+fn bench_keys() {
+    let lines = [
+        ("store 6", "ok"),
+        ("insert 16776959 1", "refused 7"),
+        ("insert 16776960 1", "refused 5"),
+        ("insert 16777215 1", "refused 5"),
+        ("open", "ok"),
+        ("insert 16776959 1", "ok"),
+        ("insert 16776959 2", "refused 10"),
+        ("insert 16776960 1", "refused 5"),
+        ("insert 16777215 1", "refused 5"),
+        ("insert 16777216 1", "refused 5"),
+        ("delete 16776960", "refused 11"),
+        ("delete 16777215", "refused 11"),
+        ("delete 16777216", "refused 5"),
+        ("get 16776959 1", "value 1"),
+        ("get 16776960 1", "absent"),
+        ("get 16777215 1", "absent"),
+        ("get 16777216 1", "refused 5"),
+        ("range 16776959 16777215 1", "count 1\n16776959 1"),
+        ("range 16776960 16777216 1", "refused 5"),
+        ("commit", "ok"),
+    ];
+    let input: String = lines.iter().map(|(line, _)| format!("{line}\n")).collect();
+    let expected: String = lines
+        .iter()
+        .map(|(_, answer)| format!("{answer}\n"))
+        .collect();
+    assert_eq!(
+        String::from_utf8_lossy(&answers(input.as_bytes())),
+        expected
+    );
+}
+
 /// A commit refused by 15 leaves the update open: 2026-05.
 #[test]
 fn an_empty_release() {
@@ -67,6 +104,8 @@ fn almost_commands() {
         "insert 5 4294967296",
         "insert 16777216 1",
         "insert 16777215 1",
+        "insert 16776960 1",
+        "insert 16776959 1",
         "store 4294967296",
         "store 4294967295",
         "store 257",

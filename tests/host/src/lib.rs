@@ -34,11 +34,28 @@ mod c {
             room: usize,
             count: *mut usize,
         ) -> u32;
+        pub fn rcst_visits(
+            store: *const u8,
+            length: usize,
+            key: u32,
+            version: u32,
+            pages: *mut u32,
+            room: usize,
+            count: *mut usize,
+        ) -> u32;
         pub fn rcst_difference(
             store: *const u8,
             length: usize,
             old: u32,
             new: u32,
+            list: *mut u32,
+            room: usize,
+            count: *mut usize,
+        ) -> u32;
+        pub fn rcst_life(
+            store: *const u8,
+            length: usize,
+            key: u32,
             list: *mut u32,
             room: usize,
             count: *mut usize,
@@ -117,6 +134,24 @@ pub fn range(store: &[u8], low: u32, high: u32, version: u32, list: &mut [u32]) 
     (number, count)
 }
 
+/// The number and the count of pages that a lookup visits; their numbers go to
+/// the list, from the root down.
+pub fn visits(store: &[u8], key: u32, version: u32, pages: &mut [u32]) -> (u32, usize) {
+    let mut count = 0;
+    let number = unsafe {
+        c::rcst_visits(
+            store.as_ptr(),
+            store.len(),
+            key,
+            version,
+            pages.as_mut_ptr(),
+            pages.len(),
+            &mut count,
+        )
+    };
+    (number, count)
+}
+
 /// The number and the count of differences from version `old` to version
 /// `new`; these go to the list: key, kind (0 added, 1 removed, 2 changed), old
 /// value and new value of each.
@@ -128,6 +163,23 @@ pub fn difference(store: &[u8], old: u32, new: u32, list: &mut [u32]) -> (u32, u
             store.len(),
             old,
             new,
+            list.as_mut_ptr(),
+            list.len(),
+            &mut count,
+        )
+    };
+    (number, count)
+}
+
+/// The number and the count of stretches in which the key held one value;
+/// these go to the list, start, end and value each.
+pub fn life(store: &[u8], key: u32, list: &mut [u32]) -> (u32, usize) {
+    let mut count = 0;
+    let number = unsafe {
+        c::rcst_life(
+            store.as_ptr(),
+            store.len(),
+            key,
             list.as_mut_ptr(),
             list.len(),
             &mut count,
@@ -165,10 +217,19 @@ impl Engine for Proved {
             }
             Call::Range(low, high, version, _) => {
                 let (number, count) = range(store, low, high, version, list);
-                Answer {
-                    count: count as u32,
-                    ..Answer::of(number)
-                }
+                Answer::counted((number, count as u32))
+            }
+            Call::Life(key, _) => {
+                let (number, count) = life(store, key, list);
+                Answer::counted((number, count as u32))
+            }
+            Call::Difference(old, new, _) => {
+                let (number, count) = difference(store, old, new, list);
+                Answer::counted((number, count as u32))
+            }
+            Call::Visits(key, version, _) => {
+                let (number, count) = visits(store, key, version, list);
+                Answer::counted((number, count as u32))
             }
         }
     }

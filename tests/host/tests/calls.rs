@@ -15,18 +15,22 @@ use reference::rng::Rng;
 use reference::samples::sound_store;
 use reference::store::header;
 
+const FIRST_BENCH_KEY: u32 = 16_776_960;
 const HIGHEST_KEY: u32 = 16_777_215;
 const HIGHEST_VERSION: u32 = 1_048_574;
 
 /// Calls at the edges of what document 01 allows, for a store whose last
 /// version is `last` and which shows `found` settings there.
 fn edge_calls(last: u32, found: usize) -> Vec<Call> {
+    let bench = [FIRST_BENCH_KEY - 1, FIRST_BENCH_KEY];
     let keys = [0, 1, 40, HIGHEST_KEY, HIGHEST_KEY + 1, u32::MAX];
     let near = [0, last.saturating_sub(1), last, last + 1];
     let far = [HIGHEST_VERSION - 1, HIGHEST_VERSION, HIGHEST_VERSION + 1];
     let versions = near.into_iter().chain(far).chain([u32::MAX]);
     let mut calls = vec![Call::Check, Call::Open, Call::Commit, Call::Abandon];
     calls.extend(keys.map(|key| Call::Insert(key, u32::MAX - key)));
+    calls.extend(bench.map(|key| Call::Insert(key, 0)));
+    calls.extend(bench.map(Call::Delete));
     calls.extend(keys.map(Call::Delete));
     for version in versions {
         calls.extend(keys.map(|key| Call::Lookup(key, version)));

@@ -1,4 +1,4 @@
-//! The nine calls, on any bytes and any numbers.
+//! The calls, on any bytes and any numbers.
 //!
 //! Every call but making fresh judges the whole store before it trusts it,
 //! also where an argument would be refused anyway: of several numbers the
@@ -28,6 +28,12 @@ pub fn insert(bytes: &mut [u8], key: u32, value: u32) -> u32 {
     judged(bytes).unwrap_or_else(|| unjudged::insert(bytes, key, value))
 }
 
+/// Insert as it was before 2026-06, to make stores from before. It is not
+/// offered to the console.
+pub fn raw_insert(bytes: &mut [u8], key: u32, value: u32) -> u32 {
+    judged(bytes).unwrap_or_else(|| unjudged::raw_insert(bytes, key, value))
+}
+
 pub fn delete(bytes: &mut [u8], key: u32) -> u32 {
     judged(bytes).unwrap_or_else(|| unjudged::delete(bytes, key))
 }
@@ -54,6 +60,34 @@ pub fn range(bytes: &[u8], low: u32, high: u32, version: u32, list: &mut [u32]) 
     match judged(bytes) {
         Some(refusal) => (refusal, 0),
         None => unjudged::range(bytes, low, high, version, list),
+    }
+}
+
+/// The number and the count of pages that a lookup visits; their numbers, from
+/// the root down to the leaf, are written to the front of `list`.
+pub fn visits(bytes: &[u8], key: u32, version: u32, list: &mut [u32]) -> (u32, u32) {
+    match judged(bytes) {
+        Some(refusal) => (refusal, 0),
+        None => unjudged::visits(bytes, key, version, list),
+    }
+}
+
+/// The number and the count of differences between two versions, of which
+/// `old` is the old side; four numbers each are written to the front of
+/// `list`.
+pub fn difference(bytes: &[u8], old: u32, new: u32, list: &mut [u32]) -> (u32, u32) {
+    match judged(bytes) {
+        Some(refusal) => (refusal, 0),
+        None => unjudged::difference(bytes, old, new, list),
+    }
+}
+
+/// The number and the count of stretches of committed versions in which the
+/// key held one value; three numbers each are written to the front of `list`.
+pub fn life(bytes: &[u8], key: u32, list: &mut [u32]) -> (u32, u32) {
+    match judged(bytes) {
+        Some(refusal) => (refusal, 0),
+        None => unjudged::life(bytes, key, list),
     }
 }
 

@@ -105,7 +105,7 @@ pub fn parse(text: &[u8]) -> Option<Command> {
 }
 
 /// 1 to 10 decimal digits, at most 4,294,967,295. Leading zeros are digits.
-fn parse_number(word: &[u8]) -> Option<u32> {
+pub fn parse_number(word: &[u8]) -> Option<u32> {
     let digits = (1..=10).contains(&word.len()) && word.iter().all(u8::is_ascii_digit);
     if !digits {
         return None;

@@ -2,8 +2,8 @@
 
 use crate::calls;
 
-/// A call with its arguments. The store, and for a range the list, are lent
-/// beside it.
+/// A call with its arguments. The store, and the list where one is written,
+/// are lent beside it.
 #[derive(Clone, Copy, Debug, PartialEq, Eq)]
 pub enum Call {
     Fresh,
@@ -19,14 +19,42 @@ pub enum Call {
     Lookup(u32, u32),
     /// Low, high, version, and how many numbers the lent list holds.
     Range(u32, u32, u32, usize),
+    /// Key, version, and how many numbers the lent list holds.
+    Visits(u32, u32, usize),
+    /// The old version, the new one, and how many numbers the lent list holds.
+    Difference(u32, u32, usize),
+    /// Key, and how many numbers the lent list holds.
+    Life(u32, usize),
 }
 
 impl Call {
     /// How many numbers the list lent with this call holds.
     pub fn list_length(self) -> usize {
         match self {
-            Call::Range(_, _, _, length) => length,
+            Call::Range(_, _, _, length)
+            | Call::Visits(_, _, length)
+            | Call::Difference(_, _, length)
+            | Call::Life(_, length) => length,
             _ => 0,
+        }
+    }
+
+    /// Whether a list is lent with this call.
+    pub fn takes_list(self) -> bool {
+        matches!(
+            self,
+            Call::Range(..) | Call::Visits(..) | Call::Difference(..) | Call::Life(..)
+        )
+    }
+
+    /// The same call with a list that holds `length` numbers, if it takes one.
+    pub fn with_list(self, length: usize) -> Call {
+        match self {
+            Call::Range(low, high, version, _) => Call::Range(low, high, version, length),
+            Call::Visits(key, version, _) => Call::Visits(key, version, length),
+            Call::Difference(old, new, _) => Call::Difference(old, new, length),
+            Call::Life(key, _) => Call::Life(key, length),
+            _ => self,
         }
     }
 }
@@ -41,7 +69,8 @@ pub struct Answer {
     /// Lookup: whether the key is alive, and its value.
     pub found: bool,
     pub value: u32,
-    /// Range: the count of settings found.
+    /// Range: the count of settings found. Visits: of pages. Difference: of
+    /// differences. Life: of stretches.
     pub count: u32,
 }
 
@@ -52,12 +81,20 @@ impl Answer {
             ..Answer::default()
         }
     }
+
+    /// The answer of a call that gives a number and a count.
+    pub fn counted((number, count): (u32, u32)) -> Answer {
+        Answer {
+            count,
+            ..Answer::of(number)
+        }
+    }
 }
 
 /// A program that answers calls: this one, or another to be run beside it.
 pub trait Engine {
-    /// Answers `call` on `store`. For a range, `list` holds as many numbers as
-    /// the call says.
+    /// Answers `call` on `store`. `list` holds as many numbers as the call
+    /// says.
     fn apply(&mut self, call: Call, store: &mut [u8], list: &mut [u32]) -> Answer;
 }
 
@@ -94,11 +131,10 @@ pub fn apply(call: Call, store: &mut [u8], list: &mut [u32]) -> Answer {
             }
         }
         Call::Range(low, high, version, _) => {
-            let (number, count) = calls::range(store, low, high, version, list);
-            Answer {
-                count,
-                ..Answer::of(number)
-            }
+            Answer::counted(calls::range(store, low, high, version, list))
         }
+        Call::Visits(key, version, _) => Answer::counted(calls::visits(store, key, version, list)),
+        Call::Difference(old, new, _) => Answer::counted(calls::difference(store, old, new, list)),
+        Call::Life(key, _) => Answer::counted(calls::life(store, key, list)),
     }
 }

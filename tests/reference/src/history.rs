@@ -4,7 +4,7 @@
 //! how long a list must be, and can be driven by any program that answers.
 
 use crate::engine::{Answer, Call, Engine, Reference};
-use crate::layout::{HIGHEST_KEY, PAGE_BYTES};
+use crate::layout::{FIRST_BENCH_KEY, HIGHEST_KEY, PAGE_BYTES};
 use crate::model::Model;
 use crate::number;
 use crate::rng::Rng;
@@ -202,12 +202,21 @@ impl History {
             .copied()
             .collect();
         let key = match self.order {
-            _ if absent.is_empty() => self.rng.below(HIGHEST_KEY + 1),
+            _ if absent.is_empty() => self.rng.below(FIRST_BENCH_KEY),
             Order::Rising => absent[0],
             Order::Falling => absent[absent.len() - 1],
             Order::Scattered => *self.rng.pick(&absent).unwrap_or(&0),
         };
-        Call::Insert(key, self.rng.word())
+        Call::Insert(key, self.some_value())
+    }
+
+    /// Mostly any 32 bits; 0 is a value too.
+    fn some_value(&mut self) -> u32 {
+        match self.rng.below(8) {
+            0 => 0,
+            1 => u32::MAX,
+            _ => self.rng.word(),
+        }
     }
 
     fn delete(&mut self, alive: &[u32]) -> Call {
@@ -242,8 +251,12 @@ impl History {
 
     fn read(&mut self) -> Call {
         let version = self.some_version();
-        if self.rng.once_in(2) {
-            return Call::Lookup(self.some_key(), version);
+        match self.rng.below(7) {
+            0 | 1 => return Call::Lookup(self.some_key(), version),
+            2 => return Call::Visits(self.some_key(), version, self.rng.below(8) as usize),
+            3 => return self.difference(),
+            4 => return self.life(),
+            _ => {}
         }
         let (one, other) = match self.rng.below(3) {
             0 => (0, HIGHEST_KEY),
@@ -251,12 +264,28 @@ impl History {
         };
         let (low, high) = (one.min(other), one.max(other));
         let wanted = self.model.listed(low, high, version).len();
-        let length = match self.rng.below(4) {
+        Call::Range(low, high, version, self.some_length(wanted))
+    }
+
+    /// As many numbers as wanted, or about as many.
+    fn some_length(&mut self, wanted: usize) -> usize {
+        match self.rng.below(4) {
             0 => wanted.saturating_sub(1),
             1 => wanted + self.rng.below(5) as usize,
             _ => wanted,
-        };
-        Call::Range(low, high, version, length)
+        }
+    }
+
+    fn difference(&mut self) -> Call {
+        let (old, new) = (self.some_version(), self.some_version());
+        let wanted = self.model.differing(old, new).len();
+        Call::Difference(old, new, self.some_length(wanted))
+    }
+
+    fn life(&mut self) -> Call {
+        let key = self.some_key();
+        let wanted = self.model.lived(key).len();
+        Call::Life(key, self.some_length(wanted))
     }
 
     /// A call that is refused, for one reason or for several at once.
@@ -270,9 +299,13 @@ impl History {
             0 => self.model.last() + 1,
             _ => self.rng.between(self.model.last() + 1, u32::MAX),
         };
+        let bench = match self.rng.below(2) {
+            0 => FIRST_BENCH_KEY,
+            _ => self.rng.between(FIRST_BENCH_KEY, HIGHEST_KEY),
+        };
         let (key, version) = (self.some_key(), self.some_version());
         let word = self.rng.word();
-        match self.rng.below(12) {
+        match self.rng.below(18) {
             0 => Call::Insert(too_large, word),
             1 => Call::Delete(too_large),
             2 => Call::Lookup(too_large, version),
@@ -285,6 +318,12 @@ impl History {
             8 if self.rng.once_in(2) => Call::Commit,
             8 => Call::Abandon,
             9 | 10 => self.updates_turned_round(),
+            11 => Call::Visits(too_large, version, 7),
+            12 => Call::Visits(key, late, 0),
+            13 => Call::Insert(bench, word),
+            14 => Call::Difference(late, version, 4),
+            15 => Call::Difference(version, late, 0),
+            16 => Call::Life(too_large, 3),
             _ => Call::Range(too_large, too_large, version, 4),
         }
     }
@@ -303,18 +342,20 @@ impl History {
     }
 }
 
-/// `count` keys, rising: close together or far apart, or at the very ends.
+/// `count` keys, rising: close together or far apart, or at the very ends of
+/// what an insert takes.
 fn some_keys(rng: &mut Rng, count: u32) -> Vec<u32> {
+    let highest = FIRST_BENCH_KEY - 1;
     let step = match rng.below(3) {
         0 => 1,
         1 => rng.between(2, 100),
-        _ => HIGHEST_KEY / count,
+        _ => highest / count,
     };
     let spread = step * (count - 1);
     let first = match rng.below(3) {
         0 => 0,
-        1 => HIGHEST_KEY - spread,
-        _ => rng.between(0, HIGHEST_KEY - spread),
+        1 => highest - spread,
+        _ => rng.between(0, highest - spread),
     };
     (0..count).map(|index| first + index * step).collect()
 }

@@ -52,6 +52,8 @@ pub const HIGHEST_LEVEL: u32 = 7;
 pub const ALIVE: u32 = 1_048_575;
 pub const HIGHEST_VERSION: u32 = 1_048_574;
 pub const HIGHEST_KEY: u32 = 16_777_215;
+/// Keys from here up belong to the test bench: insert refuses them.
+pub const FIRST_BENCH_KEY: u32 = 16_776_960;
 /// One above the highest key: the upper bound where document 01 has none.
 pub const ABOVE_ALL_KEYS: u32 = HIGHEST_KEY + 1;
 

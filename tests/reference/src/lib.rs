@@ -7,9 +7,9 @@
 //! - [`bits`], [`layout`], [`store`]: where each number stands in the bytes;
 //! - [`check`]: when a store is sound, a module for each rule;
 //! - [`walk`]: lookups and ranges; [`update`] over a [`draft`]: the page rules;
-//!   [`mod@abandon`];
+//!   [`mod@abandon`]; [`mod@difference`]; [`mod@life`];
 //! - [`unjudged`]: the calls on a store known to be sound, and [`calls`]: the
-//!   nine calls as the console has them, on any bytes;
+//!   calls as the console has them, on any bytes;
 //! - [`console`]: the line language.
 //!
 //! The rest makes and judges work for two programs run side by side:
@@ -20,7 +20,8 @@
 //! - [`history`], [`lines`]: calls and console input from a seed;
 //! - [`foreign`], [`tall`]: sound stores that no history makes;
 //! - [`damage`]: unsound stores, with the rule that each one breaks;
-//! - [`samples`]: sound stores of all these shapes from a seed.
+//! - [`samples`]: sound stores of all these shapes from a seed;
+//! - [`trace`]: a line for each call, to hold any program to any other.
 
 #![forbid(unsafe_code)]
 
@@ -31,12 +32,14 @@ pub mod calls;
 pub mod check;
 pub mod console;
 pub mod damage;
+pub mod difference;
 pub mod draft;
 pub mod engine;
 pub mod foreign;
 pub mod history;
 pub mod image;
 pub mod layout;
+pub mod life;
 pub mod lines;
 pub mod model;
 pub mod number;
@@ -44,6 +47,7 @@ pub mod rng;
 pub mod samples;
 pub mod store;
 pub mod tall;
+pub mod trace;
 pub mod unjudged;
 pub mod update;
 pub mod walk;

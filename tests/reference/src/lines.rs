@@ -84,14 +84,19 @@ impl Session {
     fn text(&self, call: Call) -> String {
         match call {
             Call::Fresh => format!("store {}", self.pages),
-            // There is no line for it; a lookup judges the store as well.
-            Call::Check => format!("get 0 {}", self.history.model().last()),
+            // There is no line for these; a lookup judges the store as well.
+            Call::Check | Call::Difference(..) | Call::Life(..) => {
+                format!("get 0 {}", self.history.model().last())
+            }
             Call::Open => "open".to_string(),
             Call::Insert(key, value) => format!("insert {key} {value}"),
             Call::Delete(key) => format!("delete {key}"),
             Call::Commit => "commit".to_string(),
             Call::Abandon => "abandon".to_string(),
-            Call::Lookup(key, version) => format!("get {key} {version}"),
+            // Nor for a lookup's pages: the lookup itself stands for them.
+            Call::Lookup(key, version) | Call::Visits(key, version, _) => {
+                format!("get {key} {version}")
+            }
             // The console's list is always long enough.
             Call::Range(low, high, version, _) => format!("range {low} {high} {version}"),
         }

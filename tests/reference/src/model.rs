@@ -7,10 +7,11 @@
 
 use std::collections::BTreeMap;
 
+use crate::difference::differences;
 use crate::engine::{Answer, Call};
 use crate::image::Image;
-use crate::layout::{HIGHEST_KEY, HIGHEST_VERSION};
-use crate::{number, store, walk};
+use crate::layout::{FIRST_BENCH_KEY, HIGHEST_KEY, HIGHEST_VERSION};
+use crate::{life, number, store, walk};
 
 pub type Settings = BTreeMap<u32, u32>;
 
@@ -41,7 +42,7 @@ impl Model {
     /// stand for the history so far."
     pub fn of_store(bytes: &[u8]) -> Model {
         let header = store::header(bytes);
-        let settings = |version| Settings::from_iter(walk::range(bytes, 0, HIGHEST_KEY, version));
+        let settings = |version| walk::settings(bytes, version);
         let versions = Image::read(bytes).turning_points();
         let committed = versions.into_iter().filter(|v| *v <= header.current);
         Model {
@@ -76,18 +77,23 @@ impl Model {
         found.flat_map(|(key, value)| [*key, *value]).collect()
     }
 
-    /// The answer to `call` if pages and slots were endless.
+    /// The answer to `call` if pages and slots were endless. Of a lookup's
+    /// pages it knows only whether they are refused by 5 or 6.
     pub fn answer(&self, call: Call) -> Answer {
         match call {
             Call::Fresh | Call::Check => Answer::default(),
             Call::Open => Answer::of(self.number_of_open()),
             Call::Commit | Call::Abandon => Answer::of(self.number_unless_open()),
+            Call::Insert(key, _) if key >= FIRST_BENCH_KEY => Answer::of(number::ARGUMENT),
             Call::Insert(key, _) => Answer::of(self.number_of_update(key, number::KEY_ALIVE)),
             Call::Delete(key) => Answer::of(self.number_of_update(key, number::KEY_NOT_ALIVE)),
             Call::Lookup(key, version) => self.answer_to_lookup(key, version),
             Call::Range(low, high, version, length) => {
                 self.answer_to_range(low, high, version, length)
             }
+            Call::Visits(key, version, _) => Answer::of(self.number_of_reading(key, version)),
+            Call::Difference(old, new, length) => self.answer_to_difference(old, new, length),
+            Call::Life(key, length) => self.answer_to_life(key, length),
         }
     }
 
@@ -126,12 +132,20 @@ impl Model {
         }
     }
 
-    fn answer_to_lookup(&self, key: u32, version: u32) -> Answer {
+    fn number_of_reading(&self, key: u32, version: u32) -> u32 {
         if key > HIGHEST_KEY {
-            return Answer::of(number::ARGUMENT);
+            number::ARGUMENT
+        } else if version > self.last() {
+            number::VERSION
+        } else {
+            number::DONE
         }
-        if version > self.last() {
-            return Answer::of(number::VERSION);
+    }
+
+    fn answer_to_lookup(&self, key: u32, version: u32) -> Answer {
+        let number = self.number_of_reading(key, version);
+        if number != number::DONE {
+            return Answer::of(number);
         }
         let found = self.at(version).get(&key);
         Answer {
@@ -156,6 +170,42 @@ impl Model {
         }
     }
 
+    /// What a difference is to write.
+    pub fn differing(&self, old: u32, new: u32) -> Vec<u32> {
+        differences(self.at(old), self.at(new)).concat()
+    }
+
+    fn answer_to_difference(&self, old: u32, new: u32, length: usize) -> Answer {
+        if old.max(new) > self.last() {
+            return Answer::of(number::VERSION);
+        }
+        let wanted = self.differing(old, new).len();
+        let short = length < wanted;
+        Answer {
+            count: wanted as u32 / 4,
+            ..Answer::of(if short { number::LIST_TOO_SHORT } else { 0 })
+        }
+    }
+
+    /// What the life of a key is to write.
+    pub fn lived(&self, key: u32) -> Vec<u32> {
+        let value =
+            |(version, settings): (&u32, &Settings)| (*version, settings.get(&key).copied());
+        life::stretches(self.committed.iter().map(value)).concat()
+    }
+
+    fn answer_to_life(&self, key: u32, length: usize) -> Answer {
+        if key > HIGHEST_KEY {
+            return Answer::of(number::ARGUMENT);
+        }
+        let wanted = self.lived(key).len();
+        let short = length < wanted;
+        Answer {
+            count: wanted as u32 / 3,
+            ..Answer::of(if short { number::LIST_TOO_SHORT } else { 0 })
+        }
+    }
+
     /// Makes the change of a call that was accepted.
     pub fn record(&mut self, call: Call) {
         match call {
@@ -175,6 +225,7 @@ impl Model {
             }
             Call::Abandon => self.open = None,
             Call::Check | Call::Lookup(..) | Call::Range(..) => {}
+            Call::Visits(..) | Call::Difference(..) | Call::Life(..) => {}
         }
     }
 

@@ -2,13 +2,14 @@
 
 use crate::foreign::{raise_current, unsettle};
 use crate::history::{calls, Kind};
-use crate::layout::HIGHEST_VERSION;
+use crate::layout::{FIRST_BENCH_KEY, HIGHEST_KEY, HIGHEST_VERSION};
 use crate::rng::Rng;
 use crate::tall::{tall, Fill, Spine};
+use crate::unjudged;
 
 /// A sound store: fresh or grown, closed or with an update open, made by a
-/// history or foreign, near the last version, or tall. It has at most 96
-/// pages.
+/// history or foreign, with bench keys, near the last version, or tall. It has
+/// at most 96 pages.
 pub fn sound_store(seed: u64) -> Vec<u8> {
     let mut rng = Rng::new(seed);
     if seed.is_multiple_of(16) {
@@ -28,10 +29,25 @@ pub fn sound_store(seed: u64) -> Vec<u8> {
     for _ in 0..rng.below(4) {
         unsettle(&mut store, &mut rng);
     }
+    if rng.once_in(3) {
+        insert_bench_keys(&mut store, &mut rng);
+    }
     if rng.once_in(24) {
         raise_current(&mut store, HIGHEST_VERSION - 1);
     }
     store
+}
+
+/// Bench keys in the open update, as they went in before 2026-06.
+fn insert_bench_keys(store: &mut [u8], rng: &mut Rng) {
+    for _ in 0..rng.between(1, 30) {
+        let key = match rng.below(4) {
+            0 => FIRST_BENCH_KEY,
+            1 => HIGHEST_KEY,
+            _ => rng.between(FIRST_BENCH_KEY, HIGHEST_KEY),
+        };
+        unjudged::raw_insert(store, key, rng.word());
+    }
 }
 
 fn some_tall_store(rng: &mut Rng) -> Option<Vec<u8>> {

@@ -5,9 +5,10 @@
 //! cost of judging. On a store that is not sound they may panic or answer
 //! anything.
 
-use crate::layout::{Header, HIGHEST_KEY, HIGHEST_VERSION};
+use crate::difference::differences;
+use crate::layout::{Header, FIRST_BENCH_KEY, HIGHEST_KEY, HIGHEST_VERSION};
 use crate::update::{self, Change};
-use crate::{abandon, number, store, walk};
+use crate::{abandon, life, number, store, walk};
 
 pub fn open(bytes: &mut [u8]) -> u32 {
     let header = store::header(bytes);
@@ -28,6 +29,14 @@ pub fn open(bytes: &mut [u8]) -> u32 {
 }
 
 pub fn insert(bytes: &mut [u8], key: u32, value: u32) -> u32 {
+    if key >= FIRST_BENCH_KEY {
+        return number::ARGUMENT;
+    }
+    raw_insert(bytes, key, value)
+}
+
+/// Insert as it was before 2026-06: the bench keys go in too.
+pub fn raw_insert(bytes: &mut [u8], key: u32, value: u32) -> u32 {
     let header = store::header(bytes);
     if key > HIGHEST_KEY {
         return number::ARGUMENT;
@@ -118,6 +127,57 @@ pub fn range(bytes: &[u8], low: u32, high: u32, version: u32, list: &mut [u32]) 
     }
     for (place, (key, value)) in list.chunks_exact_mut(2).zip(settings) {
         place.copy_from_slice(&[key, value]);
+    }
+    (number::DONE, count)
+}
+
+/// The number and the count of pages that a lookup visits, in order: "the page
+/// numbers from the root down to the leaf", for any key. Refused as a range is.
+pub fn visits(bytes: &[u8], key: u32, version: u32, list: &mut [u32]) -> (u32, u32) {
+    if key > HIGHEST_KEY {
+        return (number::ARGUMENT, 0);
+    }
+    if version > store::header(bytes).last() {
+        return (number::VERSION, 0);
+    }
+    let path = walk::path(bytes, key, version);
+    let count = path.len() as u32;
+    if list.len() < path.len() {
+        return (number::LIST_TOO_SHORT, count);
+    }
+    for (place, step) in list.iter_mut().zip(path) {
+        *place = step.page;
+    }
+    (number::DONE, count)
+}
+
+/// The number and the count of differences between two readable versions.
+pub fn difference(bytes: &[u8], old: u32, new: u32, list: &mut [u32]) -> (u32, u32) {
+    let last = store::header(bytes).last();
+    if old > last || new > last {
+        return (number::VERSION, 0);
+    }
+    let settings = |version| walk::settings(bytes, version);
+    write_rows(&differences(&settings(old), &settings(new)), list)
+}
+
+/// The number and the count of stretches in the life of a key.
+pub fn life(bytes: &[u8], key: u32, list: &mut [u32]) -> (u32, u32) {
+    if key > HIGHEST_KEY {
+        return (number::ARGUMENT, 0);
+    }
+    write_rows(&life::by_turning_points(bytes, key), list)
+}
+
+/// Writes the rows to the front of a list that holds them all; the number and
+/// their count.
+fn write_rows<const N: usize>(rows: &[[u32; N]], list: &mut [u32]) -> (u32, u32) {
+    let count = rows.len() as u32;
+    if list.len() < N * rows.len() {
+        return (number::LIST_TOO_SHORT, count);
+    }
+    for (place, row) in list.chunks_exact_mut(N).zip(rows) {
+        place.copy_from_slice(row);
     }
     (number::DONE, count)
 }

@@ -1,6 +1,7 @@
 //! Lookups and ranges: walking a sound store at one version.
 
-use crate::layout::{Entry, Page, ABOVE_ALL_KEYS};
+use crate::layout::{Entry, Page, ABOVE_ALL_KEYS, HIGHEST_KEY};
+use crate::model::Settings;
 use crate::store;
 
 /// "The root of v is the last slot at or below v."
@@ -73,6 +74,11 @@ pub fn range(bytes: &[u8], low: u32, high: u32, version: u32) -> Vec<(u32, u32)>
         &mut settings,
     );
     settings
+}
+
+/// All settings alive at `version`.
+pub fn settings(bytes: &[u8], version: u32) -> Settings {
+    range(bytes, 0, HIGHEST_KEY, version).into_iter().collect()
 }
 
 fn range_from(

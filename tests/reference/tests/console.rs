@@ -113,7 +113,8 @@ fn refused_1_before_a_store_and_for_its_size() {
 
 #[test]
 fn numbers_of_refusals_come_through() {
-    let input = "store 6\ncommit\nopen\nopen\ninsert 16777216 1\ninsert 1 4294967295\n\
+    let input = "store 6\ncommit\nopen\nopen\ninsert 16777216 1\ninsert 16776960 1\n\
+                 insert 16776959 1\ndelete 16776959\ndelete 16777215\ninsert 1 4294967295\n\
                  insert 1 2\ndelete 2\nget 1 1\nget 1 2\nrange 2 1 1\nrange 1 1 1\nrange 2 3 1\n";
     let expected = [
         "ok",
@@ -121,6 +122,10 @@ fn numbers_of_refusals_come_through() {
         "ok",
         "refused 8",
         "refused 5",
+        "refused 5",
+        "ok",
+        "ok",
+        "refused 11",
         "ok",
         "refused 10",
         "refused 11",

@@ -4,10 +4,14 @@ use mathlib.Core.Bool.{true}
 use native.Mathlib.Omega.{arith}
 use borrow.Author.Tests.{not-true, not-false}
 use Rattle.local.specs.Linked.{held}
-use Rattle.judge.specs.Rules.{ready, four-is, five-is, six-is, told-false, told-true}
-use Rattle.judge.specs.Versions.{Ready}
+use Rattle.notes.specs.Given.{ready}
+use Rattle.judge.specs.Named.{named-some, six-last, six-led, six-none}
+use Rattle.quick.specs.Given.{good}
+use Rattle.quick.specs.Slots.{good-slots}
+use Rattle.store.specs.Read.{current-lt}
+use Rattle.notes.specs.Ready.{Ready}
 use Rattle.local.specs.Local.{Held}
-use Rattle.model.proofs.Judging.{broken-one, broken-two, broken-three, broken-four, broken-five, broken-six, broken-none}
+use Rattle.model.proofs.Judging.{broken-one, broken-two, broken-three}
 use Rattle.model.specs.Clean.{clean}
 use Rattle.model.specs.Layout.{decode}
 use Rattle.model.specs.Sound.{rule2, rule3}
@@ -53,26 +57,29 @@ third-rule-requires c κs = (c .before .before .before .before .before .before .
 returns-3 : tie.Need-returns-3
 returns-3 c = let a = c .before .before .before .before .before .before .before .before .args in sym (broken-three (a .l .least) (a .s .now) (one ((c .before .before .before .before .before))) (two ((c .before .before))) (sym (c .before .third-rule .ensures) ∙ not-true (c .before .third-rule .result) (c .if3 .taken)))
 
-stretches-requires : tie.Need-stretches-requires
-stretches-requires c κs = (c .before .before .before .before .before .before .before .before .pre .0, is-ready ((c)), omega arith, omega arith)
+broken-requires : tie.Need-broken-requires
+broken-requires c κs = let a = c .before .before .before .before .before .before .before .before .args in (c .before .before .before .before .before .before .before .before .pre .0, is-ready ((c)))
 
 returns-4 : tie.Need-returns-4
-returns-4 c = let a = c .before .before .before .before .before .before .before .before .before .before .args in sym (broken-four (a .l .least) (a .s .now) (one ((c .before .before .before .before .before .before .before))) (two ((c .before .before .before .before))) (three ((c .before .before))) (told-false _ _ (c .before .stretches .result) 4 (four-is (a .l .least) (a .s .now) (c .before .before .before .before .before .before .header .result) (c .before .before .before .before .before .before .header .ensures)) (c .before .stretches .ensures) (c .if4 .taken)))
+returns-4 c = let a = c .before .before .before .before .before .before .before .before .before .before .args in named-some (a .l .least) (a .s .now) (one (c .before .before .before .before .before .before .before)) (two (c .before .before .before .before)) (three (c .before .before)) (c .before .broken .result) (c .before .broken .ensures) (c .if4 .taken)
 
-stretches-requires-2 : tie.Need-stretches-requires-2
-stretches-requires-2 c κs = (c .before .before .before .before .before .before .before .before .before .before .pre .0, is-ready ((c .before .before)), omega arith, omega arith)
+last-requires : tie.Need-last-requires
+last-requires c κs = rw (c .before .before .before .before .before .before .header .ensures) (current-lt (c .before .before .before .before .before .before .before .before .before .before .args .l .least) (c .before .before .before .before .before .before .before .before .before .before .args .s .now))
+
+version-ok-requires : tie.Need-version-ok-requires
+version-ok-requires c κs = let a = c .before .before .before .before .before .before .before .before .before .before .before .args in let y = is-ready (c .before .before .before) in (c .before .before .before .before .before .before .before .before .before .before .before .pre .0, y, omega (arith, c .last .ensures, y .last))
 
 returns-5 : tie.Need-returns-5
-returns-5 c = let a = c .before .before .before .before .before .before .before .before .before .before .before .before .args in sym (broken-five (a .l .least) (a .s .now) (one ((c .before .before .before .before .before .before .before .before .before))) (two ((c .before .before .before .before .before .before))) (three ((c .before .before .before .before))) (told-true _ _ (c .before .before .before .stretches .result) 4 (four-is (a .l .least) (a .s .now) (c .before .before .before .before .before .before .before .before .header .result) (c .before .before .before .before .before .before .before .before .header .ensures)) (c .before .before .before .stretches .ensures) (omega arith) (c .before .before .if4 .left)) (told-false _ _ (c .before .stretches2 .result) 5 (five-is (a .l .least) (a .s .now) (c .before .before .before .before .before .before .before .before .header .result) (c .before .before .before .before .before .before .before .before .header .ensures)) (c .before .stretches2 .ensures) (c .if5 .taken)))
+returns-5 c = let a = c .before .before .before .before .before .before .before .before .before .before .before .before .before .args in six-last (a .l .least) (a .s .now) (one (c .before .before .before .before .before .before .before .before .before .before)) (two (c .before .before .before .before .before .before .before)) (three (c .before .before .before .before .before)) (c .before .before .before .before .broken .result) (c .before .before .before .before .broken .ensures) (c .before .before .before .if4 .left) (c .before .before .before .before .before .before .before .before .before .header .result) (c .before .before .last .result) (c .before .before .before .before .before .before .before .before .before .header .ensures) (c .before .before .last .ensures) (sym (c .before .version-ok .ensures) ∙ not-true (c .before .version-ok .result) (c .if5 .taken))
 
-versions-requires : tie.Need-versions-requires
-versions-requires c κs = (c .before .before .before .before .before .before .before .before .before .before .before .before .pre .0, is-ready ((c .before .before .before .before)))
+led-requires : tie.Need-led-requires
+led-requires c κs = let a = c .before .before .before .before .before .before .before .before .before .before .before .before .before .args in (c .before .before .before .before .before .before .before .before .before .before .before .before .before .pre .0, good (a .l .least) (a .s .now) (a .size) (c .before .before .before .before .before .before .before .before .before .before .before .before .before .pre .1) (one (c .before .before .before .before .before .before .before .before .before .before)) (three (c .before .before .before .before .before)), good-slots (a .l .least) (a .s .now) (a .size) (c .before .before .before .before .before .before .before .before .before .before .before .before .before .pre .1) (one (c .before .before .before .before .before .before .before .before .before .before)))
 
 returns-6 : tie.Need-returns-6
-returns-6 c = let a = c .before .before .before .before .before .before .before .before .before .before .before .before .before .before .args in sym (broken-six (a .l .least) (a .s .now) (one ((c .before .before .before .before .before .before .before .before .before .before .before))) (two ((c .before .before .before .before .before .before .before .before))) (three ((c .before .before .before .before .before .before))) (told-true _ _ (c .before .before .before .before .before .stretches .result) 4 (four-is (a .l .least) (a .s .now) (c .before .before .before .before .before .before .before .before .before .before .header .result) (c .before .before .before .before .before .before .before .before .before .before .header .ensures)) (c .before .before .before .before .before .stretches .ensures) (omega arith) (c .before .before .before .before .if4 .left)) (told-true _ _ (c .before .before .before .stretches2 .result) 5 (five-is (a .l .least) (a .s .now) (c .before .before .before .before .before .before .before .before .before .before .header .result) (c .before .before .before .before .before .before .before .before .before .before .header .ensures)) (c .before .before .before .stretches2 .ensures) (omega arith) (c .before .before .if5 .left)) (told-false _ _ (c .before .versions .result) 6 (six-is (a .l .least) (a .s .now) (c .before .before .before .before .before .before .before .before .before .before .header .result) (c .before .before .before .before .before .before .before .before .before .before .header .ensures)) (c .before .versions .ensures) (c .if6 .taken)))
+returns-6 c = let a = c .before .before .before .before .before .before .before .before .before .before .before .before .before .before .before .args in six-led (a .l .least) (a .s .now) (one (c .before .before .before .before .before .before .before .before .before .before .before .before)) (two (c .before .before .before .before .before .before .before .before .before)) (three (c .before .before .before .before .before .before .before)) (c .before .before .before .before .before .before .broken .result) (c .before .before .before .before .before .before .broken .ensures) (c .before .before .before .before .before .if4 .left) (omega (arith, c .before .before .before .before .before .before .before .before .before .before .before .before .before .before .before .pre .0 .four)) (c .before .led .result) (c .before .led .ensures) (not-true (c .before .led .result) (c .if6 .taken))
 
 returns-7 : tie.Need-returns-7
-returns-7 c = let a = c .before .before .before .before .before .before .before .before .before .before .before .before .before .before .args in sym (broken-none (a .l .least) (a .s .now) (one ((c .before .before .before .before .before .before .before .before .before .before .before))) (two ((c .before .before .before .before .before .before .before .before))) (three ((c .before .before .before .before .before .before))) (told-true _ _ (c .before .before .before .before .before .stretches .result) 4 (four-is (a .l .least) (a .s .now) (c .before .before .before .before .before .before .before .before .before .before .header .result) (c .before .before .before .before .before .before .before .before .before .before .header .ensures)) (c .before .before .before .before .before .stretches .ensures) (omega arith) (c .before .before .before .before .if4 .left)) (told-true _ _ (c .before .before .before .stretches2 .result) 5 (five-is (a .l .least) (a .s .now) (c .before .before .before .before .before .before .before .before .before .before .header .result) (c .before .before .before .before .before .before .before .before .before .before .header .ensures)) (c .before .before .before .stretches2 .ensures) (omega arith) (c .before .before .if5 .left)) (told-true _ _ (c .before .versions .result) 6 (six-is (a .l .least) (a .s .now) (c .before .before .before .before .before .before .before .before .before .before .header .result) (c .before .before .before .before .before .before .before .before .before .before .header .ensures)) (c .before .versions .ensures) (omega arith) (c .if6 .left)))
+returns-7 c = let a = c .before .before .before .before .before .before .before .before .before .before .before .before .before .before .before .args in six-none (a .l .least) (a .s .now) (one (c .before .before .before .before .before .before .before .before .before .before .before .before)) (two (c .before .before .before .before .before .before .before .before .before)) (three (c .before .before .before .before .before .before .before)) (c .before .before .before .before .before .before .broken .result) (c .before .before .before .before .before .before .broken .ensures) (c .before .before .before .before .before .if4 .left) (omega (arith, c .before .before .before .before .before .before .before .before .before .before .before .before .before .before .before .pre .0 .four)) (c .before .led .result) (c .before .led .ensures) (not-false (c .before .led .result) (c .if6 .left))
 
 pub broken-spec : {M : Type 1} → statement M
 broken-spec =
@@ -85,10 +92,11 @@ broken-spec =
     returns-2
     third-rule-requires
     returns-3
-    stretches-requires
+    broken-requires
     returns-4
-    stretches-requires-2
+    last-requires
+    version-ok-requires
     returns-5
-    versions-requires
+    led-requires
     returns-6
     returns-7)

@@ -1,52 +1,37 @@
-use Rattle.quick.specs.Number.{quick-pages, quick-slots, quick-spans}
-use Rattle.model.specs.Layout.{decode}
-use borrow.Author.Tests.{not-true, not-false}
+-- `quick::quick` meets its contract: what the pages say within the budget, or the notes. Assumes nothing.
 use mathlib.Core.Path.{sym, _∙_}
+use native.Mathlib.Omega.{arith}
+use borrow.Author.Tests.{not-true, not-false}
 use borrow.Author.Needs.{needs}
+use Rattle.model.specs.Layout.{decode}
+use Rattle.quick.specs.Number.{quick-pages}
+use Rattle.quick.specs.Noted.{not-led, noted}
 use Rattle.quick.proofs.quick.Statement.{statement}
 use Rattle.quick.proofs.quick.Tie as tie
-use Rattle.quick.proofs.quick.Reads as reads
-use Rattle.quick.proofs.quick.Lts as lts
-use Rattle.quick.proofs.pages.pages_fine.Reads as pages-fine-reads
-use Rattle.quick.proofs.slots.slots_fine.Reads as slots-fine-reads
-use Rattle.quick.proofs.sums.spans_met.Reads as spans-met-reads
 
--- src/lib.rt:36:9
-spans-met-requires : tie.Need-spans-met-requires
-spans-met-requires c κs = search needs
+led-requires : tie.Need-led-requires
+led-requires c κs = let r = c .before .pre in (r .0, r .1, r .2)
 
--- src/lib.rt:37:9
 returns : tie.Need-returns
-returns c = let a = c .before .before .before .args in sym (quick-spans (a .l .least) (decode (a .l .least) (a .s .now)) (sym (c .before .spans-met .ensures) ∙ not-true (c .before .spans-met .result) (c .if1 .taken)))
+returns c = let a = c .before .before .before .args in not-led (a .l .least) (decode (a .l .least) (a .s .now)) (c .before .before .before .pre .4) (sym (c .before .led .ensures) ∙ not-true (c .before .led .result) (c .if1 .taken))
 
--- src/lib.rt:39:9
-slots-fine-requires : tie.Need-slots-fine-requires
-slots-fine-requires c κs = search needs
+size-requires : tie.Need-size-requires
+size-requires c κs = c .before .before .before .pre .0
 
--- src/lib.rt:40:9
-returns-2 : tie.Need-returns-2
-returns-2 c =
-    let a = c .before .before .before .before .before .args in
-    sym (quick-slots (a .l .least) (decode (a .l .least) (a .s .now)) (sym (c .before .before .before .spans-met .ensures) ∙ not-false (c .before .before .before .spans-met .result) (c .before .before .if1 .left)) (sym (c .before .slots-fine .ensures) ∙ not-true (c .before .slots-fine .result) (c .if2 .taken)))
+budget-requires : tie.Need-budget-requires
+budget-requires c κs = omega (arith, c .size .ensures, c .before .before .before .before .pre .1 .linked .most)
 
--- src/lib.rt:42:5
 pages-fine-requires : tie.Need-pages-fine-requires
 pages-fine-requires c κs = (c .before .before .before .before .before .pre .0, c .before .before .before .before .before .pre .1)
 
--- src/lib.rt:32:1
+returns-2 : tie.Need-returns-2
+returns-2 c = let a = c .before .before .before .before .before .before .before .before .args in c .before .before .pages-fine .ensures .right (c .if2 .taken) ∙ sym (quick-pages (a .l .least) (decode (a .l .least) (a .s .now)) (sym (c .before .before .before .before .before .before .led .ensures) ∙ not-false (c .before .before .before .before .before .before .led .result) (c .before .before .before .before .before .if1 .left)))
+
+broken-requires : tie.Need-broken-requires
+broken-requires c κs = (c .before .before .before .before .before .before .before .before .pre .0, c .before .before .before .before .before .before .before .before .pre .3)
+
 returns-3 : tie.Need-returns-3
-returns-3 c =
-    let a = c .before .before .before .before .before .before .args in
-    c .pages-fine .ensures
-    ∙ sym (quick-pages (a .l .least) (decode (a .l .least) (a .s .now)) (sym (c .before .before .before .before .spans-met .ensures) ∙ not-false (c .before .before .before .before .spans-met .result) (c .before .before .before .if1 .left)) (sym (c .before .before .slots-fine .ensures) ∙ not-false (c .before .before .slots-fine .result) (c .before .if2 .left)))
+returns-3 c = let a = c .before .before .before .before .before .before .before .before .before .args in noted (a .l .least) (decode (a .l .least) (a .s .now)) (c .before .before .before .before .before .before .before .before .before .pre .4) (c .broken .result) (c .broken .ensures) (sym (c .before .before .before .before .before .before .before .led .ensures) ∙ not-false (c .before .before .before .before .before .before .before .led .result) (c .before .before .before .before .before .before .if1 .left))
 
 pub quick-spec : {M : Type 1} → statement M
-quick-spec =
-    tie.close
-    (tie.spec
-    spans-met-requires
-    returns
-    slots-fine-requires
-    returns-2
-    pages-fine-requires
-    returns-3)
+quick-spec = tie.close (tie.spec led-requires returns size-requires budget-requires pages-fine-requires returns-2 broken-requires returns-3)

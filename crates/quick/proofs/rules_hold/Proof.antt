@@ -2,6 +2,8 @@
 use Rattle.quick.specs.Number.{in-first, in-second, in-third, in-rest}
 use Rattle.quick.specs.Given.{good}
 use Rattle.quick.specs.Slots.{good-slots}
+use Rattle.notes.specs.Given.{ready}
+use Rattle.model.proofs.Judging.{clean-first}
 use Rattle.local.specs.Linked.{held}
 use Rattle.local.specs.Local.{Held}
 use Rattle.model.specs.Sound.{rule2, rule3}
@@ -19,7 +21,6 @@ use Rattle.quick.proofs.rules_hold.Lts as lts
 use Rattle.local.proofs.first_rule.Reads as first-rule-reads
 use Rattle.local.proofs.second_rule.Reads as second-rule-reads
 use Rattle.local.proofs.third_rule.Reads as third-rule-reads
-use Rattle.quick.proofs.quick.Reads as quick-reads
 use Rattle.store.proofs.header.Reads as header-reads
 
 -- the rules that hold so far, and what they give
@@ -65,7 +66,7 @@ returns-3 c = let a = c .before .before .before .before .before .before .before 
 
 -- src/lib.rt:56:5
 quick-requires : tie.Need-quick-requires
-quick-requires c κs = let a = c .before .before .before .before .before .before .before .before .args in (c .before .before .before .before .before .before .before .before .pre .0, good (a .l .least) (a .s .now) (a .size) (c .before .before .before .before .before .before .before .before .pre .1) (one ((c .before .before .before .before .before))) (three ((c))), good-slots (a .l .least) (a .s .now) (a .size) (c .before .before .before .before .before .before .before .before .pre .1) (one ((c .before .before .before .before .before))))
+quick-requires c κs = let a = c .before .before .before .before .before .before .before .before .args in (c .before .before .before .before .before .before .before .before .pre .0, good (a .l .least) (a .s .now) (a .size) (c .before .before .before .before .before .before .before .before .pre .1) (one ((c .before .before .before .before .before))) (three ((c))), good-slots (a .l .least) (a .s .now) (a .size) (c .before .before .before .before .before .before .before .before .pre .1) (one ((c .before .before .before .before .before))), ready (a .l .least) (a .s .now) (c .before .before .before .before .header .result) (is-held (c .before .before .before .before)) (two (c .before .before)) (three ((c))), record { two = omega (arith, c .before .before .before .before .before .before .before .before .pre .0 .four); first = clean-first (a .l .least) (a .s .now) (one (c .before .before .before .before .before)); second = two (c .before .before); third = three ((c)) })
 
 -- src/lib.rt:42:1
 returns-4 : tie.Need-returns-4

@@ -4,6 +4,7 @@
 
 pub mod calls;
 pub mod met;
+pub mod stores;
 
 use host::Proved;
 use reference::beside::compare;

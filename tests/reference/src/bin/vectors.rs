@@ -9,6 +9,8 @@ use std::io::{self, BufWriter, Write};
 use reference::engine::{apply, Call};
 use reference::history::{History, KINDS};
 use reference::layout::PAGE_BYTES;
+use reference::trace::hash;
+use reference::trace::line::Line;
 
 fn main() -> io::Result<()> {
     let words: Vec<u64> = std::env::args()
@@ -25,34 +27,28 @@ fn main() -> io::Result<()> {
         let mut list = vec![0; call.list_length()];
         let answer = apply(call, &mut store, &mut list);
         history.observe(call, &answer);
-        let list: Vec<u8> = list.iter().flat_map(|n| n.to_be_bytes()).collect();
         write!(output, "{} -> ", text(call))?;
         write!(output, "{} {} ", answer.number, answer.rule)?;
         write!(output, "{} {} ", u32::from(answer.found), answer.value)?;
         write!(output, "{} ", answer.count)?;
-        writeln!(output, "{:016x} {:016x}", digest(&store), digest(&list))?;
+        writeln!(
+            output,
+            "{:016x} {:016x}",
+            hash::of_bytes(&store),
+            hash::of_numbers(&list)
+        )?;
     }
     output.flush()
 }
 
+/// The call as a line of a trace, and how long its list is.
 fn text(call: Call) -> String {
-    match call {
+    let line = match call {
         Call::Fresh => "fresh".to_string(),
-        Call::Check => "check".to_string(),
-        Call::Open => "open".to_string(),
-        Call::Insert(key, value) => format!("insert {key} {value}"),
-        Call::Delete(key) => format!("delete {key}"),
-        Call::Commit => "commit".to_string(),
-        Call::Abandon => "abandon".to_string(),
-        Call::Lookup(key, version) => format!("lookup {key} {version}"),
-        Call::Range(low, high, version, length) => {
-            format!("range {low} {high} {version} {length}")
-        }
+        _ => Line::Call(call).to_string(),
+    };
+    match call.takes_list() {
+        true => format!("{line} {}", call.list_length()),
+        false => line,
     }
-}
-
-fn digest(bytes: &[u8]) -> u64 {
-    bytes.iter().fold(0xCBF2_9CE4_8422_2325, |digest, byte| {
-        (digest ^ u64::from(*byte)).wrapping_mul(0x0000_0100_0000_01B3)
-    })
 }

@@ -2,6 +2,7 @@
 
 use crate::calls;
 use crate::common::*;
+use reference::calls::raw_insert;
 use reference::layout::{Page, ALIVE};
 use reference::store::{self, page, page_bytes};
 
@@ -215,8 +216,11 @@ fn p12_delete_and_insert_again() {
 fn highest_key_and_one_more() {
     let mut bytes = fresh(6);
     open(&mut bytes);
-    assert_eq!(calls::insert(&mut bytes, 16_777_215, 1), 0);
+    // Both are refused since 2026-06; the first went in before.
+    assert_eq!(calls::insert(&mut bytes, 16_777_215, 1), 5);
     assert_eq!(calls::insert(&mut bytes, 16_777_216, 1), 5);
+    assert_eq!(raw_insert(&mut bytes, 16_777_215, 1), 0);
+    assert_eq!(raw_insert(&mut bytes, 16_777_216, 1), 5);
     assert_eq!(calls::lookup(&bytes, 16_777_215, 1), (0, true, 1));
     assert_eq!(calls::lookup(&bytes, 16_777_216, 1), (5, false, 0));
     let mut list = [9; 2];

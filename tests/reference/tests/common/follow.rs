@@ -65,7 +65,7 @@ impl Follower {
         let answer = apply(call, &mut self.followed.store, &mut list);
         *self.followed.tally.entry(answer.number).or_default() += 1;
         self.compare(call, answer, &before, model);
-        compare_list(call, answer, &list, model);
+        compare_list(call, answer, &list, &before, model);
         if answer.number == number::DONE {
             self.accepted(call, before);
         } else {
@@ -75,7 +75,13 @@ impl Follower {
     }
 
     fn compare(&self, call: Call, answer: Answer, before: &[u8], model: &Model) {
-        let expected = model.answer(call);
+        let mut expected = model.answer(call);
+        if let (Call::Visits(key, version, length), number::DONE) = (call, expected.number) {
+            let wanted = pages_on_the_way(before, key, version).len();
+            let short = length < wanted;
+            expected.number = if short { number::LIST_TOO_SHORT } else { 0 };
+            expected.count = wanted as u32;
+        }
         let lacking = [number::NO_FREE_PAGE, number::NO_FREE_SLOT].contains(&answer.number);
         let update = matches!(call, Call::Insert(..) | Call::Delete(..));
         if update && expected.number == number::DONE {
@@ -107,6 +113,7 @@ impl Follower {
             }
             Call::Fresh => self.settings = (0, 0),
             Call::Check | Call::Lookup(..) | Call::Range(..) => return,
+            Call::Visits(..) | Call::Difference(..) | Call::Life(..) => return,
         }
         self.every_reached_page_is_filled();
     }
@@ -140,15 +147,32 @@ impl Follower {
     }
 }
 
-/// A range that is done writes its settings and nothing behind them; any
-/// other call, and a refused range, writes nothing.
-fn compare_list(call: Call, answer: Answer, list: &[u32], model: &Model) {
+/// A call that is done writes what it lists and nothing behind it; a refused
+/// one writes nothing.
+fn compare_list(call: Call, answer: Answer, list: &[u32], bytes: &[u8], model: &Model) {
+    let written = match (call, answer.number) {
+        (Call::Range(low, high, version, _), number::DONE) => model.listed(low, high, version),
+        (Call::Life(key, _), number::DONE) => model.lived(key),
+        (Call::Difference(old, new, _), number::DONE) => model.differing(old, new),
+        (Call::Visits(key, version, _), number::DONE) => pages_on_the_way(bytes, key, version),
+        _ => Vec::new(),
+    };
     let mut expected = vec![0xC0DE; list.len()];
-    if let (Call::Range(low, high, version, _), number::DONE) = (call, answer.number) {
-        let settings = model.listed(low, high, version);
-        expected[..settings.len()].copy_from_slice(&settings);
-    }
+    expected[..written.len()].copy_from_slice(&written);
     assert_eq!(list, expected, "{call:?}");
+}
+
+/// The way down for a key, by the router with the highest low key at or below
+/// it.
+fn pages_on_the_way(bytes: &[u8], key: u32, version: u32) -> Vec<u32> {
+    let mut way = vec![walk::root(bytes, version)];
+    while store::level(bytes, way[way.len() - 1]) > 1 {
+        let page = store::page(bytes, way[way.len() - 1]);
+        let below = page.live(version).filter(|router| router.key <= key);
+        let router = below.max_by_key(|router| router.key);
+        way.push(router.expect("a sound store").value);
+    }
+    way
 }
 
 /// "An update is refused for lack of pages exactly when those rules need a

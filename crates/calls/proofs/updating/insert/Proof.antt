@@ -1,8 +1,7 @@
 -- `insert` meets its contract. Assumes nothing.
-use mathlib.Core.Bool.{true}
 use mathlib.Core.Path.{sym, _∙_}
-use Rattle.calls.specs.Guard.{four-is, edition, guard-sound}
-use Rattle.calls.specs.Updating.{updating, passed, insert-refused, insert-done, insert-leaves}
+use Rattle.calls.specs.Guard.{four-is, edition}
+use Rattle.calls.specs.Updating.{enters, insert-refused, insert-done}
 use borrow.Author.Needs.{needs}
 use Rattle.calls.proofs.updating.insert.Statement.{statement}
 use Rattle.calls.proofs.updating.insert.Tie as tie
@@ -22,29 +21,19 @@ returns c =
     let q = four-is (c .before .before .before .edition-one .result) (c .before .before .before .edition-one .ensures) in
     insert-refused 4 (a .s .now) (a .key) (a .value) (c .before .guard-updating .result) (rw q at (c .before .guard-updating .ensures)) (c .if1 .taken)
 
-inserting-requires : tie.Need-inserting-requires
-inserting-requires c κs =
+raw-insert-requires : tie.Need-raw-insert-requires
+raw-insert-requires c κs =
     let a = c .before .before .before .before .before .before .args in
-    let d = edition (c .before .before .before .before .edition-one .result) (c .before .before .before .before .edition-one .ensures) in
-    passed d (a .s .now) (a .key) true (sym (c .before .before .guard-updating .ensures) ∙ c .before .if1 .left) .key
-
-update-requires : tie.Need-update-requires
-update-requires c κs =
-    let a = c .before .before .before .before .before .before .before .args in
-    let d = edition (c .before .before .before .before .before .edition-one .result) (c .before .before .before .before .before .edition-one .ensures) in
-    let z = sym (c .before .before .before .guard-updating .ensures) ∙ c .before .before .if1 .left in
-    let p = passed d (a .s .now) (a .key) true z in
-    (d, guard-sound (c .before .before .before .before .before .edition-one .result .least) (a .s .now) (updating true (a .key)) z, p .opened, p .key, c .inserting .ensures .1, insert-leaves d (a .s .now) (a .key) (a .value) (search needs) z _ (c .inserting .ensures .0))
+    enters (edition (c .before .before .before .before .edition-one .result) (c .before .before .before .before .edition-one .ensures)) (a .s .now) (a .key) (sym (c .before .before .guard-updating .ensures) ∙ c .before .if1 .left)
 
 same-length-2 : tie.Need-same-length-2
 same-length-2 c = search needs
 
 returns-2 : tie.Need-returns-2
 returns-2 c =
-    let a = c .before .before .before .before .before .before .before .before .before .before .args in
-    let q = four-is (c .before .before .before .before .before .before .before .before .edition-one .result) (c .before .before .before .before .before .before .before .before .edition-one .ensures) in
-    let u = rw q at (c .before .before .update .ensures) in
-    insert-done 4 (a .s .now) (a .key) (a .value) (c .before .before .before .before .before .before .guard-updating .result) (rw q at (c .before .before .before .before .before .before .guard-updating .ensures)) (c .before .before .before .before .before .if1 .left) _ (c .before .before .before .inserting .ensures .0) _ _ (u .0) (u .1)
+    let a = c .before .before .before .before .before .before .before .before .before .args in
+    let q = four-is (c .before .before .before .before .before .before .before .edition-one .result) (c .before .before .before .before .before .before .before .edition-one .ensures) in
+    insert-done 4 (a .s .now) (a .key) (a .value) (c .before .before .before .before .before .guard-updating .result) (rw q at (c .before .before .before .before .before .guard-updating .ensures)) (c .before .before .before .before .if1 .left) _ (rw q at (c .before .before .raw-insert .ensures))
 
 pub insert-spec : {M : Type 1} → statement M
 insert-spec =
@@ -54,7 +43,6 @@ insert-spec =
     guard-updating-requires
     same-length
     returns
-    inserting-requires
-    update-requires
+    raw-insert-requires
     same-length-2
     returns-2)

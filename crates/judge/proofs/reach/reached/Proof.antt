@@ -6,7 +6,7 @@ use lib.ListN.{getD}
 use lib.Dec.{eqb}
 use native.Mathlib.Omega.{arith}
 use borrow.Author.Tests.{not-true, not-false}
-use Rattle.judge.specs.Runs.{marked-step, marked-end}
+use Rattle.judge.specs.Marked.{marked-step, marked-end}
 use Rattle.judge.specs.Versions.{markedWell}
 use Rattle.local.specs.Sizes.{part-fits}
 use Rattle.local.specs.Local.{headAt, levelAt}

@@ -1,77 +1,68 @@
-use Rattle.quick.specs.Pages.{ownFine, pages-own}
-use Rattle.local.specs.Loops.{all-pages-step, all-pages-end}
-use Rattle.model.specs.Layout.{readPages, decode, sizeOf}
-use Rattle.model.specs.Basic.{all}
-use borrow.Author.Tests.{not-true, not-false}
+-- `pages_fine` meets its contract: where something is left, what is to be asked are the pages under level k. Assumes nothing.
+use Prim.Native.Nat.{ℕ, suc, _<_, _≤_, _-_}
+use mathlib.Core.Bool.{true, _&&_}
+use mathlib.Core.Path.{_≡_, ap, _∙_}
 use native.Mathlib.Omega.{arith}
-use mathlib.Core.Path.{_≡_, sym, _∙_}
-use Prim.Native.Nat.{_≤_, _-_}
+use borrow.Author.Needs.{needs}
+use borrow.Author.Tests.{not-true, not-false}
+use Rattle.model.specs.Basic.{all, inOrder}
+use Rattle.model.specs.Page.{Page}
+use Rattle.model.specs.Sound.{pagesPass}
+use Rattle.model.specs.Layout.{readPages, decode, sizeOf}
+use Rattle.model.specs.Quick.{apart, childrenFine}
+use Rattle.quick.specs.Pages.{ownFine, atLevel, belowLevel, pages-own, level-start, level-step, level-end}
+use Rattle.quick.specs.Within.{settled, ends, goes-on}
 use Rattle.quick.proofs.pages.pages_fine.Statement.{statement}
 use Rattle.quick.proofs.pages.pages_fine.Tie as tie
-use Rattle.quick.proofs.pages.pages_fine.Reads as reads
-use Rattle.quick.proofs.pages.pages_fine.Lts as lts
-use Rattle.quick.proofs.pages.page_fine.Reads as page-fine-reads
-use Rattle.store.proofs.size.Reads as size-reads
 
 abbrev Inv-loop : tie.InvT-loop
-Inv-loop s l size n₀ n = (5 ≤ n) × (all (ownFine (l .least) (decode (l .least) s .pages)) (readPages (l .least) s 5 (sizeOf (l .least) s - 5)) ≡ all (ownFine (l .least) (decode (l .least) s .pages)) (readPages (l .least) s n (size - n)))
+Inv-loop s l left rest₀ k₀ rest k = ((1 ≤ k) × (k ≤ 8)) × (rest ≤ left) × (0 < rest → pagesPass (λ (p : Page). inOrder apart (p .entries) && childrenFine (l .least) (decode (l .least) s .pages) (p .level) (p .entries)) (decode (l .least) s) ≡ all (belowLevel k (l .least) (decode (l .least) s .pages)) (readPages (l .least) s 5 (sizeOf (l .least) s - 5)))
 
 abbrev μ-loop : tie.MeasureT-loop
-μ-loop s l size n₀ n = size - n
+μ-loop s l left rest₀ k₀ rest k = k
 
--- src/pages.rt:39:9
-size-requires : tie.Need-size-requires Inv-loop μ-loop
-size-requires c κs = c .before .pre .0
-
--- src/pages.rt:41:5
 loop-holds : tie.Need-loop-holds Inv-loop μ-loop
-loop-holds c = (omega arith, rw (c .size .ensures))
+loop-holds c =
+    let a = c .before .args in let ps = decode (a .l .least) (a .s .now) .pages in
+    ((omega arith, omega arith), omega arith, λ lt. pages-own (a .l .least) (a .s .now) ∙ level-start (a .l .least) ps (a .s .now) (c .before .pre .1) 5 (sizeOf (a .l .least) (a .s .now) - 5) (omega arith) (omega arith))
 
--- src/pages.rt:42:13
-page-fine-requires : tie.Need-page-fine-requires Inv-loop μ-loop
-page-fine-requires c κs = (c .before .before .before .before .pre .0, c .before .before .before .before .pre .1, (c .before .loop .inv .0, omega (arith, c .loop-test .taken, c .before .before .size .ensures)))
+sub-k : tie.Need-sub-k Inv-loop μ-loop
+sub-k c = search needs
 
--- src/pages.rt:43:13
+level-fine-requires : tie.Need-level-fine-requires Inv-loop μ-loop
+level-fine-requires c κs = search needs
+
 returns : tie.Need-returns Inv-loop μ-loop
 returns c =
-    let a = c .before .before .before .before .before .before .args in let k = c .before .before .before .loop in
-    sym (pages-own (a .l .least) (a .s .now) ∙ k .inv .1 ∙ all-pages-step (a .l .least) (a .s .now) (ownFine (a .l .least) (decode (a .l .least) (a .s .now) .pages)) (k .n) (c .before .before .before .before .size .result) (c .before .before .loop-test .taken)
-    ∙ rw (← c .before .page-fine .ensures, not-true (c .before .page-fine .result) (c .if1 .taken)))
+    let a = c .before .before .before .before .before .before .args in let j = c .before .before .before .before .loop in let ps = decode (a .l .least) (a .s .now) .pages in
+    let xs = readPages (a .l .least) (a .s .now) 5 (sizeOf (a .l .least) (a .s .now) - 5) in
+    let x = pagesPass (λ (p : Page). inOrder apart (p .entries) && childrenFine (a .l .least) ps (p .level) (p .entries)) (decode (a .l .least) (a .s .now)) in
+    let y = all (atLevel (j .k - 1) (a .l .least) ps) xs in let z = all (belowLevel (j .k - 1) (a .l .least) ps) xs in
+    let e : j .k ≡ suc (j .k - 1) = omega (arith, c .before .before .before .loop-test .taken) in
+    let q : 0 < j .rest → x ≡ (y && z) = λ lt. j .inv .2 lt ∙ ap (λ (m : ℕ). all (belowLevel m (a .l .least) ps) xs) e ∙ level-step (a .l .least) ps (j .k - 1) xs in
+    ends (a .left) (j .rest) (j .inv .1) x y z (c .before .before .level-fine .result) q (c .before .before .level-fine .ensures) (not-true (c .before .before .level-fine .result .fine) (c .if1 .taken))
 
--- src/pages.rt:45:9
-add-n : tie.Need-add-n Inv-loop μ-loop
-add-n c = omega (arith, c .before .before .loop-test .taken, c .before .before .before .before .size .ensures, c .before .before .before .before .before .before .pre .1 .most)
-
--- src/pages.rt:41:5
 loop-less : tie.Need-loop-less Inv-loop μ-loop
-loop-less c = omega (arith, c .before .before .loop-test .taken)
+loop-less c = search needs
 
--- src/pages.rt:41:5
 loop-again : tie.Need-loop-again Inv-loop μ-loop
 loop-again c =
-    let a = c .before .before .before .before .before .before .args in let k = c .before .before .before .loop in (
-      omega (arith, k .inv .0),
-      k .inv .1 ∙ all-pages-step (a .l .least) (a .s .now) (ownFine (a .l .least) (decode (a .l .least) (a .s .now) .pages)) (k .n) (c .before .before .before .before .size .result) (c .before .before .loop-test .taken)
-          ∙ rw (← c .before .page-fine .ensures, not-false (c .before .page-fine .result) (c .if1 .left)),
-    )
+    let a = c .before .before .before .before .before .before .args in let j = c .before .before .before .before .loop in let ps = decode (a .l .least) (a .s .now) .pages in
+    let xs = readPages (a .l .least) (a .s .now) 5 (sizeOf (a .l .least) (a .s .now) - 5) in
+    let x = pagesPass (λ (p : Page). inOrder apart (p .entries) && childrenFine (a .l .least) ps (p .level) (p .entries)) (decode (a .l .least) (a .s .now)) in
+    let y = all (atLevel (j .k - 1) (a .l .least) ps) xs in let z = all (belowLevel (j .k - 1) (a .l .least) ps) xs in
+    let e : j .k ≡ suc (j .k - 1) = omega (arith, c .before .before .before .loop-test .taken) in
+    let q : 0 < j .rest → x ≡ (y && z) = λ lt. j .inv .2 lt ∙ ap (λ (m : ℕ). all (belowLevel m (a .l .least) ps) xs) e ∙ level-step (a .l .least) ps (j .k - 1) xs in
+    let g = goes-on (a .left) (j .rest) (j .inv .1) x y z (c .before .before .level-fine .result) q (c .before .before .level-fine .ensures) (not-false (c .before .before .level-fine .result .fine) (c .if1 .left)) in
+    ((omega (arith, c .before .before .before .loop-test .taken), omega (arith, j .inv .0 .1)), g .0, g .1)
 
--- src/pages.rt:35:1
 returns-2 : tie.Need-returns-2 Inv-loop μ-loop
 returns-2 c =
-    let a = c .before .before .before .before .args in let k = c .before .loop in
-    sym (pages-own (a .l .least) (a .s .now) ∙ k .inv .1 ∙ all-pages-end (a .l .least) (a .s .now) (ownFine (a .l .least) (decode (a .l .least) (a .s .now) .pages)) (k .n) (c .before .before .size .result) (c .loop-test .left))
+    let a = c .before .before .before .args in let j = c .before .loop in let ps = decode (a .l .least) (a .s .now) .pages in
+    let xs = readPages (a .l .least) (a .s .now) 5 (sizeOf (a .l .least) (a .s .now) - 5) in
+    let x = pagesPass (λ (p : Page). inOrder apart (p .entries) && childrenFine (a .l .least) ps (p .level) (p .entries)) (decode (a .l .least) (a .s .now)) in
+    let e : j .k ≡ 1 = omega (arith, j .inv .0 .0, c .loop-test .left) in
+    settled (a .left) (j .rest) (j .inv .1) x true (λ lt. j .inv .2 lt ∙ ap (λ (m : ℕ). all (belowLevel m (a .l .least) ps) xs) e ∙ level-end (a .l .least) ps xs)
 
 pub pages-fine-spec : {M : Type 1} → statement M
-pages-fine-spec =
-    tie.close
-    (tie.spec
-    Inv-loop
-    μ-loop
-    size-requires
-    loop-holds
-    page-fine-requires
-    returns
-    add-n
-    loop-less
-    loop-again
-    returns-2)
+pages-fine-spec = tie.close (tie.spec Inv-loop μ-loop loop-holds sub-k level-fine-requires returns loop-less loop-again returns-2)

@@ -2,7 +2,8 @@ use mathlib.Core.Path.{sym, ap, _∙_}
 use native.Mathlib.Omega.{arith}
 use borrow.Author.Tests.{not-true, not-false}
 use Rattle.model.specs.Layout.{readEntries}
-use Rattle.quick.specs.Part.{endFine}
+use Rattle.model.specs.Quick.{liveCount}
+use Rattle.quick.specs.Part.{endFine, leb-min}
 use borrow.Author.Needs.{needs}
 use Rattle.quick.proofs.part.end_fine.Statement.{statement}
 use Rattle.quick.proofs.part.end_fine.Tie as tie
@@ -30,7 +31,7 @@ live-count-requires c κs = c .before .before .before .before .pre .0
 
 -- src/part.rt:108:1
 returns-2 : tie.Need-returns-2
-returns-2 c = rw (← c .before .before .before .entry-at .ensures, ← c .before .before .ends-in .ensures, not-false (c .before .before .ends-in .result) (c .before .if1 .left), c .live-count .ensures)
+returns-2 c = rw (← c .before .before .before .entry-at .ensures, ← c .before .before .ends-in .ensures, not-false (c .before .before .ends-in .result) (c .before .if1 .left), c .live-count .ensures) (leb-min (c .before .before .before .before .before .args .m) (liveCount (c .before .before .before .entry-at .result .end) (readEntries (c .before .before .before .before .before .args .page .now) 128 (c .before .before .before .before .before .args .n))))
 
 pub end-fine-spec : {M : Type 1} → statement M
 end-fine-spec =

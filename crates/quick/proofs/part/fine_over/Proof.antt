@@ -2,7 +2,8 @@ use mathlib.Core.Path.{ap, sym, _∙_}
 use native.Mathlib.Omega.{arith}
 use borrow.Author.Tests.{not-true, not-false, eq-eqb, ne-eqb}
 use Rattle.page.specs.declared.Head.{Head}
-use Rattle.quick.specs.Part.{Stands, fine-by}
+use Rattle.notes.specs.Linked.{Stands}
+use Rattle.quick.specs.Part.{fine-by}
 use borrow.Author.Needs.{needs}
 use Rattle.quick.proofs.part.fine_over.Statement.{statement}
 use Rattle.quick.proofs.part.fine_over.Tie as tie
@@ -27,7 +28,7 @@ stands c =
 
 -- src/part.rt:155:9
 low-over-requires : tie.Need-low-over-requires
-low-over-requires c κs = stands (c)
+low-over-requires c κs = (stands (c), rw (c .head-of .ensures) (c .before .before .pre .3))
 
 -- src/part.rt:156:9
 returns : tie.Need-returns

@@ -1,79 +1,23 @@
-use Prim.Native.Nat.{_≤_, _-_, _+_, _*_}
-use mathlib.Core.Path.{_≡_, refl, sym, _∙_}
-use mathlib.Core.Bool.{_||_, not}
-use lib.Dec.{leb}
+use mathlib.Core.Path.{sym}
 use native.Mathlib.Omega.{arith}
-use native.Mathlib.Nat.{sub-zero}
-use borrow.Author.Tests.{not-true, not-false}
-use Rattle.model.specs.declared.Entry.{Entry}
-use Rattle.model.specs.Layout.{readEntries}
-use Rattle.model.specs.Quick.{meets, lowOver}
-use Rattle.local.specs.Loops.{all-entries-step, all-entries-end}
-use borrow.Author.Needs.{needs}
+use Rattle.quick.specs.Order.{low-none, low-first}
 use Rattle.quick.proofs.part.low_over.Statement.{statement}
 use Rattle.quick.proofs.part.low_over.Tie as tie
-use Rattle.quick.proofs.part.low_over.Reads as reads
-use Rattle.quick.proofs.part.low_over.Lts as lts
-use Rattle.page.proofs.entry_at.Reads as entry-at-reads
-use Rattle.quick.proofs.entry.low_fine.Reads as low-fine-reads
 
-abbrev Inv-loop : tie.InvT-loop
-Inv-loop page n low a b i₀ i = (i ≤ n) × (lowOver low a b (readEntries page 128 n) ≡ lowOver low a b (readEntries page (128 + 96 * i) (n - i)))
+returns : tie.Need-returns
+returns c = let a = c .before .before .args in sym (low-none (a .page .now) (a .n) (c .before .before .pre .1) (a .a) (a .b) (a .low) (c .if1 .taken))
 
-abbrev μ-loop : tie.MeasureT-loop
-μ-loop page n low a b i₀ i = n - i
+entry-at-requires : tie.Need-entry-at-requires
+entry-at-requires c κs = (omega (arith, c .before .before .pre .0 .room, c .if1 .left), c .before .before .pre .0 .long)
 
--- src/part.rt:23:5
-loop-holds : tie.Need-loop-holds Inv-loop μ-loop
-loop-holds c = (omega arith, rw sub-zero refl)
+returns-2 : tie.Need-returns-2
+returns-2 c = let a = c .before .before .before .before .before .args in sym (low-first (a .page .now) (a .n) (c .before .before .before .before .before .pre .1) (a .a) (a .b) (a .low) (omega (arith, c .before .before .before .if1 .left)) (rw (← c .before .before .entry-at .ensures) (c .if2 .taken)))
 
--- src/part.rt:24:13
-entry-at-requires : tie.Need-entry-at-requires Inv-loop μ-loop
-entry-at-requires c κs = (omega (arith, c .before .before .before .pre .room, c .loop-test .taken), c .before .before .before .pre .long)
+low-each-requires : tie.Need-low-each-requires
+low-each-requires c κs = c .before .before .before .before .before .pre .0
 
--- src/part.rt:25:13
-low-fine-requires : tie.Need-low-fine-requires Inv-loop μ-loop
-low-fine-requires c κs = search needs
-
--- src/part.rt:26:13
-returns : tie.Need-returns Inv-loop μ-loop
-returns c =
-    let a = c .before .before .before .before .before .before .args in let k = c .before .before .before .before .loop in
-    sym (k .inv .1 ∙ all-entries-step (λ (e : Entry). not (meets (a .a) (a .b) e) || leb (a .low) (e .key)) (a .page .now) (k .i) (a .n) (c .before .before .before .loop-test .taken)
-    ∙ rw (← c .before .before .entry-at .ensures, ← c .before .low-fine .ensures, not-true (c .before .low-fine .result) (c .if1 .taken)))
-
--- src/part.rt:28:9
-add-i : tie.Need-add-i Inv-loop μ-loop
-add-i c = omega (arith, c .before .before .before .loop-test .taken, c .before .before .before .before .before .before .pre .room, c .before .before .before .before .before .before .pre .long)
-
--- src/part.rt:23:5
-loop-less : tie.Need-loop-less Inv-loop μ-loop
-loop-less c = omega (arith, c .before .before .before .loop-test .taken)
-
--- src/part.rt:23:5
-loop-again : tie.Need-loop-again Inv-loop μ-loop
-loop-again c =
-    let a = c .before .before .before .before .before .before .args in let k = c .before .before .before .before .loop in (
-      omega (arith, c .before .before .before .loop-test .taken),
-      k .inv .1 ∙ all-entries-step (λ (e : Entry). not (meets (a .a) (a .b) e) || leb (a .low) (e .key)) (a .page .now) (k .i) (a .n) (c .before .before .before .loop-test .taken)
-          ∙ rw (← c .before .before .entry-at .ensures, ← c .before .low-fine .ensures, not-false (c .before .low-fine .result) (c .if1 .left)),
-    )
-
--- src/part.rt:18:1
-returns-2 : tie.Need-returns-2 Inv-loop μ-loop
-returns-2 c = let a = c .before .before .before .args in let k = c .before .loop in sym (k .inv .1 ∙ all-entries-end (λ (e : Entry). not (meets (a .a) (a .b) e) || leb (a .low) (e .key)) (a .page .now) (k .i) (a .n) (c .loop-test .left))
+returns-3 : tie.Need-returns-3
+returns-3 c = c .low-each .ensures
 
 pub low-over-spec : {M : Type 1} → statement M
-low-over-spec =
-    tie.close
-    (tie.spec
-    Inv-loop
-    μ-loop
-    loop-holds
-    entry-at-requires
-    low-fine-requires
-    returns
-    add-i
-    loop-less
-    loop-again
-    returns-2)
+low-over-spec = tie.close (tie.spec returns entry-at-requires returns-2 low-each-requires returns-3)

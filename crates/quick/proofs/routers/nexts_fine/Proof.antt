@@ -1,90 +1,69 @@
-use Rattle.quick.specs.Under.{underPage, nexts-step, nexts-end, nexts-empty}
-use Rattle.model.specs.Quick.{nexts}
-use Rattle.model.specs.Layout.{decode, readEntries}
-use borrow.Author.Tests.{not-true, not-false}
+-- `nexts_fine` meets its contract: where something is left, the whole's answer is that of the entries from place k on. Assumes nothing.
+use Prim.Native.Nat.{_<_, _≤_, _-_, _+_, _*_, min, max}
+use mathlib.Core.Bool.{true, _&&_}
+use mathlib.Core.Path.{_≡_, refl, _∙_}
 use native.Mathlib.Omega.{arith}
-use mathlib.Core.Path.{_≡_, refl, sym, _∙_}
-use Prim.Native.Nat.{_≤_, _-_, _+_, _*_}
 use borrow.Author.Needs.{needs}
+use borrow.Author.Tests.{not-true, not-false}
+use Rattle.model.specs.Layout.{decode, readEntries}
+use Rattle.model.specs.Quick.{past, under as underOf, nexts}
+use Rattle.quick.specs.Under.{underPage, nexts-step, nexts-end, nexts-empty}
+use Rattle.quick.specs.Within.{settled, ends, goes-on}
 use Rattle.quick.proofs.routers.nexts_fine.Statement.{statement}
 use Rattle.quick.proofs.routers.nexts_fine.Tie as tie
-use Rattle.quick.proofs.routers.nexts_fine.Reads as reads
-use Rattle.quick.proofs.routers.nexts_fine.Lts as lts
-use Rattle.page.proofs.entry_at.Reads as entry-at-reads
-use Rattle.quick.proofs.entry.past.Reads as past-reads
-use Rattle.quick.proofs.routers.next_fine.Reads as next-fine-reads
 
 abbrev Inv-loop : tie.InvT-loop
-Inv-loop s l up m p n i a b t₀ k₀ t k = (k ≤ n) × (nexts (underPage up (decode (l .least) s .pages) m) a b (readEntries p (128 + 96 * i) (n - i)) ≡ nexts (underPage up (decode (l .least) s .pages) m) t b (readEntries p (128 + 96 * k) (n - k)))
+Inv-loop s l up m p n i a b left rest₀ t₀ k₀ rest t k = (k ≤ n) × (rest ≤ left) × (0 < rest → nexts (underPage up (decode (l .least) s .pages) m) a b (readEntries p (128 + 96 * i) (n - i)) ≡ nexts (underPage up (decode (l .least) s .pages) m) t b (readEntries p (128 + 96 * k) (n - k)))
 
 abbrev μ-loop : tie.MeasureT-loop
-μ-loop s l up m p n i a b t₀ k₀ t k = n - k
+μ-loop s l up m p n i a b left rest₀ t₀ k₀ rest t k = n - k
 
--- src/routers.rt:34:5
 loop-holds : tie.Need-loop-holds Inv-loop μ-loop
-loop-holds c = (c .before .before .pre .5, refl)
+loop-holds c = (c .before .before .pre .5, omega arith, λ lt. refl)
 
--- src/routers.rt:36:13
 returns : tie.Need-returns Inv-loop μ-loop
 returns c =
-    let a = c .before .before .before .before .before .args in let k = c .before .before .loop in
-    sym (k .inv .1 ∙ nexts-empty (underPage (a .up) (decode (a .l .least) (a .s .now) .pages) (a .m)) (k .t) (a .b) (readEntries (a .p .now) (128 + 96 * k .k) (a .n - k .k)) (c .if1 .taken))
+    let a = c .before .before .before .before .before .args in let j = c .before .before .loop in let u = underPage (a .up) (decode (a .l .least) (a .s .now) .pages) (a .m) in
+    settled (a .left) (j .rest) (j .inv .1) (nexts u (a .a) (a .b) (readEntries (a .p .now) (128 + 96 * a .i) (a .n - a .i))) true (λ lt. j .inv .2 lt ∙ nexts-empty u (j .t) (a .b) (readEntries (a .p .now) (128 + 96 * j .k) (a .n - j .k)) (c .if1 .taken))
 
--- src/routers.rt:38:13
 entry-at-requires : tie.Need-entry-at-requires Inv-loop μ-loop
 entry-at-requires c κs = (omega (arith, c .before .before .before .before .before .pre .4 .room, c .before .loop-test .taken), c .before .before .before .before .before .pre .4 .long)
 
--- src/routers.rt:39:13
 next-fine-requires : tie.Need-next-fine-requires Inv-loop μ-loop
 next-fine-requires c κs = (c .before .before .before .before .before .before .pre .0, c .before .before .before .before .before .before .pre .1, c .before .before .before .before .before .before .pre .2, c .before .before .before .before .before .before .pre .3)
 
--- src/routers.rt:40:13
 returns-2 : tie.Need-returns-2 Inv-loop μ-loop
 returns-2 c =
-    let a = c .before .before .before .before .before .before .before .before .args in let k = c .before .before .before .before .before .loop in
-    sym (k .inv .1 ∙ nexts-step (decode (a .l .least) (a .s .now) .pages) (a .up) (a .p .now) (k .k) (a .n) (a .m) (k .t) (a .b) (c .before .before .entry-at .result) (c .before .before .entry-at .ensures) (c .before .before .before .before .loop-test .taken)
-    ∙ rw (← c .before .next-fine .ensures, not-true (c .before .next-fine .result) (c .if2 .taken)))
+    let a = c .before .before .before .before .before .before .before .before .before .args in let j = c .before .before .before .before .before .before .loop in let ps = decode (a .l .least) (a .s .now) .pages in let d = c .before .before .before .entry-at .result in
+    let x = nexts (underPage (a .up) ps (a .m)) (a .a) (a .b) (readEntries (a .p .now) (128 + 96 * a .i) (a .n - a .i)) in
+    let y = underOf (a .up) ps (d .key) (max (j .t) (d .start)) (min (a .b) (d .end)) (a .m) in
+    let z = nexts (underPage (a .up) ps (a .m)) (past (j .t) d) (a .b) (readEntries (a .p .now) (128 + 96 * (j .k + 1)) (a .n - (j .k + 1))) in
+    let q : 0 < j .rest → x ≡ (y && z) = λ lt. j .inv .2 lt ∙ nexts-step ps (a .up) (a .p .now) (j .k) (a .n) (a .m) (j .t) (a .b) d (c .before .before .before .entry-at .ensures) (c .before .before .before .before .before .loop-test .taken) in
+    ends (a .left) (j .rest) (j .inv .1) x y z (c .before .before .next-fine .result) q (c .before .before .next-fine .ensures) (not-true (c .before .before .next-fine .result .fine) (c .if2 .taken))
 
--- src/routers.rt:42:9
 past-requires : tie.Need-past-requires Inv-loop μ-loop
 past-requires c κs = search needs
 
--- src/routers.rt:43:9
 add-k : tie.Need-add-k Inv-loop μ-loop
-add-k c = omega (arith, c .before .before .before .before .before .loop-test .taken, c .before .before .before .before .before .before .before .before .before .pre .4 .room, c .before .before .before .before .before .before .before .before .before .pre .4 .long)
+add-k c = omega (arith, c .before .before .before .before .before .before .loop-test .taken, c .before .before .before .before .before .before .before .before .before .before .pre .4 .room, c .before .before .before .before .before .before .before .before .before .before .pre .4 .long)
 
--- src/routers.rt:34:5
 loop-less : tie.Need-loop-less Inv-loop μ-loop
-loop-less c = omega (arith, c .before .before .before .before .before .loop-test .taken)
+loop-less c = omega (arith, c .before .before .before .before .before .before .loop-test .taken)
 
--- src/routers.rt:34:5
 loop-again : tie.Need-loop-again Inv-loop μ-loop
 loop-again c =
-    let a = c .before .before .before .before .before .before .before .before .before .args in let k = c .before .before .before .before .before .before .loop in (
-      omega (arith, c .before .before .before .before .before .loop-test .taken),
-      k .inv .1 ∙ nexts-step (decode (a .l .least) (a .s .now) .pages) (a .up) (a .p .now) (k .k) (a .n) (a .m) (k .t) (a .b) (c .before .before .before .entry-at .result) (c .before .before .before .entry-at .ensures) (c .before .before .before .before .before .loop-test .taken)
-          ∙ rw (← c .before .before .next-fine .ensures, not-false (c .before .before .next-fine .result) (c .before .if2 .left), c .past .ensures),
-    )
+    let a = c .before .before .before .before .before .before .before .before .before .before .args in let j = c .before .before .before .before .before .before .before .loop in let ps = decode (a .l .least) (a .s .now) .pages in let d = c .before .before .before .before .entry-at .result in
+    let x = nexts (underPage (a .up) ps (a .m)) (a .a) (a .b) (readEntries (a .p .now) (128 + 96 * a .i) (a .n - a .i)) in
+    let y = underOf (a .up) ps (d .key) (max (j .t) (d .start)) (min (a .b) (d .end)) (a .m) in
+    let z = nexts (underPage (a .up) ps (a .m)) (past (j .t) d) (a .b) (readEntries (a .p .now) (128 + 96 * (j .k + 1)) (a .n - (j .k + 1))) in
+    let q : 0 < j .rest → x ≡ (y && z) = λ lt. j .inv .2 lt ∙ nexts-step ps (a .up) (a .p .now) (j .k) (a .n) (a .m) (j .t) (a .b) d (c .before .before .before .before .entry-at .ensures) (c .before .before .before .before .before .before .loop-test .taken) in
+    let g = goes-on (a .left) (j .rest) (j .inv .1) x y z (c .before .before .before .next-fine .result) q (c .before .before .before .next-fine .ensures) (not-false (c .before .before .before .next-fine .result .fine) (c .before .if2 .left)) in
+    (omega (arith, c .before .before .before .before .before .before .loop-test .taken), g .0, λ lt. rw (c .past .ensures) (g .1 lt))
 
--- src/routers.rt:28:1
 returns-3 : tie.Need-returns-3 Inv-loop μ-loop
 returns-3 c =
-    let a = c .before .before .before .before .args in let k = c .before .loop in
-    sym (k .inv .1 ∙ nexts-end (decode (a .l .least) (a .s .now) .pages) (a .up) (a .p .now) (k .k) (a .n) (a .m) (k .t) (a .b) (c .loop-test .left))
+    let a = c .before .before .before .before .args in let j = c .before .loop in let ps = decode (a .l .least) (a .s .now) .pages in
+    settled (a .left) (j .rest) (j .inv .1) (nexts (underPage (a .up) ps (a .m)) (a .a) (a .b) (readEntries (a .p .now) (128 + 96 * a .i) (a .n - a .i))) true (λ lt. j .inv .2 lt ∙ nexts-end ps (a .up) (a .p .now) (j .k) (a .n) (a .m) (j .t) (a .b) (c .loop-test .left))
 
 pub nexts-fine-spec : {M : Type 1} → statement M
-nexts-fine-spec =
-    tie.close
-    (tie.spec
-    Inv-loop
-    μ-loop
-    loop-holds
-    returns
-    entry-at-requires
-    next-fine-requires
-    returns-2
-    past-requires
-    add-k
-    loop-less
-    loop-again
-    returns-3)
+nexts-fine-spec = tie.close (tie.spec Inv-loop μ-loop loop-holds returns entry-at-requires next-fine-requires returns-2 past-requires add-k loop-less loop-again returns-3)

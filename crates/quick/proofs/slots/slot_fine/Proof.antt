@@ -1,5 +1,6 @@
 use Rattle.model.specs.declared.Slot.{Slot}
-use Rattle.quick.specs.Here.{part-asks, room-here}
+use Rattle.notes.specs.Here.{part-asks, room-here}
+use Rattle.quick.specs.Here.{order-part}
 use Rattle.store.specs.Read.{page-at}
 use Rattle.local.specs.Local.{IsPage, slotAt}
 use mathlib.Core.Path.{_≡_, ap, _∙_}
@@ -17,7 +18,7 @@ use Rattle.store.proofs.slot.Reads as slot-reads
 
 -- src/slots.rt:59:9
 slot-requires : tie.Need-slot-requires
-slot-requires c κs = (c .before .pre .0, omega (arith, c .before .pre .2 .front), omega (arith, c .before .pre .2 .roots, c .before .pre .3, c .before .pre .4), omega (arith, c .before .pre .1 .long))
+slot-requires c κs = (c .before .pre .0, omega (arith, c .before .pre .2 .front), omega (arith, c .before .pre .2 .roots, c .before .pre .3, c .before .pre .4), omega (arith, c .before .pre .1 .linked .long))
 
 -- src/slots.rt:60:27
 add-upto-at : tie.Need-add-upto-at
@@ -40,11 +41,11 @@ rooted c = let r = c .before .before .before .before .pre in rw (root-is c) (r .
 
 -- src/slots.rt:62:15
 part-requires : tie.Need-part-requires
-part-requires c κs = let k = part-asks (c .before .before .before .before .pre .0) (c .before .before .before .before .args .s .now) (c .before .before .before .before .pre .1) (c .wide .result) (rooted ((c))) in (c .before .before .before .before .pre .0, k .0, k .1)
+part-requires c κs = let k = part-asks (c .before .before .before .before .pre .0) (c .before .before .before .before .args .s .now) (c .before .before .before .before .pre .1 .linked) (c .wide .result) (rooted ((c))) in (c .before .before .before .before .pre .0, k .0, k .1)
 
 -- src/slots.rt:62:5
 root-fine-requires : tie.Need-root-fine-requires
-root-fine-requires c κs = (c .before .before .before .before .before .pre .0, c .part .ensures .1, room-here (c .before .before .before .before .before .pre .0) (c .before .before .before .before .before .args .s .now) (c .before .before .before .before .before .pre .1) (c .before .wide .result) (rooted ((c .before))) (c .part .result .now) (c .part .ensures))
+root-fine-requires c κs = (c .before .before .before .before .before .pre .0, c .part .ensures .1, room-here (c .before .before .before .before .before .pre .0) (c .before .before .before .before .before .args .s .now) (c .before .before .before .before .before .pre .1 .linked) (c .before .wide .result) (rooted ((c .before))) (c .part .result .now) (c .part .ensures), order-part (c .before .before .before .before .before .pre .0) (c .before .before .before .before .before .args .s .now) (c .before .before .before .before .before .pre .1) (c .before .wide .result) (rooted ((c .before))) (c .part .result .now) (c .part .ensures))
 
 -- src/slots.rt:55:1
 returns : tie.Need-returns

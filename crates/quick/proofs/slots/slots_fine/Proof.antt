@@ -23,7 +23,7 @@ abbrev μ-loop : tie.MeasureT-loop
 
 -- src/slots.rt:70:9
 header-requires : tie.Need-header-requires Inv-loop μ-loop
-header-requires c κs = (c .before .pre .0, omega (arith, c .before .pre .2 .front), omega (arith, c .before .pre .1 .long))
+header-requires c κs = (c .before .pre .0, omega (arith, c .before .pre .2 .front), omega (arith, c .before .pre .1 .linked .long))
 
 -- src/slots.rt:71:9
 wide-requires : tie.Need-wide-requires Inv-loop μ-loop

@@ -15,7 +15,7 @@ returns c = sym (upto-none (c .before .before .args .s .now) (512 * c .before .b
 
 -- src/slots.rt:25:9
 slot-requires : tie.Need-slot-requires
-slot-requires c κs = (c .before .before .pre .0, omega (arith, c .before .before .pre .2 .front), omega (arith, c .if1 .left, c .before .before .pre .3), omega (arith, c .before .before .pre .1 .long))
+slot-requires c κs = (c .before .before .pre .0, omega (arith, c .before .before .pre .2 .front), omega (arith, c .if1 .left, c .before .before .pre .3), omega (arith, c .before .before .pre .1 .linked .long))
 
 -- src/slots.rt:18:1
 returns-2 : tie.Need-returns-2

@@ -31,11 +31,11 @@ loop-holds c = (omega arith, c .size .ensures, fewer (c .before .before .before 
 
 -- src/sums.rt:75:9
 add-page-requires : tie.Need-add-page-requires Inv-loop μ-loop
-add-page-requires c κs = (c .before .before .before .before .before .before .pre .0, c .before .before .before .before .before .before .pre .1, (c .before .before .loop .inv .0, omega (arith, c .before .loop-test .taken, c .before .before .loop .inv .1)), fewer (c .before .before .loop .sums) (c .before .before .loop .inv .2) (omega (arith, c .before .loop-test .taken, c .before .before .loop .inv .1, c .before .before .before .before .before .before .pre .1 .most)))
+add-page-requires c κs = (c .before .before .before .before .before .before .pre .0, c .before .before .before .before .before .before .pre .1, (c .before .before .loop .inv .0, omega (arith, c .before .loop-test .taken, c .before .before .loop .inv .1)), fewer (c .before .before .loop .sums) (c .before .before .loop .inv .2) (omega (arith, c .before .loop-test .taken, c .before .before .loop .inv .1, c .before .before .before .before .before .before .pre .1 .linked .most)))
 
 -- src/sums.rt:76:9
 add-n : tie.Need-add-n Inv-loop μ-loop
-add-n c = omega (arith, c .before .before .before .before .loop-test .taken, c .before .before .before .before .before .loop .inv .1, c .before .before .before .before .before .before .before .before .before .pre .1 .most)
+add-n c = omega (arith, c .before .before .before .before .loop-test .taken, c .before .before .before .before .before .loop .inv .1, c .before .before .before .before .before .before .before .before .before .pre .1 .linked .most)
 
 -- src/sums.rt:74:5
 loop-less : tie.Need-loop-less Inv-loop μ-loop
@@ -46,7 +46,7 @@ loop-again : tie.Need-loop-again Inv-loop μ-loop
 loop-again c =
     let a = c .before .before .before .before .before .before .before .before .before .args in let k = c .before .before .before .before .before .loop in
     let p = pageOf (a .l .least) (a .s .now) (k .n) in
-    let f : readHead (a .l .least) p .count ≤ 40 = omega (arith, c .before .before .before .before .before .before .before .before .before .pre .1 .room (k .n) (k .inv .0, omega (arith, c .before .before .before .before .loop-test .taken, k .inv .1)), c .before .before .before .before .before .before .before .before .before .pre .0 .eight) in (
+    let f : readHead (a .l .least) p .count ≤ 40 = omega (arith, c .before .before .before .before .before .before .before .before .before .pre .1 .linked .room (k .n) (k .inv .0, omega (arith, c .before .before .before .before .loop-test .taken, k .inv .1)), c .before .before .before .before .before .before .before .before .before .pre .0 .eight) in (
       omega (arith, k .inv .0),
       k .inv .1,
       rw (c .before .before .add-page .ensures) (fewer (addPage (k .sums) (decodePage (a .l .least) p)) (page-more (k .sums) (a .l .least) p f (k .inv .2)) (omega arith)),

@@ -31,7 +31,7 @@ abbrev μ-loop : tie.MeasureT-loop
 
 -- src/sums.rt:27:9
 header-requires : tie.Need-header-requires Inv-loop μ-loop
-header-requires c κs = (c .before .before .pre .0, omega (arith, c .before .before .pre .2 .front), omega (arith, c .before .before .pre .1 .long))
+header-requires c κs = (c .before .before .pre .0, omega (arith, c .before .before .pre .2 .front), omega (arith, c .before .before .pre .1 .linked .long))
 
 -- src/sums.rt:28:9
 wide-requires : tie.Need-wide-requires Inv-loop μ-loop
@@ -45,7 +45,7 @@ loop-holds c =
 
 -- src/sums.rt:31:13
 slot-requires : tie.Need-slot-requires Inv-loop μ-loop
-slot-requires c κs = (c .before .before .before .before .before .before .pre .0, omega (arith, c .before .before .before .before .before .before .pre .2 .front), omega (arith, c .loop-test .taken, c .before .loop .inv .1, c .before .before .before .before .before .before .pre .2 .roots), omega (arith, c .before .before .before .before .before .before .pre .1 .long))
+slot-requires c κs = (c .before .before .before .before .before .before .pre .0, omega (arith, c .before .before .before .before .before .before .pre .2 .front), omega (arith, c .loop-test .taken, c .before .loop .inv .1, c .before .before .before .before .before .before .pre .2 .roots), omega (arith, c .before .before .before .before .before .before .pre .1 .linked .long))
 
 -- src/sums.rt:32:45
 add-upto-at : tie.Need-add-upto-at Inv-loop μ-loop
@@ -67,7 +67,7 @@ span-requires c κs = search needs
 add-requires : tie.Need-add-requires Inv-loop μ-loop
 add-requires c κs =
     let e = c .before .before .wide2 .ensures ∙ ap (λ (x : Slot). x .root) (c .before .before .before .before .slot .ensures) in
-    let k : c .before .before .wide2 .result < 4096 = omega (arith, e, c .before .before .before .before .before .before .before .before .before .before .before .pre .1 .most, c .before .before .before .before .before .before .before .before .before .before .before .pre .2 .root (c .before .before .before .before .before .before .loop .i) (omega (arith, c .before .before .before .before .before .loop-test .taken, c .before .before .before .before .before .before .loop .inv .1)) .1) in
+    let k : c .before .before .wide2 .result < 4096 = omega (arith, e, c .before .before .before .before .before .before .before .before .before .before .before .pre .1 .linked .most, c .before .before .before .before .before .before .before .before .before .before .before .pre .2 .root (c .before .before .before .before .before .before .loop .i) (omega (arith, c .before .before .before .before .before .loop-test .taken, c .before .before .before .before .before .before .loop .inv .1)) .1) in
     (omega (arith, k, c .before .before .before .before .before .before .loop .inv .2 .all), omega (arith, c .before .before .before .before .before .before .loop .inv .2 .most (c .before .before .wide2 .result) k, c .before .before .before .before .before .loop-test .taken, c .before .before .before .before .before .before .loop .inv .1, c .before .before .before .before .before .before .before .before .before .before .before .pre .2 .roots, c .before .before .before .before .before .before .before .before .before .before .before .pre .0 .eight))
 
 -- src/sums.rt:36:9

@@ -29,11 +29,11 @@ loop-holds c = (omega arith, c .size .ensures, ap (allMet (c .before .before .be
 
 -- src/sums.rt:99:31
 mul-page-met : tie.Need-mul-page-met Inv-loop μ-loop
-mul-page-met c = omega (arith, c .loop-test .taken, c .before .loop .inv .1, c .before .before .before .before .before .pre .1 .most)
+mul-page-met c = omega (arith, c .loop-test .taken, c .before .loop .inv .1, c .before .before .before .before .before .pre .1 .linked .most)
 
 -- src/sums.rt:99:31
 shared-slice-read-page-met : tie.Need-shared-slice-read-page-met Inv-loop μ-loop
-shared-slice-read-page-met c = omega (arith, c .before .loop-test .taken, c .before .before .loop .inv .1, c .before .before .before .before .before .before .pre .1 .most, c .before .before .before .before .before .before .pre .2)
+shared-slice-read-page-met c = omega (arith, c .before .loop-test .taken, c .before .before .loop .inv .1, c .before .before .before .before .before .before .pre .1 .linked .most, c .before .before .before .before .before .before .pre .2)
 
 -- src/sums.rt:99:13
 page-met-requires : tie.Need-page-met-requires Inv-loop μ-loop
@@ -47,7 +47,7 @@ returns c =
 
 -- src/sums.rt:102:9
 add-n : tie.Need-add-n Inv-loop μ-loop
-add-n c = omega (arith, c .before .before .before .loop-test .taken, c .before .before .before .before .loop .inv .1, c .before .before .before .before .before .before .before .before .pre .1 .most)
+add-n c = omega (arith, c .before .before .before .loop-test .taken, c .before .before .before .before .loop .inv .1, c .before .before .before .before .before .before .before .before .pre .1 .linked .most)
 
 -- src/sums.rt:98:5
 loop-less : tie.Need-loop-less Inv-loop μ-loop

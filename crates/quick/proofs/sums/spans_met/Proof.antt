@@ -37,7 +37,7 @@ all-met-requires c κs = (c .before .before .before .before .before .before .bef
 
 -- src/sums.rt:108:1
 returns : tie.Need-returns
-returns c = c .all-met .ensures ∙ met-all (c .before .before .before .before .before .before .before .before .before .args .l .least) (c .before .before .before .before .before .before .before .before .before .args .s .now) (c .before .before .before .before .before .before .add-slots .last .0) (c .before .before .before .before .before .before .add-slots .ensures) (c .before .before .before .add-pages .last .0) (c .before .before .before .add-pages .ensures) (c .before .before .before .before .before .before .before .before .before .pre .1 .most)
+returns c = c .all-met .ensures ∙ met-all (c .before .before .before .before .before .before .before .before .before .args .l .least) (c .before .before .before .before .before .before .before .before .before .args .s .now) (c .before .before .before .before .before .before .add-slots .last .0) (c .before .before .before .before .before .before .add-slots .ensures) (c .before .before .before .add-pages .last .0) (c .before .before .before .add-pages .ensures) (c .before .before .before .before .before .before .before .before .before .pre .1 .linked .most)
 
 pub spans-met-spec : {M : Type 1} → statement M
 spans-met-spec =

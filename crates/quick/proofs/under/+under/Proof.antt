@@ -1,16 +1,21 @@
-use Prim.Native.Nat.{_≤_, _-_, _+_, _*_}
-use mathlib.Core.Path.{_≡_, refl, ap, sym, _∙_}
+-- `under` meets its contract, by what is left: each call of itself has less. Assumes nothing.
+use Prim.Native.Nat.{ℕ, _<_, _≤_, _-_, _+_, _*_}
+use mathlib.Core.Bool.{true, false, _&&_}
+use mathlib.Core.Path.{_≡_, ap, sym, _∙_}
 use native.Mathlib.Omega.{arith}
+use lib.Dec.{ltb}
 use borrow.Author.Tests.{not-true, not-false}
+use borrow.Author.Needs.{needs}
+use borrow.Fn.Kinds.{In}
+use borrow.Fn.PlainCycle.{Measures, is, falls, and}
+use Rattle.model.specs.Basic.{pick}
 use Rattle.model.specs.Layout.{decode, readEntry, readEntries}
 use Rattle.model.specs.Quick.{under as underOf, lasts}
 use Rattle.quick.specs.Part.{highOver}
-use Rattle.quick.specs.Here.{part-asks, head-asks, stands-here, few, entries-are, entries-start, child-here}
+use Rattle.notes.specs.Here.{part-asks, head-asks, stands-here, few, entries-are, entries-start, child-here}
+use Rattle.quick.specs.Here.{order-here}
 use Rattle.quick.specs.Under.{under-empty, under-leaf, under-start, lasts-step, lasts-end, way-page}
-use borrow.Author.Needs.{needs}
-use Prim.Native.Nat.{ℕ, _<_}
-use borrow.Fn.Kinds.{In}
-use borrow.Fn.PlainCycle.{Measures, is, falls, and}
+use Rattle.quick.specs.Within.{spent, unspent, taken, given-up, settled, ends, goes-on}
 use Rattle.quick.proofs.under.under.Reads as under
 use Rattle.quick.proofs.under.under.Kinds as under-kinds
 use Rattle.quick.proofs.under.+under.Lts-under as under-lts
@@ -22,8 +27,9 @@ use Rattle.store.proofs.part.Reads as part-reads
 use Rattle.quick.proofs.under.+under.{statement}
 use Rattle.quick.proofs.under.+under.Tie.{close}
 
+-- what is left
 abbrev μ-under : Measures 1 under-kinds.ps ℕ
-μ-under κs a = a .1 .1 .0
+μ-under κs a = a .1 .1 .1 .1 .1 .1 .1 .0
 
 abbrev under-at : ℕ → In 1 under-kinds.ps
 under-at t = and 1 under-kinds.ps (is 1 under-kinds.ps μ-under t) under.Pre
@@ -49,116 +55,102 @@ claims t = (
 )
 
 abbrev under-Inv-loop : under-lts.InvT-loop
-under-Inv-loop s l up h a b n p count i₀ i = (i ≤ count) × (underOf up (decode (l .least) s .pages) h a b n ≡ lasts (underOf (up - 1) (decode (l .least) s .pages) h) h a b (readEntries p (128 + 96 * i) (count - i)))
+under-Inv-loop s l up h a b n left p count rest₀ i₀ rest i = (i ≤ count) × (rest ≤ left - 1) × (0 < rest → underOf up (decode (l .least) s .pages) h a b n ≡ lasts (underOf (up - 1) (decode (l .least) s .pages) h) h a b (readEntries p (128 + 96 * i) (count - i)))
 
 abbrev under-μ-loop : under-lts.MeasureT-loop
-under-μ-loop s l up h a b n p count i₀ i = count - i
+under-μ-loop s l up h a b n left p count rest₀ i₀ rest i = count - i
 
--- src/under.rt:52:9
 under-returns : (t : ℕ) → under-lts.Need-returns (claims t) (under-at t) under.Post under-Inv-loop under-μ-loop
-under-returns t c = let a = c .before .before .args in sym (under-empty (a .up) (decode (a .l .least) (a .s .now) .pages) (a .h) (a .a) (a .b) (a .n) (c .if1 .taken))
+under-returns t c =
+    let a = c .before .before .args in let r = c .before .before .pre .1 in let ps = decode (a .l .least) (a .s .now) .pages in let x = underOf (a .up) ps (a .h) (a .a) (a .b) (a .n) in
+    settled (a .left - pick (ltb (a .a) (a .b)) 1 0) (a .left) (unspent (a .left) (a .a) (a .b) (c .if1 .taken)) x true (λ lt. under-empty (a .up) ps (a .h) (a .a) (a .b) (a .n) (c .if1 .taken))
 
--- src/under.rt:54:9
-under-part-requires : (t : ℕ) → under-lts.Need-part-requires (claims t) (under-at t) under.Post under-Inv-loop under-μ-loop
-under-part-requires t c κs = let a = c .before .before .args in let r = c .before .before .pre .1 in let k = part-asks (r .0) (a .s .now) (r .1) (a .n) (r .2) in (r .0, k .0, k .1)
-
--- src/under.rt:55:9
-under-head-of-requires : (t : ℕ) → under-lts.Need-head-of-requires (claims t) (under-at t) under.Post under-Inv-loop under-μ-loop
-under-head-of-requires t c κs = let a = c .before .before .before .args in let r = c .before .before .before .pre .1 in let k = head-asks (r .0) (a .s .now) (r .1) (a .n) (r .2) (c .part .result .now) (c .part .ensures) in (r .0, k .0, k .1)
-
--- src/under.rt:58:9
-under-high-over-requires : (t : ℕ) → under-lts.Need-high-over-requires (claims t) (under-at t) under.Post under-Inv-loop under-μ-loop
-under-high-over-requires t c κs = let a = c .before .before .before .before .before .args in let r = c .before .before .before .before .before .pre .1 in stands-here (r .0) (a .s .now) (r .1) (a .n) (r .2) (c .before .before .part .result .now) (c .before .before .part .ensures) (c .before .head-of .result) (c .before .head-of .ensures)
-
--- src/under.rt:58:9
 under-returns-2 : (t : ℕ) → under-lts.Need-returns-2 (claims t) (under-at t) under.Post under-Inv-loop under-μ-loop
 under-returns-2 t c =
-    let a = c .before .before .before .before .before .before .args in let r = c .before .before .before .before .before .before .pre .1 in
-    sym (under-leaf (a .l .least) (a .s .now) (a .n) (r .2) (a .up) (a .h) (a .a) (a .b) (c .before .if2 .taken)
-    ∙ ap (highOver (a .h) (a .a) (a .b)) (entries-are (r .0) (a .s .now) (r .1) (a .n) (r .2) (c .before .before .before .part .result .now) (c .before .before .before .part .ensures) (c .before .before .head-of .result) (c .before .before .head-of .ensures)) ∙ sym (c .high-over .ensures))
+    let a = c .before .before .before .args in let r = c .before .before .before .pre .1 in let ps = decode (a .l .least) (a .s .now) .pages in let x = underOf (a .up) ps (a .h) (a .a) (a .b) (a .n) in
+    given-up (a .left - pick (ltb (a .a) (a .b)) 1 0) x
 
--- src/under.rt:61:5
-under-loop-holds : (t : ℕ) → under-lts.Need-loop-holds (claims t) (under-at t) under.Post under-Inv-loop under-μ-loop
-under-loop-holds t c =
-    let a = c .before .before .before .before .before .args in let r = c .before .before .before .before .before .pre .1 in (
-      omega arith,
-      under-start (a .l .least) (a .s .now) (a .n) (r .2) (a .up) (a .h) (a .a) (a .b) (c .if2 .left)
-          ∙ ap (lasts (underOf (a .up - 1) (decode (a .l .least) (a .s .now) .pages) (a .h)) (a .h) (a .a) (a .b)) (entries-start (r .0) (a .s .now) (r .1) (a .n) (r .2) (c .before .before .part .result .now) (c .before .before .part .ensures) (c .before .head-of .result) (c .before .head-of .ensures)),
-    )
+under-part-requires : (t : ℕ) → under-lts.Need-part-requires (claims t) (under-at t) under.Post under-Inv-loop under-μ-loop
+under-part-requires t c κs = let a = c .before .before .before .args in let r = c .before .before .before .pre .1 in let k = part-asks (r .0) (a .s .now) (r .1 .linked) (a .n) (r .2) in (r .0, k .0, k .1)
 
--- src/under.rt:62:13
-under-way-at-requires : (t : ℕ) → under-lts.Need-way-at-requires (claims t) (under-at t) under.Post under-Inv-loop under-μ-loop
-under-way-at-requires t c κs = let a = c .before .before .before .before .before .before .before .args in let r = c .before .before .before .before .before .before .before .pre .1 in (stands-here (r .0) (a .s .now) (r .1) (a .n) (r .2) (c .before .before .before .before .part .result .now) (c .before .before .before .before .part .ensures) (c .before .before .before .head-of .result) (c .before .before .before .head-of .ensures), omega (arith, c .loop-test .taken))
+under-head-of-requires : (t : ℕ) → under-lts.Need-head-of-requires (claims t) (under-at t) under.Post under-Inv-loop under-μ-loop
+under-head-of-requires t c κs = let a = c .before .before .before .before .args in let r = c .before .before .before .before .pre .1 in let k = head-asks (r .0) (a .s .now) (r .1 .linked) (a .n) (r .2) (c .part .result .now) (c .part .ensures) in (r .0, k .0, k .1)
 
--- src/under.rt:64:13
+under-high-over-requires : (t : ℕ) → under-lts.Need-high-over-requires (claims t) (under-at t) under.Post under-Inv-loop under-μ-loop
+under-high-over-requires t c κs = let a = c .before .before .before .before .before .before .args in let r = c .before .before .before .before .before .before .pre .1 in (stands-here (r .0) (a .s .now) (r .1 .linked) (a .n) (r .2) (c .before .before .part .result .now) (c .before .before .part .ensures) (c .before .head-of .result) (c .before .head-of .ensures), order-here (r .0) (a .s .now) (r .1) (a .n) (r .2) (c .before .before .part .result .now) (c .before .before .part .ensures) (c .before .head-of .result) (c .before .head-of .ensures))
+
+under-sub-t19 : (t : ℕ) → under-lts.Need-sub-t19 (claims t) (under-at t) under.Post under-Inv-loop under-μ-loop
+under-sub-t19 t c = omega (arith, c .before .before .before .before .if2 .left)
+
 under-returns-3 : (t : ℕ) → under-lts.Need-returns-3 (claims t) (under-at t) under.Post under-Inv-loop under-μ-loop
 under-returns-3 t c =
-    let a = c .before .before .before .before .before .before .before .before .before .before .args in let k = c .before .before .before .before .loop in
-    sym (k .inv .1 ∙ lasts-step (decode (a .l .least) (a .s .now) .pages) (a .up - 1) (c .before .before .before .before .before .before .before .part .result .now) (k .i) (c .before .before .before .before .before .before .head-of .result .count) (a .h) (a .a) (a .b) (c .before .before .way-at .result) (c .before .before .way-at .ensures) (c .before .before .before .loop-test .taken) ∙ rw (not-true (c .before .before .way-at .result .fine) (c .if3 .taken)))
+    let a = c .before .before .before .before .before .before .before .args in let r = c .before .before .before .before .before .before .before .pre .1 in let ps = decode (a .l .least) (a .s .now) .pages in let x = underOf (a .up) ps (a .h) (a .a) (a .b) (a .n) in
+    settled (a .left - pick (ltb (a .a) (a .b)) 1 0) (a .left - 1) (spent (a .left) (a .a) (a .b) (omega (arith, c .before .before .before .before .before .if1 .left))) x (c .high-over .result)
+    (λ lt. under-leaf (a .l .least) (a .s .now) (a .n) (r .2) (a .up) (a .h) (a .a) (a .b) (c .before .if3 .taken) ∙ ap (highOver (a .h) (a .a) (a .b)) (entries-are (r .0) (a .s .now) (r .1 .linked) (a .n) (r .2) (c .before .before .before .part .result .now) (c .before .before .before .part .ensures) (c .before .before .head-of .result) (c .before .before .head-of .ensures)) ∙ sym (c .high-over .ensures))
 
--- src/under.rt:66:13
+under-sub-rest : (t : ℕ) → under-lts.Need-sub-rest (claims t) (under-at t) under.Post under-Inv-loop under-μ-loop
+under-sub-rest t c = omega (arith, c .before .before .before .if2 .left)
+
+under-loop-holds : (t : ℕ) → under-lts.Need-loop-holds (claims t) (under-at t) under.Post under-Inv-loop under-μ-loop
+under-loop-holds t c =
+    let a = c .before .before .before .before .before .before .args in let r = c .before .before .before .before .before .before .pre .1 in let ps = decode (a .l .least) (a .s .now) .pages in let x = underOf (a .up) ps (a .h) (a .a) (a .b) (a .n) in
+    (omega arith, omega arith, λ lt. under-start (a .l .least) (a .s .now) (a .n) (r .2) (a .up) (a .h) (a .a) (a .b) (c .if3 .left) ∙ ap (lasts (underOf (a .up - 1) ps (a .h)) (a .h) (a .a) (a .b)) (entries-start (r .0) (a .s .now) (r .1 .linked) (a .n) (r .2) (c .before .before .part .result .now) (c .before .before .part .ensures) (c .before .head-of .result) (c .before .head-of .ensures)))
+
+under-way-at-requires : (t : ℕ) → under-lts.Need-way-at-requires (claims t) (under-at t) under.Post under-Inv-loop under-μ-loop
+under-way-at-requires t c κs = let a = c .before .before .before .before .before .before .before .before .args in let r = c .before .before .before .before .before .before .before .before .pre .1 in (stands-here (r .0) (a .s .now) (r .1 .linked) (a .n) (r .2) (c .before .before .before .before .part .result .now) (c .before .before .before .before .part .ensures) (c .before .before .before .head-of .result) (c .before .before .before .head-of .ensures), omega (arith, c .loop-test .taken))
+
+under-returns-4 : (t : ℕ) → under-lts.Need-returns-4 (claims t) (under-at t) under.Post under-Inv-loop under-μ-loop
+under-returns-4 t c =
+    let a = c .before .before .before .before .before .before .before .before .before .before .before .args in let r = c .before .before .before .before .before .before .before .before .before .before .before .pre .1 in let ps = decode (a .l .least) (a .s .now) .pages in let x = underOf (a .up) ps (a .h) (a .a) (a .b) (a .n) in
+    let j = c .before .before .before .before .loop in let p = c .before .before .before .before .before .before .before .part .result .now in let n = c .before .before .before .before .before .before .head-of .result .count in let w = c .before .before .way-at .result in
+    let z = lasts (underOf (a .up - 1) ps (a .h)) (a .h) (a .a) (a .b) (readEntries p (128 + 96 * (j .i + 1)) (n - (j .i + 1))) in
+    settled (a .left - pick (ltb (a .a) (a .b)) 1 0) (j .rest) (omega (arith, j .inv .1, spent (a .left) (a .a) (a .b) (omega (arith, c .before .before .before .before .before .before .before .before .before .if1 .left)))) x false (λ lt. j .inv .2 lt ∙ lasts-step ps (a .up - 1) p (j .i) n (a .h) (a .a) (a .b) w (c .before .before .way-at .ensures) (c .before .before .before .loop-test .taken) ∙ rw (not-true (w .fine) (c .if4 .taken)))
+
 under-wide-requires : (t : ℕ) → under-lts.Need-wide-requires (claims t) (under-at t) under.Post under-Inv-loop under-μ-loop
 under-wide-requires t c κs = search needs
 
--- src/under.rt:67:25
 under-sub-under : (t : ℕ) → under-lts.Need-sub-under (claims t) (under-at t) under.Post under-Inv-loop under-μ-loop
-under-sub-under t c = omega (arith, c .before .before .before .before .before .before .if2 .left)
+under-sub-under t c = omega (arith, c .before .before .before .before .before .before .if3 .left)
 
--- src/under.rt:67:13
 under-under-requires : (t : ℕ) → under-lts.Need-under-requires (claims t) (under-at t) under.Post under-Inv-loop under-μ-loop
 under-under-requires t c κs =
-    let a = c .before .before .before .before .before .before .before .before .before .before .before .args in let r = c .before .before .before .before .before .before .before .before .before .before .before .pre .1 in
-    let w = way-page (a .h) (a .a) (a .b) (readEntry (c .before .before .before .before .before .before .before .before .part .result .now) (128 + 96 * c .before .before .before .before .before .loop .i)) (readEntries (c .before .before .before .before .before .before .before .before .part .result .now) (128 + 96 * (c .before .before .before .before .before .loop .i + 1)) (c .before .before .before .before .before .before .before .head-of .result .count - (c .before .before .before .before .before .loop .i + 1))) (c .before .before .before .way-at .result) (c .before .before .before .way-at .ensures) in
-    let (x, y) = child-here (r .0) (a .s .now) (r .1) (a .n) (r .2) (c .before .before .before .before .before .before .before .before .part .result .now) (c .before .before .before .before .before .before .before .before .part .ensures) (c .before .before .before .before .before .before .before .head-of .result) (c .before .before .before .before .before .before .before .head-of .ensures) (c .before .before .before .before .before .loop .i) (c .wide .result) (omega (arith, r .3, c .before .before .before .before .before .before .if2 .left)) (c .before .before .before .before .loop-test .taken) (c .wide .ensures ∙ w) in
-    (omega (arith, c .before .before .before .before .before .before .if2 .left, c .before .before .before .before .before .before .before .before .before .before .before .pre .0), (r .0, r .1, x, omega (arith, y, r .3, c .before .before .before .before .before .before .if2 .left)))
+    let a = c .before .before .before .before .before .before .before .before .before .before .before .before .args in let r = c .before .before .before .before .before .before .before .before .before .before .before .before .pre .1 in let p = c .before .before .before .before .before .before .before .before .part .result .now in let n = c .before .before .before .before .before .before .before .head-of .result .count in let i = c .before .before .before .before .before .loop .i in
+    let w = way-page (a .h) (a .a) (a .b) (readEntry p (128 + 96 * i)) (readEntries p (128 + 96 * (i + 1)) (n - (i + 1))) (c .before .before .before .way-at .result) (c .before .before .before .way-at .ensures) in
+    let (x, y) = child-here (r .0) (a .s .now) (r .1 .linked) (a .n) (r .2) (c .before .before .before .before .before .before .before .before .part .result .now) (c .before .before .before .before .before .before .before .before .part .ensures) (c .before .before .before .before .before .before .before .head-of .result) (c .before .before .before .before .before .before .before .head-of .ensures) i (c .wide .result) (omega (arith, r .3, c .before .before .before .before .before .before .if3 .left)) (c .before .before .before .before .loop-test .taken) (c .wide .ensures ∙ w) in
+    (omega (arith, c .before .before .before .before .before .before .before .before .before .if2 .left, c .before .before .before .before .before .loop .inv .1, c .before .before .before .before .before .before .before .before .before .before .before .before .pre .0), (r .0, r .1, x, omega (arith, y, r .3, c .before .before .before .before .before .before .if3 .left)))
 
--- src/under.rt:68:13
-under-returns-4 : (t : ℕ) → under-lts.Need-returns-4 (claims t) (under-at t) under.Post under-Inv-loop under-μ-loop
-under-returns-4 t c =
-    let a = c .before .before .before .before .before .before .before .before .before .before .before .before .before .args in let k = c .before .before .before .before .before .before .before .loop in
-    sym (k .inv .1 ∙ lasts-step (decode (a .l .least) (a .s .now) .pages) (a .up - 1) (c .before .before .before .before .before .before .before .before .before .before .part .result .now) (k .i) (c .before .before .before .before .before .before .before .before .before .head-of .result .count) (a .h) (a .a) (a .b) (c .before .before .before .before .before .way-at .result) (c .before .before .before .before .before .way-at .ensures) (c .before .before .before .before .before .before .loop-test .taken)
-    ∙ rw (not-false (c .before .before .before .before .before .way-at .result .fine) (c .before .before .before .if3 .left), ← c .before .before .wide .ensures, ← c .before .under .ensures, not-true (c .before .under .result) (c .if4 .taken)))
+under-returns-5 : (t : ℕ) → under-lts.Need-returns-5 (claims t) (under-at t) under.Post under-Inv-loop under-μ-loop
+under-returns-5 t c =
+    let a = c .before .before .before .before .before .before .before .before .before .before .before .before .before .before .before .args in let r = c .before .before .before .before .before .before .before .before .before .before .before .before .before .before .before .pre .1 in let ps = decode (a .l .least) (a .s .now) .pages in let x = underOf (a .up) ps (a .h) (a .a) (a .b) (a .n) in
+    let j = c .before .before .before .before .before .before .before .before .loop in let p = c .before .before .before .before .before .before .before .before .before .before .before .part .result .now in let n = c .before .before .before .before .before .before .before .before .before .before .head-of .result .count in let w = c .before .before .before .before .before .before .way-at .result in
+    let z = lasts (underOf (a .up - 1) ps (a .h)) (a .h) (a .a) (a .b) (readEntries p (128 + 96 * (j .i + 1)) (n - (j .i + 1))) in
+    let y = underOf (a .up - 1) ps (a .h) (w .from) (w .upto) (c .before .before .before .wide .result) in
+    let q : 0 < j .rest → x ≡ (y && z) = λ lt. j .inv .2 lt ∙ lasts-step ps (a .up - 1) p (j .i) n (a .h) (a .a) (a .b) w (c .before .before .before .before .before .before .way-at .ensures) (c .before .before .before .before .before .before .before .loop-test .taken) ∙ rw (not-false (w .fine) (c .before .before .before .before .if4 .left), ← c .before .before .before .wide .ensures) in
+    let k = taken (j .rest) (ltb (w .from) (w .upto)) y (c .before .before .under .result) (c .before .before .under .ensures) in
+    ends (a .left - pick (ltb (a .a) (a .b)) 1 0) (j .rest) (omega (arith, j .inv .1, spent (a .left) (a .a) (a .b) (omega (arith, c .before .before .before .before .before .before .before .before .before .before .before .before .before .if1 .left)))) x y z (c .before .before .under .result) q k (not-true (c .before .before .under .result .fine) (c .if5 .taken))
 
--- src/under.rt:70:9
 under-add-i : (t : ℕ) → under-lts.Need-add-i (claims t) (under-at t) under.Post under-Inv-loop under-μ-loop
-under-add-i t c = let a = c .before .before .before .before .before .before .before .before .before .before .before .before .before .args in let r = c .before .before .before .before .before .before .before .before .before .before .before .before .before .pre .1 in omega (arith, c .before .before .before .before .before .before .loop-test .taken, few (r .0) (a .s .now) (r .1) (a .n) (r .2) (c .before .before .before .before .before .before .before .before .before .before .part .result .now) (c .before .before .before .before .before .before .before .before .before .before .part .ensures) (c .before .before .before .before .before .before .before .before .before .head-of .result) (c .before .before .before .before .before .before .before .before .before .head-of .ensures))
+under-add-i t c = let a = c .before .before .before .before .before .before .before .before .before .before .before .before .before .before .before .args in let r = c .before .before .before .before .before .before .before .before .before .before .before .before .before .before .before .pre .1 in omega (arith, c .before .before .before .before .before .before .before .loop-test .taken, few (r .0) (a .s .now) (r .1 .linked) (a .n) (r .2) (c .before .before .before .before .before .before .before .before .before .before .before .part .result .now) (c .before .before .before .before .before .before .before .before .before .before .before .part .ensures) (c .before .before .before .before .before .before .before .before .before .before .head-of .result) (c .before .before .before .before .before .before .before .before .before .before .head-of .ensures))
 
--- src/under.rt:61:5
 under-loop-less : (t : ℕ) → under-lts.Need-loop-less (claims t) (under-at t) under.Post under-Inv-loop under-μ-loop
-under-loop-less t c = omega (arith, c .before .before .before .before .before .before .loop-test .taken)
+under-loop-less t c = omega (arith, c .before .before .before .before .before .before .before .loop-test .taken)
 
--- src/under.rt:61:5
 under-loop-again : (t : ℕ) → under-lts.Need-loop-again (claims t) (under-at t) under.Post under-Inv-loop under-μ-loop
 under-loop-again t c =
-    let a = c .before .before .before .before .before .before .before .before .before .before .before .before .before .args in let k = c .before .before .before .before .before .before .before .loop in (
-      omega (arith, c .before .before .before .before .before .before .loop-test .taken),
-      k .inv .1 ∙ lasts-step (decode (a .l .least) (a .s .now) .pages) (a .up - 1) (c .before .before .before .before .before .before .before .before .before .before .part .result .now) (k .i) (c .before .before .before .before .before .before .before .before .before .head-of .result .count) (a .h) (a .a) (a .b) (c .before .before .before .before .before .way-at .result) (c .before .before .before .before .before .way-at .ensures) (c .before .before .before .before .before .before .loop-test .taken)
-          ∙ rw (not-false (c .before .before .before .before .before .way-at .result .fine) (c .before .before .before .if3 .left), ← c .before .before .wide .ensures, ← c .before .under .ensures, not-false (c .before .under .result) (c .if4 .left)),
-    )
+    let a = c .before .before .before .before .before .before .before .before .before .before .before .before .before .before .before .args in let r = c .before .before .before .before .before .before .before .before .before .before .before .before .before .before .before .pre .1 in let ps = decode (a .l .least) (a .s .now) .pages in let x = underOf (a .up) ps (a .h) (a .a) (a .b) (a .n) in
+    let j = c .before .before .before .before .before .before .before .before .loop in let p = c .before .before .before .before .before .before .before .before .before .before .before .part .result .now in let n = c .before .before .before .before .before .before .before .before .before .before .head-of .result .count in let w = c .before .before .before .before .before .before .way-at .result in
+    let z = lasts (underOf (a .up - 1) ps (a .h)) (a .h) (a .a) (a .b) (readEntries p (128 + 96 * (j .i + 1)) (n - (j .i + 1))) in
+    let y = underOf (a .up - 1) ps (a .h) (w .from) (w .upto) (c .before .before .before .wide .result) in
+    let q : 0 < j .rest → x ≡ (y && z) = λ lt. j .inv .2 lt ∙ lasts-step ps (a .up - 1) p (j .i) n (a .h) (a .a) (a .b) w (c .before .before .before .before .before .before .way-at .ensures) (c .before .before .before .before .before .before .before .loop-test .taken) ∙ rw (not-false (w .fine) (c .before .before .before .before .if4 .left), ← c .before .before .before .wide .ensures) in
+    let k = taken (j .rest) (ltb (w .from) (w .upto)) y (c .before .before .under .result) (c .before .before .under .ensures) in
+    let g = goes-on (a .left - 1) (j .rest) (j .inv .1) x y z (c .before .before .under .result) q k (not-false (c .before .before .under .result .fine) (c .if5 .left)) in
+    (omega (arith, c .before .before .before .before .before .before .before .loop-test .taken), g .0, g .1)
 
--- src/under.rt:47:1
-under-returns-5 : (t : ℕ) → under-lts.Need-returns-5 (claims t) (under-at t) under.Post under-Inv-loop under-μ-loop
-under-returns-5 t c = let a = c .before .before .before .before .before .before .before .args in let k = c .before .loop in sym (k .inv .1 ∙ lasts-end (decode (a .l .least) (a .s .now) .pages) (a .up - 1) (c .before .before .before .before .part .result .now) (k .i) (c .before .before .before .head-of .result .count) (a .h) (a .a) (a .b) (c .loop-test .left))
+under-returns-6 : (t : ℕ) → under-lts.Need-returns-6 (claims t) (under-at t) under.Post under-Inv-loop under-μ-loop
+under-returns-6 t c =
+    let a = c .before .before .before .before .before .before .before .before .args in let r = c .before .before .before .before .before .before .before .before .pre .1 in let ps = decode (a .l .least) (a .s .now) .pages in let x = underOf (a .up) ps (a .h) (a .a) (a .b) (a .n) in
+    let j = c .before .loop in
+    settled (a .left - pick (ltb (a .a) (a .b)) 1 0) (j .rest) (omega (arith, j .inv .1, spent (a .left) (a .a) (a .b) (omega (arith, c .before .before .before .before .before .before .if1 .left)))) x true (λ lt. j .inv .2 lt ∙ lasts-end ps (a .up - 1) (c .before .before .before .before .part .result .now) (j .i) (c .before .before .before .head-of .result .count) (a .h) (a .a) (a .b) (c .loop-test .left))
 
 pub +under-spec : {M : Type 1} → statement M
-+under-spec = close μ-under λ t. under-lts.spec (claims t)
-    (under-at t)
-    under.Post
-    under-Inv-loop
-    under-μ-loop
-    (under-returns t)
-    (under-part-requires t)
-    (under-head-of-requires t)
-    (under-high-over-requires t)
-    (under-returns-2 t)
-    (under-loop-holds t)
-    (under-way-at-requires t)
-    (under-returns-3 t)
-    (under-wide-requires t)
-    (under-sub-under t)
-    (under-under-requires t)
-    (under-returns-4 t)
-    (under-add-i t)
-    (under-loop-less t)
-    (under-loop-again t)
-    (under-returns-5 t)
++under-spec = close μ-under λ t. under-lts.spec (claims t) (under-at t) under.Post under-Inv-loop under-μ-loop (under-returns t) (under-returns-2 t) (under-part-requires t) (under-head-of-requires t) (under-high-over-requires t) (under-sub-t19 t) (under-returns-3 t) (under-sub-rest t) (under-loop-holds t) (under-way-at-requires t) (under-returns-4 t) (under-wide-requires t) (under-sub-under t) (under-under-requires t) (under-returns-5 t) (under-add-i t) (under-loop-less t) (under-loop-again t) (under-returns-6 t)

@@ -1,0 +1,77 @@
+-- `life` meets its contract: counted first, then written. Assumes nothing.
+use Prim.Native.Nat.{ℕ}
+use native.Mathlib.Omega.{arith}
+use mathlib.Core.Path.{ap, sym, _∙_}
+use borrow.Author.Needs.{needs}
+use lib.ListN.{length}
+use Rattle.model.specs.Walk.{lookup}
+use Rattle.model.specs.Layout.{decode}
+use Rattle.model.specs.Told.{toldBy}
+use Rattle.model.specs.Life.{lifeOf, stretchNumbers}
+use Rattle.model.specs.Lent.{listed}
+use Rattle.model.proofs.Telling.{none-room, counted, told-short, second-space, told-all}
+use Rattle.store.specs.Read.{current-of}
+use Rattle.store.specs.Sure.{few, front}
+use Rattle.life.specs.Lived.{stretches, reads-current, few-stretches}
+use Rattle.life.proofs.life.Statement.{statement}
+use Rattle.life.proofs.life.Tie as tie
+
+header-requires : tie.Need-header-requires
+header-requires c κs =
+    let p = c .before .before .pre in
+    let a = c .before .before .args in
+    (p .0, omega (arith, front (p .0) (a .s .now) (p .1)), few (p .0) (a .s .now) (p .1))
+
+tell-all-requires : tie.Need-tell-all-requires
+tell-all-requires c κs =
+    let p = c .before .before .before .before .pre in
+    let a = c .before .before .before .before .args in
+    rw (c .before .header .ensures) (reads-current (p .0) (a .s .now) (p .1), p .2, none-room stretches (few-stretches (p .0) (a .s .now) (p .1) _))
+
+mul-if1 : tie.Need-mul-if1
+mul-if1 c =
+    let p = c .before .before .before .before .before .before .before .pre in
+    let a = c .before .before .before .before .before .before .before .args in
+    let g = rw (c .before .before .before .before .header .ensures) at (c .before .before .tell-all .ensures) in
+    omega (arith, counted stretches g, few-stretches (p .0) (a .s .now) (p .1) (lookup (decode (a .l .least) (a .s .now)) (a .key)))
+
+same-length : tie.Need-same-length
+same-length c = search needs
+
+returns : tie.Need-returns
+returns c =
+    let a = c .before .before .before .before .before .before .before .before .args in
+    let g = rw (c .before .before .before .before .before .header .ensures) at (c .before .before .before .tell-all .ensures) in
+    told-short stretches g (c .if1 .taken)
+    ∙ ap (λ (n : ℕ). listed (a .list .now) (toldBy stretchNumbers 3 0 (length (a .list .now)) (lifeOf n (lookup (decode (a .l .least) (a .s .now)) (a .key))))) (sym (current-of (a .l .least) (a .s .now)))
+
+tell-all-requires-2 : tie.Need-tell-all-requires-2
+tell-all-requires-2 c κs =
+    let p = c .before .before .before .before .before .before .before .before .before .pre in
+    let a = c .before .before .before .before .before .before .before .before .before .args in
+    let g = rw (c .before .before .before .before .before .before .header .ensures) at (c .before .before .before .before .tell-all .ensures) in
+    rw (c .before .before .before .before .before .before .header .ensures) (reads-current (p .0) (a .s .now) (p .1), p .2, second-space stretches g (c .before .if1 .left) (few-stretches (p .0) (a .s .now) (p .1) _))
+
+same-length-2 : tie.Need-same-length-2
+same-length-2 c = search needs
+
+returns-2 : tie.Need-returns-2
+returns-2 c =
+    let a = c .before .before .before .before .before .before .before .before .before .before .before .before .args in
+    let h = c .before .before .before .before .before .before .before .before .before .header .ensures in
+    let g = rw h at (c .before .before .before .before .before .before .before .tell-all .ensures) in
+    told-all stretches g (c .before .before .before .before .if1 .left) (rw h at (c .before .before .tell-all2 .ensures))
+    ∙ ap (λ (n : ℕ). listed (a .list .now) (toldBy stretchNumbers 3 0 (length (a .list .now)) (lifeOf n (lookup (decode (a .l .least) (a .s .now)) (a .key))))) (sym (current-of (a .l .least) (a .s .now)))
+
+pub life-spec : {M : Type 1} → statement M
+life-spec =
+    tie.close
+    (tie.spec
+    header-requires
+    tell-all-requires
+    mul-if1
+    same-length
+    returns
+    tell-all-requires-2
+    same-length-2
+    returns-2)

@@ -1,0 +1,60 @@
+-- `tell` meets its contract. Assumes nothing.
+use native.Mathlib.Omega.{arith}
+use mathlib.Core.Path.{refl, ap, sym, subst}
+use Rattle.model.proofs.Telling.{written-none, Space}
+use Rattle.life.specs.Lived.{stretches, shown}
+use borrow.Author.Needs.{needs}
+use Rattle.life.proofs.tell.Statement.{statement}
+use Rattle.life.proofs.tell.Tie as tie
+
+enum-known-answer : tie.Need-enum-known-answer
+enum-known-answer c = search needs
+
+put-requires : tie.Need-put-requires
+put-requires c κs =
+    let a = c .before .before .before .before .before .args in
+    subst (Space stretches (a .write) (a .list .now) (a .k)) (ap (shown (a .v) (a .e)) (c .before .before .answer .given .1)) (c .before .before .before .before .before .pre)
+
+add-result : tie.Need-add-result
+add-result c = omega (arith, c .before .before .before .before .before .before .before .before .pre .few)
+
+enum-told : tie.Need-enum-told
+enum-told c = search needs
+
+enum-told-2 : tie.Need-enum-told-2
+enum-told-2 c = search needs
+
+same-length : tie.Need-same-length
+same-length c = search needs
+
+returns : tie.Need-returns
+returns c =
+    let a = c .before .before .before .before .before .before .before .before .args in
+    let e = ap (shown (a .v) (a .e)) (c .before .before .before .before .before .answer .given .1) in
+    rw e (record { count = refl; list = c .before .before .put .ensures })
+
+returns-2 : tie.Need-returns-2
+returns-2 c =
+    let a = c .before .before .before .args in
+    let e = ap (shown (a .v) (a .e)) (c .enum-told .given .1) in
+    rw e (record { count = omega arith; list = sym (written-none stretches (a .write) (a .list .now) (a .k)) })
+
+returns-3 : tie.Need-returns-3
+returns-3 c =
+    let a = c .before .before .before .args in
+    let e = ap (shown (a .v) (a .e)) (c .enum-told2 .given .1) in
+    rw e (record { count = omega arith; list = sym (written-none stretches (a .write) (a .list .now) (a .k)) })
+
+pub tell-spec : {M : Type 1} → statement M
+tell-spec =
+    tie.close
+    (tie.spec
+    enum-known-answer
+    put-requires
+    add-result
+    enum-told
+    enum-told-2
+    same-length
+    returns
+    returns-2
+    returns-3)

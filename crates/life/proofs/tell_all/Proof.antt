@@ -1,0 +1,82 @@
+-- `tell_all` meets its contract: what is left is the life from version v on. Assumes nothing.
+use Prim.Native.Nat.{suc, _≤_, _-_}
+use native.Mathlib.Omega.{arith}
+use mathlib.Core.Path.{sym}
+use borrow.Author.Needs.{needs}
+use Rattle.model.specs.Walk.{lookup}
+use Rattle.model.specs.Layout.{decode}
+use Rattle.model.specs.Life.{lifeOf}
+use Rattle.model.proofs.Lives.{rest, rest-start, rest-end}
+use Rattle.model.proofs.Telling.{Gathering, space-front, gather-start, gather-same, gather-step, gather-end}
+use Rattle.life.specs.Lived.{stretches, shown, reads-at, rest-told}
+use Rattle.life.proofs.tell_all.Statement.{statement}
+use Rattle.life.proofs.tell_all.Tie as tie
+
+abbrev Inv-loop : tie.InvT-loop
+Inv-loop s l key c list₀ write found₀ v₀ list found v =
+    (v ≤ suc c) × Gathering stretches write list₀ list 0 found (lifeOf c (lookup (decode (l .least) s) key)) (rest c (lookup (decode (l .least) s) key) v)
+
+abbrev μ-loop : tie.MeasureT-loop
+μ-loop s l key c list₀ write found₀ v₀ list found v = suc c - v
+
+loop-holds : tie.Need-loop-holds Inv-loop μ-loop
+loop-holds c =
+    let a = c .before .before .args in
+    (omega arith, gather-same stretches (sym (rest-start (a .c) (lookup (decode (a .l .least) (a .s .now)) (a .key)))) (gather-start stretches (c .before .before .pre .2)))
+
+lookup-requires : tie.Need-lookup-requires Inv-loop μ-loop
+lookup-requires c κs = let p = c .before .before .before .before .pre in (reads-at (p .0) (c .before .loop .v) (c .loop-test .taken), p .1)
+
+change-after-requires : tie.Need-change-after-requires Inv-loop μ-loop
+change-after-requires c κs = let p = c .before .before .before .before .before .pre in (p .0, p .1, c .before .loop-test .taken, c .lookup .ensures)
+
+shown-end-requires : tie.Need-shown-end-requires Inv-loop μ-loop
+shown-end-requires c κs = search needs
+
+tell-requires : tie.Need-tell-requires Inv-loop μ-loop
+tell-requires c κs =
+    let a = c .before .before .before .before .before .before .before .before .args in
+    let k = c .before .before .before .before .before .loop in
+    let f = lookup (decode (a .l .least) (a .s .now)) (a .key) in
+    let r = c .before .before .change-after in
+    let e = rest-told (a .c) f (k .v) (r .result) (c .shown-end .result) (c .before .before .before .lookup .result) (r .ensures) (c .before .before .before .lookup .ensures) (c .shown-end .ensures) in
+    space-front stretches (shown (k .v) (c .shown-end .result) (c .before .before .before .lookup .result)) (rest (a .c) f (r .result)) (gather-same stretches e (k .inv .1) .space)
+
+loop-less : tie.Need-loop-less Inv-loop μ-loop
+loop-less c = omega (arith, c .before .before .before .before .before .change-after .ensures .above, c .before .before .before .before .before .before .before .loop-test .taken)
+
+loop-again : tie.Need-loop-again Inv-loop μ-loop
+loop-again c =
+    let a = c .before .before .before .before .before .before .before .before .before .before .before .args in
+    let k = c .before .before .before .before .before .before .before .before .loop in
+    let f = lookup (decode (a .l .least) (a .s .now)) (a .key) in
+    let r = c .before .before .before .before .before .change-after in
+    let x = c .before .before .before .before .before .before .lookup in
+    let z = c .before .before .before .shown-end in
+    let e = rest-told (a .c) f (k .v) (r .result) (z .result) (x .result) (r .ensures) (x .ensures) (z .ensures) in
+    (r .ensures .below, gather-step stretches (shown (k .v) (z .result) (x .result)) (rest (a .c) f (r .result)) (gather-same stretches e (k .inv .1)) _ _ (c .before .before .tell .ensures))
+
+same-length : tie.Need-same-length Inv-loop μ-loop
+same-length c = c .before .loop .inv .1 .same
+
+returns : tie.Need-returns Inv-loop μ-loop
+returns c =
+    let a = c .before .before .before .before .args in
+    let k = c .before .loop in
+    gather-end stretches (gather-same stretches (rest-end (a .c) (lookup (decode (a .l .least) (a .s .now)) (a .key)) (k .v) (omega (arith, c .loop-test .left))) (k .inv .1))
+
+pub tell-all-spec : {M : Type 1} → statement M
+tell-all-spec =
+    tie.close
+    (tie.spec
+    Inv-loop
+    μ-loop
+    loop-holds
+    lookup-requires
+    change-after-requires
+    shown-end-requires
+    tell-requires
+    loop-less
+    loop-again
+    same-length
+    returns)

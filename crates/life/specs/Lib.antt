@@ -1,0 +1,3 @@
+pub mod Still
+pub mod Way
+pub mod Lived

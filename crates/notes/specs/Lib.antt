@@ -1,0 +1,12 @@
+pub mod Notes
+pub mod Laws
+pub mod Means
+pub mod Versions
+pub mod Linked
+pub mod Here
+pub mod Kept
+pub mod Ready
+pub mod Pass
+pub mod Over
+pub mod Six
+pub mod Given

@@ -1,0 +1,185 @@
+-- `kept-out`: no insert brings a bench key in, so what has none gets none.
+-- Assumes nothing.
+use Prim.Native.Nat.{ℕ, zero, suc, _≤_, _<_}
+use native.Mathlib.Omega.{arith}
+use mathlib.Core.Bool.{Bool, true, false, not}
+use mathlib.Core.Path.{_≡_, refl, ap, ap₂, sym, _∙_, subst}
+use mathlib.Core.Logic.{_⊎_, inl, inr}
+use mathlib.Core.List.{List, [], _∷_}
+use lib.Dec.{leb, ltb, eqb}
+use borrow.Author.Tests.{le-leb, leb-false, lt-ltb, eqb-true, eqb-false}
+use Rattle.model.specs.Basic.{all, pick, those}
+use Rattle.model.specs.declared.Pair.{Pair}
+use Rattle.model.specs.Entry.{pair, enterPair}
+use Rattle.model.specs.Store.{Store, next, last, lastOf, fresh}
+use Rattle.model.specs.Walk.{lookup, settings}
+use Rattle.model.specs.Layout.{encode, decode}
+use Rattle.model.specs.Calls.{isSome, rule, benchLimit, insertTests, deleteTests, firstOf, insert}
+use Rattle.model.specs.Histories.{Call, begins, commits, abandons, inserts, deletes}
+use Rattle.model.specs.Settings.{Machine, start, step, put}
+use Rattle.model.specs.Ended.{Asked, toFresh, toCheck, toOpen, toCommit, toAbandon, toInsert, toDelete, toLookup, toRange, ended}
+use Rattle.model.proofs.Lists.{all-cons}
+use Rattle.model.proofs.Members.{bool-cases, In, all-in, all-by, in-those}
+use Rattle.model.proofs.Fitted.{entered-in}
+use Rattle.promises.specs.Accepts.{Accepts}
+use Rattle.promises.specs.Runs.{Turn, runBytes, Kind, making, kindOf, asks, notMaking, fitting, each}
+use Rattle.promises.specs.Beside.{Beside, whenDone, stepped, onward, along, fromFresh, fromLent}
+use Rattle.promises.specs.Answers.{lastIn, endTests, aliveIn, Gives}
+use Rattle.promises.specs.Bench.{BenchFree, KeptOut}
+use Rattle.promises.proofs.High.{numberOf, insert-number}
+use Rattle.promises.proofs.Lending.{change-number}
+use Rattle.promises.proofs.Agreed.{Agreed, one-turn, many-turns, fresh-agreed, lent-agreed}
+use Rattle.promises.proofs.Answering.{answers}
+use Rattle.promises.proofs.Changed.{delete-opened}
+use Rattle.promises.proofs.Restored.{along-bytes}
+
+-- ---- lists of settings
+
+abbrev isLow : Pair → Bool
+isLow x = ltb (x .key) benchLimit
+
+low-entered : (k x : ℕ) (us : List Pair) → k < benchLimit → all isLow us ≡ true → all isLow (enterPair (pair k x) us) ≡ true
+low-entered k x us h a = all-by isLow (enterPair (pair k x) us) (λ y i. at y (entered-in (pair k x) y us i))
+  where
+    at : (y : Pair) → (y ≡ pair k x) ⊎ In y us → isLow y ≡ true
+    at y (inl e) = ap isLow e ∙ lt-ltb k benchLimit h
+    at y (inr i) = all-in isLow y us a i
+
+low-those : (g : Pair → Bool) (us : List Pair) → all isLow us ≡ true → all isLow (those g us) ≡ true
+low-those g us a = all-by isLow (those g us) (λ y i. all-in isLow y us a (in-those g y us i .1))
+
+-- ---- what the numbers say
+
+current-last : (o : Bool) (n : ℕ) → n ≤ lastOf o n
+current-last true n = omega arith
+current-last false n = omega arith
+
+ended-opened : (o : Bool) → firstOf (endTests o) ≡ 0 → o ≡ true
+ended-opened true e = refl
+ended-opened false e = absurd (omega arith)
+
+-- an insert that is done is of a key below the bench's
+insert-low : (k : ℕ) (o alive : Bool) (n : ℕ) → Gives (firstOf (insertTests k o alive)) n → n ≡ 0 → (k < benchLimit) × (o ≡ true)
+insert-low k o alive n g e = at (leb benchLimit k) refl o g
+  where
+    at : (p : Bool) → leb benchLimit k ≡ p → (o : Bool) → Gives (firstOf (rule 5 p ∷ rule 7 (not o) ∷ rule 10 alive ∷ [])) n → (k < benchLimit) × (o ≡ true)
+    at true f o g = absurd (omega arith)
+    at false f false g = absurd (omega arith)
+    at false f true g = (leb-false benchLimit k f, refl)
+
+insert-five : (least : ℕ) (s : Store) (k x : ℕ) → benchLimit ≤ k → numberOf (insert least s k x) ≡ 5
+insert-five least s k x h =
+    subst (λ (p : Bool). Gives (firstOf (rule 5 p ∷ rule 7 (not (s .opened)) ∷ rule 10 (isSome (lookup s k (next s))) ∷ [])) (numberOf (insert least s k x))) (le-leb benchLimit k h) (insert-number least s k x)
+
+-- ---- the machine
+
+module _ (u : ℕ) where
+  record Free (m : Machine) : Type 0 where
+    from : u ≤ m .current
+    keys : (v : ℕ) → u ≤ v → v ≤ lastIn m → all isLow (m .shows v) ≡ true
+
+  -- the open version's settings replaced
+  put-free : (m : Machine) (us : List Pair) → all isLow us ≡ true → ((v : ℕ) → u ≤ v → v ≤ m .current → all isLow (m .shows v) ≡ true)
+      → (v : ℕ) → u ≤ v → v ≤ suc (m .current) → all isLow (put (suc (m .current)) us (m .shows) v) ≡ true
+  put-free m us a f v h g = at (eqb v (suc (m .current))) refl
+    where
+      at : (b : Bool) → eqb v (suc (m .current)) ≡ b → all isLow (pick b us (m .shows v)) ≡ true
+      at true e = a
+      at false e = f v h (omega (arith, eqb-false v (suc (m .current)) e))
+
+  when : (n : ℕ) (m n′ : Machine) → (n ≡ 0 → Free n′) → Free m → Free (whenDone n n′ m)
+  when zero m n′ f g = f refl
+  when (suc n) m n′ f g = g
+
+  module _ (least : ℕ) (four : 4 ≤ least) (eight : least ≤ 8) where
+    module _ (x : Beside) (a : Agreed least x) (f : Free (x .machine)) where
+      abbrev m : Machine
+      m = x .machine
+
+      earlier : (v : ℕ) → u ≤ v → v ≤ x .machine .current → all isLow (x .machine .shows v) ≡ true
+      earlier v h g = f .keys v h (omega (arith, g, current-last (x .machine .opened) (x .machine .current)))
+
+      opened-last : x .machine .opened ≡ true → lastIn (x .machine) ≡ suc (x .machine .current)
+      opened-last o = ap (λ (q : Bool). lastOf q (x .machine .current)) o
+
+      -- an insert or a delete, where an update is open
+      edits : x .machine .opened ≡ true → (us : List Pair) → (all isLow (x .machine .shows (suc (x .machine .current))) ≡ true → all isLow us ≡ true)
+          → Free (record { current = x .machine .current; opened = x .machine .opened; shows = put (suc (x .machine .current)) us (x .machine .shows) })
+      edits o us g = record {
+        from = f .from;
+        keys = λ v h i. put-free (x .machine) us (g (f .keys (suc (x .machine .current)) (omega (arith, f .from)) (omega (arith, opened-last o)))) earlier v h (omega (arith, i, opened-last o));
+      }
+
+      steps : (c : Call) (ns : List ℕ) → ended least (asks c) (x .bytes) ns .number ≡ 0 → Free (step (x .machine) c)
+      steps begins ns e = record { from = f .from; keys = λ v h g. put-free (x .machine) (x .machine .shows (x .machine .current)) (earlier (x .machine .current) (f .from) (omega arith)) earlier v h g }
+      steps commits ns e =
+          let o : x .machine .opened ≡ true = ended-opened (x .machine .opened) (sym (answers least four eight x a .commits ns) ∙ e) in
+          record { from = omega (arith, f .from); keys = λ v h g. f .keys v h (omega (arith, g, opened-last o)) }
+      steps abandons ns e = record { from = f .from; keys = λ v h g. earlier v h g }
+      steps (inserts k y) ns e =
+          let (low, o) = insert-low k (x .machine .opened) (aliveIn (x .machine) k) (ended least (toInsert k y) (x .bytes) ns .number) (answers least four eight x a .inserts k y ns) e in
+          edits o (enterPair (pair k y) (x .machine .shows (suc (x .machine .current)))) (low-entered k y (x .machine .shows (suc (x .machine .current))) low)
+      steps (deletes k) ns e =
+          let o = delete-opened k (x .machine .opened) (aliveIn (x .machine) k) (ended least (toDelete k) (x .bytes) ns .number) (answers least four eight x a .deletes k ns) e in
+          edits o (those (λ (y : Pair). not (eqb (y .key) k)) (x .machine .shows (suc (x .machine .current)))) (low-those (λ (y : Pair). not (eqb (y .key) k)) (x .machine .shows (suc (x .machine .current))))
+
+      one-free : (t : Turn) → (kindOf (t .call) ≡ making → u ≡ 0) → Free (onward least x t .machine)
+      one-free t = at (t .call)
+        where
+          same : (n : ℕ) → Free (whenDone n (x .machine) (x .machine))
+          same n = when n (x .machine) (x .machine) (λ e. f) f
+
+          by : (c : Call) → Free (whenDone (ended least (asks c) (x .bytes) (t .list) .number) (step (x .machine) c) (x .machine))
+          by c = when (ended least (asks c) (x .bytes) (t .list) .number) (x .machine) (step (x .machine) c) (steps c (t .list)) f
+
+          at : (c : Asked) → (kindOf c ≡ making → u ≡ 0) → Free (whenDone (ended least c (x .bytes) (t .list) .number) (stepped (kindOf c) (x .machine)) (x .machine))
+          at toFresh h = when (ended least toFresh (x .bytes) (t .list) .number) (x .machine) start (λ e. record { from = omega (arith, h refl); keys = λ v i g. refl }) f
+          at toCheck h = same (ended least toCheck (x .bytes) (t .list) .number)
+          at toOpen h = by begins
+          at toCommit h = by commits
+          at toAbandon h = by abandons
+          at (toInsert k y) h = by (inserts k y)
+          at (toDelete k) h = by (deletes k)
+          at (toLookup k v) h = same (ended least (toLookup k v) (x .bytes) (t .list) .number)
+          at (toRange lo hi v) h = same (ended least (toRange lo hi v) (x .bytes) (t .list) .number)
+
+    many-free : (g : Kind → Bool) → (g making ≡ true → u ≡ 0) → (ts : List Turn) → each fitting ts ≡ true → each g ts ≡ true → (x : Beside) → Agreed least x → Free (x .machine)
+        → Free (along least x ts .machine)
+    many-free g z [] h i x a f = f
+    many-free g z (t ∷ ts) h i x a f =
+        let (p, q) = all-cons (λ (y : Turn). fitting (kindOf (y .call))) t ts h in
+        let (r, s) = all-cons (λ (y : Turn). g (kindOf (y .call))) t ts i in
+        many-free g z ts q s (onward least x t) (one-turn least four eight x a t p) (one-free x a f t (λ e. z (sym (ap g e) ∙ r)))
+
+    -- in the words of the store
+    store-free : (x : Beside) → Agreed least x → Free (x .machine) → BenchFree u (decode least (x .bytes))
+    store-free x a f v h g =
+        let l : last (decode least (x .bytes)) ≡ lastIn (x .machine) = ap₂ lastOf (a .agrees .opened) (a .agrees .current) in
+        ap (all isLow) (a .agrees .shows v g) ∙ f .keys v h (omega (arith, g, l))
+
+-- ---- the promise
+
+any-kind : (ts : List Turn) → each (λ (k : Kind). true) ts ≡ true
+any-kind [] = refl
+any-kind (t ∷ ts) = any-kind ts
+
+pub kept-out : KeptOut
+kept-out = record {
+  five = λ least b ok k x ns h. change-number least b ok (inserts k x) ns ∙ insert-five least (decode least b) k x h;
+  fresh = λ least four eight n six most ts h.
+      let x : Beside = fromFresh least n in
+      let a : Agreed least x = fresh-agreed least four eight n six most in
+      let f : Free 0 (x .machine) = record { from = omega arith; keys = λ v i g. refl } in
+      subst (λ (b : List ℕ). BenchFree 0 (decode least b)) (along-bytes least ts x)
+      (store-free 0 least four eight (along least x ts) (many-turns least four eight ts h x a) (many-free 0 least four eight (λ (k : Kind). true) (λ e. refl) ts h (any-kind ts) x a f));
+  cleaned = λ least four eight b ok clean ts h i.
+      let u : ℕ = decode least b .current in
+      let x : Beside = fromLent least b in
+      let a : Agreed least x = lent-agreed least four eight b ok in
+      let f : Free u (x .machine) = record { from = omega arith; keys = λ v j g. clean v j g } in
+      subst (λ (q : List ℕ). BenchFree u (decode least q)) (along-bytes least ts x)
+      (store-free u least four eight (along least x ts) (many-turns least four eight ts h x a) (many-free u least four eight notMaking (λ e. absurd (no e)) ts h i x a f));
+}
+  where
+    no : false ≡ true → ⊥
+    no e = let z : _≡_ {A = ℕ} 0 1 = cc in omega arith

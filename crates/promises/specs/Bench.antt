@@ -1,0 +1,31 @@
+-- 2026-06, "keep the bench keys out": "Keys 16,776,960 and above belong to our test bench. Insert refuses them with 5. Lookup, range and
+-- delete still take them, so that stores already shipped can be read and cleaned".
+-- Assumes nothing.
+use Prim.Native.Nat.{ℕ, _≤_}
+use mathlib.Core.Bool.{true}
+use mathlib.Core.Path.{_≡_}
+use mathlib.Core.List.{List}
+use lib.Dec.{ltb}
+use Rattle.model.specs.Basic.{all}
+use Rattle.model.specs.declared.Pair.{Pair}
+use Rattle.model.specs.Store
+use Rattle.model.specs.Store.{Store, last}
+use Rattle.model.specs.Walk.{settings}
+use Rattle.model.specs.Layout.{encode, decode}
+use Rattle.model.specs.Calls.{benchLimit}
+use Rattle.model.specs.Ended.{toInsert, ended}
+use Rattle.promises.specs.Accepts.{Accepts}
+use Rattle.promises.specs.Runs.{Turn, runBytes, notMaking, fitting, each}
+
+-- from version u on, none has a bench key
+abbrev pub BenchFree : ℕ → Store → Type 0
+BenchFree u s = (v : ℕ) → u ≤ v → v ≤ last s → all (λ (x : Pair). ltb (x .key) benchLimit) (settings s v) ≡ true
+
+pub record KeptOut : Type 0 where
+  -- whatever else speaks against the insert; by `refused` store and list are untouched
+  pub five : (least : ℕ) (b : List ℕ) → Accepts least b → (k x : ℕ) (ns : List ℕ) → benchLimit ≤ k → ended least (toInsert k x) b ns .number ≡ 5
+  -- from a fresh store on, whatever is called
+  pub fresh : (least : ℕ) → 4 ≤ least → least ≤ 8 → (n : ℕ) → 6 ≤ n → n ≤ 4096 → (ts : List Turn) → each fitting ts ≡ true → BenchFree 0 (decode least (runBytes least (encode least (Store.fresh n)) ts))
+  -- a store that is clean from its current version on stays so, whatever is called, short of making it fresh
+  pub cleaned : (least : ℕ) → 4 ≤ least → least ≤ 8 → (b : List ℕ) → Accepts least b → BenchFree (decode least b .current) (decode least b)
+      → (ts : List Turn) → each fitting ts ≡ true → each notMaking ts ≡ true → BenchFree (decode least b .current) (decode least (runBytes least b ts))

@@ -1,0 +1,91 @@
+//! The number and the rule of check, and what finding them took.
+
+use reference::layout::{at, EDITION, FEWEST_PAGES, FOUR_BYTES, MOST_PAGES, PAGE_BYTES};
+use reference::number;
+
+use crate::notes::{self, Work};
+use crate::quick::read::{Loads, Reading};
+use crate::quick::{budget, led, quick, rules};
+use crate::reach;
+
+/// What judging took: pages that `under` read, the notes where these were too many,
+/// and what check took besides: the notes that name a rule, the walk at the last
+/// version.
+#[derive(Clone, Copy, Debug, Default, PartialEq, Eq)]
+pub struct Taken {
+    pub under: u32,
+    pub judging: Work,
+    pub naming: Work,
+    pub reached: u64,
+}
+
+impl Taken {
+    /// Pages read, but for the passes that read each page once.
+    pub fn visits(self) -> u64 {
+        u64::from(self.under) + self.judging.notes + self.naming.notes + self.reached
+    }
+}
+
+/// Numbers 1 to 3, if it is one of them.
+fn refused(store: &[u8]) -> Option<u32> {
+    let pages = store.len() / PAGE_BYTES;
+    let whole = store.len().is_multiple_of(PAGE_BYTES);
+    if !whole || !(FEWEST_PAGES..=MOST_PAGES).contains(&pages) {
+        Some(number::LENGTH)
+    } else if store[..4] != FOUR_BYTES {
+        Some(number::FOUR_BYTES)
+    } else if at::EDITION.get(store) != EDITION {
+        Some(number::EDITION)
+    } else {
+        None
+    }
+}
+
+/// The number of check, without the rule that 4 comes with.
+#[inline(never)]
+pub fn number<R: Reading>(store: &[u8]) -> u32 {
+    judged::<R>(store, budget(store.len() / PAGE_BYTES)).0
+}
+
+/// The same with a budget, and what it took.
+pub fn judged<R: Reading>(store: &[u8], budget: u32) -> (u32, Taken) {
+    let mut taken = Taken::default();
+    if let Some(number) = refused(store) {
+        return (number, taken);
+    }
+    if rules::broken::<R>(store) != 0 {
+        return (number::UNSOUND, taken);
+    }
+    let mut left = budget;
+    let quick = quick::<R>(store, &mut left);
+    taken.under = budget - left;
+    let sound = quick.unwrap_or_else(|| {
+        let (rule, work) = notes::broken(store);
+        taken.judging = work;
+        rule == 0
+    });
+    let number = if sound { number::DONE } else { number::UNSOUND };
+    (number, taken)
+}
+
+/// Check: the number and, with 4, the lowest rule that is broken.
+pub fn check(store: &[u8], budget: u32) -> (u32, u32, Taken) {
+    let (number, mut taken) = judged::<Loads>(store, budget);
+    if number != number::UNSOUND {
+        return (number, 0, taken);
+    }
+    let local = rules::broken::<Loads>(store);
+    if local != 0 {
+        return (number, local, taken);
+    }
+    let (rule, work) = notes::broken(store);
+    taken.naming = work;
+    if rule != 0 {
+        return (number, rule, taken);
+    }
+    let (reached, pages) = reach::at_last(store);
+    taken.reached = pages;
+    // what the walk finds the sums and the slots find too
+    assert!(!led::<Loads>(store) && (reached || pages > 0));
+    (number, 6, taken)
+}

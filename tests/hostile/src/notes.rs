@@ -1,0 +1,154 @@
+//! Rules 4 and 5, the way the crate `notes` finds them: one pass through time from
+//! change to change, with a note for each page of what stands at and below it, and
+//! up to which version it stays.
+
+use reference::layout::{ABOVE_ALL_KEYS, ALIVE, FEWEST_LIVE, LEAF, MOST_PAGES};
+
+use crate::quick::part;
+use crate::quick::read::{header, slot, Entry, Loads, Reading};
+
+/// What stands at and below a page up to, not including, `until`.
+#[derive(Clone, Copy)]
+struct Note {
+    until: u32,
+    /// Live entries of the page, and the first one's key.
+    live: u32,
+    first: u32,
+    /// Every live key at and below the page is under this one.
+    high: u32,
+    /// Whether every page below it has its least entries.
+    full: bool,
+}
+
+const NOTHING: Note = Note {
+    until: ALIVE,
+    live: 0,
+    first: 0,
+    high: 0,
+    full: true,
+};
+
+/// How much work there was.
+#[derive(Clone, Copy, Debug, Default, PartialEq, Eq)]
+pub struct Work {
+    /// Steps from change to change.
+    pub steps: u64,
+    /// Notes made.
+    pub notes: u64,
+    /// Times that a note was asked for and held.
+    pub looks: u64,
+}
+
+struct Walk<'a> {
+    store: &'a [u8],
+    notes: Vec<Note>,
+    work: Work,
+}
+
+/// The lower of rules 4 and 5 that a store breaks, or 0, where rules 1 to 3 hold.
+pub fn broken(store: &[u8]) -> (u32, Work) {
+    let until = 0;
+    let mut walk = Walk {
+        store,
+        notes: vec![Note { until, ..NOTHING }; MOST_PAGES],
+        work: Work::default(),
+    };
+    let rule = walk.over_slots();
+    (rule, walk.work)
+}
+
+impl Walk<'_> {
+    fn over_slots(&mut self) -> u32 {
+        let header = header(self.store);
+        let mut full = true;
+        for place in 0..header.roots {
+            let own = slot(self.store, place);
+            let end = match place + 1 {
+                next if next < header.roots => slot(self.store, next).version,
+                _ => header.last + 1,
+            };
+            match self.stretch(own.root, own.version, end) {
+                None => return 4,
+                Some(own) => full &= own,
+            }
+        }
+        if full {
+            0
+        } else {
+            5
+        }
+    }
+
+    /// The versions from one up to, not including, another, which have one root:
+    /// whether rule 5 holds; none where rule 4 does not.
+    fn stretch(&mut self, root: usize, from: u32, end: u32) -> Option<bool> {
+        let level = Loads::head(part(self.store, root)).level;
+        let fewest = if level == LEAF { 0 } else { 2 };
+        let mut full = true;
+        let mut version = from;
+        while version < end {
+            self.work.steps += 1;
+            let note = self.visit(root, level, version)?;
+            if !low_fine(level, 0, note) || note.high > ABOVE_ALL_KEYS {
+                return None;
+            }
+            full &= note.full && fewest <= note.live;
+            version = note.until.min(end);
+        }
+        Some(full)
+    }
+
+    /// The note of a page; none where rule 4 is broken at or below it.
+    fn visit(&mut self, number: usize, level: u32, version: u32) -> Option<Note> {
+        let known = self.notes[number];
+        if version < known.until {
+            self.work.looks += 1;
+            return Some(known);
+        }
+        self.work.notes += 1;
+        let page = part(self.store, number);
+        let mut note = NOTHING;
+        for place in 0..Loads::head(page).count {
+            let entry = Loads::entry(page, place);
+            if version < entry.start {
+                note.until = note.until.min(entry.start);
+            } else if version < entry.end {
+                let below = match level {
+                    LEAF => NOTHING,
+                    _ => self.visit(entry.value as usize, level - 1, version)?,
+                };
+                note = joined(level, note, entry, below)?;
+            }
+        }
+        self.notes[number] = note;
+        Some(note)
+    }
+}
+
+/// One more live entry, with the note of its page.
+fn joined(level: u32, note: Note, entry: Entry, below: Note) -> Option<Note> {
+    let leaf = level == LEAF;
+    let fits = note.high <= entry.key && (leaf || low_fine(level - 1, entry.key, below));
+    let filled = leaf || below.full && FEWEST_LIVE as u32 <= below.live;
+    fits.then(|| Note {
+        until: note.until.min(entry.end).min(below.until),
+        live: note.live + 1,
+        first: if note.live == 0 {
+            entry.key
+        } else {
+            note.first
+        },
+        high: below.high.max(entry.key + 1),
+        full: note.full && filled,
+    })
+}
+
+/// "The first router's low key equals its page's low key"; a leaf's keys are at
+/// least that.
+fn low_fine(level: u32, low: u32, note: Note) -> bool {
+    match level {
+        _ if note.live == 0 => true,
+        LEAF => low <= note.first,
+        _ => low == note.first,
+    }
+}

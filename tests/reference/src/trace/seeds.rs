@@ -1,0 +1,222 @@
+//! Lines from a seed: histories of calls on stores of many shapes, damage and
+//! malformed lines among them.
+
+use super::line::{Line, MOST_PAGES};
+use super::session::LIST_AT_FIRST;
+use super::writer::Writer;
+use crate::damage::{kinds, tamper};
+use crate::engine::Call;
+use crate::history::{History, Kind, KINDS};
+use crate::layout::{FIRST_BENCH_KEY, HIGHEST_KEY, PAGE_BYTES};
+use crate::model::Model;
+use crate::samples::sound_store;
+
+/// At least `count` lines, named by `seed`. They end with the history at hand.
+pub fn lines(seed: u64, count: usize) -> Vec<u8> {
+    let mut writer = Writer::new(seed);
+    writer.before_any_store();
+    while writer.count < count {
+        writer.on_some_store();
+    }
+    writer.text
+}
+
+impl Writer {
+    fn before_any_store(&mut self) {
+        for _ in 0..self.rng.below(6) {
+            self.any_call();
+        }
+        if self.rng.once_in(8) {
+            // Once with the list as it is at first.
+            self.write(Line::Store(6));
+            self.write(Line::Call(Call::Range(0, HIGHEST_KEY, 0, LIST_AT_FIRST)));
+        }
+        self.write(Line::List(40));
+    }
+
+    /// A store and a history on it, up to a cut or to another store.
+    fn on_some_store(&mut self) {
+        let mut history = self.begin();
+        for _ in 0..self.rng.between(40, 400) {
+            match self.rng.below(80) {
+                0 => self.malformed_line(),
+                1 | 2 => self.damaged_for_a_while(),
+                3 | 4 => self.as_before(&mut history),
+                _ => self.go_on(&mut history),
+            }
+        }
+        match self.rng.below(3) {
+            0 => self.cut_off(),
+            1 => self.wrong_length(),
+            _ => {}
+        }
+    }
+
+    /// The next call of the history.
+    fn go_on(&mut self, history: &mut History) {
+        let call = history.next_call();
+        let answer = match call {
+            Call::Fresh => self.write(Line::Store((self.store.len() / PAGE_BYTES) as u32)),
+            _ => self.write_call(call),
+        };
+        history.observe(call, &answer);
+    }
+
+    /// Bench keys, as they went in before 2026-06.
+    fn as_before(&mut self, history: &mut History) {
+        for _ in 0..self.rng.between(1, 4) {
+            let key = match self.rng.below(4) {
+                0 => self.any_key(),
+                _ => self.rng.between(FIRST_BENCH_KEY - 1, HIGHEST_KEY),
+            };
+            let value = self.rng.word();
+            let answer = self.write(Line::RawInsert(key, value));
+            history.observe(Call::Insert(key, value), &answer);
+        }
+    }
+
+    fn begin(&mut self) -> History {
+        let kind = *self.rng.pick(&KINDS).unwrap_or(&Kind::Mixed);
+        let seed = self.rng.draw();
+        if self.rng.once_in(4) {
+            self.write_bytes(sound_store(seed));
+            let pages = self.store.len() / PAGE_BYTES;
+            return History::on_store(seed, kind, pages, Model::of_store(&self.store));
+        }
+        let pages = match self.rng.below(4) {
+            0 => self.rng.between(6, 10),
+            1 => self.rng.between(60, 130),
+            _ => self.rng.between(10, 48),
+        };
+        self.write(Line::Store(pages));
+        History::on_store(seed, kind, pages as usize, Model::fresh())
+    }
+
+    /// Damage, some calls on it, and the bytes as they were.
+    fn damaged_for_a_while(&mut self) {
+        let before = self.store.clone();
+        let mut damaged = before.clone();
+        match self.rng.below(4) {
+            0 => damaged[self.rng.below(5) as usize] = self.rng.below(4) as u8,
+            1 => {
+                let kinds = kinds();
+                let kind = &kinds[self.rng.below(kinds.len() as u32) as usize];
+                kind.make(&mut damaged, &mut self.rng);
+            }
+            2 => tamper::flip_bit(&mut damaged, &mut self.rng),
+            _ => tamper::set_some_field(&mut damaged, &mut self.rng),
+        }
+        self.write_differing(&damaged);
+        self.write(Line::Call(Call::Check));
+        for _ in 0..self.rng.between(2, 8) {
+            self.any_call();
+        }
+        self.write_differing(&before);
+    }
+
+    fn cut_off(&mut self) {
+        let length = self.store.len() as u32;
+        let pages = length / PAGE_BYTES as u32;
+        let length = match self.rng.below(4) {
+            0 => self.rng.below(8),
+            1 => self.rng.below(length + 2),
+            2 => length - 1,
+            _ => self.rng.below(pages + 1) * PAGE_BYTES as u32,
+        };
+        self.write(Line::Cut(length));
+        for _ in 0..6 {
+            self.any_call();
+        }
+        self.write(Line::Byte(length, 1));
+    }
+
+    /// A refused `store` leaves its bytes as they were lent.
+    fn wrong_length(&mut self) {
+        let pages = match self.rng.below(3) {
+            0 => self.rng.below(6),
+            1 => 4097,
+            _ => self.rng.between(4097, MOST_PAGES),
+        };
+        self.write(Line::Store(pages));
+        for _ in 0..2 {
+            self.any_call();
+        }
+    }
+
+    /// A call with arguments that know nothing of the store.
+    fn any_call(&mut self) {
+        let version = match self.rng.below(4) {
+            0 => self.rng.word(),
+            _ => self.rng.below(12),
+        };
+        let (key, other) = (self.any_key(), self.any_key());
+        let call = match self.rng.below(14) {
+            0 => Call::Check,
+            1 => Call::Open,
+            2 => Call::Insert(key, other),
+            3 => Call::Delete(key),
+            4 => Call::Commit,
+            5 => Call::Abandon,
+            6 | 7 => Call::Visits(key, version, 7),
+            8 | 9 => Call::Lookup(key, version),
+            10 => Call::Difference(version, self.rng.below(12), 40),
+            11 => Call::Life(key, 9),
+            _ => Call::Range(key, other, version, self.rng.below(400) as usize),
+        };
+        self.write_call(call);
+    }
+
+    fn any_key(&mut self) -> u32 {
+        match self.rng.below(7) {
+            0 => self.rng.word(),
+            1 => HIGHEST_KEY + self.rng.below(2),
+            2 => FIRST_BENCH_KEY - self.rng.below(2),
+            3 => self.rng.below(HIGHEST_KEY),
+            _ => self.rng.below(2000),
+        }
+    }
+
+    fn malformed_line(&mut self) {
+        let line = *self.rng.pick(MALFORMED).unwrap_or(&"");
+        self.write_text(line.as_bytes());
+    }
+}
+
+/// Lines that are never good ones.
+pub const MALFORMED: &[&str] = &[
+    "",
+    " ",
+    "open ",
+    " open",
+    "Open",
+    "open\r",
+    "open 1",
+    "insert 1",
+    "insert 1  2",
+    "rawinsert 1",
+    "raw insert 1 2",
+    "insert 1 -2",
+    "insert 1 4294967296",
+    "get 1",
+    "range 1 2",
+    "life",
+    "life 1 2",
+    "diff 1",
+    "diff 1 2 3",
+    "difference 1 2",
+    "visits 1",
+    "visits 1 2 3",
+    "check 1",
+    "store",
+    "store 5001",
+    "store 6 6",
+    "list",
+    "list 1000001",
+    "byte 1",
+    "byte 1 256",
+    "byte 1 2 3",
+    "cut",
+    "cut 1 2",
+    "lookup 1 1",
+    "\u{0}",
+];

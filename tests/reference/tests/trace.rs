@@ -1,0 +1,224 @@
+//! The lines of a trace and their answers.
+
+mod common;
+
+use std::collections::BTreeMap;
+
+use common::rounds;
+use reference::calls;
+use reference::engine::{apply, Answer, Call, Engine, Reference};
+use reference::trace::hash;
+use reference::trace::line::{parse, Line};
+use reference::trace::seeds::{lines, MALFORMED};
+use reference::trace::session::answers;
+
+fn answered(input: &str) -> Vec<String> {
+    let output = answers(&mut Reference, input.as_bytes());
+    let output = String::from_utf8(output).unwrap();
+    output.lines().map(str::to_string).collect()
+}
+
+/// The answers without the line's number in front and the store's hash behind.
+fn told(input: &str) -> Vec<String> {
+    let shortened = |(index, answer): (usize, String)| {
+        let words: Vec<&str> = answer.split(' ').collect();
+        assert_eq!(words[0], (index + 1).to_string());
+        assert_eq!(words[words.len() - 1].len(), 16);
+        words[1..words.len() - 1].join(" ")
+    };
+    answered(input)
+        .into_iter()
+        .enumerate()
+        .map(shortened)
+        .collect()
+}
+
+fn list_hash(front: &[u32], length: usize) -> String {
+    let mut list = front.to_vec();
+    list.resize(length, 0xAAAA_AAAA);
+    format!("{:016x}", hash::of_numbers(&list))
+}
+
+#[test]
+fn each_line_and_its_answer() {
+    let input = "store 16\nopen\ninsert 5 50\ninsert 9 0\ncommit\nget 5 1\nget 9 1\nget 7 1\n\
+                 list 6\nrange 0 20 1\nlist 3\nrange 0 20 1\nvisits 5 1\nlist 0\nvisits 5 1\n\
+                 get 5 2\nrange 2 1 9\nopen\ndelete 5\nabandon\ncheck\ndelete 5";
+    let six = list_hash(&[5, 50, 9, 0], 6);
+    let three = list_hash(&[], 3);
+    let none = list_hash(&[], 0);
+    let expected = [
+        "0",
+        "0",
+        "0",
+        "0",
+        "0",
+        "0 found=1 value=50",
+        "0 found=1 value=0",
+        "0 found=0 value=0",
+        "0",
+        &format!("0 count=2 list={six}"),
+        "0",
+        &format!("14 count=2 list={three}"),
+        "0 pages=5",
+        "0",
+        "14 pages=",
+        "6 found=0 value=0",
+        &format!("5 count=0 list={none}"),
+        "0",
+        "0",
+        "0",
+        "0 rule=0",
+        "7",
+    ];
+    assert_eq!(told(input), expected);
+}
+
+#[test]
+fn the_hash_is_of_all_bytes_after_the_line() {
+    let mut bytes = vec![0; 6 * 256];
+    assert_eq!(calls::fresh(&mut bytes), 0);
+    let fresh = format!("{:016x}", hash::of_bytes(&bytes));
+    let empty = "cbf29ce484222325";
+    let refused = format!("{:016x}", hash::of_bytes(&[0xEE; 5 * 256]));
+    bytes[1535] = 7;
+    let changed = format!("{:016x}", hash::of_bytes(&bytes));
+    let first = format!("{:016x}", hash::of_bytes(&bytes[..1]));
+    let input = "open\nstore 6\nbyte 1535 7\nbyte 1536 7\nfoo\ncheck\ncut 1\ncut 9\nbyte 1 1\n\
+                 cut 0\nstore 5\nopen\n";
+    let expected = [
+        format!("1 1 {empty}"),
+        format!("2 0 {fresh}"),
+        format!("3 0 {changed}"),
+        format!("4 0 {changed}"),
+        format!("5 bad {changed}"),
+        format!("6 4 rule=1 {changed}"),
+        format!("7 0 {first}"),
+        format!("8 0 {first}"),
+        format!("9 0 {first}"),
+        format!("10 0 {empty}"),
+        format!("11 1 {refused}"),
+        format!("12 1 {refused}"),
+    ];
+    assert_eq!(answered(input), expected);
+}
+
+#[test]
+fn a_list_of_200000_numbers_at_first() {
+    let hash = list_hash(&[], 200_000);
+    let input = "range 0 1 0\nstore 6\nrange 0 1 0\n";
+    let expected = [
+        format!("1 count=0 list={hash}"),
+        "0".into(),
+        format!("0 count=0 list={hash}"),
+    ];
+    assert_eq!(told(input), expected);
+}
+
+#[test]
+fn malformed_lines() {
+    for line in MALFORMED {
+        assert_eq!(parse(line.as_bytes()), None, "{line:?}");
+        assert_eq!(told(&format!("{line}\nopen\n")), ["bad", "1"], "{line:?}");
+    }
+    assert!(answered("").is_empty());
+    assert_eq!(told("\n"), ["bad"]);
+    assert_eq!(told("\nopen"), ["bad", "1"]);
+    assert_eq!(parse(b"store 5000"), Some(Line::Store(5000)));
+    assert_eq!(
+        parse(b"byte 4294967295 255"),
+        Some(Line::Byte(u32::MAX, 255))
+    );
+}
+
+/// A line is written as it is read.
+#[test]
+fn lines_there_and_back() {
+    let mut good = 0;
+    for seed in 0..4 {
+        for text in lines(seed, 300).split(|byte| *byte == b'\n') {
+            if let Some(line) = parse(text) {
+                assert_eq!(line.to_string().as_bytes(), text);
+                good += 1;
+            }
+        }
+    }
+    assert!(good > 1000);
+}
+
+const WORDS: &str = "store open insert delete commit abandon get range check visits list byte \
+                     cut rawinsert diff life";
+const NUMBERS: &str = "0 1 2 3 4 5 6 7 8 10 11 12 14 bad";
+
+/// How often each first word and each number stands in generated lines.
+#[test]
+fn generated_lines_meet_every_word_and_number() {
+    let (mut words, mut numbers) = (BTreeMap::new(), BTreeMap::new());
+    for seed in 0..rounds(40) {
+        let input = lines(seed, 1000);
+        assert!(seed > 3 || input == lines(seed, 1000));
+        let output = answers(&mut Reference, &input);
+        let pairs = input
+            .split(|b| *b == b'\n')
+            .zip(output.split(|b| *b == b'\n'));
+        for (line, answer) in pairs.filter(|(_, answer)| !answer.is_empty()) {
+            let line = String::from_utf8_lossy(line);
+            let word = line.split(' ').next().unwrap_or("").to_string();
+            *words.entry(word).or_insert(0u64) += 1;
+            let answer = String::from_utf8_lossy(answer);
+            let number = answer.split(' ').nth(1).unwrap_or("").to_string();
+            *numbers.entry(number).or_insert(0u64) += 1;
+        }
+    }
+    println!("{words:?}\n{numbers:?}");
+    for word in WORDS.split(' ') {
+        assert!(words[word] > 10, "{word}: {words:?}");
+    }
+    for number in NUMBERS.split(' ') {
+        assert!(numbers[number] > 10, "{number}: {numbers:?}");
+    }
+}
+
+/// This program with a fault.
+struct Faulty(fn(Call, &mut [u8], &mut [u32], &mut Answer));
+
+impl Engine for Faulty {
+    fn apply(&mut self, call: Call, store: &mut [u8], list: &mut [u32]) -> Answer {
+        let mut answer = apply(call, store, list);
+        (self.0)(call, store, list, &mut answer);
+        answer
+    }
+}
+
+fn is_caught(fault: fn(Call, &mut [u8], &mut [u32], &mut Answer)) -> bool {
+    (0..6).any(|seed| {
+        let input = lines(seed, 600);
+        answers(&mut Faulty(fault), &input) != answers(&mut Reference, &input)
+    })
+}
+
+#[test]
+fn a_faulty_program_is_caught() {
+    assert!(!is_caught(|_, _, _, _| {}));
+    assert!(is_caught(|_, _, _, answer| answer.rule = answer.rule.min(5)));
+    assert!(is_caught(|call, _, list, answer| {
+        if let (Call::Visits(..), 0) = (call, answer.number) {
+            list[answer.count as usize - 1] += 1;
+        }
+    }));
+    assert!(is_caught(|call, _, list, answer| {
+        if let (Call::Range(..), Some(behind)) = (call, list.get_mut(2 * answer.count as usize)) {
+            *behind = 0;
+        }
+    }));
+    assert!(is_caught(|call, store, _, answer| {
+        if call == Call::Open && answer.number == 8 {
+            store[1500] ^= 1;
+        }
+    }));
+    assert!(is_caught(|_, _, _, answer| {
+        if answer.number == 6 {
+            answer.number = 5;
+        }
+    }));
+}
