@@ -17,7 +17,7 @@ use Rattle.model.specs.Layout.{encode, decode}
 use Rattle.model.specs.Calls.{isSome, rule, benchLimit, insertTests, deleteTests, firstOf, insert}
 use Rattle.model.specs.Histories.{Call, begins, commits, abandons, inserts, deletes}
 use Rattle.model.specs.Settings.{Machine, start, step, put}
-use Rattle.model.specs.Ended.{Asked, toFresh, toCheck, toOpen, toCommit, toAbandon, toInsert, toDelete, toLookup, toRange, ended}
+use Rattle.model.specs.Ended.{Asked, toFresh, toInsert, toDelete, ended}
 use Rattle.model.proofs.Lists.{all-cons}
 use Rattle.model.proofs.Members.{bool-cases, In, all-in, all-by, in-those}
 use Rattle.model.proofs.Fitted.{entered-in}
@@ -27,7 +27,7 @@ use Rattle.promises.specs.Beside.{Beside, whenDone, stepped, onward, alo
 use Rattle.promises.specs.Answers.{lastIn, endTests, aliveIn, Gives}
 use Rattle.promises.specs.Bench.{BenchFree, KeptOut}
 use Rattle.promises.proofs.High.{numberOf, insert-number}
-use Rattle.promises.proofs.Lending.{change-number}
+use Rattle.promises.proofs.Lending.{kind-asks, by-kind, change-number}
 use Rattle.promises.proofs.Agreed.{Agreed, one-turn, many-turns, fresh-agreed, lent-agreed}
 use Rattle.promises.proofs.Answering.{answers}
 use Rattle.promises.proofs.Changed.{delete-opened}
@@ -132,16 +132,15 @@ module _ (u : ℕ) where
           by : (c : Call) → Free (whenDone (ended least (asks c) (x .bytes) (t .list) .number) (step (x .machine) c) (x .machine))
           by c = when (ended least (asks c) (x .bytes) (t .list) .number) (x .machine) (step (x .machine) c) (steps c (t .list)) f
 
-          at : (c : Asked) → (kindOf c ≡ making → u ≡ 0) → Free (whenDone (ended least c (x .bytes) (t .list) .number) (stepped (kindOf c) (x .machine)) (x .machine))
-          at toFresh h = when (ended least toFresh (x .bytes) (t .list) .number) (x .machine) start (λ e. record { from = omega (arith, h refl); keys = λ v i g. refl }) f
-          at toCheck h = same (ended least toCheck (x .bytes) (t .list) .number)
-          at toOpen h = by begins
-          at toCommit h = by commits
-          at toAbandon h = by abandons
-          at (toInsert k y) h = by (inserts k y)
-          at (toDelete k) h = by (deletes k)
-          at (toLookup k v) h = same (ended least (toLookup k v) (x .bytes) (t .list) .number)
-          at (toRange lo hi v) h = same (ended least (toRange lo hi v) (x .bytes) (t .list) .number)
+          Goes : Asked → Kind → Type 0
+          Goes c q = Free (whenDone (ended least c (x .bytes) (t .list) .number) (stepped q (x .machine)) (x .machine))
+
+          at : (c : Asked) → (kindOf c ≡ making → u ≡ 0) → Goes c (kindOf c)
+          at =
+              by-kind least (λ (c : Asked). (kindOf c ≡ making → u ≡ 0) → Goes c (kindOf c))
+              (λ h. when (ended least toFresh (x .bytes) (t .list) .number) (x .machine) start (λ e. record { from = omega (arith, h refl); keys = λ v i g. refl }) f)
+              (λ c h. subst (Goes (asks c)) (sym (kind-asks c)) (by c))
+              (λ c k stays h. subst (Goes c) (sym k) (same (ended least c (x .bytes) (t .list) .number)))
 
     many-free : (g : Kind → Bool) → (g making ≡ true → u ≡ 0) → (ts : List Turn) → each fitting ts ≡ true → each g ts ≡ true → (x : Beside) → Agreed least x → Free (x .machine)
         → Free (along least x ts .machine)
