@@ -18,7 +18,7 @@ use Rattle.model.specs.Walk.{keyLimit, find, settings}
 use Rattle.model.specs.Same.{samePairs}
 use Rattle.model.specs.Layout.{bit, decode}
 use Rattle.model.specs.Judged.{judged}
-use Rattle.model.specs.Calls.{isSome, unchanged, rule, firstOf, lookedAt, lookedBy, lookedFound, lookedValue}
+use Rattle.model.specs.Calls.{isSome, unchanged, rule, benchLimit, firstOf, lookedAt, lookedBy, lookedFound, lookedValue}
 use Rattle.model.specs.Histories.{commits}
 use Rattle.model.specs.Settings.{Machine, edited}
 use Rattle.model.specs.Ended.{toCommit, toInsert, toDelete, toLookup, toDifference, Ended, ofLooked, ended}
@@ -47,7 +47,7 @@ first-fifteen true true e = (refl, refl)
 first-fifteen true false e = absurd (omega arith)
 first-fifteen false q e = absurd (omega arith)
 
-first-none : (o q : Bool) → firstOf (commitTests o q) ≡ 0 → (o ≡ true) × (q ≡ false)
+pub first-none : (o q : Bool) → firstOf (commitTests o q) ≡ 0 → (o ≡ true) × (q ≡ false)
 first-none true true e = absurd (omega arith)
 first-none true false e = (refl, refl)
 first-none false q e = absurd (omega arith)
@@ -66,7 +66,7 @@ module _ (least : ℕ) (b ns : List ℕ) where
   abbrev n : ℕ
   n = ended least toCommit b ns .number
 
-  number-is : Accepts least b → n ≡ firstOf (commitTests (s .opened) (unchanged s))
+  pub number-is : Accepts least b → n ≡ firstOf (commitTests (s .opened) (unchanged s))
   number-is ok = change-number least b ok commits ns ∙ commit-number least s
 
   fifteen-accepts : n ≡ 15 → Accepts least b
@@ -241,7 +241,7 @@ module _ (least : ℕ) (four : 4 ≤ least) (eight : least ≤ 8) (b : List ℕ)
 
   absent : find k (x₀ .machine .shows (suc (x₀ .machine .current))) ≡ none
   absent = none-by (find k (x₀ .machine .shows (suc (x₀ .machine .current))))
-      (absent-by (leb keyLimit k) (x₀ .machine .opened) (aliveIn (x₀ .machine) k) (ended least (toInsert k x) b ns .number) (answers least four eight x₀ agreed₀ .inserts k x ns) done₁)
+      (absent-by (leb benchLimit k) (x₀ .machine .opened) (aliveIn (x₀ .machine) k) (ended least (toInsert k x) b ns .number) (answers least four eight x₀ agreed₀ .inserts k x ns) done₁)
 
   machine-is : x₂ .machine ≡ edited (λ (us : List Pair). those (λ (y : Pair). not (eqb (y .key) k)) us) (edited (enterPair (pair k x)) (x₀ .machine))
   machine-is =
