@@ -8,5 +8,6 @@ pub mod Kept
 pub mod Ready
 pub mod Pass
 pub mod Over
+pub mod Both
 pub mod Six
 pub mod Given

@@ -1,13 +1,11 @@
 -- Where the notes stand in for the pages' own tests. Assumes nothing.
 use Prim.Native.Nat.{ℕ, _≤_}
 use mathlib.Core.Bool.{Bool, true, false, _&&_}
-use mathlib.Core.Path.{_≡_, refl, ap, sym, _∙_}
-use lib.Dec.{eqb}
+use mathlib.Core.Path.{_≡_, ap, sym, _∙_}
 use lib.ListN.{drop}
 use Rattle.model.specs.Store.{Store}
 use Rattle.model.specs.Sound.{rule1, rule2, rule3, rule4, rule5}
 use Rattle.model.specs.Quick.{spansMet, slotsFine, quick}
-use Rattle.notes.specs.Pass.{told}
 use Rattle.notes.specs.Six.{quick-by}
 
 -- a store of which rules 1 to 3 hold
@@ -17,11 +15,6 @@ pub record Ruled (least : ℕ) (s : Store) : Type 0 where
   pub second : rule2 s ≡ true
   pub third : rule3 s ≡ true
 
-told-both : (a b : Bool) → eqb (told a b) 0 ≡ (a && b)
-told-both true true = refl
-told-both true false = refl
-told-both false b = refl
-
 module _ (least : ℕ) (s : Store) (h : Ruled least s) where
   by : quick least s ≡ (spansMet s 5 (drop 5 (s .pages)) && slotsFine least (s .pages) (s .slots) && (rule4 s && rule5 least s))
   by = quick-by least (h .two) s (h .first) (h .second) (h .third)
@@ -29,5 +22,5 @@ module _ (least : ℕ) (s : Store) (h : Ruled least s) where
   pub not-led : (spansMet s 5 (drop 5 (s .pages)) && slotsFine least (s .pages) (s .slots)) ≡ false → false ≡ quick least s
   not-led e = sym (by ∙ ap (λ (b : Bool). b && (rule4 s && rule5 least s)) e)
 
-  pub noted : (r : ℕ) → r ≡ told (rule4 s) (rule5 least s) → (spansMet s 5 (drop 5 (s .pages)) && slotsFine least (s .pages) (s .slots)) ≡ true → eqb r 0 ≡ quick least s
-  noted r q e = ap (λ (k : ℕ). eqb k 0) q ∙ told-both (rule4 s) (rule5 least s) ∙ sym (by ∙ ap (λ (b : Bool). b && (rule4 s && rule5 least s)) e)
+  pub noted : (r : Bool) → r ≡ (rule4 s && rule5 least s) → (spansMet s 5 (drop 5 (s .pages)) && slotsFine least (s .pages) (s .slots)) ≡ true → r ≡ quick least s
+  noted r q e = q ∙ sym (by ∙ ap (λ (b : Bool). b && (rule4 s && rule5 least s)) e)

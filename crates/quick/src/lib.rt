@@ -66,7 +66,7 @@ fn quick(s: &[u8], l: Limits, h: Header) -> bool
     if 0 < w.left {
         return w.fine;
     }
-    notes::broken(s, l, h) == 0
+    notes::both_hold(s, l, h)
 }
 
 // Rules 1 to 6 of lent bytes, which make `size` pages.

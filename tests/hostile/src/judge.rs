@@ -60,9 +60,9 @@ pub fn judged<R: Reading>(store: &[u8], budget: u32) -> (u32, Taken) {
     let quick = quick::<R>(store, &mut left);
     taken.under = budget - left;
     let sound = quick.unwrap_or_else(|| {
-        let (rule, work) = notes::broken(store);
+        let (sound, work) = notes::both_hold(store);
         taken.judging = work;
-        rule == 0
+        sound
     });
     let number = if sound { number::DONE } else { number::UNSOUND };
     (number, taken)

@@ -43,15 +43,28 @@ struct Walk<'a> {
     store: &'a [u8],
     notes: Vec<Note>,
     work: Work,
+    /// Whether it ends where rule 5 is broken too, and does not go on to name rule 4.
+    either: bool,
 }
 
 /// The lower of rules 4 and 5 that a store breaks, or 0, where rules 1 to 3 hold.
 pub fn broken(store: &[u8]) -> (u32, Work) {
+    over(store, false)
+}
+
+/// Whether both hold: judging asks no more.
+pub fn both_hold(store: &[u8]) -> (bool, Work) {
+    let (rule, work) = over(store, true);
+    (rule == 0, work)
+}
+
+fn over(store: &[u8], either: bool) -> (u32, Work) {
     let until = 0;
     let mut walk = Walk {
         store,
         notes: vec![Note { until, ..NOTHING }; MOST_PAGES],
         work: Work::default(),
+        either,
     };
     let rule = walk.over_slots();
     (rule, walk.work)
@@ -93,6 +106,9 @@ impl Walk<'_> {
                 return None;
             }
             full &= note.full && fewest <= note.live;
+            if self.either && !full {
+                return None;
+            }
             version = note.until.min(end);
         }
         Some(full)

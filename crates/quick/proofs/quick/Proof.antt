@@ -27,11 +27,16 @@ pages-fine-requires c κs = (c .before .before .before .before .before .pre .0, 
 returns-2 : tie.Need-returns-2
 returns-2 c = let a = c .before .before .before .before .before .before .before .before .args in c .before .before .pages-fine .ensures .right (c .if2 .taken) ∙ sym (quick-pages (a .l .least) (decode (a .l .least) (a .s .now)) (sym (c .before .before .before .before .before .before .led .ensures) ∙ not-false (c .before .before .before .before .before .before .led .result) (c .before .before .before .before .before .if1 .left)))
 
-broken-requires : tie.Need-broken-requires
-broken-requires c κs = (c .before .before .before .before .before .before .before .before .pre .0, c .before .before .before .before .before .before .before .before .pre .3)
+both-hold-requires : tie.Need-both-hold-requires
+both-hold-requires c κs = let r = c .before .before .before .before .before .before .before .before .pre in (r .0, r .3)
 
 returns-3 : tie.Need-returns-3
-returns-3 c = let a = c .before .before .before .before .before .before .before .before .before .args in noted (a .l .least) (decode (a .l .least) (a .s .now)) (c .before .before .before .before .before .before .before .before .before .pre .4) (c .broken .result) (c .broken .ensures) (sym (c .before .before .before .before .before .before .before .led .ensures) ∙ not-false (c .before .before .before .before .before .before .before .led .result) (c .before .before .before .before .before .before .if1 .left))
+returns-3 c =
+    let at-if = c .before .before .before .before .before .before in
+    let at-led = at-if .before in
+    let e = at-led .before .before in
+    let a = e .args in
+    noted (a .l .least) (decode (a .l .least) (a .s .now)) (e .pre .4) (c .both-hold .result) (c .both-hold .ensures) (sym (at-led .led .ensures) ∙ not-false (at-led .led .result) (at-if .if1 .left))
 
 pub quick-spec : {M : Type 1} → statement M
-quick-spec = tie.close (tie.spec led-requires returns size-requires budget-requires pages-fine-requires returns-2 broken-requires returns-3)
+quick-spec = tie.close (tie.spec led-requires returns size-requires budget-requires pages-fine-requires returns-2 both-hold-requires returns-3)

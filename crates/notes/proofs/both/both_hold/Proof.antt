@@ -1,0 +1,18 @@
+-- `notes::both::both_hold` meets its contract: no note is kept at first. Assumes nothing.
+use borrow.Author.Needs.{needs}
+use Rattle.model.specs.Layout.{decode}
+use Rattle.notes.specs.Kept.{kept-none}
+use Rattle.notes.proofs.both.both_hold.Statement.{statement}
+use Rattle.notes.proofs.both.both_hold.Tie as tie
+
+slice-aggregate-both-over : tie.Need-slice-aggregate-both-over
+slice-aggregate-both-over c = search needs
+
+both-over-requires : tie.Need-both-over-requires
+both-over-requires c κs = let e = c .before .before in (e .pre .0, e .pre .1, kept-none (e .args .l .least) (decode (e .args .l .least) (e .args .s .now) .pages) 0)
+
+returns : tie.Need-returns
+returns c = c .before .both-over .ensures
+
+pub both-hold-spec : {M : Type 1} → statement M
+both-hold-spec = tie.close (tie.spec slice-aggregate-both-over both-over-requires returns)

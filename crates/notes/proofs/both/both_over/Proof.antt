@@ -1,0 +1,114 @@
+-- `notes::both::both_over` meets its contract: rules 4 and 5 are what holds from v on. Assumes nothing.
+use Prim.Native.Nat.{_≤_, _-_, _+_}
+use mathlib.Core.Path.{_≡_, ap, sym, _∙_}
+use mathlib.Core.Bool.{Bool, _&&_}
+use native.Mathlib.Omega.{arith}
+use borrow.Author.Tests.{not-true, not-false}
+use Rattle.model.specs.Layout.{decode}
+use Rattle.model.specs.Sound.{rule4, rule5}
+use Rattle.store.specs.Read.{current-lt}
+use Rattle.notes.specs.Kept.{Kept, height-here}
+use Rattle.notes.specs.Ready.{root-quiet, versions-upto}
+use Rattle.notes.specs.Both.{bothAt, both-slot, both-done, both-rules}
+use Rattle.notes.proofs.both.both_over.Statement.{statement}
+use Rattle.notes.proofs.both.both_over.Tie as tie
+
+abbrev Inv-loop : tie.InvT-loop
+Inv-loop notes₀ s l h end v₀ notes v =
+    (v ≤ end) × Kept (l .least) ((decode (l .least) s) .pages) v notes × ((rule4 (decode (l .least) s) && rule5 (l .least) (decode (l .least) s)) ≡ bothAt (l .least) (decode (l .least) s) v end)
+
+abbrev μ-loop : tie.MeasureT-loop
+μ-loop notes₀ s l h end v₀ notes v = end - v
+
+last-requires : tie.Need-last-requires Inv-loop μ-loop
+last-requires c κs = let e = c .before .before in rw (e .pre .1 .header) (current-lt (e .args .l .least) (e .args .s .now))
+
+add-end : tie.Need-add-end Inv-loop μ-loop
+add-end c = omega (arith, c .last .ensures, c .before .before .before .pre .1 .last)
+
+loop-holds : tie.Need-loop-holds Inv-loop μ-loop
+loop-holds c =
+    let e = c .before .before .before in
+    let a = e .args in
+    let n = c .last .result in
+    (omega arith, e .pre .2, sym (both-rules (a .l .least) (decode (a .l .least) (a .s .now)) (n + 1) (versions-upto (a .l .least) (a .s .now) (a .h) n (e .pre .1 .header) (c .last .ensures))))
+
+slot-change-requires : tie.Need-slot-change-requires Inv-loop μ-loop
+slot-change-requires c κs = let r = c .before .before .before .before .before .pre in (r .0, r .1, c .loop-test .taken)
+
+root-at-requires : tie.Need-root-at-requires Inv-loop μ-loop
+root-at-requires c κs = let r = c .before .before .before .before .before .before .pre in (r .0, r .1)
+
+height-requires : tie.Need-height-requires Inv-loop μ-loop
+height-requires c κs = let r = c .before .before .before .before .before .before .before .pre in (r .0, r .1 .linked, c .root-at .ensures .1)
+
+both-on-requires : tie.Need-both-on-requires Inv-loop μ-loop
+both-on-requires c κs =
+    let at-root = c .before .before in
+    let at-change = at-root .before in
+    let at-loop = at-change .before .before in
+    let r = at-loop .before .before .before .before .pre in
+    let q = at-change .slot-change .ensures .0 in
+    (r .0, r .1 .linked, at-root .root-at .ensures .1 .isPage, c .before .height .ensures, omega (arith, q .above), omega (arith, q .below, at-loop .before .last .ensures, r .1 .last), at-loop .loop .inv .1)
+
+-- from v on: the versions up to the next slot, which have one root, and those behind them
+slot : (c : tie.After-both-on Inv-loop μ-loop) → let at-change = c .before .before .before .before in let at-loop = at-change .before .before in let a = at-loop .before .before .before .before .args in
+    let end = at-loop .before .last .result + 1 in
+    bothAt (a .l .least) (decode (a .l .least) (a .s .now)) (at-loop .loop .v) end ≡ (c .both-on .result && bothAt (a .l .least) (decode (a .l .least) (a .s .now)) (at-change .slot-change .result) end)
+slot c =
+    let at-height = c .before .before in
+    let at-root = at-height .before in
+    let at-change = at-root .before in
+    let at-loop = at-change .before .before in
+    let e = at-loop .before .before .before .before in
+    let a = e .args in
+    let st = decode (a .l .least) (a .s .now) in
+    let end = at-loop .before .last .result + 1 in
+    let v = at-loop .loop .v in
+    let root = at-root .root-at .result in
+    let q = at-change .slot-change .result in
+    let next = at-change .slot-change .ensures in
+    both-slot (a .l .least) st (at-height .height .result) root v q end (height-here (a .l .least) (a .s .now) root (at-root .root-at .ensures .1 .isPage) (at-height .height .result) (at-height .height .ensures))
+    (λ x low high. at-root .root-at .ensures .0 ∙ root-quiet (a .l .least) (a .s .now) (a .h) v x q (e .pre .1) low high (next .1)) (omega (arith, next .0 .above)) (next .0 .below)
+    ∙ ap (λ (b : Bool). b && bothAt (a .l .least) st q end) (sym (c .both-on .ensures .0))
+
+same-length : tie.Need-same-length Inv-loop μ-loop
+same-length c = let at-on = c .before .before .before in let at-loop = at-on .before .before .before .before .before .before in at-on .both-on .ensures .1 .long ∙ sym (at-loop .before .before .before .before .pre .2 .long)
+
+returns : tie.Need-returns Inv-loop μ-loop
+returns c =
+    let at-on = c .before .before .before in
+    let at-change = at-on .before .before .before .before in
+    let at-loop = at-change .before .before in
+    let a = at-loop .before .before .before .before .args in
+    sym
+    (at-loop .loop .inv .2 ∙ slot at-on
+    ∙ ap (λ (b : Bool). b && bothAt (a .l .least) (decode (a .l .least) (a .s .now)) (at-change .slot-change .result) (at-loop .before .last .result + 1)) (not-true (at-on .both-on .result) (c .if1 .taken)))
+
+loop-less : tie.Need-loop-less Inv-loop μ-loop
+loop-less c = let next = c .before .before .before .before .before .before .before .slot-change .ensures .0 in omega (arith, next .above, next .below)
+
+loop-again : tie.Need-loop-again Inv-loop μ-loop
+loop-again c =
+    let at-on = c .before .before .before in
+    let at-change = at-on .before .before .before .before in
+    let at-loop = at-change .before .before in
+    let a = at-loop .before .before .before .before .args in (
+      at-change .slot-change .ensures .0 .below,
+      at-on .both-on .ensures .1,
+      at-loop .loop .inv .2 ∙ slot at-on
+          ∙ ap (λ (b : Bool). b && bothAt (a .l .least) (decode (a .l .least) (a .s .now)) (at-change .slot-change .result) (at-loop .before .last .result + 1)) (not-false (at-on .both-on .result) (c .if1 .left)),
+    )
+
+same-length-2 : tie.Need-same-length-2 Inv-loop μ-loop
+same-length-2 c = let at-loop = c .before in at-loop .loop .inv .1 .long ∙ sym (at-loop .before .before .before .before .pre .2 .long)
+
+returns-2 : tie.Need-returns-2 Inv-loop μ-loop
+returns-2 c =
+    let at-loop = c .before in
+    let a = at-loop .before .before .before .before .args in
+    sym (at-loop .loop .inv .2 ∙ both-done (a .l .least) (decode (a .l .least) (a .s .now)) (at-loop .loop .v) (at-loop .before .last .result + 1) (c .loop-test .left))
+
+pub both-over-spec : {M : Type 1} → statement M
+both-over-spec =
+    tie.close (tie.spec Inv-loop μ-loop last-requires add-end loop-holds slot-change-requires root-at-requires height-requires both-on-requires same-length returns loop-less loop-again same-length-2 returns-2)

@@ -1,0 +1,71 @@
+// Whether rules 4 and 5 both hold at every version up to last. For judging, which does not name a rule: it leaves at the first version at
+// which either is broken, where `pass::broken` goes on behind a broken rule 5 to name 4.
+use crate::Note;
+use model::Header;
+use model::Limits;
+ghost use mathlib.Core.Path.{_≡_};
+ghost use mathlib.Core.Bool.{_&&_};
+ghost use Prim.Native.Nat.{_+_, _≤_};
+ghost use Rattle.model.specs.Limits.{Edition};
+ghost use Rattle.model.specs.Layout.{decode};
+ghost use Rattle.model.specs.Sound.{rule4, rule5};
+ghost use Rattle.local.specs.Local.{IsPage, levelAt};
+ghost use Rattle.notes.specs.Linked.{Linked};
+ghost use Rattle.notes.specs.Notes.{keysBy, fullBy};
+ghost use Rattle.notes.specs.Kept.{Kept};
+ghost use Rattle.notes.specs.Ready.{Ready};
+ghost use Rattle.notes.specs.Both.{bothOn};
+
+// Both rules by a root's note.
+fn both_by(l: Limits, up: usize, x: Note) -> bool
+    ensures { λ r. ⌜ r ≡ (keysBy up x && fullBy (l .least) up x) ⌝ }
+{
+    if !crate::pass::keys_by(up, x) {
+        return false;
+    }
+    crate::pass::full_by(l, up, x)
+}
+
+// The versions from a up to, not including, c, which have one root.
+fn both_on(notes: &mut [u32], s: &[u8], l: Limits, root: usize, up: usize, a: u32, c: u32) -> bool
+    requires { ⌜ Edition l × Linked (l .least) (now s) × IsPage (l .least) (now s) root × (levelAt (l .least) (now s) root ≡ up + 1) × (a ≤ c) × (c ≤ 1048575) × Kept (l .least) (decode (l .least) (now s) .pages) a (now notes) ⌝ }
+    ensures { λ r. ⌜ (r ≡ bothOn (l .least) up (decode (l .least) (now (s .entry)) .pages) root a c) × Kept (l .least) (decode (l .least) (now (s .entry)) .pages) c (now (notes .exit)) ⌝ }
+{
+    let mut v = a;
+    while v < c {
+        let x = crate::visit::visit(notes, s, l, up, v, root);
+        if !both_by(l, up, x) {
+            return false;
+        }
+        v = crate::step::smaller(x.until, c);
+    }
+    true
+}
+
+fn both_over(notes: &mut [u32], s: &[u8], l: Limits, h: Header) -> bool
+    requires { ⌜ Edition l × Ready (l .least) (now s) h × Kept (l .least) (decode (l .least) (now s) .pages) 0 (now notes) ⌝ }
+    ensures { λ r. ⌜ r ≡ (rule4 (decode (l .least) (now (s .entry))) && rule5 (l .least) (decode (l .least) (now (s .entry)))) ⌝ }
+{
+    let end = h.last() + 1;
+    let mut v = 0;
+    while v < end {
+        let c = crate::slots::slot_change(s, l, h, v, end);
+        let root = crate::slots::root_at(s, l, h, v);
+        let up = crate::pass::height(s, l, root);
+        let fine = both_on(notes, s, l, root, up, v, c);
+        if !fine {
+            return false;
+        }
+        v = c;
+    }
+    true
+}
+
+// Rules 4 and 5, where rules 1 to 3 hold.
+pub fn both_hold(s: &[u8], l: Limits, h: Header) -> bool
+    requires { ⌜ Edition l × Ready (l .least) (now s) h ⌝ }
+    ensures { λ r. ⌜ r ≡ (rule4 (decode (l .least) (now (s .entry))) && rule5 (l .least) (decode (l .least) (now (s .entry)))) ⌝ }
+{
+    let mut notes = [0; 20480];
+    both_over(&mut notes, s, l, h)
+}
