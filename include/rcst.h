@@ -36,9 +36,12 @@
  *   14  list holds fewer numbers than two for each setting found (range), three
  *       for each stretch (life), four for each difference (difference), one for
  *       each page visited (visits)
+ *   15  the open version's settings equal the current version's, key for key
+ *       (commit)
  *
  * Every number but 0 leaves store and list untouched, byte for byte. After 12 or
- * 13 the update is still open: it may be committed as it is, or abandoned.
+ * 13 the update is still open: it may be committed as it is, or abandoned. After
+ * 15 too: it may go on, be committed once it has changed something, or abandoned.
  *
  * The caller answers for what no library can see: that `store` points to
  * `length` bytes, and a list (`list`, `pages`) to `room` numbers, which nobody
@@ -92,7 +95,10 @@ uint32_t rcst_insert(uint8_t *store, size_t length, uint32_t key, uint32_t value
  */
 uint32_t rcst_delete(uint8_t *store, size_t length, uint32_t key);
 
-/* Commits the open update, even if nothing changed. Gives 0, 1 to 4 or 7. */
+/*
+ * Commits the open update. Gives 0, 1 to 4, 7 or 15: an update whose settings are
+ * those of the current version is no release, whatever was done and undone in it.
+ */
 uint32_t rcst_commit(uint8_t *store, size_t length);
 
 /* Abandons the open update. Gives 0, 1 to 4 or 7. */

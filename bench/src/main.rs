@@ -3,6 +3,7 @@
 
 mod bitwise;
 mod chart;
+mod commits;
 mod judging;
 mod lives;
 mod lookups;
@@ -25,11 +26,12 @@ use reference::{calls, store};
 
 /// All tables, or the one that the first argument names.
 fn main() {
-    let tables: [(&str, fn()); 11] = [
+    let tables: [(&str, fn()); 12] = [
         ("bytes", byte_layer),
         ("quick", judging::judging),
         ("check", check_of_histories),
         ("empty", empty_commits),
+        ("commits", commits::commits),
         ("lookups", lookups::lookups),
         ("lives", lives::lives),
         ("hostile", hostile_stores),

@@ -47,11 +47,12 @@ static void releases(void) {
     expect(memcmp(before, store, sizeof store) != 0, "the store tells that it is open");
     expect(rcst_abandon(store, sizeof store) == 0, "it is abandoned");
     expect(memcmp(before, store, sizeof store) == 0, "every byte is what it was");
-    expect(rcst_open(store, sizeof store) == 0 && rcst_commit(store, sizeof store) == 0, "a release");
+    expect(rcst_open(store, sizeof store) == 0 && rcst_commit(store, sizeof store) == 15, "an empty release is no release");
+    expect(rcst_insert(store, sizeof store, 9, 1) == 0 && rcst_commit(store, sizeof store) == 0, "a release");
     expect(rcst_lookup(store, sizeof store, 40, 1, &found, &value) == 0 && found == 0 && value == 0, "an absent key");
     expect(rcst_lookup(store, sizeof store, RCST_HIGHEST_KEY + 1, 1, &found, &value) == 5, "a key too large");
     expect(rcst_lookup(store, sizeof store, 40, 2, &found, &value) == 6, "a version above last");
-    expect(rcst_range(store, sizeof store, 0, RCST_HIGHEST_KEY, 1, list, 3, &count) == 0 && count == 0, "no settings");
+    expect(rcst_range(store, sizeof store, 0, RCST_HIGHEST_KEY, 0, list, 3, &count) == 0 && count == 0, "no settings");
     expect(list[0] == 1 && list[1] == 2 && list[2] == 3, "and nothing written");
     expect(rcst_range(store, sizeof store, 2, 1, 1, list, 3, &count) == 5 && count == 0, "low above high");
 }

@@ -20,7 +20,7 @@ ghost use Rattle.model.specs.Lent.{openLent, commitLent, abandonLent, lookupLen
 ghost use Rattle.walk.specs.Counted.{withList};
 ghost use Rattle.calls.specs.Guard.{guarded};
 ghost use Rattle.calls.specs.Reading.{reading, badRange};
-ghost use Rattle.calls.specs.Turning.{opening, closing, ended};
+ghost use Rattle.calls.specs.Turning.{opening, closing, committing, ended};
 
 // "Keys are 0 to 16,777,215".
 const KEYS: u32 = 16777216;
@@ -80,7 +80,7 @@ fn guard_opening(s: &[u8], l: Limits) -> u32
     0
 }
 
-// The guard of commit and abandon: judging, then 7.
+// The guard of abandon: judging, then 7.
 fn guard_closing(s: &[u8], l: Limits) -> u32
     requires { ⌜ Edition l ⌝ }
     ensures { λ r. ⌜ r ≡ guarded (l .least) (now (s .entry)) closing ⌝ }
@@ -92,6 +92,22 @@ fn guard_closing(s: &[u8], l: Limits) -> u32
     let h = store::header(s, l);
     if !h.opened {
         return 7;
+    }
+    0
+}
+
+// The guard of commit: abandon's, then 15.
+fn guard_committing(s: &[u8], l: Limits) -> u32
+    requires { ⌜ Edition l ⌝ }
+    ensures { λ r. ⌜ r ≡ guarded (l .least) (now (s .entry)) committing ⌝ }
+{
+    let n = guard_closing(s, l);
+    if n != 0 {
+        return n;
+    }
+    let h = store::header(s, l);
+    if release::unchanged(s, l, h.current) {
+        return 15;
     }
     0
 }
@@ -109,12 +125,12 @@ pub fn open(s: &mut [u8]) -> u32
     0
 }
 
-// Commits the open update.
+// Commits the open update, unless its settings are the current version's.
 pub fn commit(s: &mut [u8]) -> u32
     ensures { λ r. ⌜ ended r (now (s .exit)) ≡ commitLent 4 (now (s .entry)) ⌝ }
 {
     let l = model::edition_one();
-    let n = guard_closing(s, l);
+    let n = guard_committing(s, l);
     if n != 0 {
         return n;
     }

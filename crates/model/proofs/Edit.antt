@@ -36,7 +36,7 @@ all-those f g (u ∷ us) ok = at (g u) (all-cons f u us ok .0) (all-those f g us
     at false here ih = ih
 
 -- the key is not there
-missing : (k : ℕ) (u : Pair) (us : List Pair) → find k (u ∷ us) ≡ none → (u .key ≡ k → ⊥) × (find k us ≡ none)
+pub missing : (k : ℕ) (u : Pair) (us : List Pair) → find k (u ∷ us) ≡ none → (u .key ≡ k → ⊥) × (find k us ≡ none)
 missing k u us h = at (eqb (u .key) k) refl h
   where
     at : (b : Bool) → eqb (u .key) k ≡ b → pick b (some (u .value)) (find k us) ≡ none → (u .key ≡ k → ⊥) × (find k us ≡ none)

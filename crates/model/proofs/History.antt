@@ -17,7 +17,7 @@ use Rattle.model.specs.Store.{Store, next, lastOf, last, fresh}
 use Rattle.model.specs.Walk.{rangeOf, between, settings, lookup, find, keyLimit}
 use Rattle.model.specs.Sound.{sound}
 use Rattle.model.specs.Climb.{Result, done, refused}
-use Rattle.model.specs.Calls.{rule, rawInsert, insert, delete, begin, commit, abandon, abandoned}
+use Rattle.model.specs.Calls.{rule, rawInsert, insert, delete, begin, committed, unchanged, commit, abandon, abandoned}
 use Rattle.model.specs.Histories.{Call, begins, commits, abandons, inserts, deletes, callBy}
 use Rattle.model.specs.Settings.{Machine, put, edited, step, Both, onward, together, fits, beginning}
 use Rattle.model.proofs.Lists.{all-cons}
@@ -93,9 +93,9 @@ module _ (least : ℕ) (four : 4 ≤ least) (b : Both) (a : Agrees least b) wher
   commits-then : Then commits (commit s)
   unfolding commit
   commits-then =
-      numbered-by (Then commits) (rule 7 (not (s .opened)) ∷ []) (done (record { current = next s; opened = false; slots = s .slots; pages = s .pages })) (λ n. a) (λ f. go (not-false (s .opened) (f .0)))
+      numbered-by (Then commits) (rule 7 (not (s .opened)) ∷ rule 15 (unchanged s) ∷ []) (done (committed s)) (λ n. a) (λ f. go (not-false (s .opened) (f .0)))
     where
-      go : s .opened ≡ true → Agrees least (record { store = record { current = next s; opened = false; slots = s .slots; pages = s .pages }; machine = step m commits })
+      go : s .opened ≡ true → Agrees least (record { store = committed s; machine = step m commits })
       go o = record {
         is-sound = commit-sound least (s .current) (s .slots) (s .pages) (subst (λ (q : Bool). Sound least (store (s .current) q (s .slots) (s .pages))) o d);
         current = ap suc (a .current);

@@ -22,6 +22,7 @@ pub mod Lookups
 pub mod Ranges
 pub mod Merging
 pub mod Differs
+pub mod Same
 pub mod Fitted
 pub mod Redo
 pub mod Inv

@@ -16,7 +16,7 @@ use Rattle.model.specs.Store.{Store, next, last, lastOf}
 use Rattle.model.specs.Walk.{settings}
 use Rattle.model.specs.Sound.{sound}
 use Rattle.model.specs.Climb.{Result, done, refused}
-use Rattle.model.specs.Calls.{rule, insert, delete, begin, commit, abandon, abandoned}
+use Rattle.model.specs.Calls.{rule, insert, delete, begin, committed, unchanged, commit, abandon, abandoned}
 use Rattle.model.specs.Histories.{Call, begins, commits, abandons, inserts, deletes, callBy}
 use Rattle.model.specs.Settings.{Machine, step, Both, onward, together, fits, Tally, nothingYet, putCount, countedBy, tallied, beginning}
 use Rattle.model.proofs.Lists.{all-cons}
@@ -84,7 +84,7 @@ module _ (least : ℕ) (four : 4 ≤ least) (b : Both) (a : Agrees least b) (t :
   commits-next : Next commits (commit s)
   unfolding commit
   commits-next =
-      numbered-by (Next commits) (rule 7 (not (s .opened)) ∷ []) (done (record { current = next s; opened = false; slots = s .slots; pages = s .pages })) (λ n _. k)
+      numbered-by (Next commits) (rule 7 (not (s .opened)) ∷ rule 15 (unchanged s) ∷ []) (done (committed s)) (λ n _. k)
       (λ f n. record { is = λ v h. k .is v (omega (arith, last-open (not-false (s .opened) (f .0)))) })
 
   abandons-next : Next abandons (abandon s)

@@ -13,7 +13,7 @@ use Rattle.model.specs.Store.{Store, next}
 use Rattle.model.specs.Walk.{settings, lookup, lookupVisits, rangeOf, rangeVisits}
 use Rattle.model.specs.Sound.{sound}
 use Rattle.model.specs.Climb.{Result, done, refused}
-use Rattle.model.specs.Calls.{rule, insert, delete, begin, commit, abandon, abandoned}
+use Rattle.model.specs.Calls.{rule, insert, delete, begin, committed, unchanged, commit, abandon, abandoned}
 use Rattle.model.specs.Histories.{Call, begins, commits, abandons, inserts, deletes, callBy}
 use Rattle.model.specs.Settings.{Both, onward, together, fits, lent}
 use Rattle.model.proofs.Lists.{all-cons}
@@ -50,7 +50,7 @@ module _ (least : ℕ) (four : 4 ≤ least) (b : Both) (a : Agrees least b) wher
       numbered-by (Goes begins) (rule 8 (s .opened) ∷ rule 9 (leb 1048574 (s .current)) ∷ []) (done (record { current = s .current; opened = true; slots = s .slots; pages = s .pages })) (λ n. itself s)
       (λ f. record { current = omega arith; steady = λ v z. record { root = refl; height = refl; shows = λ n. refl } })
   goes commits h =
-      numbered-by (Goes commits) (rule 7 (not (s .opened)) ∷ []) (done (record { current = next s; opened = false; slots = s .slots; pages = s .pages })) (λ n. itself s)
+      numbered-by (Goes commits) (rule 7 (not (s .opened)) ∷ rule 15 (unchanged s) ∷ []) (done (committed s)) (λ n. itself s)
       (λ f. record { current = omega arith; steady = λ v z. record { root = refl; height = refl; shows = λ n. refl } })
   goes abandons h =
       numbered-by (Goes abandons) (rule 7 (not (s .opened)) ∷ []) (done (abandoned s)) (λ n. itself s)

@@ -19,8 +19,8 @@ use Rattle.model.specs.Sound.{sound}
 use Rattle.model.specs.Climb.{Result, done, refused}
 use Rattle.model.specs.Calls.{insert, delete, begin, abandon, abandoned, revivedEnd, revived, restoredEntries, backBy, back}
 use Rattle.model.specs.Histories.{Call, begins, commits, abandons, inserts, deletes, callBy}
-use Rattle.model.specs.Settings.{step, Both, onward, together, fits, isInside, lent}
-use Rattle.model.proofs.Lists.{all-cons}
+use Rattle.model.specs.Settings.{step, Both, onward, together, fits, isInside, staysIn, inside, lent}
+use Rattle.model.proofs.Lists.{both-true, both-intro, all-cons}
 use Rattle.model.proofs.Members.{holds-true, true-holds, not-both, bool-cases, In, all-in, all-by}
 use Rattle.model.proofs.Local.{those-all}
 use Rattle.model.proofs.Given.{Sound, from-tests, to-tests, Span, span-of, entry-of}
@@ -35,28 +35,41 @@ unfolding begin
 begin-open s o = rw o refl
 
 -- an open update stays open
-inside-open : (b : Both) (c : Call) → isInside c ≡ true → (r : Result) → b .machine .opened ≡ true → onward b c r .machine .opened ≡ true
-inside-open b c i (refused n) o = o
-inside-open b begins i (done t) o = refl
-inside-open b commits i (done t) o = absurd (not-both false i refl)
-inside-open b abandons i (done t) o = absurd (not-both false i refl)
-inside-open b (inserts k x) i (done t) o = o
-inside-open b (deletes k) i (done t) o = o
+inside-open : (b : Both) (c : Call) (r : Result) → staysIn c r ≡ true → b .machine .opened ≡ true → onward b c r .machine .opened ≡ true
+inside-open b c (refused n) i o = o
+inside-open b begins (done t) i o = refl
+inside-open b commits (done t) i o = absurd (not-both false i refl)
+inside-open b abandons (done t) i o = absurd (not-both false i refl)
+inside-open b (inserts k x) (done t) i o = o
+inside-open b (deletes k) (done t) i o = o
 
-still-open : (least : ℕ) (cs : List Call) → all isInside cs ≡ true → (b : Both) → b .machine .opened ≡ true → together least b cs .machine .opened ≡ true
-still-open least [] e b o = o
-still-open least (c ∷ cs) e b o =
-    let (x, y) = all-cons isInside c cs e in
-    still-open least cs y (onward b c (callBy least (b .store) c)) (inside-open b c x (callBy least (b .store) c) o)
+still-open : (least : ℕ) (cs : List Call) (b : Both) → inside least b cs ≡ true → b .machine .opened ≡ true → together least b cs .machine .opened ≡ true
+still-open least [] b e o = o
+still-open least (c ∷ cs) b e o =
+    let r : Result = callBy least (b .store) c in
+    let (x, y) = both-true (staysIn c r) (inside least (onward b c r) cs) e in
+    still-open least cs (onward b c r) y (inside-open b c r x o)
+
+-- calls that never end an update, whatever they give
+stays-in : (c : Call) (r : Result) → isInside c ≡ true → staysIn c r ≡ true
+stays-in c (done t) h = h
+stays-in c (refused n) h = refl
+
+pub all-inside : (least : ℕ) (cs : List Call) (b : Both) → all isInside cs ≡ true → inside least b cs ≡ true
+all-inside least [] b h = refl
+all-inside least (c ∷ cs) b h =
+    let (x, y) = all-cons isInside c cs h in
+    both-intro _ _ (stays-in c (callBy least (b .store) c) x) (all-inside least cs (onward b c (callBy least (b .store) c)) y)
 
 -- An abandon after any calls inside an update leaves what an abandon before them leaves.
-pub inside-undone : (least : ℕ) → 4 ≤ least → (cs : List Call) → all isInside cs ≡ true → all fits cs ≡ true → (b : Both) → Agrees least b → b .machine .opened ≡ true
+pub inside-undone : (least : ℕ) → 4 ≤ least → (cs : List Call) (b : Both) → inside least b cs ≡ true → all fits cs ≡ true → Agrees least b → b .machine .opened ≡ true
     → abandoned (together least b cs .store) ≡ abandoned (b .store)
-inside-undone least four [] e h b a o = refl
-inside-undone least four (c ∷ cs) e h b a o =
-    let (e₁, e₂) = all-cons isInside c cs e in
+inside-undone least four [] b e h a o = refl
+inside-undone least four (c ∷ cs) b e h a o =
+    let (e₁, e₂) = both-true (staysIn c (callBy least (b .store) c)) (inside least (onward b c (callBy least (b .store) c)) cs) e in
     let (h₁, h₂) = all-cons fits c cs h in
-    inside-undone least four cs e₂ h₂ (onward b c (callBy least (b .store) c)) (one-call least four b a c h₁) (inside-open b c e₁ (callBy least (b .store) c) o) ∙ one c e₁
+    inside-undone least four cs (onward b c (callBy least (b .store) c)) e₂ h₂ (one-call least four b a c h₁) (inside-open b c (callBy least (b .store) c) e₁ o)
+    ∙ one c (callBy least (b .store) c) refl e₁
   where
     sure : T (sound least (b .store))
     sure = true-holds (sound least (b .store)) (to-tests least (b .store) (a .is-sound))
@@ -68,12 +81,13 @@ inside-undone least four (c ∷ cs) e h b a o =
     again : begin (b .store) ≡ refused 8
     again = begin-open (b .store) (a .opened ∙ o)
 
-    one : (c′ : Call) → isInside c′ ≡ true → abandoned (onward b c (callBy least (b .store) c′) .store) ≡ abandoned (b .store)
-    one begins z = ap (λ (r : Result). abandoned (onward b c r .store)) again
-    one commits z = absurd (not-both false z refl)
-    one abandons z = absurd (not-both false z refl)
-    one (inserts k x) z = by (insert least (b .store) k x) (insert-undone least (omega arith) (b .store) sure k x)
-    one (deletes k) z = by (delete least (b .store) k) (delete-undone least (omega arith) (b .store) sure k)
+    one : (c′ : Call) (r : Result) → callBy least (b .store) c′ ≡ r → staysIn c′ r ≡ true → abandoned (onward b c (callBy least (b .store) c′) .store) ≡ abandoned (b .store)
+    one c′ (refused n) q z = ap (λ (r : Result). abandoned (onward b c r .store)) q
+    one begins (done t) q z = ap (λ (r : Result). abandoned (onward b c r .store)) again
+    one commits (done t) q z = absurd (not-both false z refl)
+    one abandons (done t) q z = absurd (not-both false z refl)
+    one (inserts k x) (done t) q z = by (insert least (b .store) k x) (insert-undone least (omega arith) (b .store) sure k x)
+    one (deletes k) (done t) q z = by (delete least (b .store) k) (delete-undone least (omega arith) (b .store) sure k)
 
 -- an open and an abandon
 map-places : {A : Type 0} (f : A → A) (d : A) (xs : List A) → ((n : ℕ) → n < length xs → f (getD xs n d) ≡ getD xs n d) → map f xs ≡ xs
@@ -152,15 +166,16 @@ module _ (least : ℕ) (four : 4 ≤ least) (b : Both) (a : Agrees least b) (shu
   abandon-is t o = rw o
 
   -- The whole: open, calls inside, abandon.
-  pub update-abandoned : (cs : List Call) → all isInside cs ≡ true → all fits cs ≡ true → together least b (begins ∷ (cs ++ (abandons ∷ []))) .store ≡ s
-  update-abandoned cs e h =
+  pub update-abandoned : (cs : List Call) → inside least b (begins ∷ cs) ≡ true → all fits cs ≡ true → together least b (begins ∷ (cs ++ (abandons ∷ []))) .store ≡ s
+  update-abandoned cs i h =
+      let e : inside least begun cs ≡ true = subst (λ (x : Both). inside least x cs ≡ true) onward-begin (both-true (staysIn begins (begin s)) (inside least (onward b begins (begin s)) cs) i .1) in
       let agreed : Agrees least begun = subst (Agrees least) onward-begin (one-call least four b a begins refl) in
       let after : Both = together least begun cs in
-      let open-after : after .store .opened ≡ true = many-calls least four cs h begun agreed .opened ∙ still-open least cs e begun refl in
+      let open-after : after .store .opened ≡ true = many-calls least four cs h begun agreed .opened ∙ still-open least cs begun e refl in
       ap (λ (x : Both). together least x (cs ++ (abandons ∷ [])) .store) onward-begin
       ∙ ap (λ (x : Both). x .store) (together-append least begun cs (abandons ∷ []))
       ∙ abandon-is after open-after
-      ∙ inside-undone least four cs e h begun agreed refl
+      ∙ inside-undone least four cs begun e h agreed refl
       ∙ begun-abandoned least (s .current) (s .slots) (s .pages) (subst (λ (q : Bool). Sound least (store (s .current) q (s .slots) (s .pages))) shut (a .is-sound))
       ∙ ap (λ (q : Bool). store (s .current) q (s .slots) (s .pages)) (sym shut)
 
@@ -168,6 +183,6 @@ pub lent-agrees : (least : ℕ) (s : Store) → T (sound least s) → Agrees lea
 lent-agrees least s sure = record { is-sound = from-tests least s (holds-true (sound least s) sure); current = refl; opened = refl; shows = λ v h. refl }
 
 -- For every sound store with no update open: an update that is abandoned leaves it as it was.
-pub abandoned-update : (least : ℕ) → 4 ≤ least → (s : Store) → T (sound least s) → s .opened ≡ false → s .current < 1048574 → (cs : List Call) → T (all isInside cs) → T (all fits cs)
+pub abandoned-update : (least : ℕ) → 4 ≤ least → (s : Store) → T (sound least s) → s .opened ≡ false → s .current < 1048574 → (cs : List Call) → T (inside least (lent s) (begins ∷ cs)) → T (all fits cs)
     → together least (lent s) (begins ∷ (cs ++ (abandons ∷ []))) .store ≡ s
-abandoned-update least four s sure shut room cs e h = update-abandoned least four (lent s) (lent-agrees least s sure) shut room cs (holds-true (all isInside cs) e) (holds-true (all fits cs) h)
+abandoned-update least four s sure shut room cs e h = update-abandoned least four (lent s) (lent-agrees least s sure) shut room cs (holds-true (inside least (lent s) (begins ∷ cs)) e) (holds-true (all fits cs) h)

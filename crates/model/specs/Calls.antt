@@ -16,7 +16,8 @@ use Rattle.model.specs.declared.Looked.the-variants.{Value, Absent, Refu
 use Rattle.model.specs.Page.{Page, free, active}
 use Rattle.model.specs.declared.Slot.{Slot}
 use Rattle.model.specs.Store.{Store, next, last}
-use Rattle.model.specs.Walk.{lookup, rangeOf, keyLimit}
+use Rattle.model.specs.Walk.{settings, lookup, rangeOf, keyLimit}
+use Rattle.model.specs.Same.{samePairs}
 use Rattle.model.specs.Climb.{Result, done, refused, update}
 
 abbrev pub isSome : Option ℕ → Bool
@@ -66,11 +67,17 @@ begin s =
     numbered (rule 8 (s .opened) ∷ rule 9 (leb 1048574 (s .current)) ∷ [])
     (done (record { current = s .current; opened = true; slots = s .slots; pages = s .pages }))
 
--- "Commit raises the current version and clears the flag, even if nothing changed."
+-- "Commit raises the current version and clears the flag": the store after it
+abbrev pub committed : Store → Store
+committed s = record { current = next s; opened = false; slots = s .slots; pages = s .pages }
+
+-- 2026-05: "the open version's settings equal the current version's, key for key"
+abbrev pub unchanged : Store → Bool
+unchanged s = samePairs (settings s (s .current)) (settings s (next s))
+
+-- "Commit shall give 15, change nothing and stay open, exactly when" that is so. "The order is after 7."
 unfoldable pub commit : Store → Result
-commit s =
-    numbered (rule 7 (not (s .opened)) ∷ [])
-    (done (record { current = next s; opened = false; slots = s .slots; pages = s .pages }))
+commit s = numbered (rule 7 (not (s .opened)) ∷ rule 15 (unchanged s) ∷ []) (done (committed s))
 
 -- "ends equal to it become alive again"
 abbrev pub revivedEnd : ℕ → ℕ → ℕ

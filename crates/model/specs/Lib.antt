@@ -5,6 +5,7 @@ pub mod Page
 pub mod Store
 pub mod Header
 pub mod Walk
+pub mod Same
 pub mod Sound
 pub mod Rules
 pub mod Climb
@@ -28,6 +29,7 @@ pub mod Replay
 pub mod Table
 pub mod AlsoRun
 pub mod Bench
+pub mod Releases
 pub mod Vectors
 pub mod Figures
 pub mod Samples

@@ -20,6 +20,7 @@ use Rattle.model.specs.Replay.{History, holds, soundWay, readBack}
 use Rattle.model.specs.Table.{table}
 use Rattle.model.specs.AlsoRun.{alsoRun}
 use Rattle.model.specs.Bench.{benchRun}
+use Rattle.model.specs.Releases.{releases}
 use Rattle.model.specs.Vectors.{freshBytes, entryForty, fortyBytes}
 use Rattle.model.specs.Figures.{Figure, made, figures}
 use Rattle.model.specs.Samples.{twoLevels, fromElsewhere, served, visited, visitedPages}
@@ -92,6 +93,15 @@ lifetimes-run = tt
 pub lifetimes-sound : T (all (λ (h : History). sound 4 (h .store)) lifetimes)
 unfolding judging
 lifetimes-sound = tt
+
+-- 2026-05; every store on the way of each is sound
+pub releases-hold : T (all holds releases)
+unfolding calling writing
+releases-hold = tt
+
+pub releases-sound : T (all soundWay releases)
+unfolding calling judging
+releases-sound = tt
 
 -- ---- outside vectors
 

@@ -2,7 +2,7 @@
 -- order from a fresh store, leave": a machine with no pages, which a store's history is held to.
 -- Assumes nothing.
 use Prim.Native.Nat.{ℕ, suc}
-use mathlib.Core.Bool.{Bool, true, false, not}
+use mathlib.Core.Bool.{Bool, true, false, _&&_, not}
 use mathlib.Core.List.{List, [], _∷_}
 use lib.Dec.{ltb, eqb}
 use Rattle.model.specs.Basic.{those, pick}
@@ -69,13 +69,23 @@ fits abandons = true
 fits (inserts k x) = ltb x 4294967296
 fits (deletes k) = true
 
--- the calls that may stand inside an open update: all but commit and abandon, which end it. Another open is refused there.
+-- the calls that leave an open update open: all but commit and abandon, which end it. Another open is refused there.
 abbrev pub isInside : Call → Bool
 isInside begins = true
 isInside commits = false
 isInside abandons = false
 isInside (inserts k x) = true
 isInside (deletes k) = true
+
+-- and any call that is refused, as a commit is by 15
+abbrev pub staysIn : Call → Result → Bool
+staysIn c (done t) = isInside c
+staysIn c (refused n) = true
+
+-- calls one after another, none of which ends an open update
+abbrev pub inside : ℕ → Both → List Call → Bool
+inside least b [] = true
+inside least b (c ∷ cs) = staysIn c (callBy least (b .store) c) && inside least (onward b c (callBy least (b .store) c)) cs
 
 -- "their number is those inserts less those deletes": how many were accepted in the updates up to each version
 pub record Tally : Type 0 where

@@ -16,7 +16,8 @@ use Rattle.model.specs.Store.{Store, next, last, lastOf}
 use Rattle.model.specs.Walk.{keyLimit, find, lookup, settings, between, rangeOf}
 use Rattle.model.specs.Layout.{decode}
 use Rattle.model.specs.Calls
-use Rattle.model.specs.Calls.{isSome, rule, benchLimit, insertTests, deleteTests, firstOf, lookedBy, Ranged, rangedBy, get, range}
+use Rattle.model.specs.Same.{samePairs}
+use Rattle.model.specs.Calls.{unchanged, isSome, rule, benchLimit, insertTests, deleteTests, firstOf, lookedBy, Ranged, rangedBy, get, range}
 use Rattle.model.specs.Told
 use Rattle.model.specs.Told.{toldBy}
 use Rattle.model.specs.Differ
@@ -32,7 +33,7 @@ use Rattle.model.proofs.Lives.{life-ext}
 use Rattle.model.proofs.Lookups.{lookup-is, settings-rise}
 use Rattle.model.proofs.Ranges.{range-is}
 use Rattle.promises.specs.Beside.{Beside}
-use Rattle.promises.specs.Answers.{lastIn, lookupTests, rangeTests, differenceTests, openTests, endTests, lookedIn, rangedFrom, livedIn, toldFrom, aliveIn, Gives, Answers, lifeTests}
+use Rattle.promises.specs.Answers.{lastIn, lookupTests, rangeTests, differenceTests, openTests, endTests, commitTests, lookedIn, rangedFrom, livedIn, toldFrom, aliveIn, unchangedIn, Gives, Answers, lifeTests}
 use Rattle.promises.proofs.High.{begin-number, commit-number, abandon-number, insert-number, delete-number}
 use Rattle.promises.proofs.Lending.{change-number}
 use Rattle.promises.proofs.Agreed.{Agreed}
@@ -172,6 +173,19 @@ module _ (least : ℕ) (four : 4 ≤ least) (eight : least ≤ 8) (x : Beside) (
   ends : firstOf (endTests (s .opened)) ≡ firstOf (endTests (m .opened))
   ends = ap (λ (o : Bool). firstOf (endTests o)) (a .agrees .opened)
 
+  -- where 7 is not due, the settings may be compared on the machine
+  commit-same : firstOf (commitTests (s .opened) (unchanged s)) ≡ firstOf (commitTests (m .opened) (unchangedIn m))
+  commit-same = at (s .opened) refl ∙ ap (λ (o : Bool). firstOf (commitTests o (unchangedIn m))) (a .agrees .opened)
+    where
+      unchanged-here : s .opened ≡ true → unchanged s ≡ unchangedIn m
+      unchanged-here o =
+          let l : last s ≡ next s = ap (λ (q : Bool). lastOf q (s .current)) o in
+          ap₂ samePairs (a .agrees .shows (s .current) (omega arith)) (a .agrees .shows (next s) (omega arith)) ∙ ap (λ (n : ℕ). samePairs (m .shows n) (m .shows (suc n))) (a .agrees .current)
+
+      at : (o : Bool) → s .opened ≡ o → firstOf (commitTests o (unchanged s)) ≡ firstOf (commitTests o (unchangedIn m))
+      at false e = refl
+      at true e = ap (λ (q : Bool). firstOf (rule 15 q ∷ [])) (unchanged-here e)
+
   -- ---- all of it
 
   pub answers : Answers least x
@@ -184,7 +198,7 @@ module _ (least : ℕ) (four : 4 ≤ least) (eight : least ≤ 8) (x : Beside) (
     order = λ v h. ap (inOrder (λ (p q : Pair). ltb (p .key) (q .key))) (sym (a .agrees .shows v (omega (arith, last-is)))) ∙ settings-rise least (omega arith) s (a .agrees .is-sound) v (omega (arith, last-is));
     count = λ v h. ap (λ (us : List Pair). length us + x .tally .removed v) (sym (a .agrees .shows v (omega (arith, last-is)))) ∙ a .counts .is v (omega (arith, last-is));
     opens = λ ns. change-number least (x .bytes) (a .accepted) begins ns ∙ begin-number least s ∙ ap₂ (λ (o : Bool) (n : ℕ). firstOf (openTests o n)) (a .agrees .opened) (a .agrees .current);
-    commits = λ ns. change-number least (x .bytes) (a .accepted) commits ns ∙ commit-number least s ∙ ends;
+    commits = λ ns. change-number least (x .bytes) (a .accepted) commits ns ∙ commit-number least s ∙ commit-same;
     abandons = λ ns. change-number least (x .bytes) (a .accepted) abandons ns ∙ abandon-number least s ∙ ends;
     inserts = insert-gives;
     deletes = delete-gives;

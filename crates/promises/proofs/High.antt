@@ -13,10 +13,10 @@ use Rattle.model.specs.Walk.{lookup}
 use Rattle.model.specs.Climb
 use Rattle.model.specs.Climb.{Rooted, stays, moves, lacks, Result, done, refused, update}
 use Rattle.model.specs.Calls
-use Rattle.model.specs.Calls.{Rule, numbered, firstOf, isSome, insertTests, deleteTests, insert, delete, begin, commit, abandon, abandoned}
+use Rattle.model.specs.Calls.{Rule, numbered, firstOf, isSome, insertTests, deleteTests, insert, delete, begin, committed, unchanged, commit, abandon, abandoned}
 use Rattle.model.specs.Needs.{inserting, deleting}
 use Rattle.model.specs.Histories.{Call, begins, commits, abandons, inserts, deletes, callBy}
-use Rattle.promises.specs.Answers.{openTests, endTests, Gives}
+use Rattle.promises.specs.Answers.{openTests, endTests, commitTests, Gives}
 
 -- the number that a result stands for
 abbrev pub numberOf : Result → ℕ
@@ -74,7 +74,7 @@ module _ (least : ℕ) (s : Store) where
   pub call-high : (c : Call) → High (callBy least s c)
   unfolding Calls.insert Calls.delete Calls.begin Calls.commit Calls.abandon
   call-high begins = chain-high (openTests (s .opened) (s .current)) _ (omega arith, (omega arith, tt)) tt
-  call-high commits = chain-high (endTests (s .opened)) _ (omega arith, tt) tt
+  call-high commits = chain-high (commitTests (s .opened) (unchanged s)) _ (omega arith, (omega arith, tt)) tt
   call-high abandons = chain-high (endTests (s .opened)) _ (omega arith, tt) tt
   call-high (inserts k x) =
       chain-high (insertTests k (s .opened) (alive k)) (update least s k (inserting k x)) (omega arith, (omega arith, (omega arith, tt)))
@@ -116,9 +116,9 @@ module _ (least : ℕ) (s : Store) where
   unfolding Calls.begin
   begin-number = chain-first (openTests (s .opened) (s .current)) (record { current = s .current; opened = true; slots = s .slots; pages = s .pages })
 
-  pub commit-number : numberOf (commit s) ≡ firstOf (endTests (s .opened))
+  pub commit-number : numberOf (commit s) ≡ firstOf (commitTests (s .opened) (unchanged s))
   unfolding Calls.commit
-  commit-number = chain-first (endTests (s .opened)) (record { current = next s; opened = false; slots = s .slots; pages = s .pages })
+  commit-number = chain-first (commitTests (s .opened) (unchanged s)) (committed s)
 
   pub abandon-number : numberOf (abandon s) ≡ firstOf (endTests (s .opened))
   unfolding Calls.abandon

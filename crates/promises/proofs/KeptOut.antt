@@ -24,7 +24,7 @@ use Rattle.model.proofs.Fitted.{entered-in}
 use Rattle.promises.specs.Accepts.{Accepts}
 use Rattle.promises.specs.Runs.{Turn, runBytes, Kind, making, kindOf, asks, notMaking, fitting, each}
 use Rattle.promises.specs.Beside.{Beside, whenDone, stepped, onward, along, fromFresh, fromLent}
-use Rattle.promises.specs.Answers.{lastIn, endTests, aliveIn, Gives}
+use Rattle.promises.specs.Answers.{lastIn, aliveIn, unchangedIn, Gives}
 use Rattle.promises.specs.Bench.{BenchFree, KeptOut}
 use Rattle.promises.proofs.High.{numberOf, insert-number}
 use Rattle.promises.proofs.Lending.{kind-asks, by-kind, change-number}
@@ -32,6 +32,7 @@ use Rattle.promises.proofs.Agreed.{Agreed, one-turn, many-turns, fresh-
 use Rattle.promises.proofs.Answering.{answers}
 use Rattle.promises.proofs.Changed.{delete-opened}
 use Rattle.promises.proofs.Restored.{along-bytes}
+use Rattle.promises.proofs.Releasing.{first-none}
 
 -- ---- lists of settings
 
@@ -53,10 +54,6 @@ low-those g us a = all-by isLow (those g us) (λ y i. all-in isLow y us a (in-th
 current-last : (o : Bool) (n : ℕ) → n ≤ lastOf o n
 current-last true n = omega arith
 current-last false n = omega arith
-
-ended-opened : (o : Bool) → firstOf (endTests o) ≡ 0 → o ≡ true
-ended-opened true e = refl
-ended-opened false e = absurd (omega arith)
 
 -- an insert that is done is of a key below the bench's
 insert-low : (k : ℕ) (o alive : Bool) (n : ℕ) → Gives (firstOf (insertTests k o alive)) n → n ≡ 0 → (k < benchLimit) × (o ≡ true)
@@ -113,7 +110,7 @@ module _ (u : ℕ) where
       steps : (c : Call) (ns : List ℕ) → ended least (asks c) (x .bytes) ns .number ≡ 0 → Free (step (x .machine) c)
       steps begins ns e = record { from = f .from; keys = λ v h g. put-free (x .machine) (x .machine .shows (x .machine .current)) (earlier (x .machine .current) (f .from) (omega arith)) earlier v h g }
       steps commits ns e =
-          let o : x .machine .opened ≡ true = ended-opened (x .machine .opened) (sym (answers least four eight x a .commits ns) ∙ e) in
+          let o : x .machine .opened ≡ true = first-none (x .machine .opened) (unchangedIn (x .machine)) (sym (answers least four eight x a .commits ns) ∙ e) .0 in
           record { from = omega (arith, f .from); keys = λ v h g. f .keys v h (omega (arith, g, opened-last o)) }
       steps abandons ns e = record { from = f .from; keys = λ v h g. earlier v h g }
       steps (inserts k y) ns e =

@@ -16,5 +16,6 @@ pub mod Restored
 pub mod KeptOut
 pub mod Replaying
 pub mod Fakes
+pub mod Releasing
 pub mod Promises
 pub mod Sampled

@@ -20,7 +20,7 @@ use Rattle.model.specs.Walk.{keyLimit, lookup}
 use Rattle.model.specs.Layout.{decode}
 use Rattle.model.specs.Climb.{Result, done, refused}
 use Rattle.model.specs.Calls
-use Rattle.model.specs.Calls.{rule, firstOf, lookedAt, lookedBy, get, commit}
+use Rattle.model.specs.Calls.{rule, firstOf, lookedAt, lookedBy, get, committed, unchanged, commit}
 use Rattle.model.specs.Told
 use Rattle.model.specs.Told.{toldIn, toldBy}
 use Rattle.model.specs.Life
@@ -41,10 +41,10 @@ use Rattle.promises.specs.Accepts.{Accepts}
 use Rattle.promises.specs.Runs.{Turn, runBytes, Kind, making, changing, reading, kindOf, notMaking, uncommitting, each}
 use Rattle.promises.specs.Views.{SaysSame}
 use Rattle.promises.specs.Lives.{LifeGiven, LivesAgree, StretchesApart, OpenUnshown, LeftAlone}
-use Rattle.promises.proofs.High.{numberOf}
-use Rattle.promises.proofs.Lending.{held-sound, change-leaves, change-number}
+use Rattle.promises.proofs.Lending.{held-sound, change-leaves}
 use Rattle.promises.proofs.Projected.{withCall, callsOf, calls-fit}
 use Rattle.promises.proofs.Stays.{lookup-lent, later, goes}
+use Rattle.promises.proofs.Releasing.{first-none, number-is}
 use Rattle.promises.proofs.Stretches.{life-ends, life-apart, life-lies, life-stays}
 
 -- ---- readings of accepted bytes
@@ -200,28 +200,21 @@ open-unshown least four eight b ok ts f u k =
 -- ---- a commit
 
 module _ (least : ℕ) (b : List ℕ) (ok : Accepts least b) where
-  abbrev committed : Store
-  committed = record { current = next (decode least b); opened = false; slots = decode least b .slots; pages = decode least b .pages }
+  -- where it is done, an update is open that changes something
+  opened-by : (ms : List ℕ) → ended least toCommit b ms .number ≡ 0 → (decode least b .opened ≡ true) × (unchanged (decode least b) ≡ false)
+  opened-by ms given = first-none (decode least b .opened) (unchanged (decode least b)) (sym (number-is least b ms ok) ∙ given)
 
-  opened-by : (ms : List ℕ) → ended least toCommit b ms .number ≡ 0 → decode least b .opened ≡ true
+  commit-after : decode least b .opened ≡ true → unchanged (decode least b) ≡ false → after (decode least b) (callBy least (decode least b) commits) .store ≡ committed (decode least b)
   unfolding Calls.commit
-  opened-by ms given = at (decode least b .opened) (sym (change-number least b ok commits ms) ∙ given)
-    where
-      at : (o : Bool) → numberOf (Calls.numbered (rule 7 (not o) ∷ []) (done committed)) ≡ 0 → o ≡ true
-      at true e = refl
-      at false e = absurd (omega arith)
-
-  commit-after : decode least b .opened ≡ true → after (decode least b) (callBy least (decode least b) commits) .store ≡ committed
-  unfolding Calls.commit
-  commit-after o = ap (λ (q : Bool). after (decode least b) (Calls.numbered (rule 7 (not q) ∷ []) (done committed)) .store) o
+  commit-after o c = ap₂ (λ (q r : Bool). after (decode least b) (Calls.numbered (rule 7 (not q) ∷ rule 15 r ∷ []) (done (committed (decode least b)))) .store) o c
 
 pub left-alone : LeftAlone
 left-alone least four eight b ok ms given k same =
     let s = decode least b in
-    let o = opened-by least b ok ms given in
+    let (o, c) = opened-by least b ok ms given in
     let left = change-leaves least four eight b ok commits refl ms in
     let b′ = ended least toCommit b ms .store in
-    let is : decode least b′ ≡ committed least b ok = left .holds ∙ commit-after least b ok o in
+    let is : decode least b′ ≡ committed s = left .holds ∙ commit-after least b ok o c in
     let up : last s ≡ next s = ap (λ (q : Bool). lastOf q (s .current)) o in
     says-same least b b′ ok (left .accepts) k
     (λ h. ap (λ (t : Store). life t k) is

@@ -1,7 +1,7 @@
 -- Calls on accepted bytes, making fresh aside, are those calls on the store that they hold.
 -- Assumes nothing.
 use Prim.Native.Nat.{ℕ, _≤_}
-use mathlib.Core.Bool.{true, false}
+use mathlib.Core.Bool.{Bool, true, false, _||_}
 use mathlib.Core.Path.{_≡_, refl, ap, sym, _∙_, subst}
 use mathlib.Core.List.{List, [], _∷_, _++_}
 use Rattle.model.specs.Basic.{all}
@@ -12,11 +12,12 @@ use Rattle.model.specs.Histories.{Call, callBy, after}
 use Rattle.model.specs.Settings
 use Rattle.model.specs.Settings.{Both, together}
 use Rattle.model.specs.Ended.{Asked, ended}
-use Rattle.model.proofs.Lists.{all-cons, both-intro}
+use Rattle.model.proofs.Lists.{both-true, all-cons, both-intro}
 use Rattle.model.proofs.Members.{not-both}
 use Rattle.promises.specs.Accepts.{Accepts}
-use Rattle.promises.specs.Runs.{Turn, turned, runBytes, Kind, making, changing, reading, kindOf, asks, notMaking, fitting, staying, each}
-use Rattle.promises.proofs.Lending.{kind-asks, by-kind, Leaves, change-leaves}
+use Rattle.promises.specs.Runs.{Turn, turned, runBytes, Kind, making, changing, reading, kindOf, asks, notMaking, fitting, staying, inside, each}
+use Rattle.promises.proofs.High.{numberOf}
+use Rattle.promises.proofs.Lending.{kind-asks, by-kind, change-number, Leaves, change-leaves}
 
 -- ---- the calls that may change the store
 
@@ -38,14 +39,18 @@ pub calls-fit : (ts : List Turn) → each fitting ts ≡ true → all Settings.f
 calls-fit [] h = refl
 calls-fit (t ∷ ts) h = let (x, y) = all-cons (λ (u : Turn). fitting (kindOf (u .call))) t ts h in with-fits (kindOf (t .call)) (callsOf ts) x (calls-fit ts y)
 
-with-inside : (k : Kind) (cs : List Call) → staying k ≡ true → all Settings.isInside cs ≡ true → all Settings.isInside (withCall k cs) ≡ true
-with-inside making cs h g = g
-with-inside (changing c) cs h g = both-intro _ _ h g
-with-inside reading cs h g = g
+pub staying-not : (k : Kind) (n : ℕ) → staying k n ≡ true → notMaking k ≡ true
+staying-not making n h = h
+staying-not (changing c) n h = refl
+staying-not reading n h = refl
 
-pub calls-inside : (ts : List Turn) → each staying ts ≡ true → all Settings.isInside (callsOf ts) ≡ true
-calls-inside [] h = refl
-calls-inside (t ∷ ts) h = let (x, y) = all-cons (λ (u : Turn). staying (kindOf (u .call))) t ts h in with-inside (kindOf (t .call)) (callsOf ts) x (calls-inside ts y)
+-- a call that is done and leaves an update open is none that ends one
+pub staying-done : (c : Call) → staying (changing c) 0 ≡ true → Settings.isInside c ≡ true
+staying-done c h = at (Settings.isInside c) h
+  where
+    at : (b : Bool) → (b || false) ≡ true → b ≡ true
+    at true g = refl
+    at false g = g
 
 with-append : (k : Kind) (cs ds : List Call) → withCall k (cs ++ ds) ≡ withCall k cs ++ ds
 with-append making cs ds = refl
@@ -110,3 +115,39 @@ module _ (least : ℕ) (four : 4 ≤ least) (eight : least ≤ 8) where
         holds = rest .holds ∙ ap (λ (z : Both). z .store) (sym (together-with least (kindOf (t .call)) y (callsOf ts)));
         bytes = λ z. rest .bytes (l .bytes z);
       }
+
+  -- ---- calls that leave an update open
+
+  abbrev staysBy : Kind → Store → Bool
+  staysBy making s = true
+  staysBy (changing c) s = Settings.staysIn c (callBy least s c)
+  staysBy reading s = true
+
+  change-stays : (b : List ℕ) → Accepts least b → (c : Call) (ns : List ℕ) → staying (changing c) (ended least (asks c) b ns .number) ≡ true → staysBy (changing c) (decode least b) ≡ true
+  change-stays b ok c ns h = at (callBy least (decode least b) c) (subst (λ (n : ℕ). staying (changing c) n ≡ true) (change-number least b ok c ns) h)
+    where
+      at : (r : Result) → staying (changing c) (numberOf r) ≡ true → Settings.staysIn c r ≡ true
+      at (done s) g = staying-done c g
+      at (refused n) g = refl
+
+  turn-stays : (b : List ℕ) → Accepts least b → (a : Asked) (ns : List ℕ) → staying (kindOf a) (ended least a b ns .number) ≡ true → staysBy (kindOf a) (decode least b) ≡ true
+  turn-stays b ok =
+      by-kind least (λ (a : Asked). (ns : List ℕ) → staying (kindOf a) (ended least a b ns .number) ≡ true → staysBy (kindOf a) (decode least b) ≡ true)
+      (λ ns h. refl)
+      (λ c ns h. subst (λ (k : Kind). staysBy k (decode least b) ≡ true) (sym (kind-asks c)) (change-stays b ok c ns (subst (λ (k : Kind). staying k (ended least (asks c) b ns .number) ≡ true) (kind-asks c) h)))
+      (λ a k same ns h. ap (λ (q : Kind). staysBy q (decode least b)) k)
+
+  inside-with : (k : Kind) (y : Both) (cs : List Call) → staysBy k (y .store) ≡ true → Settings.inside least (bothBy least k y) cs ≡ true → Settings.inside least y (withCall k cs) ≡ true
+  inside-with making y cs h g = g
+  inside-with (changing c) y cs h g = both-intro _ _ h g
+  inside-with reading y cs h g = g
+
+  pub calls-inside : (ts : List Turn) → each fitting ts ≡ true → (b : List ℕ) → Accepts least b → inside least b ts ≡ true → (y : Both) → y .store ≡ decode least b → Settings.inside least y (callsOf ts) ≡ true
+  calls-inside [] h b ok i y e = refl
+  calls-inside (t ∷ ts) h b ok i y e =
+      let (i₁, i₂) = both-true (staying (kindOf (t .call)) (turned least b t .number)) (inside least (turned least b t .store) ts) i in
+      let (h₁, h₂) = all-cons (λ (u : Turn). fitting (kindOf (u .call))) t ts h in
+      let l = one b ok (t .call) (staying-not (kindOf (t .call)) (turned least b t .number) i₁) h₁ (t .list) in
+      let same : bothBy least (kindOf (t .call)) y .store ≡ decode least (turned least b t .store) = by-store least (kindOf (t .call)) y ∙ ap (stored least (kindOf (t .call))) e ∙ sym (l .holds) in
+      inside-with (kindOf (t .call)) y (callsOf ts) (subst (λ (s : Store). staysBy (kindOf (t .call)) s ≡ true) (sym e) (turn-stays b ok (t .call) (t .list) i₁))
+      (calls-inside ts h₂ (turned least b t .store) (l .accepts) i₂ (bothBy least (kindOf (t .call)) y) same)

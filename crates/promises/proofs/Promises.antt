@@ -1,5 +1,5 @@
 -- The promises, each under its name: what it says stands in specs/Demand1, Demand2, Demand3, in a file for each request of document 02
--- (OldReadings, Bench, Differences, Lives), in Replayed and Fakes.
+-- (OldReadings, Bench, Differences, Lives, Releases), in Replayed and Fakes.
 -- Assumes nothing.
 use Prim.Native.Nat.{ℕ}
 use native.Mathlib.Omega.{arith}
@@ -36,6 +36,7 @@ use Rattle.promises.specs.Differences.{DifferenceGiven, DifferenceSays, 
 use Rattle.promises.specs.Lives.{LifeGiven, LivesAgree, StretchesApart, OpenUnshown, LeftAlone}
 use Rattle.promises.specs.Replayed.{TableLent}
 use Rattle.promises.specs.Bench.{KeptOut}
+use Rattle.promises.specs.Releases.{EmptyReleases}
 use Rattle.promises.specs.Fakes.{FakesStopped}
 use Rattle.promises.proofs.Encoded as encoded
 use Rattle.promises.proofs.Judges as judging
@@ -49,6 +50,7 @@ use Rattle.promises.proofs.Lives as lives
 use Rattle.promises.proofs.Restored as restored
 use Rattle.promises.proofs.KeptOut as bench
 use Rattle.promises.proofs.Replaying as replaying
+use Rattle.promises.proofs.Releasing as releasing
 use Rattle.promises.proofs.Fakes as fakes
 
 -- ---- demand 1
@@ -209,6 +211,11 @@ open-unshown = lives.open-unshown
 
 pub left-alone : LeftAlone
 left-alone = lives.left-alone
+
+-- ---- an empty release is no release
+
+pub empty-releases : EmptyReleases
+empty-releases = releasing.empty-releases
 
 -- ---- fakes
 

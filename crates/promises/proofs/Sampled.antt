@@ -2,8 +2,8 @@
 -- Assumes nothing.
 use Prim.Native.Nat.{ℕ, _≤_}
 use native.Mathlib.Omega.{arith}
-use mathlib.Core.Bool.{true}
-use mathlib.Core.Path.{_≡_, refl, ap}
+use mathlib.Core.Bool.{true, _&&_}
+use mathlib.Core.Path.{_≡_, refl, ap, _∙_}
 use mathlib.Core.List.{List, [], _∷_}
 use lib.Dec.{lit≤}
 use Rattle.model.specs.Field.{Bytes}
@@ -11,28 +11,32 @@ use Rattle.model.specs.Store.{Store, fresh}
 use Rattle.model.specs.Sound.{sound}
 use Rattle.model.specs.Layout.{encode, decode}
 use Rattle.model.specs.Judged
-use Rattle.model.specs.Ended.{toCheck, toOpen, toInsert, toDelete, toLookup, toRange, toLife, toVisits, Asked, ended}
+use Rattle.model.specs.Calls.{firstOf}
+use Rattle.model.specs.Histories.{begins, commits}
+use Rattle.model.specs.Settings.{start, step}
+use Rattle.model.specs.Ended.{toCheck, toOpen, toCommit, toInsert, toDelete, toLookup, toRange, toLife, toVisits, Asked, ended}
 use Rattle.model.specs.Samples.{twoLevels, fromElsewhere}
 use Rattle.model.specs.Proved.{two-levels-sound, from-elsewhere-sound}
 use Rattle.model.proofs.Members.{true-holds}
 use Rattle.model.proofs.Given.{to-tests}
 use Rattle.model.proofs.Turns.{fresh-sound}
 use Rattle.promises.specs.Accepts.{Accepts, Written}
-use Rattle.promises.specs.Runs.{Turn, turned, notMaking, fitting, staying, each}
-use Rattle.promises.specs.Beside.{fromFresh}
+use Rattle.promises.specs.Runs.{Turn, turned, changing, notMaking, fitting, staying, inside, each}
+use Rattle.promises.specs.Beside.{whenDone, onward, fromFresh}
+use Rattle.promises.specs.Answers.{commitTests, unchangedIn}
 use Rattle.promises.specs.Demand3.{opening}
 use Rattle.promises.specs.Fakes.{Honest}
-use Rattle.promises.proofs.Agreed.{fresh-agreed}
+use Rattle.promises.proofs.Agreed.{many-turns, fresh-agreed}
 use Rattle.promises.proofs.Answering.{answers}
 use Rattle.promises.proofs.Promises.{encoded-sound}
 
 abbrev turn : Asked → Turn
 turn c = record { call = c; list = [] }
 
--- calls of every kind that may stand inside an update, another open among them, which is refused
+-- calls of every kind that may stand inside an update, a commit and another open among them, which are refused
 abbrev pub calls : List Turn
 calls =
-    turn toCheck ∷ turn (toInsert 5 50) ∷ turn (toInsert 5 51) ∷ turn (toDelete 2) ∷ turn toOpen ∷ turn (toLookup 5 2)
+    turn toCommit ∷ turn toCheck ∷ turn (toInsert 5 50) ∷ turn (toInsert 5 51) ∷ turn (toDelete 2) ∷ turn toOpen ∷ turn (toLookup 5 2)
     ∷ record { call = toRange 0 100 2; list = 0 ∷ 0 ∷ [] } ∷ record { call = toVisits 5 1; list = 0 ∷ 0 ∷ [] }
     ∷ turn (toLife 5) ∷ []
 
@@ -48,7 +52,7 @@ pub record Met : Type 0 where
   pub no-store : Accepts 4 [] → ⊥
   -- calls
   pub fit : each fitting calls ≡ true
-  pub stay : each staying calls ≡ true
+  pub stay : inside 4 (encode 4 (fresh 6)) (opening ∷ calls) ≡ true
   pub not-fresh : each notMaking calls ≡ true
   -- bytes on which an open is done
   pub opens : Bytes (encode 4 (fresh 6)) × (turned 4 (encode 4 (fresh 6)) opening .number ≡ 0)
@@ -63,6 +67,16 @@ none : Accepts 4 [] → ⊥
 unfolding Judged.judged Judged.lengthOk
 none e = omega arith
 
+-- on the bytes that the open leaves, a commit is refused by 15
+opened : turned 4 (encode 4 (fresh 6)) opening .number ≡ 0
+opened = answers 4 (lit≤ tt) (lit≤ tt) (fromFresh 4 6) (fresh-agreed 4 (lit≤ tt) (lit≤ tt) 6 (lit≤ tt) (lit≤ tt)) .opens []
+
+empty : ended 4 toCommit (turned 4 (encode 4 (fresh 6)) opening .store) [] .number ≡ 15
+empty =
+    answers 4 (lit≤ tt) (lit≤ tt) (onward 4 (fromFresh 4 6) opening)
+    (many-turns 4 (lit≤ tt) (lit≤ tt) (opening ∷ []) refl (fromFresh 4 6) (fresh-agreed 4 (lit≤ tt) (lit≤ tt) 6 (lit≤ tt) (lit≤ tt))) .commits []
+    ∙ ap (λ (n : ℕ). firstOf (commitTests (whenDone n (step start begins) start .opened) (unchangedIn (whenDone n (step start begins) start)))) opened
+
 pub met : Met
 met =
     let two : Written 4 twoLevels = encoded-sound 4 (lit≤ tt) (lit≤ tt) twoLevels two-levels-sound in
@@ -73,8 +87,8 @@ met =
       committed = omega (arith, ap (λ (s : Store). s .current) (two .held));
       no-store = none;
       fit = refl;
-      stay = refl;
+      stay = ap (λ (n : ℕ). staying (changing commits) n && true) empty;
       not-fresh = refl;
-      opens = (fresh-written 4 (lit≤ tt) (lit≤ tt) .bytes, answers 4 (lit≤ tt) (lit≤ tt) (fromFresh 4 6) (fresh-agreed 4 (lit≤ tt) (lit≤ tt) 6 (lit≤ tt) (lit≤ tt)) .opens []);
+      opens = (fresh-written 4 (lit≤ tt) (lit≤ tt) .bytes, opened);
       honest = λ c b ns. refl;
     }

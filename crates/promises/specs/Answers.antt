@@ -12,6 +12,7 @@ use Rattle.model.specs.declared.Pair.{Pair}
 use Rattle.model.specs.declared.Looked.{Looked}
 use Rattle.model.specs.Store.{lastOf}
 use Rattle.model.specs.Walk.{keyLimit, find, between}
+use Rattle.model.specs.Same.{samePairs}
 use Rattle.model.specs.Calls.{isSome, Rule, rule, insertTests, deleteTests, firstOf, lookedBy, Ranged, rangedBy}
 use Rattle.model.specs.Told.{toldBy}
 use Rattle.model.specs.Differ.{differ, deltaNumbers}
@@ -48,9 +49,13 @@ lifeTests k = rule 5 (leb keyLimit k) ∷ []
 abbrev pub openTests : Bool → ℕ → List Rule
 openTests opened current = rule 8 opened ∷ rule 9 (leb 1048574 current) ∷ []
 
--- commit and abandon: 7 "no update open"
+-- abandon: 7 "no update open"
 abbrev pub endTests : Bool → List Rule
 endTests opened = rule 7 (not opened) ∷ []
+
+-- commit: 15 of 2026-05, "after 7"
+abbrev pub commitTests : Bool → Bool → List Rule
+commitTests opened same = rule 7 (not opened) ∷ rule 15 same ∷ []
 
 -- ---- what the machine's settings answer
 
@@ -74,6 +79,10 @@ livedIn m k room = toldBy stretchNumbers 3 (firstOf (lifeTests k)) room (lifeOf 
 abbrev pub aliveIn : Machine → ℕ → Bool
 aliveIn m k = isSome (find k (m .shows (suc (m .current))))
 
+-- whether the open version's settings equal the current version's, key for key
+abbrev pub unchangedIn : Machine → Bool
+unchangedIn m = samePairs (m .shows (m .current)) (m .shows (suc (m .current)))
+
 -- The number of an insert or a delete: that of the first test that holds; if none does, 0, or 12 or 13 (which are given exactly when the
 -- rules lack a page or a slot: `Lacking`).
 abbrev pub Gives : ℕ → ℕ → Type 0
@@ -93,7 +102,7 @@ pub record Answers (least : ℕ) (x : Beside) : Type 0 where
   pub count : (v : ℕ) → v ≤ lastIn (x .machine) → length (x .machine .shows v) + x .tally .removed v ≡ x .tally .added v
   -- which calls are accepted
   pub opens : (ns : List ℕ) → ended least toOpen (x .bytes) ns .number ≡ firstOf (openTests (x .machine .opened) (x .machine .current))
-  pub commits : (ns : List ℕ) → ended least toCommit (x .bytes) ns .number ≡ firstOf (endTests (x .machine .opened))
+  pub commits : (ns : List ℕ) → ended least toCommit (x .bytes) ns .number ≡ firstOf (commitTests (x .machine .opened) (unchangedIn (x .machine)))
   pub abandons : (ns : List ℕ) → ended least toAbandon (x .bytes) ns .number ≡ firstOf (endTests (x .machine .opened))
   pub inserts : (k v : ℕ) (ns : List ℕ) → Gives (firstOf (insertTests k (x .machine .opened) (aliveIn (x .machine) k))) (ended least (toInsert k v) (x .bytes) ns .number)
   pub deletes : (k : ℕ) (ns : List ℕ) → Gives (firstOf (deleteTests k (x .machine .opened) (aliveIn (x .machine) k))) (ended least (toDelete k) (x .bytes) ns .number)

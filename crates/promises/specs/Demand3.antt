@@ -8,7 +8,7 @@ use mathlib.Core.Path.{_≡_}
 use mathlib.Core.List.{List, [], _∷_, _++_}
 use Rattle.model.specs.Field.{Bytes}
 use Rattle.model.specs.Ended.{Asked, toOpen, toAbandon, ended}
-use Rattle.promises.specs.Runs.{Turn, turned, runBytes, fitting, staying, each}
+use Rattle.promises.specs.Runs.{Turn, turned, runBytes, fitting, inside, each}
 
 abbrev pub opening : Turn
 opening = record { call = toOpen; list = [] }
@@ -25,8 +25,8 @@ pub record Restored (least : ℕ) (b : List ℕ) (ts : List Turn) : Type 0 where
   -- "each later call answers as if the update had never been"
   pub later : (c : Asked) (ns : List ℕ) → ended least c (runBytes least b (opening ∷ (ts ++ (abandoning ∷ [])))) ns ≡ ended least c b ns
 
--- An open is accepted on no other bytes than those of a sound store with no update open. The calls inside (`staying`) are all but commit and
--- abandon, which end the update and are never refused inside it, and making fresh, which is never refused on a sound store.
+-- An open is accepted on no other bytes than those of a sound store with no update open. The calls inside (`inside`) are all but abandon, a
+-- commit that is done, which end the update, and making fresh. "refused calls" are among them, a commit refused by 15 too.
 abbrev pub Abandoned : Type 0
 Abandoned = (least : ℕ) → 4 ≤ least → least ≤ 8 → (b : List ℕ) → Bytes b → turned least b opening .number ≡ 0
-    → (ts : List Turn) → each fitting ts ≡ true → each staying ts ≡ true → Restored least b ts
+    → (ts : List Turn) → each fitting ts ≡ true → inside least b (opening ∷ ts) ≡ true → Restored least b ts

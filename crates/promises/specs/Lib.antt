@@ -9,6 +9,7 @@ pub mod Demand2
 pub mod Demand3
 pub mod OldReadings
 pub mod Differences
+pub mod Releases
 pub mod Replayed
 pub mod Bench
 pub mod Fakes

@@ -1,8 +1,9 @@
 -- Calls one after another on lent bytes.
 -- Assumes nothing.
 use Prim.Native.Nat.{ℕ}
-use mathlib.Core.Bool.{Bool, true, false}
+use mathlib.Core.Bool.{Bool, true, false, _&&_, _||_, not}
 use mathlib.Core.List.{List, [], _∷_}
+use lib.Dec.{eqb}
 use Rattle.model.specs.Basic.{all}
 use Rattle.model.specs.Histories.{Call, begins, commits, abandons, inserts, deletes}
 use Rattle.model.specs.Settings
@@ -69,11 +70,17 @@ fitting making = true
 fitting (changing c) = Settings.fits c
 fitting reading = true
 
--- all but making fresh, commit and abandon: what may stand inside an open update, where another open is refused
-abbrev pub staying : Kind → Bool
-staying making = false
-staying (changing c) = Settings.isInside c
-staying reading = true
+-- A call, by the number that it gave, that leaves an open update open: all but making fresh; commit and abandon only if refused, as a commit
+-- is by 15.
+abbrev pub staying : Kind → ℕ → Bool
+staying making n = false
+staying (changing c) n = Settings.isInside c || not (eqb n 0)
+staying reading n = true
+
+-- each of a list of calls, made one after the other on bytes
+abbrev pub inside : ℕ → List ℕ → List Turn → Bool
+inside least b [] = true
+inside least b (t ∷ ts) = staying (kindOf (t .call)) (turned least b t .number) && inside least (turned least b t .store) ts
 
 -- all but making fresh and commit: the committed versions are the same ones after it
 abbrev pub uncommitting : Kind → Bool

@@ -15,6 +15,7 @@ use Rattle.model.specs.Field.{lay, Bytes}
 use Rattle.model.specs.Layout.{noSlot, headerOf, readHeader, sizeOf, encode, decode}
 use Rattle.model.specs.Header.{withFlag, withVersion}
 use Rattle.model.specs.Judged.{isSound}
+use Rattle.model.specs.Calls.{committed}
 use Rattle.page.specs.Editions.{root-bits}
 use Rattle.store.specs.Read.{current-of}
 use Rattle.store.specs.Exactly.{header-of}
@@ -25,12 +26,9 @@ use Rattle.store.specs.Holds.{Holds, header-holds}
 use Rattle.store.specs.Inside.{bytesOf, encode-of, header-in, slot-in, directory-drop}
 use Rattle.store.specs.Set.{withSlots, withState, state-set}
 
--- an update begun, and one committed
+-- an update begun
 abbrev pub begun : Store → Store
 begun s = withState s (s .current) true
-
-abbrev pub committed : Store → Store
-committed s = withState s (next s) false
 
 -- bytes that are exactly those of the store that they hold
 pub record Kept (least : ℕ) (b : List ℕ) : Type 0 where

@@ -12,10 +12,10 @@ ghost use Rattle.model.specs.Basic.{pick};
 ghost use Rattle.model.specs.Limits.{Edition};
 ghost use Rattle.model.specs.Layout.{pageOf, withPage, decodePage, encodePage, decode, encode};
 ghost use Rattle.model.specs.Judged.{isSound};
-ghost use Rattle.model.specs.Calls.{back, abandoned};
+ghost use Rattle.model.specs.Calls.{back, committed, abandoned};
 ghost use Rattle.page.specs.Exact.{Exact};
 ghost use Rattle.store.specs.Set.{withPages};
-ghost use Rattle.turn.specs.Turned.{Kept, begun, committed};
+ghost use Rattle.turn.specs.Turned.{Kept, begun};
 ghost use Rattle.turn.specs.Slotted.{Cleared};
 
 fn wide(x: u32) -> usize
@@ -33,7 +33,8 @@ pub fn begin(s: &mut [u8], l: Limits)
     store::put_header(s, l, h.with_flag(true));
 }
 
-// "Commit raises the current version and clears the flag, even if nothing changed."
+// "Commit raises the current version and clears the flag", whether anything changed or not: 15 is the guard's to give, and an empty
+// release from before 2026-05 is replayed by this.
 pub fn commit(s: &mut [u8], l: Limits)
     requires { ⌜ Edition l × (isSound (l .least) (now s) ≡ true) ⌝ }
     ensures { λ _. ⌜ now (s .exit) ≡ encode (l .least) (committed (decode (l .least) (now (s .entry)))) ⌝ }

@@ -60,6 +60,20 @@ fn bench_keys() {
     );
 }
 
+/// A commit refused by 15 leaves the update open: 2026-05.
+#[test]
+fn an_empty_release() {
+    let input = "store 16; commit; open; commit; insert 5 50; delete 5; commit; insert 5 50; commit; \
+                 open; delete 5; insert 5 50; commit; delete 5; insert 5 51; get 5 2; commit; get 5 1; \
+                 open; commit; abandon; commit"
+        .replace("; ", "\n");
+    let expected = b"ok\nrefused 7\nok\nrefused 15\nok\nok\nrefused 15\nok\nok\n\
+        ok\nok\nok\nrefused 15\nok\nok\nvalue 51\nok\nvalue 50\n\
+        ok\nrefused 15\nok\nrefused 7\n";
+    assert_eq!(answers(input.as_bytes()), expected);
+    same(input.as_bytes(), "an empty release");
+}
+
 #[test]
 fn histories() {
     for seed in 0..rounds(2000) {

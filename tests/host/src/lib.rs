@@ -90,7 +90,7 @@ pub fn delete(store: &mut [u8], key: u32) -> u32 {
     unsafe { c::rcst_delete(store.as_mut_ptr(), store.len(), key) }
 }
 
-/// Commits the open update.
+/// Commits the open update; 15 if its settings are the current version's.
 pub fn commit(store: &mut [u8]) -> u32 {
     unsafe { c::rcst_commit(store.as_mut_ptr(), store.len()) }
 }

@@ -80,7 +80,7 @@ fn every_call_on_sound_stores() {
         try_all(&sound_store(seed), &mut Rng::new(seed), &mut tally);
     }
     println!("numbers given, times: {tally:?}");
-    for number in [0, 5, 6, 7, 8, 10, 11, 14] {
+    for number in [0, 5, 6, 7, 8, 10, 11, 14, 15] {
         assert!(tally.contains_key(&number), "{number} was never given");
     }
 }

@@ -47,7 +47,7 @@ fn inserted(
     let count = unjudged_count(bytes);
     let due = count / per_version > store::header(bytes).current;
     if due {
-        unjudged::commit(bytes);
+        unjudged::raw_commit(bytes);
         unjudged::open(bytes);
     }
     insert(bytes, key(count), count)
@@ -65,7 +65,7 @@ fn twelve_at_every_page_count() {
 }
 
 /// Makes the leaf root anew in the open version: of its sixteen settings five
-/// go and come back. Gives the number of the last insert.
+/// go and come back, so that the version is empty. Gives the number of the last insert.
 fn new_root(
     bytes: &mut [u8],
     insert: fn(&mut [u8], u32, u32) -> u32,
@@ -80,17 +80,18 @@ fn new_root(
     insert(bytes, 5, 50)
 }
 
-/// A store with `roots` roots, the last of them the current version's.
+/// A store with `roots` roots, the last of them the current version's. From the
+/// second new root on the settings stay: commits as they were before 2026-05.
 fn many_roots(pages: usize, roots: u32) -> Vec<u8> {
     let mut bytes = fresh(pages);
     for key in 1..=16 {
         assert_eq!(unjudged::insert(&mut bytes, key, key), 0);
     }
-    unjudged::commit(&mut bytes);
+    unjudged::raw_commit(&mut bytes);
     while store::header(&bytes).roots < roots {
         unjudged::open(&mut bytes);
         assert_eq!(new_root(&mut bytes, unjudged::insert, unjudged::delete), 0);
-        unjudged::commit(&mut bytes);
+        unjudged::raw_commit(&mut bytes);
     }
     bytes
 }

@@ -94,8 +94,8 @@ fn from_foreign_stores() {
 fn abandon_restores_every_byte() {
     for seed in 0..rounds(60) {
         let (_, mut bytes) = calls(seed, KINDS[seed as usize % 4], 48, 150);
-        if store::header(&bytes).open {
-            assert_eq!(host::commit(&mut bytes), 0);
+        if store::header(&bytes).open && host::commit(&mut bytes) == 15 {
+            assert_eq!(host::abandon(&mut bytes), 0);
         }
         let before = bytes.clone();
         assert_eq!(host::open(&mut bytes), 0);

@@ -42,6 +42,12 @@ pub fn commit(bytes: &mut [u8]) -> u32 {
     judged(bytes).unwrap_or_else(|| unjudged::commit(bytes))
 }
 
+/// Commit as it was before 2026-05, to make stores from before. It is not
+/// offered to the console.
+pub fn raw_commit(bytes: &mut [u8]) -> u32 {
+    judged(bytes).unwrap_or_else(|| unjudged::raw_commit(bytes))
+}
+
 pub fn abandon(bytes: &mut [u8]) -> u32 {
     judged(bytes).unwrap_or_else(|| unjudged::abandon(bytes))
 }

@@ -117,6 +117,9 @@ impl History {
         if answer.number == number::DONE {
             self.model.record(call);
         }
+        if answer.number == number::NOTHING_CHANGED {
+            self.left = self.length_of_update();
+        }
         if [number::NO_FREE_PAGE, number::NO_FREE_SLOT].contains(&answer.number) {
             self.stuck += 1;
             // What cannot grow may still shrink, or start over by an abandon.

@@ -83,6 +83,7 @@ impl Model {
         match call {
             Call::Fresh | Call::Check => Answer::default(),
             Call::Open => Answer::of(self.number_of_open()),
+            Call::Commit if self.nothing_changed() => Answer::of(number::NOTHING_CHANGED),
             Call::Commit | Call::Abandon => Answer::of(self.number_unless_open()),
             Call::Insert(key, _) if key >= FIRST_BENCH_KEY => Answer::of(number::ARGUMENT),
             Call::Insert(key, _) => Answer::of(self.number_of_update(key, number::KEY_ALIVE)),
@@ -105,6 +106,10 @@ impl Model {
         } else {
             number::DONE
         }
+    }
+
+    fn nothing_changed(&self) -> bool {
+        self.open.as_ref() == Some(self.at(self.current))
     }
 
     fn number_unless_open(&self) -> u32 {

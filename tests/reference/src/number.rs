@@ -1,4 +1,5 @@
-//! The numbers the console gets back: document 01's table, by name.
+//! The numbers the console gets back: document 01's table and the rows that
+//! document 02 adds, by name.
 
 pub const DONE: u32 = 0;
 pub const LENGTH: u32 = 1;
@@ -15,3 +16,4 @@ pub const KEY_NOT_ALIVE: u32 = 11;
 pub const NO_FREE_PAGE: u32 = 12;
 pub const NO_FREE_SLOT: u32 = 13;
 pub const LIST_TOO_SHORT: u32 = 14;
+pub const NOTHING_CHANGED: u32 = 15;

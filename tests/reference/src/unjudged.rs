@@ -75,6 +75,16 @@ fn update(bytes: &mut [u8], key: u32, change: Change) -> u32 {
 
 pub fn commit(bytes: &mut [u8]) -> u32 {
     let header = store::header(bytes);
+    let settings = |version| walk::settings(bytes, version);
+    if header.open && settings(header.last()) == settings(header.current) {
+        return number::NOTHING_CHANGED;
+    }
+    raw_commit(bytes)
+}
+
+/// Commit as it was before 2026-05: it makes empty versions too.
+pub fn raw_commit(bytes: &mut [u8]) -> u32 {
+    let header = store::header(bytes);
     if !header.open {
         return number::NONE_OPEN;
     }

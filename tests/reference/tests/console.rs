@@ -103,7 +103,7 @@ fn refused_1_before_a_store_and_for_its_size() {
     let input = "open\nget 1 1\nrange 9 1 0\ncommit\nstore 5\nopen\nstore 257\nabandon\nstore 0\n";
     assert_eq!(answered(input), vec!["refused 1"; 9]);
     let kept = "store 6\nopen\nstore 257\nstore 5\ncommit\nget 3 1\n";
-    let expected = ["ok", "ok", "refused 1", "refused 1", "ok", "absent"];
+    let expected = ["ok", "ok", "refused 1", "refused 1", "refused 15", "absent"];
     assert_eq!(answered(kept), expected);
     // An accepted one begins anew.
     let anew = "store 6\nopen\ninsert 1 1\ncommit\nstore 256\nget 1 0\nget 1 1\n";
@@ -228,7 +228,7 @@ fn generated_lines_meet_every_answer() {
     for word in ["ok", "absent", "value", "count", "bad line"] {
         assert!(words[word] > 100, "{word}: {words:?}");
     }
-    for number in [1, 5, 6, 7, 8, 10, 11, 12] {
+    for number in [1, 5, 6, 7, 8, 10, 11, 12, 15] {
         assert!(
             words.contains_key(&format!("refused {number}")),
             "{words:?}"

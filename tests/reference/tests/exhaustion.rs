@@ -18,7 +18,7 @@ fn fill_up(pages: usize, per_version: u32, key: impl Fn(u32) -> u32) -> u32 {
     while unjudged::insert(&mut bytes, key(count), count) == 0 {
         count += 1;
         if count.is_multiple_of(per_version) {
-            unjudged::commit(&mut bytes);
+            unjudged::raw_commit(&mut bytes);
             unjudged::open(&mut bytes);
         }
     }
@@ -58,7 +58,7 @@ fn twelve_in_histories() {
 }
 
 /// Makes the leaf root anew in the open version: of its sixteen settings five
-/// go and come back. Gives the number of the last insert.
+/// go and come back, so that the version is empty. Gives the number of the last insert.
 fn new_root(bytes: &mut [u8]) -> u32 {
     delete_all(bytes, 1..=5);
     insert_all(bytes, 1..=4);
@@ -81,7 +81,7 @@ fn reading_27_thirteen_from_262_pages_on() {
         for roots in 2..=SLOTS {
             open(&mut bytes);
             assert_eq!(new_root(&mut bytes), 0);
-            commit(&mut bytes);
+            commit_as_before(&mut bytes);
             assert_eq!(store::header(&bytes).roots, roots);
         }
         open(&mut bytes);
@@ -104,7 +104,7 @@ fn thirteen_never_where_the_open_version_has_its_slot() {
     for _ in 3..=SLOTS {
         open(&mut bytes);
         assert_eq!(new_root(&mut bytes), 0);
-        commit(&mut bytes);
+        commit_as_before(&mut bytes);
     }
     open(&mut bytes);
     assert_eq!(new_root(&mut bytes), 0);

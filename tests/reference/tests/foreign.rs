@@ -30,7 +30,7 @@ fn foreign_store(seed: u64, pages: usize, made: &mut BTreeMap<&str, u64>) -> Vec
             }
         }
         if rng.once_in(3) {
-            commit(&mut bytes);
+            commit_as_before(&mut bytes);
             open(&mut bytes);
         }
         let mut history = History::on_store(seed, KINDS[0], pages, Model::of_store(&bytes));
@@ -64,7 +64,7 @@ fn abandon_takes_back_foreign_changes() {
         let mut rng = Rng::new(seed);
         let mut bytes = foreign_store(seed, 64, &mut made);
         if store::header(&bytes).open {
-            commit(&mut bytes);
+            commit_as_before(&mut bytes);
         }
         let before = bytes.clone();
         open(&mut bytes);
@@ -86,7 +86,7 @@ fn versions_run_out() {
         let followed = follow(&mut history, bytes, 60);
         let mut bytes = followed.store;
         if store::header(&bytes).open {
-            commit(&mut bytes);
+            commit_as_before(&mut bytes);
         }
         raise_current(&mut bytes, HIGHEST_VERSION);
         let before = bytes.clone();

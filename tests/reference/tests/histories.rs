@@ -46,7 +46,7 @@ fn small_stores() {
         met.add(followed(seed, KINDS[seed as usize % 4], pages, 110));
     }
     println!("{met:?}");
-    for number in [0, 5, 6, 7, 8, 10, 11, 12, 14] {
+    for number in [0, 5, 6, 7, 8, 10, 11, 12, 14, 15] {
         assert!(met.given(number) > 100, "{number}: {met:?}");
     }
     assert!(met.abandons > 100 && met.roots_that_went > 100, "{met:?}");

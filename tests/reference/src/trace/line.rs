@@ -18,6 +18,8 @@ pub enum Line {
     Call(Call),
     /// Insert as before 2026-06: key and value.
     RawInsert(u32, u32),
+    /// Commit as before 2026-05.
+    RawCommit,
     /// The caller's list holds this many numbers from now on.
     List(u32),
     /// A byte's place and what it becomes.
@@ -41,6 +43,7 @@ fn own_line(word: &[u8], numbers: &[u32]) -> Option<Line> {
     match (word, numbers) {
         (b"store", [pages]) => (*pages <= MOST_PAGES).then_some(Line::Store(*pages)),
         (b"rawinsert", [key, value]) => Some(Line::RawInsert(*key, *value)),
+        (b"rawcommit", []) => Some(Line::RawCommit),
         (b"list", [length]) => (*length <= LONGEST_LIST).then_some(Line::List(*length)),
         (b"byte", [at, byte]) => Some(Line::Byte(*at, u8::try_from(*byte).ok()?)),
         (b"cut", [length]) => Some(Line::Cut(*length)),
@@ -71,6 +74,7 @@ impl fmt::Display for Line {
         match *self {
             Line::Store(pages) => write!(to, "store {pages}"),
             Line::RawInsert(key, value) => write!(to, "rawinsert {key} {value}"),
+            Line::RawCommit => write!(to, "rawcommit"),
             Line::List(length) => write!(to, "list {length}"),
             Line::Byte(at, byte) => write!(to, "byte {at} {byte}"),
             Line::Cut(length) => write!(to, "cut {length}"),

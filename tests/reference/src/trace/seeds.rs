@@ -62,8 +62,13 @@ impl Writer {
         history.observe(call, &answer);
     }
 
-    /// Bench keys, as they went in before 2026-06.
+    /// An empty version, as it was made before 2026-05, or bench keys, as they
+    /// went in before 2026-06.
     fn as_before(&mut self, history: &mut History) {
+        if self.rng.once_in(2) {
+            let answer = self.write(Line::RawCommit);
+            return history.observe(Call::Commit, &answer);
+        }
         for _ in 0..self.rng.between(1, 4) {
             let key = match self.rng.below(4) {
                 0 => self.any_key(),
@@ -194,6 +199,7 @@ pub const MALFORMED: &[&str] = &[
     "insert 1",
     "insert 1  2",
     "rawinsert 1",
+    "rawcommit 1",
     "raw insert 1 2",
     "insert 1 -2",
     "insert 1 4294967296",

@@ -81,6 +81,7 @@ impl<'a> Session<'a> {
             Line::RawInsert(key, value) => {
                 return calls::raw_insert(&mut self.store, key, value).to_string();
             }
+            Line::RawCommit => return calls::raw_commit(&mut self.store).to_string(),
             Line::List(length) => self.list_length = length as usize,
             Line::Byte(at, byte) => {
                 if let Some(place) = self.store.get_mut(at as usize) {

@@ -39,6 +39,7 @@ impl Writer {
             Line::RawInsert(key, value) => {
                 return Answer::of(calls::raw_insert(&mut self.store, key, value));
             }
+            Line::RawCommit => return Answer::of(calls::raw_commit(&mut self.store)),
             Line::List(length) => self.list_length = length as usize,
             Line::Byte(at, byte) => {
                 if let Some(place) = self.store.get_mut(at as usize) {

@@ -381,6 +381,7 @@ fn reading_16_number_9_needs_the_flag_clear() {
     assert_eq!(calls::open(&mut bytes), 4);
     at::CURRENT.set(&mut bytes, HIGHEST_VERSION - 1);
     assert_eq!(calls::open(&mut bytes), 8);
+    insert_all(&mut bytes, [1]);
     commit(&mut bytes);
     assert_eq!(calls::open(&mut bytes), 9);
 }

@@ -27,6 +27,11 @@ pub fn commit(bytes: &mut [u8]) {
     assert_eq!(calls::commit(bytes), 0, "commit");
 }
 
+/// A version as before 2026-05, when it could be empty.
+pub fn commit_as_before(bytes: &mut [u8]) {
+    assert_eq!(reference::calls::raw_commit(bytes), 0, "raw commit");
+}
+
 pub fn abandon(bytes: &mut [u8]) {
     assert_eq!(calls::abandon(bytes), 0, "abandon");
 }

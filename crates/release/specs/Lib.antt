@@ -1,0 +1,5 @@
+pub mod Settled
+pub mod Leaves
+pub mod Exactly
+pub mod Opened
+pub mod Places
