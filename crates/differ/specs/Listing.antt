@@ -1,4 +1,4 @@
--- The difference of two versions of a sound store, as the code has it: counted, then written.
+-- The difference of two versions of a sound store, as the code has it: key by key, four numbers each.
 -- Assumes nothing.
 use Prim.Native.Nat.{ℕ, _+_, _≤_}
 use native.Mathlib.Omega.{arith}
