@@ -13,6 +13,7 @@ use Rattle.model.specs.declared.Delta.{Delta}
 use Rattle.model.specs.declared.Limits.{Limits}
 use Rattle.model.specs.Walk.{keyLimit}
 use Rattle.model.specs.Differ.{added, removed}
+use Rattle.model.proofs.Telling.{Space, space-front, Gathers, Gathering, gather-start, gather-same, gather-step, gather-end}
 use Rattle.walk.specs.Sure.{Readable}
 use Rattle.cursor.specs.declared.Under.{Under}
 use Rattle.cursor.specs.First.{atOrAbove, leads, above-all}
@@ -20,9 +21,8 @@ use Rattle.cursor.specs.Leaf.{Below}
 use Rattle.differ.specs.declared.leaves.Ask.{Ask}
 use Rattle.differ.specs.declared.leaves.Side.{Side}
 use Rattle.differ.specs.Merge.{compared, told, left, Onward, left-start, left-end, left-on, left-step, above-above}
-use Rattle.differ.specs.Told.{Space, space-front, Tells, Telling, telling-start, telling-same, telling-step, telling-end}
 use Rattle.differ.specs.Side.{rest, Ordered, At}
-use Rattle.differ.specs.Listing.{between, leftOf, from-start, from-end}
+use Rattle.differ.specs.Listing.{deltas, between, leftOf, from-start, from-end}
 use Rattle.differ.specs.Leaves.{asked, inLeaves, stretch-on}
 
 -- the smaller of two keys
@@ -60,10 +60,10 @@ module _ (p : List ℕ) (m : ℕ) (q : List ℕ) (n : ℕ) (a : Ask) where
     pub new : At q n (a .new) (a .low) (a .high) y
     pub old-left : rest p m (a .old) (a .low) (a .high) (x .place) ≡ atOrAbove key (rest p m (a .old) (a .low) (a .high) 0)
     pub new-left : rest q n (a .new) (a .low) (a .high) (y .place) ≡ atOrAbove key (rest q n (a .new) (a .low) (a .high) 0)
-    pub tells : Telling (a .write) ns₀ ns found sum (asked p m q n a) (left (olds 0) (news 0) key)
+    pub tells : Gathering deltas (a .write) ns₀ ns found sum (asked p m q n a) (left (olds 0) (news 0) key)
 
   module _ (o : Ordered (olds 0)) (w : Ordered (news 0)) where
-    pub half-start : {ns : List ℕ} {found : ℕ} → Space (a .write) ns found (asked p m q n a) → (x y : Side)
+    pub half-start : {ns : List ℕ} {found : ℕ} → Space deltas (a .write) ns found (asked p m q n a) → (x y : Side)
         → At p m (a .old) (a .low) (a .high) x × (olds (x .place) ≡ olds 0) → At q n (a .new) (a .low) (a .high) y × (news (y .place) ≡ news 0) → Halfway ns ns found found 0 x y
     half-start s x y g h = record {
       limit = omega arith;
@@ -71,12 +71,12 @@ module _ (p : List ℕ) (m : ℕ) (q : List ℕ) (n : ℕ) (a : Ask) where
       new = h .0;
       old-left = g .1 ∙ sym (above-all 0 0 keyLimit (olds 0) (o .low) (omega arith));
       new-left = h .1 ∙ sym (above-all 0 0 keyLimit (news 0) (w .low) (omega arith));
-      tells = telling-same (sym (left-start (olds 0) (news 0) (o .rises) (w .rises) (o .low) (w .low))) (telling-start s);
+      tells = gather-same deltas (sym (left-start (olds 0) (news 0) (o .rises) (w .rises) (o .low) (w .low))) (gather-start deltas s);
     }
 
     module _ {ns₀ ns : List ℕ} {found sum key : ℕ} {x y : Side} (h : Halfway ns₀ ns found sum key x y) where
-      pub half-end : keyLimit ≤ key → Tells (a .write) ns₀ ns found sum (asked p m q n a)
-      half-end l = telling-end (telling-same (left-end (olds 0) (news 0) (o .rises) (w .rises) (o .low) (w .low) key l) (h .tells))
+      pub half-end : keyLimit ≤ key → Gathers deltas (a .write) ns₀ ns found sum (asked p m q n a)
+      half-end l = gather-end deltas (gather-same deltas (left-end (olds 0) (news 0) (o .rises) (w .rises) (o .low) (w .low) key l) (h .tells))
 
       module _ (l : key < keyLimit) (d : Delta) (e : d ≡ compared (x .pair) (y .pair)) where
         at-key : d ≡ compared (leads (atOrAbove key (olds 0))) (leads (atOrAbove key (news 0)))
@@ -85,11 +85,11 @@ module _ (p : List ℕ) (m : ℕ) (q : List ℕ) (n : ℕ) (a : Ask) where
         pub half-on : Onward key (d .key)
         half-on = left-on (olds 0) (news 0) (o .rises) (w .rises) (o .low) (w .low) key (omega arith) d at-key
 
-        parts : Telling (a .write) ns₀ ns found sum (asked p m q n a) (told d ++ left (olds 0) (news 0) (d .key + 1))
-        parts = telling-same (left-step (olds 0) (news 0) (o .rises) (w .rises) (o .low) (w .low) key (omega arith) d at-key) (h .tells)
+        parts : Gathering deltas (a .write) ns₀ ns found sum (asked p m q n a) (told d ++ left (olds 0) (news 0) (d .key + 1))
+        parts = gather-same deltas (left-step (olds 0) (news 0) (o .rises) (w .rises) (o .low) (w .low) key (omega arith) d at-key) (h .tells)
 
-        pub half-space : Space (a .write) ns sum (told d)
-        half-space = space-front (told d) (left (olds 0) (news 0) (d .key + 1)) (parts .space)
+        pub half-space : Space deltas (a .write) ns sum (told d)
+        half-space = space-front deltas (told d) (left (olds 0) (news 0) (d .key + 1)) (parts .space)
 
         pub half-old : d .key + 1 ≤ x .pair .key + 1
         half-old = omega (arith, compared-old (x .pair) (y .pair), ap (λ (c : Delta). c .key) e)
@@ -97,7 +97,7 @@ module _ (p : List ℕ) (m : ℕ) (q : List ℕ) (n : ℕ) (a : Ask) where
         pub half-new : d .key + 1 ≤ y .pair .key + 1
         half-new = omega (arith, compared-new (x .pair) (y .pair), ap (λ (c : Delta). c .key) e)
 
-        pub half-step : (ns′ : List ℕ) (sum′ : ℕ) → Tells (a .write) ns ns′ sum sum′ (told d) → (x′ y′ : Side)
+        pub half-step : (ns′ : List ℕ) (sum′ : ℕ) → Gathers deltas (a .write) ns ns′ sum sum′ (told d) → (x′ y′ : Side)
             → At p m (a .old) (a .low) (a .high) x′ × (olds (x′ .place) ≡ atOrAbove (d .key + 1) (olds (x .place)))
             → At q n (a .new) (a .low) (a .high) y′ × (news (y′ .place) ≡ atOrAbove (d .key + 1) (news (y .place))) → Halfway ns₀ ns′ found sum′ (d .key + 1) x′ y′
         half-step ns′ sum′ t x′ y′ g k = record {
@@ -106,7 +106,7 @@ module _ (p : List ℕ) (m : ℕ) (q : List ℕ) (n : ℕ) (a : Ask) where
           new = k .0;
           old-left = g .1 ∙ ap (atOrAbove (d .key + 1)) (h .old-left) ∙ above-above (d .key + 1) key (olds 0) (omega (arith, half-on .low));
           new-left = k .1 ∙ ap (atOrAbove (d .key + 1)) (h .new-left) ∙ above-above (d .key + 1) key (news 0) (omega (arith, half-on .low));
-          tells = telling-step (told d) (left (olds 0) (news 0) (d .key + 1)) parts ns′ sum′ t;
+          tells = gather-step deltas (told d) (left (olds 0) (news 0) (d .key + 1)) parts ns′ sum′ t;
         }
 
 -- ---- two versions
@@ -114,14 +114,14 @@ module _ (p : List ℕ) (m : ℕ) (q : List ℕ) (n : ℕ) (a : Ask) where
 -- all that differs below a key is told
 pub record Between (l : Limits) (b : List ℕ) (u v : ℕ) (w : Bool) (ns₀ ns : List ℕ) (found key : ℕ) : Type 0 where
   pub limit : key ≤ keyLimit
-  pub tells : Telling w ns₀ ns 0 found (between l b u v) (leftOf l b u v key)
+  pub tells : Gathering deltas w ns₀ ns 0 found (between l b u v) (leftOf l b u v key)
 
 module _ {l : Limits} {b : List ℕ} {u v : ℕ} (r : Readable l b u) (q : Readable l b v) where
-  pub between-start : {w : Bool} {ns : List ℕ} → Space w ns 0 (between l b u v) → Between l b u v w ns ns 0 0
-  between-start s = record { limit = omega arith; tells = telling-same (sym (from-start r q)) (telling-start s) }
+  pub between-start : {w : Bool} {ns : List ℕ} → Space deltas w ns 0 (between l b u v) → Between l b u v w ns ns 0 0
+  between-start s = record { limit = omega arith; tells = gather-same deltas (sym (from-start r q)) (gather-start deltas s) }
 
-  pub between-end : {w : Bool} {ns₀ ns : List ℕ} {found key : ℕ} → Between l b u v w ns₀ ns found key → keyLimit ≤ key → Tells w ns₀ ns 0 found (between l b u v)
-  between-end {key = key} h l = telling-end (telling-same (from-end r q key l) (h .tells))
+  pub between-end : {w : Bool} {ns₀ ns : List ℕ} {found key : ℕ} → Between l b u v w ns₀ ns found key → keyLimit ≤ key → Gathers deltas w ns₀ ns 0 found (between l b u v)
+  between-end {key = key} h l = gather-end deltas (gather-same deltas (from-end r q key l) (h .tells))
 
   module _ {w : Bool} {ns₀ ns : List ℕ} {found key : ℕ} (h : Between l b u v w ns₀ ns found key) (x y : Under) (g : Below l b u 0 key x) (f : Below l b v 0 key y)
       (high : ℕ) (e : high ≡ pick (ltb (x .high) (y .high)) (x .high) (y .high)) where
@@ -142,13 +142,13 @@ module _ {l : Limits} {b : List ℕ} {u v : ℕ} (r : Readable l b u) (q : Reada
     abbrev ask : Ask
     ask = record { old = u; new = v; low = key; high = high - 1; write = w }
 
-    parts-of : Telling w ns₀ ns 0 found (between l b u v) (inLeaves l b ask x y ++ leftOf l b u v high)
+    parts-of : Gathering deltas w ns₀ ns 0 found (between l b u v) (inLeaves l b ask x y ++ leftOf l b u v high)
     parts-of =
         let one : high - 1 + 1 ≡ high = omega (arith, high-low) in
-        telling-same (stretch-on ask r q x y g f (omega (arith, high-low)) (omega (arith, high-low, lower .0)) (omega (arith, high-low, lower .1)) ∙ ap (λ (k : ℕ). inLeaves l b ask x y ++ leftOf l b u v k) one) (h .tells)
+        gather-same deltas (stretch-on ask r q x y g f (omega (arith, high-low)) (omega (arith, high-low, lower .0)) (omega (arith, high-low, lower .1)) ∙ ap (λ (k : ℕ). inLeaves l b ask x y ++ leftOf l b u v k) one) (h .tells)
 
-    pub between-space : Space w ns found (inLeaves l b ask x y)
-    between-space = space-front (inLeaves l b ask x y) (leftOf l b u v high) (parts-of .space)
+    pub between-space : Space deltas w ns found (inLeaves l b ask x y)
+    between-space = space-front deltas (inLeaves l b ask x y) (leftOf l b u v high) (parts-of .space)
 
-    pub between-step : (ns′ : List ℕ) (found′ : ℕ) → Tells w ns ns′ found found′ (inLeaves l b ask x y) → Between l b u v w ns₀ ns′ found′ high
-    between-step ns′ found′ t = record { limit = high-top; tells = telling-step (inLeaves l b ask x y) (leftOf l b u v high) parts-of ns′ found′ t }
+    pub between-step : (ns′ : List ℕ) (found′ : ℕ) → Gathers deltas w ns ns′ found found′ (inLeaves l b ask x y) → Between l b u v w ns₀ ns′ found′ high
+    between-step ns′ found′ t = record { limit = high-top; tells = gather-step deltas (inLeaves l b ask x y) (leftOf l b u v high) parts-of ns′ found′ t }

@@ -1,6 +1,5 @@
 pub mod Append
 pub mod Merge
-pub mod Told
 pub mod Listing
 pub mod Side
 pub mod Quiet

@@ -8,11 +8,12 @@ ghost use mathlib.Core.Bool.{true, _&&_};
 ghost use Prim.Native.Nat.{_+_, _≤_};
 ghost use lib.Dec.{eqb};
 ghost use Rattle.model.proofs.Lookups.{rising};
+ghost use Rattle.model.proofs.Telling.{Space, Gathers};
 ghost use Rattle.walk.specs.Scan.{Stands, from};
 ghost use Rattle.walk.specs.Sure.{Readable};
 ghost use Rattle.cursor.specs.First.{atOrAbove};
 ghost use Rattle.cursor.specs.Leaf.{Below};
-ghost use Rattle.differ.specs.Told.{Space, Tells};
+ghost use Rattle.differ.specs.Listing.{deltas};
 ghost use Rattle.differ.specs.Side.{rest, At, Ordered};
 ghost use Rattle.differ.specs.Quiet.{moves, quiet};
 ghost use Rattle.differ.specs.Leaves.{asked, inLeaves};
@@ -76,8 +77,8 @@ fn on(page: &[u8], n: usize, v: u32, low: u32, high: u32, x: Side, key: u32) -> 
 // What differs from the stretch in the leaf p, of m entries, to that in the leaf q, of n, behind the first `found` of a list; gives how
 // many there are then. Each step leaves an entry of one of the two leaves behind.
 fn merge(p: &[u8], m: usize, q: &[u8], n: usize, a: Ask, list: &mut [u32], found: usize) -> usize
-    requires { ⌜ Stands (now p) m × Stands (now q) n × Ordered (rest (now p) m (a .old) (a .low) (a .high) 0) × Ordered (rest (now q) n (a .new) (a .low) (a .high) 0) × Space (a .write) (now list) found (asked (now p) m (now q) n a) ⌝ }
-    ensures { λ r. ⌜ Tells (a .write) (now (list .entry)) (now (list .exit)) found r (asked (now (p .entry)) m (now (q .entry)) n a) ⌝ }
+    requires { ⌜ Stands (now p) m × Stands (now q) n × Ordered (rest (now p) m (a .old) (a .low) (a .high) 0) × Ordered (rest (now q) n (a .new) (a .low) (a .high) 0) × Space deltas (a .write) (now list) found (asked (now p) m (now q) n a) ⌝ }
+    ensures { λ r. ⌜ Gathers deltas (a .write) (now (list .entry)) (now (list .exit)) found r (asked (now (p .entry)) m (now (q .entry)) n a) ⌝ }
 {
     let mut sum = found;
     let mut key = 0;
@@ -140,8 +141,8 @@ pub fn tell(
     list: &mut [u32],
     found: usize,
 ) -> usize
-    requires { ⌜ Readable l (now s) (a .old) × Readable l (now s) (a .new) × Below l (now s) (a .old) 0 (a .low) x × Below l (now s) (a .new) 0 (a .low) y × Space (a .write) (now list) found (inLeaves l (now s) a x y) ⌝ }
-    ensures { λ r. ⌜ Tells (a .write) (now (list .entry)) (now (list .exit)) found r (inLeaves l (now (s .entry)) a x y) ⌝ }
+    requires { ⌜ Readable l (now s) (a .old) × Readable l (now s) (a .new) × Below l (now s) (a .old) 0 (a .low) x × Below l (now s) (a .new) 0 (a .low) y × Space deltas (a .write) (now list) found (inLeaves l (now s) a x y) ⌝ }
+    ensures { λ r. ⌜ Gathers deltas (a .write) (now (list .entry)) (now (list .exit)) found r (inLeaves l (now (s .entry)) a x y) ⌝ }
 {
     let p = store::part(s, l, x.page);
     let h = page::head_of(p, l);

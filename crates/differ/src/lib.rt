@@ -14,10 +14,10 @@ ghost use lib.Dec.{ltb};
 ghost use Rattle.model.specs.Told.{toldBy};
 ghost use Rattle.model.specs.Differ.{deltaNumbers};
 ghost use Rattle.model.specs.Lent.{listed};
+ghost use Rattle.model.proofs.Telling.{Space, Gathers};
 ghost use Rattle.walk.specs.Counted.{withList};
 ghost use Rattle.walk.specs.Sure.{Readable};
-ghost use Rattle.differ.specs.Told.{Space, Tells};
-ghost use Rattle.differ.specs.Listing.{between, nextOf};
+ghost use Rattle.differ.specs.Listing.{deltas, between, nextOf};
 
 // "Keys are 0 to 16,777,215".
 const KEYS: u32 = 16777216;
@@ -45,8 +45,8 @@ fn lower(a: u32, b: u32) -> u32
 // What differs from version u to version v, into a list or only counted; gives how many differences there are. Each step ends where the
 // first of two leaves does, so there are at most as many as the two versions have leaves.
 fn tell(s: &[u8], l: Limits, u: u32, v: u32, list: &mut [u32], write: bool) -> usize
-    requires { ⌜ Readable l (now s) u × Readable l (now s) v × Space write (now list) 0 (between l (now s) u v) ⌝ }
-    ensures { λ r. ⌜ Tells write (now (list .entry)) (now (list .exit)) 0 r (between l (now (s .entry)) u v) ⌝ }
+    requires { ⌜ Readable l (now s) u × Readable l (now s) v × Space deltas write (now list) 0 (between l (now s) u v) ⌝ }
+    ensures { λ r. ⌜ Gathers deltas write (now (list .entry)) (now (list .exit)) 0 r (between l (now (s .entry)) u v) ⌝ }
 {
     let mut found = 0;
     let mut key = 0;

@@ -6,8 +6,9 @@ ghost use mathlib.Core.Bool.{true};
 ghost use mathlib.Core.List.{[], _∷_};
 ghost use Prim.Native.Nat.{_+_, _*_, _≤_};
 ghost use lib.ListN.{length};
+ghost use Rattle.model.proofs.Telling.{written, Space, Gathers};
 ghost use Rattle.differ.specs.Merge.{compared, told};
-ghost use Rattle.differ.specs.Told.{written, Space, Tells};
+ghost use Rattle.differ.specs.Listing.{deltas};
 
 // What two cursors say of the smaller of their keys; 3 where both have it with one value.
 pub fn compared(x: Pair, y: Pair) -> Delta
@@ -48,7 +49,7 @@ pub fn compared(x: Pair, y: Pair) -> Delta
 // A difference behind the first k of a list: its four numbers.
 fn put_four(list: &mut [u32], k: usize, d: Delta)
     requires { ⌜ 4 * (k + 1) ≤ length (now list) ⌝ }
-    ensures { λ _. ⌜ now (list .exit) ≡ written true (now (list .entry)) k (d ∷ []) ⌝ }
+    ensures { λ _. ⌜ now (list .exit) ≡ written deltas true (now (list .entry)) k (d ∷ []) ⌝ }
 {
     list[4 * k] = d.key;
     list[4 * k + 1] = d.kind;
@@ -58,8 +59,8 @@ fn put_four(list: &mut [u32], k: usize, d: Delta)
 
 // What two cursors said, behind the first k of a list; gives how many there are then.
 pub fn put(list: &mut [u32], k: usize, d: Delta, write: bool) -> usize
-    requires { ⌜ Space write (now list) k (told d) ⌝ }
-    ensures { λ r. ⌜ Tells write (now (list .entry)) (now (list .exit)) k r (told d) ⌝ }
+    requires { ⌜ Space deltas write (now list) k (told d) ⌝ }
+    ensures { λ r. ⌜ Gathers deltas write (now (list .entry)) (now (list .exit)) k r (told d) ⌝ }
 {
     if d.kind == 3 {
         return k;

@@ -1,13 +1,13 @@
 -- `difference` meets its contract. Assumes nothing.
-use Rattle.differ.specs.Listing.{few-between, list-short, second-room, list-all}
-use Rattle.differ.specs.Told.{no-room}
+use Rattle.differ.specs.Listing.{deltas, few-between}
+use Rattle.model.proofs.Telling.{none-room, told-short, second-space, told-all}
 use native.Mathlib.Omega.{arith}
 use borrow.Author.Needs.{needs}
 use Rattle.differ.proofs.difference.Statement.{statement}
 use Rattle.differ.proofs.difference.Tie as tie
 
 tell-requires : tie.Need-tell-requires
-tell-requires c κs = (c .before .before .before .pre .0, c .before .before .before .pre .1, no-room (omega (arith, few-between (c .before .before .before .pre .0) (c .before .before .before .pre .1))))
+tell-requires c κs = (c .before .before .before .pre .0, c .before .before .before .pre .1, none-room deltas (omega (arith, few-between (c .before .before .before .pre .0) (c .before .before .before .pre .1))))
 
 mul-if1 : tie.Need-mul-if1
 mul-if1 c = omega (arith, c .before .before .tell .ensures .count, few-between (c .before .before .before .before .before .before .pre .0) (c .before .before .before .before .before .before .pre .1))
@@ -16,16 +16,16 @@ same-length : tie.Need-same-length
 same-length c = search needs
 
 returns : tie.Need-returns
-returns c = list-short (c .before .before .before .tell .ensures) (c .if1 .taken)
+returns c = told-short deltas (c .before .before .before .tell .ensures) (c .if1 .taken)
 
 tell-requires-2 : tie.Need-tell-requires-2
-tell-requires-2 c κs = (c .before .before .before .before .before .before .before .before .pre .0, c .before .before .before .before .before .before .before .before .pre .1, second-room (c .before .before .before .before .tell .ensures) (c .before .if1 .left) (omega (arith, few-between (c .before .before .before .before .before .before .before .before .pre .0) (c .before .before .before .before .before .before .before .before .pre .1))))
+tell-requires-2 c κs = (c .before .before .before .before .before .before .before .before .pre .0, c .before .before .before .before .before .before .before .before .pre .1, second-space deltas (c .before .before .before .before .tell .ensures) (c .before .if1 .left) (omega (arith, few-between (c .before .before .before .before .before .before .before .before .pre .0) (c .before .before .before .before .before .before .before .before .pre .1))))
 
 same-length-2 : tie.Need-same-length-2
 same-length-2 c = search needs
 
 returns-2 : tie.Need-returns-2
-returns-2 c = list-all (c .before .before .before .before .before .before .before .tell .ensures) (c .before .before .before .before .if1 .left) (c .before .before .tell2 .ensures)
+returns-2 c = told-all deltas (c .before .before .before .before .before .before .before .tell .ensures) (c .before .before .before .before .if1 .left) (c .before .before .tell2 .ensures)
 
 pub difference-spec : {M : Type 1} → statement M
 difference-spec =

@@ -1,12 +1,12 @@
 -- `leaves::tell` meets its contract. Assumes nothing.
 use Rattle.differ.specs.Leaves.{leaf-stands, rest-ordered, same-none, both-asked}
-use Rattle.differ.specs.Told.{Space, tells-same, tells-none}
-use Rattle.model.specs.declared.Delta.{Delta}
+use Rattle.differ.specs.Listing.{deltas}
+use Rattle.model.proofs.Telling.{written-none, Space, Gathers}
+use native.Mathlib.Omega.{arith}
 use Rattle.walk.specs.Sure.{covers-inside}
 use Rattle.cursor.specs.Leaf.{below-covers}
 use Rattle.store.specs.Sure.{few}
 use mathlib.Core.Path.{sym, _∙_, subst}
-use mathlib.Core.List.{List}
 use borrow.Author.Needs.{needs}
 use Rattle.differ.proofs.leaves.tell.Statement.{statement}
 use Rattle.differ.proofs.leaves.tell.Tie as tie
@@ -40,7 +40,8 @@ returns c =
     let g = c .before .before .before .before .before .before .pre .2 in
     let f = c .before .before .before .before .before .before .pre .3 in
     let e = same-none (a .a) r q (a .x) (a .y) g f _ _ (c .before .before .before .part .ensures .0) (c .before .before .head-of .ensures) (sym (c .before .same .ensures) ∙ c .if1 .taken) in
-    tells-same (sym e) (tells-none (a .a .write) (a .list .now) (a .found))
+    subst (Gathers deltas (a .a .write) (a .list .now) (a .list .now) (a .found) (a .found)) (sym e)
+    (record { count = omega arith; list = sym (written-none deltas (a .a .write) (a .list .now) (a .found)) })
 
 part-requires-2 : tie.Need-part-requires-2
 part-requires-2 c κs =
@@ -62,7 +63,7 @@ merge-requires c κs =
     let g = c .before .before .before .before .before .before .before .before .before .pre .2 in
     let f = c .before .before .before .before .before .before .before .before .before .pre .3 in
     let e = both-asked (a .a) r q (a .x) (a .y) g f _ _ (c .before .before .before .before .before .before .part .ensures .0) (c .before .before .before .before .before .head-of .ensures) _ _ (c .before .before .part2 .ensures .0) (c .before .head-of2 .ensures) in
-    (leaf-stands r (a .a .low) (a .x) g _ _ (c .before .before .before .before .before .before .part .ensures .0) (c .before .before .before .before .before .head-of .ensures), leaf-stands q (a .a .low) (a .y) f _ _ (c .before .before .part2 .ensures .0) (c .before .head-of2 .ensures), rest-ordered r (a .a .low) (a .x) g _ _ (c .before .before .before .before .before .before .part .ensures .0) (c .before .before .before .before .before .head-of .ensures) (a .a .low) (a .a .high), rest-ordered q (a .a .low) (a .y) f _ _ (c .before .before .part2 .ensures .0) (c .before .head-of2 .ensures) (a .a .low) (a .a .high), subst (λ (ds : List Delta). Space (a .a .write) (a .list .now) (a .found) ds) (sym e) (c .before .before .before .before .before .before .before .before .before .pre .4))
+    (leaf-stands r (a .a .low) (a .x) g _ _ (c .before .before .before .before .before .before .part .ensures .0) (c .before .before .before .before .before .head-of .ensures), leaf-stands q (a .a .low) (a .y) f _ _ (c .before .before .part2 .ensures .0) (c .before .head-of2 .ensures), rest-ordered r (a .a .low) (a .x) g _ _ (c .before .before .before .before .before .before .part .ensures .0) (c .before .before .before .before .before .head-of .ensures) (a .a .low) (a .a .high), rest-ordered q (a .a .low) (a .y) f _ _ (c .before .before .part2 .ensures .0) (c .before .head-of2 .ensures) (a .a .low) (a .a .high), subst (Space deltas (a .a .write) (a .list .now) (a .found)) (sym e) (c .before .before .before .before .before .before .before .before .before .pre .4))
 
 same-length : tie.Need-same-length
 same-length c = search needs
@@ -75,7 +76,7 @@ returns-2 c =
     let g = c .before .before .before .before .before .before .before .before .before .before .before .before .pre .2 in
     let f = c .before .before .before .before .before .before .before .before .before .before .before .before .pre .3 in
     let e = both-asked (a .a) r q (a .x) (a .y) g f _ _ (c .before .before .before .before .before .before .before .before .before .part .ensures .0) (c .before .before .before .before .before .before .before .before .head-of .ensures) _ _ (c .before .before .before .before .before .part2 .ensures .0) (c .before .before .before .before .head-of2 .ensures) in
-    tells-same e (c .before .before .merge .ensures)
+    subst (Gathers deltas (a .a .write) (a .list .now) _ (a .found) _) e (c .before .before .merge .ensures)
 
 pub tell-spec : {M : Type 1} → statement M
 tell-spec =

@@ -1,11 +1,12 @@
 -- `put` meets its contract. Assumes nothing.
 use borrow.Author.Tests.{not-true, not-false}
-use Rattle.differ.specs.Listing.{told-same, told-one}
-use Rattle.differ.specs.Told.{tells-none, tells-counted, tells-put}
+use Rattle.differ.specs.Listing.{deltas, told-same, told-one}
+use Rattle.model.proofs.Telling.{written, written-none, write-not}
 use Rattle.model.specs.declared.Delta.{Delta}
 use lib.ListN.{length}
-use mathlib.Core.List.{List}
-use mathlib.Core.Path.{ap}
+use mathlib.Core.Bool.{Bool}
+use mathlib.Core.List.{List, [], _∷_}
+use mathlib.Core.Path.{refl, ap, sym, _∙_}
 use native.Mathlib.Omega.{arith}
 use borrow.Author.Needs.{needs}
 use Rattle.differ.proofs.telling.put.Statement.{statement}
@@ -14,7 +15,7 @@ use Rattle.differ.proofs.telling.put.Tie as tie
 returns : tie.Need-returns
 returns c =
     let a = c .before .before .before .args in
-    rw (told-same (a .d) (c .if1 .taken)) (tells-none (a .write) (a .list .now) (a .k))
+    rw (told-same (a .d) (c .if1 .taken)) (record { count = omega arith; list = sym (written-none deltas (a .write) (a .list .now) (a .k)) })
 
 add-result : tie.Need-add-result
 add-result c = omega (arith, c .before .before .before .before .pre .few, ap (λ (ds : List Delta). length ds) (told-one (c .before .before .before .before .args .d) (c .before .if1 .left)))
@@ -22,7 +23,7 @@ add-result c = omega (arith, c .before .before .before .before .pre .few, ap (λ
 returns-2 : tie.Need-returns-2
 returns-2 c =
     let a = c .before .before .before .before .args in
-    rw (told-one (a .d) (c .before .if1 .left)) (tells-counted (a .write) (a .list .now) (a .k) (a .d) (not-true _ (c .if2 .taken)))
+    rw (told-one (a .d) (c .before .if1 .left)) (record { count = refl; list = sym (write-not deltas (a .list .now) (a .k) (a .d ∷ [])) ∙ ap (λ (w : Bool). written deltas w (a .list .now) (a .k) (a .d ∷ [])) (sym (not-true _ (c .if2 .taken))) })
 
 put-four-requires : tie.Need-put-four-requires
 put-four-requires c κs =
@@ -40,7 +41,8 @@ same-length c = search needs
 returns-3 : tie.Need-returns-3
 returns-3 c =
     let a = c .before .before .before .before .before .before .before .before .args in
-    rw (told-one (a .d) (c .before .before .before .before .before .if1 .left)) (tells-put (a .write) (a .list .now) _ (a .k) (a .d) (not-false _ (c .before .before .before .before .if2 .left)) (c .before .before .put-four .ensures))
+    rw (told-one (a .d) (c .before .before .before .before .before .if1 .left))
+    (record { count = refl; list = c .before .before .put-four .ensures ∙ ap (λ (w : Bool). written deltas w (a .list .now) (a .k) (a .d ∷ [])) (sym (not-false _ (c .before .before .before .before .if2 .left))) })
 
 pub put-spec : {M : Type 1} → statement M
 put-spec =

@@ -1,5 +1,8 @@
 -- `put_four` meets its contract. Assumes nothing.
-use Rattle.differ.specs.Told.{put-four}
+use Rattle.differ.specs.Listing.{deltas}
+use Rattle.model.proofs.Telling.{write-one}
+use Prim.Native.Nat.{suc, _+_, _*_}
+use mathlib.Core.Path.{_≡_}
 use lib.ListN.{length-set}
 use native.Mathlib.Omega.{arith}
 use borrow.Author.Needs.{needs}
@@ -55,7 +58,12 @@ same-length : tie.Need-same-length
 same-length c = search needs
 
 returns : tie.Need-returns
-returns c = put-four (c .args .list .now) (c .args .k) (c .args .d)
+returns c =
+    let a = c .args in
+    let e : 4 * a .k + 1 ≡ suc (4 * a .k) = omega arith in
+    let f : 4 * a .k + 2 ≡ suc (suc (4 * a .k)) = omega arith in
+    let g : 4 * a .k + 3 ≡ suc (suc (suc (4 * a .k))) = omega arith in
+    rw (e, f, g) (write-one deltas (a .list .now) (a .k) (a .d))
 
 pub put-four-spec : {M : Type 1} → statement M
 put-four-spec =
