@@ -6,11 +6,12 @@
 
 use std::hint::black_box;
 
+use hostile::measure::{in_turn, times, told};
+use hostile::stores;
 use reference::layout::HIGHEST_KEY;
 use reference::{number, store, unjudged, walk};
 
-use crate::measure::{in_turn, times, told};
-use crate::{proved, stores};
+use crate::proved;
 
 const NOTHING_CHANGED: u32 = 15;
 const CHANGES: u32 = 1000;

@@ -6,13 +6,14 @@
 
 use std::hint::black_box;
 
+use hostile::measure::{in_turn, times, told};
+use hostile::stores;
 use reference::foreign::raise_current;
 use reference::layout::{HIGHEST_VERSION, PAGE_BYTES};
 use reference::model::Model;
 use reference::{calls, number, store, unjudged};
 
-use crate::measure::{in_turn, times, told};
-use crate::{proved, stores};
+use crate::proved;
 
 /// The end of a stretch that is still alive.
 const ALIVE: u32 = HIGHEST_VERSION + 1;

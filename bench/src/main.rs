@@ -4,6 +4,7 @@
 mod bitwise;
 mod chart;
 mod commits;
+mod differences;
 mod judging;
 mod lives;
 mod lookups;
@@ -26,7 +27,7 @@ use reference::{calls, store};
 
 /// All tables, or the one that the first argument names.
 fn main() {
-    let tables: [(&str, fn()); 12] = [
+    let tables: [(&str, fn()); 13] = [
         ("bytes", byte_layer),
         ("quick", judging::judging),
         ("check", check_of_histories),
@@ -34,6 +35,7 @@ fn main() {
         ("commits", commits::commits),
         ("lookups", lookups::lookups),
         ("lives", lives::lives),
+        ("differences", differences::differences),
         ("hostile", hostile_stores),
         ("worst", worst::worst),
         ("updates", updates::updates),

@@ -4,6 +4,8 @@
 //! declarations are those of `crates/gauge`, `crates/morning` and `include/rcst.h`, and that a
 //! slice is passed as its own pointer and length.
 
+use reference::layout::HIGHEST_KEY;
+
 mod c {
     extern "C" {
         pub fn gauge_fields(
@@ -35,6 +37,25 @@ mod c {
         pub fn rcst_insert(store: *mut u8, length: usize, key: u32, value: u32) -> u32;
         pub fn rcst_delete(store: *mut u8, length: usize, key: u32) -> u32;
         pub fn rcst_commit(store: *mut u8, length: usize) -> u32;
+        pub fn rcst_range(
+            store: *const u8,
+            length: usize,
+            low: u32,
+            high: u32,
+            version: u32,
+            list: *mut u32,
+            room: usize,
+            count: *mut usize,
+        ) -> u32;
+        pub fn rcst_difference(
+            store: *const u8,
+            length: usize,
+            old_version: u32,
+            new_version: u32,
+            list: *mut u32,
+            room: usize,
+            count: *mut usize,
+        ) -> u32;
         pub fn rcst_life(
             store: *const u8,
             length: usize,
@@ -86,6 +107,42 @@ pub fn delete(store: &mut [u8], key: u32) -> u32 {
 /// 7 where no update is open: the call judges, and refuses.
 pub fn commit(store: &mut [u8]) -> u32 {
     unsafe { c::rcst_commit(store.as_mut_ptr(), store.len()) }
+}
+
+/// The number and the count of settings with any key at a version, which go to
+/// the list.
+pub fn range(store: &[u8], version: u32, list: &mut [u32]) -> (u32, usize) {
+    let mut count = 0;
+    let number = unsafe {
+        c::rcst_range(
+            store.as_ptr(),
+            store.len(),
+            0,
+            HIGHEST_KEY,
+            version,
+            list.as_mut_ptr(),
+            list.len(),
+            &mut count,
+        )
+    };
+    (number, count)
+}
+
+/// The number and the count of differences, which go to the list.
+pub fn difference(store: &[u8], old: u32, new: u32, list: &mut [u32]) -> (u32, usize) {
+    let mut count = 0;
+    let number = unsafe {
+        c::rcst_difference(
+            store.as_ptr(),
+            store.len(),
+            old,
+            new,
+            list.as_mut_ptr(),
+            list.len(),
+            &mut count,
+        )
+    };
+    (number, count)
 }
 
 /// The number and the count of stretches, which go to the list.
