@@ -39,6 +39,12 @@
  * the default of some systems for a thread is less. That is measured and rounded
  * up, not proved (tests/c/stack.c, x86-64): rcst_check took 203 kB, every other call
  * up to 116 kB, on stores made to keep them busy too.
+ *
+ * A program that ends between two calls of an update leaves it open, and the next
+ * commit would publish the half of it. On start check the store, and abandon: 0
+ * says that an update was open, 7 that none was. Of a call that is cut in its middle
+ * nothing is promised: README, "When a program dies inside an update", and
+ * examples/recover.c.
  */
 #ifndef RCST_H
 #define RCST_H
