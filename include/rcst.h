@@ -17,37 +17,34 @@
  * 5; lookup, range and delete take them, so that a store that was shipped with
  * bench keys can be read and cleaned.
  *
- * Every call gives a number, of several that apply the smallest:
- *
- *    0  done
- *    1  length not 6 to 4,096 whole pages
- *    2  first four bytes wrong
- *    3  edition not 1
- *    4  not sound
- *    5  key too large (insert: from 16,776,960 on), or range low above high
- *    6  version above the last one that can be read
- *    7  no update open (insert, delete, commit, abandon)
- *    8  update already open (open)
- *    9  current version is 1,048,574 (open)
- *   10  key alive (insert)
- *   11  key not alive (delete)
- *   12  the page rules need a page and none is free (insert, delete)
- *   13  the page rules need a 257th slot of the root directory (insert, delete)
- *   14  list holds fewer numbers than two for each setting found (range), three
- *       for each stretch (life), four for each difference (difference), one for
- *       each page visited (visits)
- *   15  the open version's settings equal the current version's, key for key
- *       (commit)
+ * Every call gives a number, of several that apply the smallest; enum rcst_number
+ * has their names, rcst_words their words.
  *
  * Every number but 0 leaves store and list untouched, byte for byte. After 12 or
  * 13 the update is still open: it may be committed as it is, or abandoned. After
  * 15 too: it may go on, be committed once it has changed something, or abandoned.
  *
- * The caller answers for what no library can see: that `store` points to
- * `length` bytes, and a list (`list`, `pages`) to `room` numbers, which nobody
- * else reads or writes during the call, and that store and list do not overlap.
- * Where a length is 0 its pointer may be null. The pointers for results are never
- * null.
+ * The caller answers for what no library can see. `store` points to `length`
+ * bytes, and a list (`list`, `pages`) to `room` numbers; where a length is 0 its
+ * pointer may be null. Store and list do not overlap. The pointers for results are
+ * never null, are distinct from each other, and lie outside store and list.
+ *
+ * During a call nobody else touches its list and results, and nobody writes the
+ * store. So the calls that take the store as const may run side by side on one
+ * store, each with a list and results of its own; a call that writes it (fresh,
+ * open, insert, delete, commit, abandon) runs alone on it, with no other reader or
+ * writer. The library has no state of its own: calls on different stores never meet.
+ *
+ * A call takes at most RCST_STACK_BYTES of the stack of the thread that makes it;
+ * the default of some systems for a thread is less. That is measured and rounded
+ * up, not proved (tests/c/stack.c, x86-64): rcst_check took 203 kB, every other call
+ * up to 116 kB, on stores made to keep them busy too.
+ *
+ * A program that ends between two calls of an update leaves it open, and the next
+ * commit would publish the half of it. On start check the store, and abandon: 0
+ * says that an update was open, 7 that none was. Of a call that is cut in its middle
+ * nothing is promised: README, "When a program dies inside an update", and
+ * examples/recover.c.
  */
 #ifndef RCST_H
 #define RCST_H
@@ -58,6 +55,15 @@
 #ifdef __cplusplus
 extern "C" {
 #endif
+
+/*
+ * The edition of the format that the calls read and write, and the version of what
+ * this header offers: the first number rises where a program that was written for
+ * the one before may have to change, the second where something is added.
+ */
+#define RCST_FORMAT_EDITION 1u
+#define RCST_LIBRARY_MAJOR 1u
+#define RCST_LIBRARY_MINOR 0u
 
 /* The format's limits. */
 #define RCST_PAGE_BYTES 256u
@@ -70,6 +76,53 @@ extern "C" {
 
 /* The end of a stretch that is still alive. */
 #define RCST_ALIVE 1048575u
+
+/* The stack that a call finds enough. */
+#define RCST_STACK_BYTES 262144u
+
+/* The numbers that calls give. What each is given for, rcst_words says. */
+enum rcst_number {
+    RCST_DONE = 0,
+    RCST_WRONG_LENGTH = 1,
+    RCST_WRONG_FIRST_BYTES = 2,
+    RCST_WRONG_EDITION = 3,
+    RCST_NOT_SOUND = 4,
+    RCST_KEY_TOO_LARGE = 5,
+    RCST_VERSION_ABOVE_LAST = 6,
+    RCST_NO_UPDATE_OPEN = 7,
+    RCST_UPDATE_ALREADY_OPEN = 8,
+    RCST_VERSIONS_USED_UP = 9,
+    RCST_KEY_ALIVE = 10,
+    RCST_KEY_NOT_ALIVE = 11,
+    RCST_NO_PAGE_FREE = 12,
+    RCST_NO_SLOT_FREE = 13,
+    RCST_LIST_TOO_SHORT = 14,
+    RCST_NOTHING_CHANGED = 15
+};
+
+/* A number's words: when it is given. Never null. */
+static inline const char *rcst_words(uint32_t number) {
+    static const char *const words[] = {
+        "done",
+        "length not 6 to 4,096 whole pages",
+        "first four bytes wrong",
+        "edition not 1",
+        "not sound",
+        "key too large (insert: 16,776,960 or above), or range low above high",
+        "version above last (of a difference: either version)",
+        "no update open (insert, delete, commit, abandon)",
+        "update already open (open)",
+        "current is 1,048,574 (open)",
+        "key alive (insert)",
+        "key not alive (delete)",
+        "the rules need a page and none is free",
+        "the rules need a 257th slot",
+        ("caller's list holds fewer numbers than two for each setting found (range), three for each stretch (life), "
+         "four for each difference (difference), one for each page visited (visits)"),
+        "the open version's settings equal the current version's, key for key (commit)",
+    };
+    return number < sizeof words / sizeof words[0] ? words[number] : "not a number of this library";
+}
 
 /* Makes a fresh store over any bytes: version 0, no settings. Gives 0 or 1. */
 uint32_t rcst_fresh(uint8_t *store, size_t length);

@@ -149,7 +149,18 @@ static void lives(void) {
     expect(rcst_life(store, sizeof store, RCST_HIGHEST_KEY + 1, list, 7, &count) == 5 && count == 0, "a key too large");
 }
 
+/* A number by its name and in words. */
+static void numbers(void) {
+    static uint8_t store[RCST_FEWEST_PAGES * RCST_PAGE_BYTES];
+
+    expect(rcst_commit(store, sizeof store) == RCST_WRONG_FIRST_BYTES, "2 by its name");
+    expect(rcst_fresh(store, sizeof store) == RCST_DONE && store[4] == RCST_FORMAT_EDITION, "a store of the edition that the header names");
+    expect(strcmp(rcst_words(rcst_commit(store, sizeof store)), "no update open (insert, delete, commit, abandon)") == 0, "7 in words");
+    expect(rcst_words(RCST_NOTHING_CHANGED + 1) != NULL && rcst_words(UINT32_MAX) != NULL, "any number has words");
+}
+
 int main(void) {
+    numbers();
     fresh_and_check();
     releases();
     settings();

@@ -1,0 +1,140 @@
+/*
+ * How much stack the calls take: each runs on a thread whose stack is painted
+ * first, and the deepest byte that lost its paint is looked for. It does so on a
+ * store that a history leaves, for check and commit on the same with one byte
+ * damaged, and on the stores in the files that are named as arguments. Prints the
+ * most for each call, and gives 0 if none takes more than the header says.
+ */
+#define _POSIX_C_SOURCE 200809L
+
+#include "rcst.h"
+
+#include <pthread.h>
+#include <stdio.h>
+#include <stdlib.h>
+#include <string.h>
+
+enum { STACK = 1 << 20, PAGES = 40, CALLS = 11, PAINT = 0xA5 };
+
+static const char *const names[CALLS] = {"fresh", "check",  "open",  "insert", "delete",    "commit",
+                                         "abandon", "lookup", "range", "visits", "difference and life"};
+static size_t most[CALLS];
+static uint8_t stack[STACK] __attribute__((aligned(4096)));
+static uint8_t store[RCST_MOST_PAGES * RCST_PAGE_BYTES], kept[RCST_MOST_PAGES * RCST_PAGE_BYTES];
+static size_t length;
+static uint32_t list[64];
+
+/* The call to make, its key, and where its frame begins. */
+static int call;
+static uint32_t key;
+static uint8_t *begin;
+
+static void *made(void *none) {
+    uint32_t a, b;
+    size_t count;
+
+    begin = (uint8_t *)&a;
+    switch (call) {
+    case 0: rcst_fresh(store, length); break;
+    case 1: rcst_check(store, length, &a); break;
+    case 2: rcst_open(store, length); break;
+    case 3: rcst_insert(store, length, key, 1); break;
+    case 4: rcst_delete(store, length, key); break;
+    case 5: rcst_commit(store, length); break;
+    case 6: rcst_abandon(store, length); break;
+    case 7: rcst_lookup(store, length, key, 1, &a, &b); break;
+    case 8: rcst_range(store, length, 0, key, 1, list, 64, &count); break;
+    case 9: rcst_visits(store, length, key, 1, list, 64, &count); break;
+    default:
+        rcst_difference(store, length, 0, 1, list, 64, &count);
+        rcst_life(store, length, key, list, 64, &count);
+    }
+    return none;
+}
+
+/* Makes one call on a painted stack. */
+static void measure(int which, uint32_t with) {
+    pthread_attr_t attributes;
+    pthread_t thread;
+    uint8_t *deepest = stack;
+
+    call = which;
+    key = with;
+    memset(stack, PAINT, sizeof stack);
+    if (pthread_attr_init(&attributes) != 0 || pthread_attr_setstack(&attributes, stack, sizeof stack) != 0 ||
+        pthread_create(&thread, &attributes, made, NULL) != 0 || pthread_join(thread, NULL) != 0) {
+        printf("stack.c: no thread\n");
+        exit(1);
+    }
+    pthread_attr_destroy(&attributes);
+    while (*deepest == PAINT) {
+        deepest++;
+    }
+    if ((size_t)(begin - deepest) > most[which]) {
+        most[which] = (size_t)(begin - deepest);
+    }
+}
+
+/* Every call on the store as it is, which is then put back. */
+static void measure_all(uint32_t with) {
+    int which;
+
+    memcpy(kept, store, length);
+    for (which = CALLS - 1; which >= 0; which--) {
+        measure(which, with);
+        memcpy(store, kept, length);
+    }
+}
+
+/* Four releases in 40 pages, and an update open. */
+static void history(void) {
+    uint32_t version, i;
+
+    length = PAGES * RCST_PAGE_BYTES;
+    rcst_fresh(store, length);
+    for (version = 1; version <= 4; version++) {
+        rcst_open(store, length);
+        for (i = 0; i < 45; i++) {
+            rcst_insert(store, length, 4 * i + version, i);
+        }
+        rcst_commit(store, length);
+    }
+    rcst_open(store, length);
+    rcst_delete(store, length, 5);
+}
+
+int main(int count, char **files) {
+    size_t at;
+    int i, failed = 0;
+
+    history();
+    for (i = 0; i < 40; i++) {
+        measure_all((uint32_t)(5 * i));
+    }
+    for (at = 0; at < length; at += 37) {
+        store[at] ^= 0x10;
+        measure(1, 0);
+        measure(5, 0);
+        memcpy(store, kept, length);
+    }
+    for (i = 1; i < count; i++) {
+        FILE *file = fopen(files[i], "rb");
+
+        if (file == NULL) {
+            printf("stack.c: cannot read %s\n", files[i]);
+            return 1;
+        }
+        length = fread(store, 1, sizeof store, file);
+        fclose(file);
+        measure_all(40);
+    }
+    printf("stack in bytes:");
+    for (i = 0; i < CALLS; i++) {
+        printf(" %s %lu%s", names[i], (unsigned long)most[i], i + 1 < CALLS ? "," : "\n");
+        failed |= most[i] > RCST_STACK_BYTES;
+    }
+    if (failed) {
+        printf("stack.c: more than RCST_STACK_BYTES\n");
+    }
+    return failed;
+}
