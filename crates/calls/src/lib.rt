@@ -11,7 +11,6 @@ use model::Limits;
 use model::Looked;
 pub use updating::delete;
 pub use updating::insert;
-pub use updating::raw_insert;
 pub use visiting::visits;
 use walk::Counted;
 ghost use mathlib.Core.Path.{_≡_};
