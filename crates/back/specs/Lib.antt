@@ -1,0 +1,6 @@
+pub mod Return
+pub mod Due
+pub mod Single
+pub mod Going
+pub mod Pass
+pub mod Both
