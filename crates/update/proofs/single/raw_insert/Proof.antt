@@ -1,10 +1,5 @@
 -- `raw_insert` meets its contract. Assumes nothing.
-use mathlib.Core.Path.{ap, _∙_}
-use Rattle.model.specs.Page.{Change}
-use Rattle.model.specs.Layout.{decode}
-use Rattle.model.specs.Climb.{update}
-use Rattle.model.specs.Lent.{left}
-use Rattle.update.specs.Single.{insert-leaves}
+use Rattle.update.specs.Single.{insert-leaves, comes-to}
 use borrow.Author.Needs.{needs}
 use Rattle.update.proofs.single.raw_insert.Statement.{statement}
 use Rattle.update.proofs.single.raw_insert.Tie as tie
@@ -24,9 +19,7 @@ same-length c = search needs
 returns : tie.Need-returns
 returns c =
     let a = c .before .before .before .before .before .before .args in
-    let e = c .before .before .before .inserting .ensures .0 in
-    (c .before .before .update .ensures .0 ∙ ap (λ (d : Change). left (a .l .least) (a .s .now) (update (a .l .least) (decode (a .l .least) (a .s .now)) (a .key) d) .number) e,
-    c .before .before .update .ensures .1 ∙ ap (λ (d : Change). left (a .l .least) (a .s .now) (update (a .l .least) (decode (a .l .least) (a .s .now)) (a .key) d) .store) e)
+    comes-to (a .l .least) (a .s .now) (a .key) _ _ (c .before .before .before .inserting .ensures .0) _ _ (c .before .before .update .ensures .0) (c .before .before .update .ensures .1)
 
 pub raw-insert-spec : {M : Type 1} → statement M
 raw-insert-spec = tie.close (tie.spec inserting-requires update-requires same-length returns)
