@@ -92,7 +92,7 @@ module _ (least : ℕ) (four : 4 ≤ least) (s : Store) (d : Sound least s) (o :
       is-done (done u) = 1
       is-done (refused m) = 0
 
-      never : 0 ≡ 1 → ⊥
+      never : _≡_ {A = ℕ} 0 1 → ⊥
       never z = omega arith
   leaves c behind (done t′) f e t q =
       rw (sym (is t′ t q)) (record {
