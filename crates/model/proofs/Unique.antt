@@ -13,7 +13,8 @@ use Rattle.model.specs.declared.Pair.{Pair}
 use Rattle.model.specs.declared.Looked.{Looked}
 use Rattle.model.specs.declared.Looked.the-variants.{Value, Absent, Refused}
 use Rattle.model.specs.declared.Verdict.{Verdict}
-use Rattle.model.specs.Store.{Store, fresh}
+use Rattle.model.specs.Store.{Store, next, fresh}
+use Rattle.model.specs.Walk.{settings}
 use Rattle.model.specs.Layout.{bit, sizeOf, encode, decode}
 use Rattle.model.specs.Judged
 use Rattle.model.specs.Judged.{lengthOk, magicOk, editionOk, brokenIn, judged, verdict, ruled}
@@ -26,7 +27,7 @@ use Rattle.model.specs.Visited
 use Rattle.model.specs.Differ
 use Rattle.model.specs.Life
 use Rattle.model.specs.Return
-use Rattle.model.specs.Return.{Ran, reached, stopped, Came, gave, gaveUp, lacking, orAbandoned, unless}
+use Rattle.model.specs.Return.{Ran, reached, stopped, carried, Came, gave, gaveUp, lacking, orAbandoned, returnTests, unless}
 use Rattle.model.specs.Ended.{Asked, toFresh, toCheck, toOpen, toCommit, toAbandon, toInsert, toDelete, toReturn, toLookup, toRange, toLife, toDifference, toVisits, Ended, ended, Meets, Untouched, Excepted, Named, Zeros}
 use Rattle.model.specs.Lent
 use Rattle.model.specs.Lent.{Outcome, Listed, listed, left, leftBy, judgedFirst, openLent, insertLent, deleteLent, commitLent, abandonLent, returnLent, freshLent, lookupLent, rangeLent, lifeLent, differenceLent, visitsLent}
@@ -75,7 +76,9 @@ module _ (least : ℕ) (b : List ℕ) where
   return-same v = at (judged least b .number)
     where
       at : (n : ℕ) → ReturnSame b (judgedFirst n (λ m. record { number = m; store = b }) (leftBy least b (Return.returned least (decode least b) v)))
-      at zero = unless-same _ _ (run-same _)
+      at zero =
+          unless-same (firstOf (returnTests (decode least b .current) (decode least b .opened) v)) _
+          (run-same (carried least (Differ.differ (settings (decode least b) (next (decode least b))) (settings (decode least b) v)) (decode least b)))
       at (suc n) = λ h x. refl
 
 fresh-same : (least : ℕ) (b : List ℕ) → StoreSame b (freshLent least b)
