@@ -13,6 +13,7 @@ pub mod Calls
 pub mod Told
 pub mod Visited
 pub mod Differ
+pub mod Return
 pub mod Life
 pub mod Settings
 pub mod Histories
