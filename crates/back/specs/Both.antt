@@ -1,9 +1,8 @@
 -- Both passes of a return, and the abandon where a step is refused.
 -- Assumes nothing.
 use Prim.Native.Nat.{ℕ}
-use mathlib.Core.Bool.{Bool, true, false}
-use mathlib.Core.Logic.{_⊎_, inl, inr}
-use mathlib.Core.Path.{_≡_, refl, ap, ap₂, sym, _∙_}
+use mathlib.Core.Bool.{true, false}
+use mathlib.Core.Path.{_≡_, refl, ap, sym, subst, _∙_}
 use mathlib.Core.List.{List}
 use Rattle.model.specs.Basic.{those}
 use Rattle.model.specs.declared.Limits.{Limits}
@@ -12,9 +11,10 @@ use Rattle.model.specs.Store.{Store, next}
 use Rattle.model.specs.Walk.{settings}
 use Rattle.model.specs.Layout.{decode, encode}
 use Rattle.model.specs.Calls.{abandoned}
-use Rattle.back.specs.Return.{leftBy}
+use Rattle.model.specs.Lent.{leftBy}
 use Rattle.model.specs.Differ.{differ}
-use Rattle.back.specs.Return.{goes, comes, endOne, setOne, Ran, reached, stopped, through, andOn, carried, orAbandoned, lacking}
+use Rattle.model.specs.Return.{comes, setOne, Ran, reached, stopped, through, andOn, carried, orAbandoned, lacking}
+use Rattle.model.proofs.Returned.{Runs, carried-runs, carried-anew}
 use Rattle.store.specs.Sure.{same-bytes}
 use Rattle.differ.specs.Listing.{between}
 use Rattle.back.specs.Going.{Going, going-sound, Went}
@@ -29,7 +29,10 @@ module _ {l : Limits} {b : List ℕ} {v w : ℕ} (g : Going l b v w) where
   second t = through (setOne (l .least)) (those comes (differ (settings t (next t)) (settings t v))) t
 
   anew : carried (l .least) (between l b w v) (decode (l .least) b) ≡ andOn second (passed false (l .least) (between l b w v) (decode (l .least) b))
-  anew = ?
+  anew =
+      let n = g .is-next in
+      ap (λ (u : ℕ). carried (l .least) (differ (settings s u) (settings s v)) s) n ∙ carried-anew (l .least) (g .edition .four) s (going-sound g) (g .opened) v (g .old)
+      ∙ sym (ap (λ (u : ℕ). andOn second (passed false (l .least) (differ (settings s u) (settings s v)) s)) n)
 
   module _ (b₁ : List ℕ) (n : ℕ) (p : Went l b₁ v w n (passed false (l .least) (between l b w v) (decode (l .least) b))) where
     pub first-stops : (n ≡ 0 → ⊥) → Went l b₁ v w n (carried (l .least) (between l b w v) (decode (l .least) b))
@@ -45,10 +48,9 @@ module _ {l : Limits} {b : List ℕ} {v w : ℕ} (g : Going l b v w) where
 
   -- a step that is refused lacks a page or a slot
   few : (n : ℕ) (t : Store) → carried (l .least) (between l b w v) (decode (l .least) b) ≡ stopped n t → lacking n ≡ true
-  few = ?
-
-  abbrev came : Ran → ℕ × List ℕ
-  came r = (leftBy (l .least) b (orAbandoned r) .number, leftBy (l .least) b (orAbandoned r) .store)
+  few n t e =
+      subst (Runs (l .least) s (settings s v)) (sym (ap (λ (u : ℕ). carried (l .least) (differ (settings s u) (settings s v)) s) (g .is-next)) ∙ e)
+      (carried-runs (l .least) (g .edition .four) s (going-sound g) (g .opened) v (g .old)) .0
 
   module _ (b₁ : List ℕ) (n : ℕ) (p : Went l b₁ v w n (carried (l .least) (between l b w v) (decode (l .least) b))) where
     pub all-done : n ≡ 0 → Bytes b₁ → (0 ≡ leftBy (l .least) b (orAbandoned (carried (l .least) (between l b w v) (decode (l .least) b))) .number)

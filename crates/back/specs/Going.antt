@@ -13,16 +13,14 @@ use Rattle.model.specs.Limits.{Edition}
 use Rattle.model.specs.Store.{Store, next, last, lastOf}
 use Rattle.model.specs.Walk.{settings}
 use Rattle.model.specs.Layout.{decode}
-use Rattle.model.specs.Sound.{sound}
 use Rattle.model.specs.Judged.{judged, isSound}
 use Rattle.model.specs.Climb.{Result, done, refused}
 use Rattle.model.specs.Lent.{left}
 use Rattle.model.specs.Differ.{differ}
-use Rattle.back.specs.Return.{Ran, reached, stopped, orStopped, through}
-use Rattle.model.proofs.Members.{true-holds}
-use Rattle.model.proofs.Given.{Sound, to-tests}
-use Rattle.promises.proofs.Encoded.{encoded-sound}
+use Rattle.model.specs.Return.{Ran, reached, stopped, orStopped, through}
+use Rattle.model.proofs.Given.{Sound}
 use Rattle.store.specs.Sure.{sure}
+use Rattle.written.specs.Encoded.{encoded-accepted, encoded-held}
 use Rattle.walk.specs.Sure.{Readable}
 use Rattle.cursor.specs.First.{atOrAbove}
 use Rattle.differ.specs.Merge.{left as leftFrom}
@@ -83,14 +81,13 @@ module _ {l : Limits} {b : List ℕ} {v w : ℕ} (g : Going l b v w) (one : Stor
     pub stepped-done : one (decode (l .least) b) d ≡ done t → Stepped l b b′ v w k 0 (through one (d ∷ []) (decode (l .least) b))
     unfolding through leftFrom isSound
     stepped-done e =
-        let wr = encoded-sound (l .least) (g .edition .four) (g .edition .eight) t (true-holds (sound (l .least) t) (to-tests (l .least) t (p .is-sound))) in
-        let h : decode (l .least) b′ ≡ t = ap (decode (l .least)) f ∙ wr .held in
+        let h : decode (l .least) b′ ≡ t = ap (decode (l .least)) f ∙ encoded-held (l .least) (g .edition .four) (g .edition .eight) t (p .is-sound) in
         let n : w ≡ next t = omega (arith, g .is-next, p .current) in
         record {
           went = record {
             going = record {
               edition = g .edition;
-              sound = eq-eqb (judged (l .least) b′ .number) 0 (ap (λ (x : List ℕ). judged (l .least) x .number) f ∙ wr .accepted);
+              sound = eq-eqb (judged (l .least) b′ .number) 0 (ap (λ (x : List ℕ). judged (l .least) x .number) f ∙ encoded-accepted (l .least) (g .edition .four) (g .edition .eight) t (p .is-sound));
               opened = ap (λ (x : Store). x .opened) h ∙ p .opened;
               old = omega (arith, g .old, p .current, ap (λ (x : Store). x .current) h);
               is-next = n ∙ ap next (sym h);

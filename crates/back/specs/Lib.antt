@@ -1,4 +1,3 @@
-pub mod Return
 pub mod Due
 pub mod Single
 pub mod Going

@@ -19,13 +19,15 @@ use Rattle.model.specs.Climb.{Result, done, refused, update}
 use Rattle.model.specs.Calls.{isSome, rawInsert}
 use Rattle.model.specs.Needs.{inserting, deleting}
 use Rattle.model.specs.Lent.{left}
-use Rattle.back.specs.Return.{goes, comes, endOne, setOne, Ran, reached, stopped, orStopped, through, andOn}
+use Rattle.model.specs.Return.{goes, comes, endOne, setOne, Ran, reached, stopped, orStopped, through, andOn}
 use Rattle.model.proofs.Local.{those-append}
+use Rattle.model.proofs.Stops.{Ends as Stops, update-ends}
+use Rattle.model.proofs.Returned.{delete-is, set-is}
 use Rattle.update.specs.Single.{Enters, Ends}
 use Rattle.differ.specs.Merge.{told, Onward}
 use Rattle.differ.specs.Listing.{between, leftOf, nextOf, reads-rising, reads-low, from-start, from-end, from-on, from-step}
 use Rattle.back.specs.Due.{added-due, ended-due, few-kinds}
-use Rattle.back.specs.Single.{Lack, update-lacks, absent, present, set-is, set-left, set-over, end-is, end-left}
+use Rattle.back.specs.Single.{absent, present, set-left, set-over, end-left}
 use Rattle.back.specs.Going.{Going, going-sound, going-open, going-old, Went, Stepped, stepped-none, stepped-refused, stepped-by}
 
 -- which differences a pass is for: does it insert?
@@ -99,9 +101,9 @@ module _ {l : Limits} {b : List ℕ} {v w : ℕ} (g : Going l b v w) (k : ℕ) (
     end-stepped r b′ x y =
         subst (λ (ds : List Delta). Stepped l b b′ v w (d .key) r (through (endOne (l .least)) ds s)) (sym one-end)
         (stepped-by g (endOne (l .least)) d (d .key) (update (l .least) s (d .key) (deleting (d .key)))
-        (end-is (l .least) (g .edition .four) s (going-sound g) (g .opened) (d .key) (due .0) here d refl)
-        (λ q z. subst Lack z (update-lacks (l .least) s (d .key) (deleting (d .key))))
-        (end-left (l .least) (g .edition .four) s (going-sound g) (g .opened) (d .key) (due .0) here d refl) r b′ x y)
+        (delete-is (l .least) (g .edition .four) s (going-sound g) (g .opened) (d .key) (due .0) here)
+        (λ q z. subst Stops z (update-ends (l .least) s (d .key) (deleting (d .key))))
+        (end-left (l .least) (g .edition .four) s (going-sound g) (g .opened) (d .key) (due .0) here) r b′ x y)
 
   -- an insert
   module _ (z : d .kind ≡ 0) where
@@ -128,9 +130,9 @@ module _ {l : Limits} {b : List ℕ} {v w : ℕ} (g : Going l b v w) (k : ℕ) (
     set-stepped few r b′ x y =
         subst (λ (ds : List Delta). Stepped l b b′ v w (d .key) r (through (setOne (l .least)) ds s)) (sym one-set)
         (stepped-by g (setOne (l .least)) d (d .key) (rawInsert (l .least) s (d .key) (d .new))
-        (set-is (l .least) (g .edition .four) s (going-sound g) (g .opened) (d .key) (missing .0) away d refl)
-        (λ q u. subst Lack u (update-lacks (l .least) s (d .key) (inserting (d .key) (d .new))))
-        (set-left (l .least) (g .edition .four) s (going-sound g) (g .opened) (d .key) (missing .0) away d refl few) r b′ x y)
+        (set-is (l .least) (g .edition .four) s (going-sound g) (g .opened) d (missing .0) away)
+        (λ q u. subst Stops u (update-ends (l .least) s (d .key) (inserting (d .key) (d .new))))
+        (set-left (l .least) (g .edition .four) s (going-sound g) (g .opened) (d .key) (missing .0) away (d .new) few) r b′ x y)
 
   -- over a key that is alive
   pub set-refused : d .kind ≡ 2 → Step true b 10

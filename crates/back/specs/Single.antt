@@ -1,61 +1,37 @@
--- A single step of a return on a sound store with an update open: it is the change of the call of that name, which is refused only for
--- want of a page or a slot, and what it leaves.
+-- A single step of a return on a sound store with an update open: it is the change of the call of that name, and what that leaves.
 -- Assumes nothing.
-use Prim.Native.Nat.{ℕ, _*_, _+_, _^_, _≤_, _<_}
+use Prim.Native.Nat.{ℕ, _+_, _^_, _≤_, _<_}
 use native.Mathlib.Omega.{arith}
 use mathlib.Core.Bool.{Bool, true, false, _||_, not}
 use mathlib.Core.Option.{none}
-use mathlib.Core.Logic.{_⊎_, inl, inr}
-use mathlib.Core.Path.{_≡_, refl, ap, ap₂, sym, _∙_}
+use mathlib.Core.Path.{_≡_, refl, ap, sym, _∙_}
 use mathlib.Core.List.{List, [], _∷_}
 use lib.Dec.{leb, ltb, eqb}
-use lib.ListN.{length}
 use borrow.Author.Tests.{lt-leb, eqb-true}
-use Rattle.model.specs.Basic.{those, keep, pick, has}
+use Rattle.model.specs.Basic.{those, keep, has}
 use Rattle.model.specs.declared.Pair.{Pair}
 use Rattle.model.specs.declared.Delta.{Delta}
-use Rattle.model.specs.declared.Slot.{Slot}
 use Rattle.model.specs.Entry.{pair, enterPair, placed}
-use Rattle.model.specs.Page.{Page, Change}
+use Rattle.model.specs.Page.{Change}
 use Rattle.model.specs.Store.{Store, next, last, lastOf}
-use Rattle.model.specs.Walk.{find, lookup, settings, way, rootAt, keyLimit}
-use Rattle.model.specs.Climb.{Result, done, refused, Rooted, stays, moves, lacks, climb, putSlot, slotted, rooted, update}
+use Rattle.model.specs.Walk.{find, lookup, settings, keyLimit}
+use Rattle.model.specs.Climb.{Result, done, refused, update}
 use Rattle.model.specs.Calls.{isSome, rawInsert, delete}
 use Rattle.model.specs.Needs.{deleting}
-use Rattle.back.specs.Return.{endOne, setOne}
+use Rattle.model.specs.Return.{setOne}
 use Rattle.model.proofs.Members.{true-holds}
 use Rattle.model.proofs.Given.{Sound, to-tests}
 use Rattle.model.proofs.Lookups.{lookup-is}
 use Rattle.model.proofs.Local.{applied}
 use Rattle.model.proofs.Main.{Changed}
 use Rattle.model.proofs.Edit.{keep-all}
-use Rattle.model.proofs.Fits.{is-none, raw-changes, delete-changes}
-use Rattle.model.proofs.Preserve.{Follows, Sounds, raw-keeps, delete-keeps}
+use Rattle.model.proofs.Fits.{raw-changes, delete-changes}
+use Rattle.model.proofs.Preserve.{Sounds, raw-keeps, delete-keeps}
 use Rattle.model.proofs.Alike.{alike-settings}
 use Rattle.update.specs.Single.{delete-is}
 use Rattle.cursor.specs.First.{atOrAbove}
 
--- ---- 12 or 13, and nothing else
-
-abbrev pub Lack : Result → Type 0
-Lack (done t) = Unit {0}
-Lack (refused n) = (n ≡ 12) ⊎ (n ≡ 13)
-
-pub update-lacks : (least : ℕ) (s : Store) (k : ℕ) (c : Change) → Lack (update least s k c)
-unfolding update rooted slotted
-update-lacks least s k c = at (climb least (next s) (rootAt (s .slots) (next s)) (way s (next s) k) c (s .pages))
-  where
-    by : (b : Bool) (xs : List Slot) (ps : List Page) → Lack (slotted b s xs ps)
-    by true xs ps = tt
-    by false xs ps = inr refl
-
-    at : (r : Rooted) → Lack (rooted least s r)
-    at (stays ps) = tt
-    at (moves n ps) = by (leb (length (putSlot (next s) n (s .slots))) (64 * least)) (putSlot (next s) n (s .slots)) ps
-    at lacks = inl refl
-
--- ---- what a change at key k leaves: behind the key the open version shows what it did, and earlier versions are as before
-
+-- what a change at key k leaves: behind the key the open version shows what it did, and earlier versions are as before
 pub record Left (least : ℕ) (s : Store) (k : ℕ) (t : Store) : Type 0 where
   pub is-sound : Sound least t
   pub opened : t .opened ≡ true
@@ -113,35 +89,27 @@ module _ (least : ℕ) (four : 4 ≤ least) (s : Store) (d : Sound least s) (o :
   at-open : lookup s k (next s) ≡ find k (settings s (next s))
   at-open = let e : last s ≡ next s = ap (λ (b : Bool). lastOf b (s .current)) o in lookup-is least two s d k (next s) low (omega arith)
 
+  -- an insert of a key that is not alive
   module _ (away : find k (settings s (next s)) ≡ none) where
     pub absent : isSome (lookup s k (next s)) ≡ false
     absent = ap isSome (at-open ∙ away)
 
-    module _ (z : Delta) (e : z .key ≡ k) where
-      pub set-is : setOne least s z ≡ rawInsert least s k (z .new)
-      unfolding setOne
-      set-is = rw (e, lt-leb keyLimit k low, o, absent)
+    pub set-left : (x : ℕ) → x < 2 ^ 32 → (t : Store) → rawInsert least s k x ≡ done t → Left least s k t
+    set-left x small =
+        leaves (record { drop = []; take = pair k x ∷ [] }) (λ us. ap (λ (ws : List Pair). atOrAbove (k + 1) (enterPair (pair k x) ws)) (keep-all us) ∙ behind-enter (pair k x) us)
+        (rawInsert least s k x) (raw-keeps least four s d o k x low (at-open ∙ away) small) (raw-changes least two s (true-holds _ (to-tests least s d)) o k x low (at-open ∙ away))
 
-      pub set-left : z .new < 2 ^ 32 → (t : Store) → rawInsert least s k (z .new) ≡ done t → Left least s k t
-      set-left small =
-          leaves (record { drop = []; take = pair k (z .new) ∷ [] }) (λ us. ap (λ (ws : List Pair). atOrAbove (k + 1) (enterPair (pair k (z .new)) ws)) (keep-all us) ∙ behind-enter (pair k (z .new)) us)
-          (rawInsert least s k (z .new)) (raw-keeps least four s d o k (z .new) low (at-open ∙ away) small)
-          (raw-changes least two s (true-holds _ (to-tests least s d)) o k (z .new) low (at-open ∙ away))
-
+  -- a delete of one that is
   module _ (here : isSome (find k (settings s (next s))) ≡ true) where
     pub present : isSome (lookup s k (next s)) ≡ true
     present = ap isSome at-open ∙ here
 
-    module _ (z : Delta) (e : z .key ≡ k) where
-      pub end-is : endOne least s z ≡ update least s k (deleting k)
-      end-is = ap (delete least s) e ∙ delete-is least s k low o present
+    pub end-left : (t : Store) → update least s k (deleting k) ≡ done t → Left least s k t
+    end-left t q =
+        leaves (record { drop = k ∷ []; take = [] }) (behind-drop k) (delete least s k) (delete-keeps least four s d o k) (delete-changes least two s (true-holds _ (to-tests least s d)) k)
+        t (delete-is least s k low o present ∙ q)
 
-      -- an insert over it is refused
-      pub set-over : setOne least s z ≡ refused 10
-      unfolding setOne
-      set-over = rw (e, lt-leb keyLimit k low, o, present)
-
-      pub end-left : (t : Store) → update least s k (deleting k) ≡ done t → Left least s k t
-      end-left t q =
-          leaves (record { drop = k ∷ []; take = [] }) (behind-drop k) (delete least s k) (delete-keeps least four s d o k) (delete-changes least two s (true-holds _ (to-tests least s d)) k)
-          t (delete-is least s k low o present ∙ q)
+    -- an insert over it is refused
+    pub set-over : (z : Delta) → z .key ≡ k → setOne least s z ≡ refused 10
+    unfolding setOne
+    set-over z e = rw (e, lt-leb keyLimit k low, o, present)

@@ -1,5 +1,3 @@
-pub mod Holding
-pub mod Spare
 pub mod Encoded
 pub mod High
 pub mod Lending
