@@ -9,6 +9,8 @@ use mathlib.Core.List.{List, [], _∷_, _++_}
 use lib.Dec.{ltb}
 use lib.ListN.{length, drop}
 use Rattle.model.specs.Basic.{flatMap}
+use Rattle.model.specs.Field.{Bytes}
+use Rattle.model.specs.declared.Pair.{Pair}
 use Rattle.model.specs.declared.Delta.{Delta}
 use Rattle.model.specs.Store.{Store, next, last, lastOf}
 use Rattle.model.specs.Walk.{settings}
@@ -18,7 +20,8 @@ use Rattle.model.specs.Climb.{done}
 use Rattle.model.specs.Calls
 use Rattle.model.specs.Calls.{rule, firstOf, abandon, abandoned}
 use Rattle.model.specs.Differ.{differ, deltaNumbers}
-use Rattle.model.specs.Return.{Came, gave, lacking, returned}
+use Rattle.model.specs.Return
+use Rattle.model.specs.Return.{carried, Came, gave, lacking, orAbandoned, unless, returned}
 use Rattle.model.specs.Histories.{abandons, returns, after}
 use Rattle.model.specs.Lent.{left, leftBy}
 use Rattle.model.specs.Ended.{toAbandon, toReturn, toDifference, Ended, ofOutcome, ended}
@@ -34,7 +37,8 @@ use Rattle.promises.specs.Runs.{Turn, turned, runBytes}
 use Rattle.promises.specs.Beside.{fromLent}
 use Rattle.promises.specs.Demand3.{opening, abandoning}
 use Rattle.promises.specs.Returns.{ReturnGives, Returned, ReturnDone, Stops, Stopped, ReturnStopped, returning, ReturnAbandons, Returns}
-use Rattle.promises.proofs.High.{numberBy}
+use Rattle.promises.proofs.Encoded.{accepted}
+use Rattle.promises.proofs.High.{numberBy, return-free}
 use Rattle.promises.proofs.Judges.{zero-accepts, late-accepts}
 use Rattle.promises.proofs.Lending.{change-is, change-number, change-leaves, call-accepts, held-sound}
 use Rattle.promises.proofs.Agreed.{lent-agreed}
@@ -168,6 +172,23 @@ module _ (least : ℕ) (four : 4 ≤ least) (eight : least ≤ 8) (b : List ℕ)
             f (omega (arith, ap (λ (xs : List Delta). length xs) none))
             ∙ ap (λ (xs : List Delta). record { number = 0; results = length xs ∷ []; store = b′; list = flatMap deltaNumbers xs ++ drop (4 * length xs) ms }) none
 
+  -- ---- nothing to do
+
+  module _ (o : decode least b .opened ≡ true) (h : v ≤ decode least b .current) (same : settings (decode least b) (next (decode least b)) ≡ settings (decode least b) v) where
+    returned-same : returned least (decode least b) v ≡ gave (done (decode least b))
+    unfolding Return.returned Return.carried Return.through
+    returned-same =
+        ap₂ (λ (n : ℕ) (ds : List Delta). unless n (orAbandoned (carried least ds (decode least b)))) (return-free (decode least b) v o h)
+        (ap (λ (us : List Pair). differ us (settings (decode least b) v)) same ∙ none-differs (settings (decode least b) v) (settings-rise least (omega arith) (decode least b) sure v (omega (arith, open-last))))
+      where
+        open-last : last (decode least b) ≡ next (decode least b)
+        open-last = ap (λ (p : Bool). lastOf p (decode least b .current)) o
+
+    nothing-so : Bytes b → ended least (toReturn v) b ns ≡ ofOutcome ns (record { number = 0; store = b })
+    nothing-so bytes =
+        change-is least b ok (returns v) ns ∙ ap (λ (q : Came). ofOutcome ns (leftBy least b q)) returned-same
+        ∙ ap (λ (q : List ℕ). ofOutcome ns (record { number = 0; store = q })) (accepted least four eight b bytes ok .same)
+
 -- ---- the promise
 
 late-stops : (n : ℕ) → Stops n → 5 ≤ n
@@ -196,4 +217,4 @@ is-abandon least four eight b bytes given ts f i v e =
     record { bytes = same; later = λ a ns. ap (λ (q : List ℕ). ended least a q ns) same }
 
 pub the-return : Returns
-the-return = record { gives = gives; done = when-done; stopped = when-stopped; abandons = is-abandon }
+the-return = record { gives = gives; done = when-done; nothing = λ least four eight b bytes ok o v h same ns. nothing-so least four eight b ok v ns o h same bytes; stopped = when-stopped; abandons = is-abandon }

@@ -42,6 +42,13 @@ pub record Returned (least : ℕ) (b : List ℕ) (v : ℕ) (b′ : List ℕ) : T
 abbrev pub ReturnDone : Type 0
 ReturnDone = (least : ℕ) → 4 ≤ least → least ≤ 8 → (b : List ℕ) (v : ℕ) (ns : List ℕ) → ended least (toReturn v) b ns .number ≡ 0 → Returned least b v (ended least (toReturn v) b ns .store)
 
+-- ---- nothing to do is done, and changes no byte
+
+abbrev pub ReturnNothing : Type 0
+ReturnNothing = (least : ℕ) → 4 ≤ least → least ≤ 8 → (b : List ℕ) → Bytes b → Accepts least b → decode least b .opened ≡ true
+    → (v : ℕ) → v ≤ decode least b .current → settings (decode least b) (next (decode least b)) ≡ settings (decode least b) v
+    → (ns : List ℕ) → ended least (toReturn v) b ns ≡ record { number = 0; results = []; store = b; list = ns }
+
 -- ---- "If any step gives 12 or 13, the whole update is abandoned, its earlier calls included, and the number returned"
 
 -- it leaves the bytes that an abandon leaves, which would have been accepted, and the list
@@ -75,5 +82,6 @@ ReturnAbandons = (least : ℕ) → 4 ≤ least → least ≤ 8 → (b : List ℕ
 pub record Returns : Type 0 where
   pub gives : ReturnGives
   pub done : ReturnDone
+  pub nothing : ReturnNothing
   pub stopped : ReturnStopped
   pub abandons : ReturnAbandons
