@@ -1,7 +1,7 @@
 -- "makes the open version's settings equal", on plain settings: the deletes of what goes are due one after another, so are the inserts of what
 -- comes, and they leave the other version's settings. And what comes, told anew after the deletes, is the same.
 -- Assumes nothing.
-use Prim.Native.Nat.{ℕ, _+_, _<_}
+use Prim.Native.Nat.{ℕ, _+_}
 use native.Mathlib.Omega.{arith}
 use mathlib.Core.Bool.{Bool, true, false, not}
 use mathlib.Core.Option.{none}

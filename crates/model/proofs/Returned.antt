@@ -1,15 +1,15 @@
 -- A return to a committed version, from any sound store with an update open: done, it leaves a sound store, still open, that shows at the open
 -- version that version's settings, and older versions as they were; stopped, by 12 or 13 and nothing else, it leaves what an abandon leaves.
 -- Assumes nothing.
-use Prim.Native.Nat.{ℕ, zero, suc, _≤_, _<_}
+use Prim.Native.Nat.{ℕ, suc, _≤_, _<_}
 use native.Mathlib.Omega.{arith}
-use mathlib.Core.Bool.{Bool, true, false, _&&_, not}
+use mathlib.Core.Bool.{Bool, true, false, not}
 use mathlib.Core.Option.{Option, none}
 use mathlib.Core.Path.{_≡_, refl, ap, ap₂, sym, _∙_, subst}
-use mathlib.Core.Logic.{_⊎_, inl, inr, _≢_}
+use mathlib.Core.Logic.{_≢_}
 use mathlib.Core.List.{List, [], _∷_, map}
-use lib.Dec.{T, leb, ltb, eqb}
-use borrow.Author.Tests.{lt-leb, ltb-true, ltb-false, not-false}
+use lib.Dec.{T, ltb}
+use borrow.Author.Tests.{lt-leb, ltb-true, ltb-false}
 use Rattle.model.specs.Basic.{those, pick}
 use Rattle.model.specs.declared.Pair.{Pair}
 use Rattle.model.specs.declared.Delta.{Delta}
@@ -23,7 +23,7 @@ use Rattle.model.specs.Calls.{isSome, rule, numbered, firstOf, rawInsert
 use Rattle.model.specs.Differ.{added, differ}
 use Rattle.model.specs.Return.{goes, comes, endOne, setOne, Ran, reached, stopped, orStopped, through, andOn, carried, Came, gave, gaveUp, lacking, orAbandoned, returnTests, unless, returned}
 use Rattle.model.proofs.Lists.{both-true}
-use Rattle.model.proofs.Members.{true-holds, bool-cases}
+use Rattle.model.proofs.Members.{true-holds}
 use Rattle.model.proofs.Local.{applied}
 use Rattle.model.proofs.Given.{Sound, to-tests}
 use Rattle.model.proofs.Edit.{insert-same, delete-same}

@@ -1,10 +1,10 @@
 -- "a value is any 32 bits", and keys are below 16,777,216: so it is of every setting of a sound store.
 -- Assumes nothing.
-use Prim.Native.Nat.{ℕ, zero, suc, _≤_, _<_}
-use mathlib.Core.Bool.{Bool, true, false, _&&_}
+use Prim.Native.Nat.{ℕ, zero, suc, _≤_}
+use mathlib.Core.Bool.{Bool, true, _&&_}
 use mathlib.Core.Path.{_≡_, refl, sym, subst}
 use mathlib.Core.List.{List, [], _∷_}
-use lib.Dec.{leb, ltb, eqb}
+use lib.Dec.{leb, ltb}
 use lib.ListN.{length}
 use borrow.Author.Tests.{lt-ltb, eq-eqb}
 use Rattle.model.specs.Basic.{all, those, pick}
@@ -16,7 +16,7 @@ use Rattle.model.specs.Store.{Store, page, last}
 use Rattle.model.specs.Walk.{keyLimit, rootAt, heightOf, settings}
 use Rattle.model.specs.Sound.{isPage}
 use Rattle.model.proofs.Lists.{both-true, both-intro}
-use Rattle.model.proofs.Members.{In, all-by, in-map, in-those}
+use Rattle.model.proofs.Members.{all-by, in-map, in-those}
 use Rattle.model.proofs.Local.{all-append}
 use Rattle.model.proofs.Tree.{Row, Holds, Tree}
 use Rattle.model.proofs.Given.{Sound, GoodEntry, entry-of}

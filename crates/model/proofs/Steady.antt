@@ -9,7 +9,7 @@ use mathlib.Core.List.{List, [], _∷_}
 use lib.Dec.{T, leb}
 use borrow.Author.Tests.{ltb-true, not-false}
 use Rattle.model.specs.Basic.{all}
-use Rattle.model.specs.Store.{Store, next}
+use Rattle.model.specs.Store.{Store}
 use Rattle.model.specs.Walk.{settings, lookup, lookupVisits, rangeOf, rangeVisits}
 use Rattle.model.specs.Sound.{sound}
 use Rattle.model.specs.Climb.{Result, done, refused}

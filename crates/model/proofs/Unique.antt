@@ -156,7 +156,7 @@ leaves least toCommit b ns h x = record { store = lent-same least _ b h; list = 
 leaves least toAbandon b ns h x = record { store = lent-same least _ b h; list = refl }
 leaves least (toInsert k y) b ns h x = record { store = lent-same least _ b h; list = refl }
 leaves least (toDelete k) b ns h x = record { store = lent-same least _ b h; list = refl }
-leaves least (toReturn v) b ns h x = record { store = return-same least b v h x; list = refl }
+leaves least (toReturn v) b ns h x = record { store = return-same least b v h (λ y. x ((v, refl), y)); list = refl }
 leaves least (toLookup k v) b ns h x = record { store = refl; list = refl }
 leaves least (toRange lo hi v) b ns h x = record { store = refl; list = range-same least b lo hi v ns h }
 leaves least (toVisits k v) b ns h x = record { store = refl; list = visits-same least b k v ns h }

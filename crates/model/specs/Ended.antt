@@ -74,19 +74,7 @@ pub record Untouched (b ns : List ℕ) (e : Ended) : Type 0 where
 
 -- 2026-07: a return that gives 12 or 13, "the only exception to demand 1's and 01's 'untouched'"
 abbrev pub Excepted : Asked → ℕ → Type 0
-Excepted toFresh n = ⊥
-Excepted toCheck n = ⊥
-Excepted toOpen n = ⊥
-Excepted toCommit n = ⊥
-Excepted toAbandon n = ⊥
-Excepted (toInsert k x) n = ⊥
-Excepted (toDelete k) n = ⊥
-Excepted (toReturn v) n = (n ≡ 12) ⊎ (n ≡ 13)
-Excepted (toLookup k v) n = ⊥
-Excepted (toRange lo hi v) n = ⊥
-Excepted (toVisits k v) n = ⊥
-Excepted (toDifference u v) n = ⊥
-Excepted (toLife k) n = ⊥
+Excepted c n = ((v : ℕ) × (c ≡ toReturn v)) × ((n ≡ 12) ⊎ (n ≡ 13))
 
 -- "any result not named here is 0": the numbers besides 0 that come with a result
 abbrev pub Named : Asked → ℕ → Type 0

@@ -31,6 +31,7 @@ pub mod Table
 pub mod AlsoRun
 pub mod Bench
 pub mod Releases
+pub mod GoingBack
 pub mod Vectors
 pub mod Figures
 pub mod Samples

@@ -15,5 +15,6 @@ pub mod KeptOut
 pub mod Replaying
 pub mod Fakes
 pub mod Releasing
+pub mod Returning
 pub mod Promises
 pub mod Sampled
