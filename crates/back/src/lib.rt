@@ -58,16 +58,17 @@ fn act(s: &mut [u8], l: Limits, v: u32, w: u32, key: u32, d: Delta, insert: bool
     end_one(s, l, v, w, key, d)
 }
 
-// The deletes, or the inserts, in rising key order, to the first that is refused. Each turn leaves a key of one of the two versions
-// behind, so there are at most as many as the two have settings, and one.
+// The deletes, or the inserts, in rising key order, to the first that is refused. Leaves that show the same at both versions are passed
+// over. Each turn leaves a key of one of the two versions behind, so there are at most as many as the two have settings, and one.
 fn pass(s: &mut [u8], l: Limits, v: u32, w: u32, insert: bool) -> u32
     requires { ⌜ Going l (now s) v w ⌝ }
     ensures { λ r. ⌜ Went l (now (s .exit)) v w r (passed insert (l .least) (between l (now (s .entry)) w v) (decode (l .least) (now (s .entry)))) ⌝ }
 {
     let mut key = 0;
     while key < KEYS {
-        let d = differ::next(s, l, w, v, key);
-        let n = act(s, l, v, w, key, d, insert);
+        let from = differ::past(s, l, w, v, key);
+        let d = differ::next(s, l, w, v, from);
+        let n = act(s, l, v, w, from, d, insert);
         if n != 0 {
             return n;
         }
