@@ -129,7 +129,7 @@ static void differences(void) {
 }
 
 /* Back to last month's settings: a release like any other. */
-static void going_back(void) {
+static void returns(void) {
     static uint8_t store[16 * RCST_PAGE_BYTES], before[16 * RCST_PAGE_BYTES];
     uint32_t found = 9, value = 9, list[4] = {0}, key;
     size_t count = 9;
@@ -202,7 +202,7 @@ int main(void) {
     releases();
     settings();
     differences();
-    going_back();
+    returns();
     lives();
     return failures != 0;
 }

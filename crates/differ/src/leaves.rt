@@ -135,7 +135,7 @@ fn same(page: &[u8], n: usize, a: Ask, x: usize, y: usize) -> bool
 // Whether the leaves of a stretch are such a page: nothing differs there.
 pub fn alike(s: &[u8], l: Limits, a: Ask, x: Under, y: Under) -> bool
     requires { ⌜ Readable l (now s) (a .old) × Readable l (now s) (a .new) × Below l (now s) (a .old) 0 (a .low) x × Below l (now s) (a .new) 0 (a .low) y ⌝ }
-    ensures { λ r. ⌜ r ≡ true → inLeaves l (now (s .entry)) a x y ≡ [] ⌝ }
+    ensures { λ r. ⌜ (r ≡ true → inLeaves l (now (s .entry)) a x y ≡ []) ⌝ }
 {
     let p = store::part(s, l, x.page);
     let h = page::head_of(p, l);
