@@ -4,7 +4,6 @@ use Prim.Native.Nat.{ℕ, _+_, _^_, _≤_, _<_}
 use native.Mathlib.Omega.{arith}
 use mathlib.Core.Bool.{Bool, true, false}
 use mathlib.Core.Option.{none}
-use mathlib.Core.Logic.{_⊎_}
 use mathlib.Core.Path.{_≡_, refl, ap, sym, subst, _∙_}
 use mathlib.Core.List.{List, [], _∷_, _++_}
 use lib.Dec.{eqb}
@@ -28,7 +27,7 @@ use Rattle.differ.specs.Merge.{told, Onward}
 use Rattle.differ.specs.Listing.{between, leftOf, nextOf, reads-rising, reads-low, from-start, from-end, from-on, from-step}
 use Rattle.back.specs.Due.{added-due, ended-due, few-kinds}
 use Rattle.back.specs.Single.{absent, present, set-left, set-over, end-left}
-use Rattle.back.specs.Going.{Going, going-sound, going-open, going-old, Went, Stepped, stepped-none, stepped-refused, stepped-by}
+use Rattle.back.specs.Going.{Going, going-sound, going-open, going-old, Stepped, stepped-none, stepped-refused, stepped-by}
 
 -- which differences a pass is for: does it insert?
 abbrev pub wants : Bool → Delta → Bool

@@ -14,7 +14,7 @@ use Rattle.model.specs.declared.Header.{Header}
 use Rattle.model.specs.declared.Limits.{Limits}
 use Rattle.model.specs.Limits.{Edition}
 use Rattle.model.specs.Calls.{Rule, rule, firstOf}
-use Rattle.model.specs.Lent.{Outcome, judgedFirst, leftBy, returnLent}
+use Rattle.model.specs.Lent.{Outcome, leftBy, returnLent}
 use Rattle.model.specs.Differ.{differ}
 use Rattle.model.specs.Return.{Came, carried, orAbandoned, returnTests, unless, returned}
 use Rattle.back.specs.Going.{Going}

@@ -1,7 +1,7 @@
 -- `encoded-sound`: the bytes of a sound store are accepted, and hold it. `accepted`: accepted bytes are those of a sound store.
 -- Assumes nothing.
 use Prim.Native.Nat.{ℕ, _-_, _≤_}
-use mathlib.Core.Bool.{true, _&&_}
+use mathlib.Core.Bool.{_&&_}
 use mathlib.Core.Path.{_≡_, refl, _∙_}
 use mathlib.Core.List.{List}
 use lib.Dec.{T}
