@@ -12,12 +12,12 @@ use Rattle.model.specs.Field.{Bytes}
 use Rattle.model.specs.declared.Pair.{Pair}
 use Rattle.model.specs.declared.Delta.{Delta}
 use Rattle.model.specs.Store.{Store, next, last, lastOf}
-use Rattle.model.specs.Walk.{keyLimit, settings}
+use Rattle.model.specs.Walk.{keyLimit, lookup, settings}
 use Rattle.model.specs.Sound.{sound}
 use Rattle.model.specs.Layout.{decode}
 use Rattle.model.specs.Climb.{Result, done, refused}
 use Rattle.model.specs.Calls
-use Rattle.model.specs.Calls.{rule, numbered, rawInsert, benchLimit, insert, abandoned}
+use Rattle.model.specs.Calls.{isSome, rule, numbered, rawInsert, benchLimit, insert, abandoned}
 use Rattle.model.specs.Differ.{differ}
 use Rattle.model.specs.Return
 use Rattle.model.specs.Return.{goes, comes, endOne, setOne, Ran, reached, stopped, orStopped, through, andOn, carried, Came, gave, gaveUp, lacking, orAbandoned, unless, returned}
@@ -61,8 +61,8 @@ module _ (least : ℕ) where
   unfolding Calls.insert Return.setOne
   same-insert s d h =
       let l : d .key < benchLimit = ltb-true (d .key) benchLimit h in
-      ap₂ (λ (p q : Bool). numbered (rule 5 p ∷ rule 7 (not (s .opened)) ∷ rule 10 q ∷ []) (rawInsert least s (d .key) (d .new)))
-      (lt-leb benchLimit (d .key) l ∙ sym (lt-leb keyLimit (d .key) (omega arith))) refl
+      ap (λ (p : Bool). numbered (rule 5 p ∷ rule 7 (not (s .opened)) ∷ rule 10 (isSome (lookup s (d .key) (next s))) ∷ []) (rawInsert least s (d .key) (d .new)))
+      (lt-leb benchLimit (d .key) l ∙ sym (lt-leb keyLimit (d .key) (omega arith)))
 
   module _ (one : Store → Delta → Result) (c : Delta → Call) (same : (s : Store) (d : Delta) → below d ≡ true → callBy least s (c d) ≡ gave (one s d)) where
     all-done : (ds : List Delta) → all below ds ≡ true → (y : Both) (t : Store) → through one ds (y .store) ≡ reached t → together least y (map c ds) .store ≡ t
