@@ -26,12 +26,13 @@ use Rattle.model.specs.Settings
 use Rattle.model.specs.Settings.{Both, together, lent}
 use Rattle.model.specs.Ended.{toReturn, ended}
 use Rattle.model.proofs.Lists.{all-cons, both-true, both-intro}
-use Rattle.model.proofs.Members.{holds-true, all-in, all-by, in-those}
+use Rattle.model.proofs.Members.{holds-true}
 use Rattle.model.proofs.Given.{Sound, from-tests}
 use Rattle.model.proofs.Lookups.{settings-rise}
 use Rattle.model.proofs.Differs.{keys-so}
 use Rattle.model.proofs.Small.{small}
 use Rattle.model.proofs.Remade
+use Rattle.model.proofs.Remade.{all-those}
 use Rattle.model.proofs.Returned.{way}
 use Rattle.model.proofs.Undone.{together-append}
 use Rattle.promises.specs.Accepts.{Accepts}
@@ -104,9 +105,6 @@ sets-fit us (d ∷ ds) vs (f, z, r) = both-intro _ _ (both-true (ltb (d .key) ke
 ends-fit : (ds : List Delta) (cs : List Call) → all Settings.fits cs ≡ true → all Settings.fits (map (λ (d : Delta). deletes (d .key)) ds ++ cs) ≡ true
 ends-fit [] cs h = h
 ends-fit (d ∷ ds) cs h = ends-fit ds cs h
-
-all-those : (f g : Delta → Bool) (ds : List Delta) → all f ds ≡ true → all f (those g ds) ≡ true
-all-those f g ds h = all-by f (those g ds) (λ d i. all-in f d ds h (in-those g d ds i .1))
 
 turns-are : (cs : List Call) → callsOf (map turnOf cs) ≡ cs
 turns-are [] = refl
