@@ -179,8 +179,13 @@ module _ (least : ℕ) (four : 4 ≤ least) (b : Both) (a : Agrees least b) (t :
       at i z (inr e) =
           let ne : i ≢ suc (m .current) = eqb-false i (suc (m .current)) e in
           let lu : last u ≡ suc (s .current) = ap₂ lastOf (g .opened) (g .current) in
-          omega (arith, count-away (suc (m .current)) (gone + t .removed (suc (m .current))) i (t .removed) ne, count-away (suc (m .current)) (come + t .added (suc (m .current))) i (t .added) ne,
-          past o (returns v) u n (λ j q. ap (λ (b′ : Bool). pick b′ (m .shows v) (m .shows j)) (ne-eqb j (suc (m .current)) q)) refl refl i z ne, k .is i (omega (arith, last-open o, lu)))
+          omega (
+            arith,
+            count-away (suc (m .current)) (gone + t .removed (suc (m .current))) i (t .removed) ne,
+            count-away (suc (m .current)) (come + t .added (suc (m .current))) i (t .added) ne,
+            past o (returns v) u n (λ j q. ap (λ (b′ : Bool). pick b′ (m .shows v) (m .shows j)) (ne-eqb j (suc (m .current)) q)) refl refl i z ne,
+            k .is i (omega (arith, last-open o, lu)),
+          )
 
   pub one-count : (c : Call) → Agrees least (onward b c (callBy least s c)) → Counts (onward b c (callBy least s c)) (countedBy m t c (callBy least s c))
   one-count begins = begins-next

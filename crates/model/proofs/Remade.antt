@@ -10,7 +10,7 @@ use mathlib.Core.List.{List, [], _∷_, _++_, map}
 use lib.Dec.{ltb, eqb}
 use lib.ListN.{length}
 use borrow.Author.Tests.{ltb-true, le-ltb, eqb-true, eq-eqb, ne-eqb}
-use Rattle.model.specs.Basic.{all, those, keep, pick}
+use Rattle.model.specs.Basic.{all, those, pick}
 use Rattle.model.specs.declared.Pair.{Pair}
 use Rattle.model.specs.declared.Delta.{Delta}
 use Rattle.model.specs.Entry.{pair, enterPair}
@@ -19,6 +19,7 @@ use Rattle.model.specs.Calls.{isSome}
 use Rattle.model.specs.Differ.{changed, differ}
 use Rattle.model.specs.Return.{goes, comes}
 use Rattle.model.proofs.Lists.{both-true, both-intro, all-cons}
+use Rattle.model.proofs.Members.{all-in, all-by, in-those}
 use Rattle.model.proofs.Lookups.{rising}
 use Rattle.model.proofs.Merging.{above, find-above, old-first, new-first, both-first, by-merge}
 use Rattle.model.proofs.Differs.{keys-so, without, in-front}
@@ -31,13 +32,8 @@ ended d us = those (λ (y : Pair). not (eqb (y .key) (d .key))) us
 abbrev pub asked : Delta → Pair
 asked d = pair (d .key) (d .new)
 
-all-those : (f g : Delta → Bool) (ds : List Delta) → all f ds ≡ true → all f (those g ds) ≡ true
-all-those f g [] h = refl
-all-those f g (d ∷ ds) h = let (p, q) = all-cons f d ds h in at (g d) p (all-those f g ds q)
-  where
-    at : (b : Bool) → f d ≡ true → all f (those g ds) ≡ true → all f (keep b d (those g ds)) ≡ true
-    at true p ih = both-intro (f d) _ p ih
-    at false p ih = ih
+pub all-those : (f g : Delta → Bool) (ds : List Delta) → all f ds ≡ true → all f (those g ds) ≡ true
+all-those f g ds h = all-by f (those g ds) (λ d i. all-in f d ds h (in-those g d ds i .1))
 
 module _ (f : Pair → Bool) where
   -- deletes one after another, each of a key that is there, from us to vs

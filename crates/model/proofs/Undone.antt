@@ -143,7 +143,7 @@ module _ (least c : ℕ) (xs : List Slot) (ps : List Page) (d : Sound least (sto
   begun-abandoned = λ i. record { current = c; opened = false; slots = slots-kept i; pages = map-places (back w) free ps (λ n l. page-kept n) i }
 
 -- a list of calls in two parts
-together-append : (least : ℕ) (b : Both) (cs ds : List Call) → together least b (cs ++ ds) ≡ together least (together least b cs) ds
+pub together-append : (least : ℕ) (b : Both) (cs ds : List Call) → together least b (cs ++ ds) ≡ together least (together least b cs) ds
 together-append least b [] ds = refl
 together-append least b (c ∷ cs) ds = together-append least (onward b c (callBy least (b .store) c)) cs ds
 

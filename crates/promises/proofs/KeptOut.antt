@@ -150,7 +150,6 @@ module _ (u : ℕ) where
       steps (deletes k) w ns e =
           let o = delete-opened k (x .machine .opened) (aliveIn (x .machine) k) (ended least (toDelete k) (x .bytes) ns .number) (answers least four eight x a .deletes k ns) e in
           edits o (those (λ (y : Pair). not (eqb (y .key) k)) (x .machine .shows (suc (x .machine .current)))) (low-those (λ (y : Pair). not (eqb (y .key) k)) (x .machine .shows (suc (x .machine .current))))
-
       steps (returns v) w ns e =
           let (o, h) = return-opened (x .machine .current) (x .machine .opened) v (ended least (toReturn v) (x .bytes) ns .number) (answers least four eight x a .returns v ns) e in
           edits o (x .machine .shows v) (λ z. earlier v w h)

@@ -16,5 +16,6 @@ pub mod Replaying
 pub mod Fakes
 pub mod Releasing
 pub mod Returning
+pub mod Singly
 pub mod Promises
 pub mod Sampled

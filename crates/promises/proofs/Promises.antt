@@ -54,6 +54,7 @@ use Rattle.promises.proofs.KeptOut as bench
 use Rattle.promises.proofs.Replaying as replaying
 use Rattle.promises.proofs.Releasing as releasing
 use Rattle.promises.proofs.Returning as returning
+use Rattle.promises.proofs.Singly as singly
 use Rattle.promises.proofs.Fakes as fakes
 
 -- ---- demand 1
@@ -224,7 +225,14 @@ empty-releases = releasing.empty-releases
 -- ---- 2026-07, return to an earlier version
 
 pub returns : Returns
-returns = returning.the-return
+returns = record {
+  gives = returning.gives;
+  done = returning.when-done;
+  singly = singly.singly;
+  nothing = returning.when-nothing;
+  stopped = returning.when-stopped;
+  abandons = returning.is-abandon;
+}
 
 -- ---- fakes
 

@@ -36,7 +36,7 @@ use Rattle.promises.specs.Accepts.{Accepts}
 use Rattle.promises.specs.Runs.{Turn, turned, runBytes}
 use Rattle.promises.specs.Beside.{fromLent}
 use Rattle.promises.specs.Demand3.{opening, abandoning}
-use Rattle.promises.specs.Returns.{ReturnGives, Returned, ReturnDone, Stops, Stopped, ReturnStopped, returning, ReturnAbandons, Returns}
+use Rattle.promises.specs.Returns.{ReturnGives, Returned, ReturnDone, Stops, Stopped, ReturnStopped, returning, ReturnNothing, ReturnAbandons}
 use Rattle.promises.proofs.Encoded.{accepted}
 use Rattle.promises.proofs.High.{numberBy, return-free}
 use Rattle.promises.proofs.Judges.{zero-accepts, late-accepts}
@@ -48,11 +48,12 @@ use Rattle.promises.proofs.Differences.{difference-given}
 use Rattle.promises.proofs.Restored as restored
 
 -- a return that is done, on a store
-record Whole (least : ℕ) (s : Store) (v : ℕ) (q : Came) : Type 0 where
-  committed : v ≤ s .current
-  left-so : Store
-  is : q ≡ gave (done left-so)
-  stepped : Stepped least s left-so (settings s v)
+pub record Whole (least : ℕ) (s : Store) (v : ℕ) (q : Came) : Type 0 where
+  pub opened : s .opened ≡ true
+  pub committed : v ≤ s .current
+  pub left-so : Store
+  pub is : q ≡ gave (done left-so)
+  pub stepped : Stepped least s left-so (settings s v)
 
 -- and one that gives 12 or 13: it leaves what the abandon does, which is accepted
 record Undoes (least : ℕ) (s : Store) (b : List ℕ) (q : Came) : Type 0 where
@@ -76,7 +77,7 @@ module _ (least : ℕ) (four : 4 ≤ least) (eight : least ≤ 8) (b : List ℕ)
   whole : numberBy (returned least (decode least b) v) ≡ 0 → Whole least (decode least b) v (returned least (decode least b) v)
   whole =
       returned-by least (λ (q : Came). numberBy q ≡ 0 → Whole least (decode least b) v q) four (decode least b) sure v (λ n e. absurd (n e))
-      (λ o h t g e. record { committed = h; left-so = t; is = refl; stepped = g }) (λ o h n l e. absurd (never n 0 l e))
+      (λ o h t g e. record { opened = o; committed = h; left-so = t; is = refl; stepped = g }) (λ o h n l e. absurd (never n 0 l e))
 
   early : (x y : Bool) → Stops (firstOf (rule 6 x ∷ rule 7 y ∷ [])) → ⊥
   early true y (inl e) = omega arith
@@ -117,10 +118,10 @@ module _ (least : ℕ) (four : 4 ≤ least) (eight : least ≤ 8) (b : List ℕ)
   b′ = ended least (toReturn v) b ns .store
 
   module _ (e : ended least (toReturn v) b ns .number ≡ 0) where
-    w : Whole least (decode least b) v (returned least (decode least b) v)
+    pub w : Whole least (decode least b) v (returned least (decode least b) v)
     w = whole (sym (change-number least b ok (returns v) ns) ∙ e)
 
-    holds : decode least (ended least (toReturn v) b ns .store) ≡ w .left-so
+    pub holds : decode least (ended least (toReturn v) b ns .store) ≡ w .left-so
     holds = change-leaves least four eight b ok (returns v) refl ns .holds ∙ ap (λ (q : Came). after (decode least b) q .store) (w .is)
 
     kept : Accepts least (ended least (toReturn v) b ns .store)
@@ -199,16 +200,16 @@ run-append : (least : ℕ) (b : List ℕ) (ts us : List Turn) → runBytes least
 run-append least b [] us = refl
 run-append least b (t ∷ ts) us = run-append least (turned least b t .store) ts us
 
-gives : ReturnGives
+pub gives : ReturnGives
 gives least four eight b ok v ns = answers least four eight (fromLent least b) (lent-agreed least four eight b ok) .returns v ns
 
-when-done : ReturnDone
+pub when-done : ReturnDone
 when-done least four eight b v ns e = returned-so least four eight b (zero-accepts least (toReturn v) b ns refl e) v ns e
 
-when-stopped : ReturnStopped
+pub when-stopped : ReturnStopped
 when-stopped least four eight b v ns e = stopped-so least four eight b (late-accepts least (toReturn v) b ns refl (late-stops (ended least (toReturn v) b ns .number) e)) v ns e
 
-is-abandon : ReturnAbandons
+pub is-abandon : ReturnAbandons
 is-abandon least four eight b bytes given ts f i v e =
     let c : List ℕ = runBytes least b (opening ∷ ts) in
     let same : runBytes least b (opening ∷ (ts ++ (returning v ∷ []))) ≡ b
@@ -216,5 +217,5 @@ is-abandon least four eight b bytes given ts f i v e =
     ∙ sym (run-append least b (opening ∷ ts) (abandoning ∷ [])) ∙ restored.abandoned least four eight b bytes given ts f i .bytes in
     record { bytes = same; later = λ a ns. ap (λ (q : List ℕ). ended least a q ns) same }
 
-pub the-return : Returns
-the-return = record { gives = gives; done = when-done; nothing = λ least four eight b bytes ok o v h same ns. nothing-so least four eight b ok v ns o h same bytes; stopped = when-stopped; abandons = is-abandon }
+pub when-nothing : ReturnNothing
+when-nothing least four eight b bytes ok o v h same ns = nothing-so least four eight b ok v ns o h same bytes

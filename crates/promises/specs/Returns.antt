@@ -5,19 +5,26 @@ use Prim.Native.Nat.{ℕ, _≤_}
 use mathlib.Core.Bool.{true}
 use mathlib.Core.Path.{_≡_}
 use mathlib.Core.Logic.{_⊎_}
-use mathlib.Core.List.{List, [], _∷_, _++_}
+use mathlib.Core.List.{List, [], _∷_, _++_, map}
+use lib.Dec.{ltb}
+use Rattle.model.specs.Basic.{all, those}
+use Rattle.model.specs.declared.Pair.{Pair}
+use Rattle.model.specs.declared.Delta.{Delta}
 use Rattle.model.specs.Field.{Bytes}
 use Rattle.model.specs.Store.{next}
 use Rattle.model.specs.Walk.{settings}
 use Rattle.model.specs.Layout.{decode}
-use Rattle.model.specs.Calls.{firstOf}
-use Rattle.model.specs.Return.{returnTests}
+use Rattle.model.specs.Calls.{firstOf, benchLimit}
+use Rattle.model.specs.Return.{goes, comes, returnTests}
+use Rattle.model.specs.Histories.{Call, inserts, deletes}
 use Rattle.model.specs.Ended.{Asked, toAbandon, toReturn, toDifference, ended}
 use Rattle.promises.specs.Accepts.{Accepts}
 use Rattle.promises.specs.Runs.{Turn, turned, runBytes, fitting, inside, each}
 use Rattle.promises.specs.Answers.{Gives}
 use Rattle.promises.specs.Views.{SameView}
 use Rattle.promises.specs.Demand3.{opening}
+use Rattle.promises.specs.Differences.{differences}
+use Rattle.promises.specs.Replayed.{turnOf}
 
 -- ---- its number: 1 to 4 as every call's (`Judges`); then "6 for a version above the current one, and 7 .. with no update open"; else 0, 12 or 13
 
@@ -41,6 +48,20 @@ pub record Returned (least : ℕ) (b : List ℕ) (v : ℕ) (b′ : List ℕ) : T
 
 abbrev pub ReturnDone : Type 0
 ReturnDone = (least : ℕ) → 4 ≤ least → least ≤ 8 → (b : List ℕ) (v : ℕ) (ns : List ℕ) → ended least (toReturn v) b ns .number ≡ 0 → Returned least b v (ended least (toReturn v) b ns .store)
+
+-- ---- "first it deletes .., then it inserts .., each in rising key order and each exactly as the single call": done, it leaves the bytes that
+-- these calls leave, made one after the other. A bench key's insert would be refused, so there is none on either side.
+
+abbrev pub stepsOf : List Delta → List Call
+stepsOf ds = map (λ (d : Delta). deletes (d .key)) (those goes ds) ++ map (λ (d : Delta). inserts (d .key) (d .new)) (those comes ds)
+
+abbrev pub NoBench : List Pair → Type 0
+NoBench us = all (λ (x : Pair). ltb (x .key) benchLimit) us ≡ true
+
+abbrev pub ReturnSingly : Type 0
+ReturnSingly = (least : ℕ) → 4 ≤ least → least ≤ 8 → (b : List ℕ) → Bytes b → (v : ℕ) (ns : List ℕ) → ended least (toReturn v) b ns .number ≡ 0
+    → NoBench (settings (decode least b) (next (decode least b))) → NoBench (settings (decode least b) v)
+    → runBytes least b (map turnOf (stepsOf (differences (decode least b) (next (decode least b)) v))) ≡ ended least (toReturn v) b ns .store
 
 -- ---- nothing to do is done, and changes no byte
 
@@ -82,6 +103,7 @@ ReturnAbandons = (least : ℕ) → 4 ≤ least → least ≤ 8 → (b : List ℕ
 pub record Returns : Type 0 where
   pub gives : ReturnGives
   pub done : ReturnDone
+  pub singly : ReturnSingly
   pub nothing : ReturnNothing
   pub stopped : ReturnStopped
   pub abandons : ReturnAbandons
