@@ -207,6 +207,7 @@ impl Engine for Proved {
             Call::Abandon => Answer::of(abandon(store)),
             Call::Insert(key, value) => Answer::of(insert(store, key, value)),
             Call::Delete(key) => Answer::of(delete(store, key)),
+            Call::Return(version) => Answer::of(return_to(store, version)),
             Call::Check => {
                 let (number, rule) = check(store);
                 Answer {
