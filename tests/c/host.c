@@ -130,7 +130,7 @@ static void differences(void) {
 
 /* Back to last month's settings: a release like any other. */
 static void returns(void) {
-    static uint8_t store[16 * RCST_PAGE_BYTES], before[16 * RCST_PAGE_BYTES];
+    static uint8_t store[16 * RCST_PAGE_BYTES], small[6 * RCST_PAGE_BYTES], before[16 * RCST_PAGE_BYTES];
     uint32_t found = 9, value = 9, list[4] = {0}, key;
     size_t count = 9;
 
@@ -157,12 +157,24 @@ static void returns(void) {
     expect(rcst_commit(store, sizeof store) == 0, "and it is a release");
     expect(rcst_lookup(store, sizeof store, 40, 3, &found, &value) == 0 && value == 7, "7 again");
     expect(rcst_lookup(store, sizeof store, 40, 2, &found, &value) == 0 && value == 9, "and 9 in the one between");
-    memcpy(before, store, sizeof store);
-    rcst_open(store, sizeof store);
-    for (key = 100; rcst_insert(store, sizeof store, key, key) == 0; key++) {
+
+    /* one page for settings: twelve that are gone take room there, and to come back they need another */
+    rcst_fresh(small, sizeof small);
+    rcst_open(small, sizeof small);
+    for (key = 1; key <= 12; key++) {
+        rcst_insert(small, sizeof small, key, key);
     }
-    expect(rcst_return(store, sizeof store, 0) == 12, "pages run out on the way");
-    expect(memcmp(before, store, sizeof store) == 0, "the update is abandoned: every byte is what it was");
+    rcst_commit(small, sizeof small);
+    rcst_open(small, sizeof small);
+    for (key = 1; key <= 12; key++) {
+        rcst_delete(small, sizeof small, key);
+    }
+    expect(rcst_commit(small, sizeof small) == 0, "a release with no setting");
+    memcpy(before, small, sizeof small);
+    expect(rcst_open(small, sizeof small) == 0 && rcst_insert(small, sizeof small, 13, 1) == 0, "an insert still goes");
+    expect(rcst_return(small, sizeof small, 1) == 12, "pages run out on the way");
+    expect(memcmp(before, small, sizeof small) == 0, "the update is abandoned: every byte is what it was before the open");
+    expect(rcst_abandon(small, sizeof small) == 7, "so none is open");
 }
 
 static void lives(void) {
