@@ -15,14 +15,16 @@
  *
  * Keys 16,776,960 and above belong to the test bench. Insert refuses them with
  * 5; lookup, range and delete take them, so that a store that was shipped with
- * bench keys can be read and cleaned.
+ * bench keys can be read and cleaned. A return lets them through.
  *
  * Every call gives a number, of several that apply the smallest; enum rcst_number
  * has their names, rcst_words their words.
  *
- * Every number but 0 leaves store and list untouched, byte for byte. After 12 or
- * 13 the update is still open: it may be committed as it is, or abandoned. After
- * 15 too: it may go on, be committed once it has changed something, or abandoned.
+ * Every number but 0 leaves store and list untouched, byte for byte, with one
+ * exception: a return that gives 12 or 13 has abandoned the update. After an insert's
+ * or a delete's 12 or 13 the update is still open: it may be committed as it is, or
+ * abandoned. After 15 too: it may go on, be committed once it has changed something,
+ * or abandoned.
  *
  * The caller answers for what no library can see. `store` points to `length`
  * bytes, and a list (`list`, `pages`) to `room` numbers; where a length is 0 its
@@ -32,8 +34,9 @@
  * During a call nobody else touches its list and results, and nobody writes the
  * store. So the calls that take the store as const may run side by side on one
  * store, each with a list and results of its own; a call that writes it (fresh,
- * open, insert, delete, commit, abandon) runs alone on it, with no other reader or
- * writer. The library has no state of its own: calls on different stores never meet.
+ * open, insert, delete, return, commit, abandon) runs alone on it, with no other
+ * reader or writer. The library has no state of its own: calls on different stores
+ * never meet.
  *
  * A call takes at most RCST_STACK_BYTES of the stack of the thread that makes it;
  * the default of some systems for a thread is less. That is measured and rounded
@@ -63,7 +66,7 @@ extern "C" {
  */
 #define RCST_FORMAT_EDITION 1u
 #define RCST_LIBRARY_MAJOR 1u
-#define RCST_LIBRARY_MINOR 0u
+#define RCST_LIBRARY_MINOR 1u
 
 /* The format's limits. */
 #define RCST_PAGE_BYTES 256u
@@ -109,8 +112,8 @@ static inline const char *rcst_words(uint32_t number) {
         "edition not 1",
         "not sound",
         "key too large (insert: 16,776,960 or above), or range low above high",
-        "version above last (of a difference: either version)",
-        "no update open (insert, delete, commit, abandon)",
+        "version above last (of a difference: either version; of a return: above current)",
+        "no update open (insert, delete, return, commit, abandon)",
         "update already open (open)",
         "current is 1,048,574 (open)",
         "key alive (insert)",
@@ -156,6 +159,18 @@ uint32_t rcst_commit(uint8_t *store, size_t length);
 
 /* Abandons the open update. Gives 0, 1 to 4 or 7. */
 uint32_t rcst_abandon(uint8_t *store, size_t length);
+
+/*
+ * Returns to a committed version: makes the open version's settings equal to those of
+ * `version`, which is the current one or an earlier one. First it deletes what is absent
+ * there or has another value there, then it inserts what is missing, each in rising key
+ * order and each as the single call does, pages and all; bench keys are let through. What
+ * the update did before is where it starts from. Gives 0, 1 to 4, 6, 7, 12 or 13. With 0
+ * the update is open, and is committed or abandoned as any other. With 12 or 13 the whole
+ * update is abandoned, its earlier calls included, and every byte is what it was before
+ * the open.
+ */
+uint32_t rcst_return(uint8_t *store, size_t length, uint32_t version);
 
 /*
  * Looks a key up at a version. Gives 0 or 1 to 6. With 0, *found is 1 and *value

@@ -12,6 +12,7 @@ mod plain;
 mod plot;
 mod program;
 mod proved;
+mod returns;
 mod updates;
 mod worst;
 
@@ -27,7 +28,7 @@ use reference::{calls, store};
 
 /// All tables, or the one that the first argument names.
 fn main() {
-    let tables: [(&str, fn()); 13] = [
+    let tables: [(&str, fn()); 14] = [
         ("bytes", byte_layer),
         ("quick", judging::judging),
         ("check", check_of_histories),
@@ -36,6 +37,7 @@ fn main() {
         ("lookups", lookups::lookups),
         ("lives", lives::lives),
         ("differences", differences::differences),
+        ("returns", returns::returns),
         ("hostile", hostile_stores),
         ("worst", worst::worst),
         ("updates", updates::updates),

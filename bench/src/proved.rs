@@ -37,6 +37,7 @@ mod c {
         pub fn rcst_insert(store: *mut u8, length: usize, key: u32, value: u32) -> u32;
         pub fn rcst_delete(store: *mut u8, length: usize, key: u32) -> u32;
         pub fn rcst_commit(store: *mut u8, length: usize) -> u32;
+        pub fn rcst_return(store: *mut u8, length: usize, version: u32) -> u32;
         pub fn rcst_range(
             store: *const u8,
             length: usize,
@@ -107,6 +108,10 @@ pub fn delete(store: &mut [u8], key: u32) -> u32 {
 /// 7 where no update is open: the call judges, and refuses.
 pub fn commit(store: &mut [u8]) -> u32 {
     unsafe { c::rcst_commit(store.as_mut_ptr(), store.len()) }
+}
+
+pub fn return_to(store: &mut [u8], version: u32) -> u32 {
+    unsafe { c::rcst_return(store.as_mut_ptr(), store.len(), version) }
 }
 
 /// The number and the count of settings with any key at a version, which go to

@@ -128,6 +128,55 @@ static void differences(void) {
     expect(rcst_difference(store, sizeof store, 3, 3, list, 13, &count) == 6, "also twice the same");
 }
 
+/* Back to last month's settings: a release like any other. */
+static void returns(void) {
+    static uint8_t store[16 * RCST_PAGE_BYTES], small[6 * RCST_PAGE_BYTES], before[16 * RCST_PAGE_BYTES];
+    uint32_t found = 9, value = 9, list[4] = {0}, key;
+    size_t count = 9;
+
+    rcst_fresh(store, sizeof store);
+    expect(rcst_return(store, sizeof store, 0) == 7, "no update is open");
+    expect(rcst_return(store, sizeof store, 1) == 6, "a version above the current one comes first");
+    rcst_open(store, sizeof store);
+    rcst_insert(store, sizeof store, 40, 7);
+    rcst_insert(store, sizeof store, 41, 300);
+    expect(rcst_commit(store, sizeof store) == 0, "last month's release");
+    rcst_open(store, sizeof store);
+    rcst_delete(store, sizeof store, 40);
+    rcst_insert(store, sizeof store, 40, 9);
+    expect(rcst_commit(store, sizeof store) == 0, "this month's release");
+    rcst_open(store, sizeof store);
+    expect(rcst_return(store, sizeof store, 3) == 6, "the open version is above the current one");
+    memcpy(before, store, sizeof store);
+    expect(rcst_return(store, sizeof store, 2) == 0, "to the current version");
+    expect(memcmp(before, store, sizeof store) == 0, "there is nothing to do");
+    rcst_delete(store, sizeof store, 41);
+    rcst_insert(store, sizeof store, 50, 1);
+    expect(rcst_return(store, sizeof store, 1) == 0, "back to last month's, from what the update did so far");
+    expect(rcst_difference(store, sizeof store, 1, 3, list, 4, &count) == 0 && count == 0, "nothing differs");
+    expect(rcst_commit(store, sizeof store) == 0, "and it is a release");
+    expect(rcst_lookup(store, sizeof store, 40, 3, &found, &value) == 0 && value == 7, "7 again");
+    expect(rcst_lookup(store, sizeof store, 40, 2, &found, &value) == 0 && value == 9, "and 9 in the one between");
+
+    /* one page for settings: twelve that are gone take room there, and to come back they need another */
+    rcst_fresh(small, sizeof small);
+    rcst_open(small, sizeof small);
+    for (key = 1; key <= 12; key++) {
+        rcst_insert(small, sizeof small, key, key);
+    }
+    rcst_commit(small, sizeof small);
+    rcst_open(small, sizeof small);
+    for (key = 1; key <= 12; key++) {
+        rcst_delete(small, sizeof small, key);
+    }
+    expect(rcst_commit(small, sizeof small) == 0, "a release with no setting");
+    memcpy(before, small, sizeof small);
+    expect(rcst_open(small, sizeof small) == 0 && rcst_insert(small, sizeof small, 13, 1) == 0, "an insert still goes");
+    expect(rcst_return(small, sizeof small, 1) == 12, "pages run out on the way");
+    expect(memcmp(before, small, sizeof small) == 0, "the update is abandoned: every byte is what it was before the open");
+    expect(rcst_abandon(small, sizeof small) == 7, "so none is open");
+}
+
 static void lives(void) {
     static uint8_t store[16 * RCST_PAGE_BYTES];
     uint32_t list[7] = {1, 2, 3, 4, 5, 6, 7};
@@ -155,7 +204,7 @@ static void numbers(void) {
 
     expect(rcst_commit(store, sizeof store) == RCST_WRONG_FIRST_BYTES, "2 by its name");
     expect(rcst_fresh(store, sizeof store) == RCST_DONE && store[4] == RCST_FORMAT_EDITION, "a store of the edition that the header names");
-    expect(strcmp(rcst_words(rcst_commit(store, sizeof store)), "no update open (insert, delete, commit, abandon)") == 0, "7 in words");
+    expect(strcmp(rcst_words(rcst_commit(store, sizeof store)), "no update open (insert, delete, return, commit, abandon)") == 0, "7 in words");
     expect(rcst_words(RCST_NOTHING_CHANGED + 1) != NULL && rcst_words(UINT32_MAX) != NULL, "any number has words");
 }
 
@@ -165,6 +214,7 @@ int main(void) {
     releases();
     settings();
     differences();
+    returns();
     lives();
     return failures != 0;
 }

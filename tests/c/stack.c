@@ -14,10 +14,10 @@
 #include <stdlib.h>
 #include <string.h>
 
-enum { STACK = 1 << 20, PAGES = 40, CALLS = 11, PAINT = 0xA5 };
+enum { STACK = 1 << 20, PAGES = 40, CALLS = 12, PAINT = 0xA5 };
 
-static const char *const names[CALLS] = {"fresh", "check",  "open",  "insert", "delete",    "commit",
-                                         "abandon", "lookup", "range", "visits", "difference and life"};
+static const char *const names[CALLS] = {"fresh",   "check",  "open",   "insert", "delete", "commit",
+                                         "abandon", "return", "lookup", "range",  "visits", "difference and life"};
 static size_t most[CALLS];
 static uint8_t stack[STACK] __attribute__((aligned(4096)));
 static uint8_t store[RCST_MOST_PAGES * RCST_PAGE_BYTES], kept[RCST_MOST_PAGES * RCST_PAGE_BYTES];
@@ -42,9 +42,10 @@ static void *made(void *none) {
     case 4: rcst_delete(store, length, key); break;
     case 5: rcst_commit(store, length); break;
     case 6: rcst_abandon(store, length); break;
-    case 7: rcst_lookup(store, length, key, 1, &a, &b); break;
-    case 8: rcst_range(store, length, 0, key, 1, list, 64, &count); break;
-    case 9: rcst_visits(store, length, key, 1, list, 64, &count); break;
+    case 7: rcst_return(store, length, key % 4); break;
+    case 8: rcst_lookup(store, length, key, 1, &a, &b); break;
+    case 9: rcst_range(store, length, 0, key, 1, list, 64, &count); break;
+    case 10: rcst_visits(store, length, key, 1, list, 64, &count); break;
     default:
         rcst_difference(store, length, 0, 1, list, 64, &count);
         rcst_life(store, length, key, list, 64, &count);

@@ -15,7 +15,7 @@ use Rattle.model.specs.Calls.{unchanged, rule, firstOf}
 use Rattle.model.specs.Lent.{judgedFirst}
 use Rattle.release.specs.Opened.{Opened}
 use Rattle.calls.specs.Guard.{guarded, guard-sound}
-use Rattle.calls.specs.Turning.{closing, committing, is-open}
+use Rattle.calls.specs.Turning.{closing, committing, current-in, is-open}
 
 module _ (least : ℕ) (b : List ℕ) where
   first-closing : (m : ℕ) (x y : Bool) → (judgedFirst m (λ n. n) (firstOf (rule 7 (not x) ∷ [])) ≡ 0 → ⊥)
@@ -37,10 +37,6 @@ module _ (least : ℕ) (b : List ℕ) where
   pub gives-test : guarded least b closing ≡ 0 → (same : Bool) → same ≡ unchanged (decode least b) → pick same 15 0 ≡ guarded least b committing
   unfolding guarded
   gives-test z same e = ap (λ (x : Bool). pick x 15 0) e ∙ then-test (judged least b .number) (decode least b .opened) (unchanged (decode least b)) z
-
-  current-in : decode least b .current ≡ readHeader least b .current
-  unfolding decode
-  current-in = refl
 
 -- what the test asks
 pub opens : {l : Limits} → Edition l → (b : List ℕ) → guarded (l .least) b closing ≡ 0 → (h : Header) → h ≡ readHeader (l .least) b → Opened l b (h .current)

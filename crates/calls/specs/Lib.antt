@@ -5,3 +5,4 @@ pub mod Turning
 pub mod Committing
 pub mod Updating
 pub mod Differing
+pub mod Returning

@@ -2,6 +2,7 @@
 // refusals in order, and a core that rests on a sound store.
 mod differing;
 mod living;
+mod returning;
 mod updating;
 mod visiting;
 
@@ -9,9 +10,9 @@ pub use differing::difference;
 pub use living::life;
 use model::Limits;
 use model::Looked;
+pub use returning::return_to;
 pub use updating::delete;
 pub use updating::insert;
-pub use updating::raw_insert;
 pub use visiting::visits;
 use walk::Counted;
 ghost use mathlib.Core.Path.{_≡_};

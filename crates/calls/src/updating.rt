@@ -1,22 +1,17 @@
-// Insert and delete: their guard, and the one change that each makes.
-use edit::Change;
+// Insert and delete: their guard, and then the core.
 use model::Limits;
 use model::Looked;
-use model::Pair;
 ghost use mathlib.Core.Path.{_≡_};
 ghost use Prim.Native.Nat.{_<_};
 ghost use Rattle.model.specs.Limits.{Edition};
 ghost use Rattle.model.specs.Walk.{keyLimit, lookup};
 ghost use Rattle.model.specs.Layout.{decode};
-ghost use Rattle.model.specs.Calls.{isSome, rawInsert};
-ghost use Rattle.model.specs.Needs.{inserting, deleting};
-ghost use Rattle.model.specs.Lent.{left, insertLent, deleteLent};
-ghost use Rattle.edit.specs.Change.{changeOf};
-ghost use Rattle.gather.specs.Kept.{Fits};
+ghost use Rattle.model.specs.Calls.{isSome};
+ghost use Rattle.model.specs.Lent.{insertLent, deleteLent};
 ghost use Rattle.walk.specs.Sure.{Readable};
 ghost use Rattle.calls.specs.Guard.{guarded};
 ghost use Rattle.calls.specs.Turning.{ended};
-ghost use Rattle.calls.specs.Updating.{updating, limitOf, against, Enters};
+ghost use Rattle.calls.specs.Updating.{updating, limitOf, against};
 
 // "Keys 16,776,960 and above belong to our test bench. Insert refuses them with 5."
 const BENCH: u32 = 16776960;
@@ -78,45 +73,6 @@ fn guard_updating(s: &[u8], l: Limits, key: u32, insert: bool) -> u32
     against(insert, is_alive(s, l, key, h.current + 1))
 }
 
-// A setting comes in.
-fn inserting(key: u32, value: u32) -> Change
-    requires { ⌜ key < keyLimit ⌝ }
-    ensures { λ r. ⌜ (changeOf r ≡ inserting key value) × Fits r ⌝ }
-{
-    Change {
-        drops: 0,
-        drop1: 0,
-        drop2: 0,
-        takes: 1,
-        take1: Pair { key, value },
-        take2: Pair { key: 0, value: 0 },
-    }
-}
-
-// A setting ends.
-fn deleting(key: u32) -> Change
-    ensures { λ r. ⌜ (changeOf r ≡ deleting key) × Fits r ⌝ }
-{
-    let no = Pair { key: 0, value: 0 };
-    Change {
-        drops: 1,
-        drop1: key,
-        drop2: 0,
-        takes: 0,
-        take1: no,
-        take2: no,
-    }
-}
-
-// The insert behind its guard, of a key that is not alive, bench keys too. It is insert's core, and what a call does that lets bench
-// keys through: a return (2026-07), the converter (2026-08).
-pub fn raw_insert(s: &mut [u8], l: Limits, key: u32, value: u32) -> u32
-    requires { ⌜ Enters l (now s) key ⌝ }
-    ensures { λ r. ⌜ ended r (now (s .exit)) ≡ left (l .least) (now (s .entry)) (rawInsert (l .least) (decode (l .least) (now (s .entry))) key value) ⌝ }
-{
-    update::update(s, l, key, inserting(key, value))
-}
-
 // Inserts a setting in the open update.
 pub fn insert(s: &mut [u8], key: u32, value: u32) -> u32
     ensures { λ r. ⌜ ended r (now (s .exit)) ≡ insertLent 4 (now (s .entry)) key value ⌝ }
@@ -126,7 +82,7 @@ pub fn insert(s: &mut [u8], key: u32, value: u32) -> u32
     if n != 0 {
         return n;
     }
-    raw_insert(s, l, key, value)
+    update::raw_insert(s, l, key, value)
 }
 
 // Deletes a setting in the open update.
@@ -138,5 +94,5 @@ pub fn delete(s: &mut [u8], key: u32) -> u32
     if n != 0 {
         return n;
     }
-    update::update(s, l, key, deleting(key))
+    update::raw_delete(s, l, key)
 }

@@ -23,7 +23,8 @@ use Rattle.differ.specs.declared.leaves.Side.{Side}
 use Rattle.differ.specs.Merge.{compared, told, left, Onward, left-start, left-end, left-on, left-step, above-above}
 use Rattle.differ.specs.Side.{rest, Ordered, At}
 use Rattle.differ.specs.Listing.{deltas, between, leftOf, from-start, from-end}
-use Rattle.differ.specs.Leaves.{asked, inLeaves, stretch-on}
+use Rattle.differ.specs.Leaves.{asked, inLeaves}
+use Rattle.differ.specs.Past as past
 
 -- the smaller of two keys
 pub compared-old : (x y : Pair) → compared x y .key ≤ x .key
@@ -125,27 +126,17 @@ module _ {l : Limits} {b : List ℕ} {u v : ℕ} (r : Readable l b u) (q : Reada
 
   module _ {w : Bool} {ns₀ ns : List ℕ} {found key : ℕ} (h : Between l b u v w ns₀ ns found key) (x y : Under) (g : Below l b u 0 key x) (f : Below l b v 0 key y)
       (high : ℕ) (e : high ≡ pick (ltb (x .high) (y .high)) (x .high) (y .high)) where
-    -- the lower of two ends is behind the key
-    lower : (high ≤ x .high) × (high ≤ y .high) × (key < high)
-    lower = rw e (at (ltb (x .high) (y .high)) refl)
-      where
-        at : (t : Bool) → ltb (x .high) (y .high) ≡ t → let m = pick t (x .high) (y .high) in (m ≤ x .high) × (m ≤ y .high) × (key < m)
-        at true z = (omega arith, omega (arith, ltb-true (x .high) (y .high) z), g .below)
-        at false z = (ltb-false (x .high) (y .high) z, omega arith, f .below)
-
     pub high-low : key < high
-    high-low = lower .2
+    high-low = past.high-low r q key x y g f high e
 
     pub high-top : high ≤ keyLimit
-    high-top = omega (arith, lower .0, g .top)
+    high-top = past.high-top r q key x y g f high e
 
     abbrev ask : Ask
     ask = record { old = u; new = v; low = key; high = high - 1; write = w }
 
     parts-of : Gathering deltas w ns₀ ns 0 found (between l b u v) (inLeaves l b ask x y ++ leftOf l b u v high)
-    parts-of =
-        let one : high - 1 + 1 ≡ high = omega (arith, high-low) in
-        gather-same deltas (stretch-on ask r q x y g f (omega (arith, high-low)) (omega (arith, high-low, lower .0)) (omega (arith, high-low, lower .1)) ∙ ap (λ (k : ℕ). inLeaves l b ask x y ++ leftOf l b u v k) one) (h .tells)
+    parts-of = gather-same deltas (past.stretch-to r q key x y g f high e w) (h .tells)
 
     pub between-space : Space deltas w ns found (inLeaves l b ask x y)
     between-space = space-front deltas (inLeaves l b ask x y) (leftOf l b u v high) (parts-of .space)

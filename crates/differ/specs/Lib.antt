@@ -4,4 +4,5 @@ pub mod Listing
 pub mod Side
 pub mod Quiet
 pub mod Leaves
+pub mod Past
 pub mod Halfway

@@ -5,6 +5,7 @@ use model::Limits;
 use model::Pair;
 ghost use mathlib.Core.Path.{_≡_};
 ghost use mathlib.Core.Bool.{true, _&&_};
+ghost use mathlib.Core.List.{[]};
 ghost use Prim.Native.Nat.{_+_, _≤_};
 ghost use lib.Dec.{eqb};
 ghost use Rattle.model.proofs.Lookups.{rising};
@@ -129,6 +130,16 @@ fn same(page: &[u8], n: usize, a: Ask, x: usize, y: usize) -> bool
         return false;
     }
     quiet(page, n, a.old, a.new)
+}
+
+// Whether the leaves of a stretch are such a page: nothing differs there.
+pub fn alike(s: &[u8], l: Limits, a: Ask, x: Under, y: Under) -> bool
+    requires { ⌜ Readable l (now s) (a .old) × Readable l (now s) (a .new) × Below l (now s) (a .old) 0 (a .low) x × Below l (now s) (a .new) 0 (a .low) y ⌝ }
+    ensures { λ r. ⌜ (r ≡ true → inLeaves l (now (s .entry)) a x y ≡ []) ⌝ }
+{
+    let p = store::part(s, l, x.page);
+    let h = page::head_of(p, l);
+    same(p, h.count, a, x.page, y.page)
 }
 
 // What differs in a stretch from the leaf x of the old version to the leaf y of the new one.

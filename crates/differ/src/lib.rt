@@ -8,16 +8,19 @@ use model::Delta;
 use model::Limits;
 use walk::Counted;
 ghost use mathlib.Core.Path.{_≡_};
+ghost use Prim.Native.Nat.{_≤_};
 ghost use lib.ListN.{length};
 ghost use Rattle.model.specs.Basic.{pick};
 ghost use lib.Dec.{ltb};
+ghost use Rattle.model.specs.Walk.{keyLimit};
 ghost use Rattle.model.specs.Told.{toldBy};
 ghost use Rattle.model.specs.Differ.{deltaNumbers};
 ghost use Rattle.model.specs.Lent.{listed};
 ghost use Rattle.model.proofs.Telling.{Space, Gathers};
 ghost use Rattle.walk.specs.Counted.{withList};
 ghost use Rattle.walk.specs.Sure.{Readable};
-ghost use Rattle.differ.specs.Listing.{deltas, between, nextOf};
+ghost use Rattle.differ.specs.Merge.{Onward};
+ghost use Rattle.differ.specs.Listing.{deltas, between, leftOf, nextOf};
 
 // "Keys are 0 to 16,777,215".
 const KEYS: u32 = 16777216;
@@ -40,6 +43,38 @@ fn lower(a: u32, b: u32) -> u32
         return a;
     }
     b
+}
+
+// A key, and where the first of the leaves for it at two versions ends.
+pub struct Gap {
+    pub key: u32,
+    pub high: u32,
+}
+
+// The first key at or above a key at which the leaves for it are not one page that shows the same at both versions: nothing differs before
+// it. Each step ends where the first of two leaves does.
+pub fn past(s: &[u8], l: Limits, u: u32, v: u32, from: u32) -> Gap
+    requires { ⌜ Readable l (now s) u × Readable l (now s) v × (from ≤ keyLimit) ⌝ }
+    ensures { λ r. ⌜ Onward from (r .key) × (leftOf l (now (s .entry)) u v from ≡ leftOf l (now (s .entry)) u v (r .key)) ⌝ }
+{
+    let mut key = from;
+    while key < KEYS {
+        let x = cursor::leaf_for(s, l, u, key);
+        let y = cursor::leaf_for(s, l, v, key);
+        let high = lower(x.high, y.high);
+        let a = Ask {
+            old: u,
+            new: v,
+            low: key,
+            high: high - 1,
+            write: false,
+        };
+        if !leaves::alike(s, l, a, x, y) {
+            return Gap { key, high };
+        }
+        key = high;
+    }
+    Gap { key, high: key }
 }
 
 // What differs from version u to version v, into a list or only counted; gives how many differences there are. Each step ends where the

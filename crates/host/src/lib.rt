@@ -4,7 +4,7 @@ ghost use mathlib.Core.Path.{_≡_};
 ghost use Rattle.model.specs.Layout.{bit};
 ghost use Rattle.model.specs.Judged.{judged};
 ghost use Rattle.model.specs.Calls.{lookedNumber, lookedFound, lookedValue};
-ghost use Rattle.model.specs.Lent.{freshLent, openLent, insertLent, deleteLent, commitLent, abandonLent, lookupLent, rangeLent, lifeLent, differenceLent, visitsLent};
+ghost use Rattle.model.specs.Lent.{freshLent, openLent, insertLent, deleteLent, commitLent, abandonLent, returnLent, lookupLent, rangeLent, lifeLent, differenceLent, visitsLent};
 ghost use Rattle.calls.specs.Turning.{ended};
 
 // Makes a fresh store.
@@ -65,6 +65,14 @@ pub extern "C" fn rcst_abandon(store: &mut [u8]) -> u32
     ensures { λ r. ⌜ ended r (now (store .exit)) ≡ abandonLent 4 (now (store .entry)) ⌝ }
 {
     calls::abandon(store)
+}
+
+// Returns to a committed version in the open update.
+#[no_mangle]
+pub extern "C" fn rcst_return(store: &mut [u8], version: u32) -> u32
+    ensures { λ r. ⌜ ended r (now (store .exit)) ≡ returnLent 4 (now (store .entry)) version ⌝ }
+{
+    calls::return_to(store, version)
 }
 
 fn number_of(r: Looked) -> u32

@@ -157,13 +157,13 @@ module _ (us ws : List Pair) (r : rising us ≡ true) (q : rising ws ≡ true) (
 -- ---- "applying it to the first version's settings gives the second's"
 
 -- the settings without a key below them all
-without : (k : ℕ) (xs : List Pair) → above k xs ≡ true → those (λ (y : Pair). not (eqb (y .key) k)) xs ≡ xs
+pub without : (k : ℕ) (xs : List Pair) → above k xs ≡ true → those (λ (y : Pair). not (eqb (y .key) k)) xs ≡ xs
 without k [] a = refl
 without k (x ∷ xs) a =
     let (p, q) = all-cons (λ (y : Pair). ltb k (y .key)) x xs a in
     rw (ne-eqb (x .key) k (λ (e : x .key ≡ k). omega (arith, ltb-true k (x .key) p))) (ap (λ (zs : List Pair). x ∷ zs) (without k xs q))
 
-in-front : (p : Pair) (xs : List Pair) → above (p .key) xs ≡ true → enterPair p xs ≡ p ∷ xs
+pub in-front : (p : Pair) (xs : List Pair) → above (p .key) xs ≡ true → enterPair p xs ≡ p ∷ xs
 in-front p [] a = refl
 in-front p (x ∷ xs) a = rw (all-cons (λ (y : Pair). ltb (p .key) (y .key)) x xs a .0)
 

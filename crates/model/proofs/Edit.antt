@@ -109,6 +109,17 @@ pub keep-all : (vs : List Pair) → those (λ (y : Pair). true) vs ≡ vs
 keep-all [] = refl
 keep-all (v ∷ vs) = ap (λ (zs : List Pair). v ∷ zs) (keep-all vs)
 
+-- an insert's change, and a delete's, said plainly
+pub insert-same : (k x : ℕ) (us : List Pair) → applied (record { drop = []; take = pair k x ∷ [] }) us ≡ enterPair (pair k x) us
+insert-same k x us = ap (enterPair (pair k x)) (keep-all us)
+
+or-false : (q : Bool) → (q || false) ≡ q
+or-false true = refl
+or-false false = refl
+
+pub delete-same : (k : ℕ) (us : List Pair) → applied (record { drop = k ∷ []; take = [] }) us ≡ those (λ (y : Pair). not (eqb (y .key) k)) us
+delete-same k us = λ i. those (λ (y : Pair). not (or-false (eqb (y .key) k) i)) us
+
 pub leaf-insert : (k x lo hi : ℕ) (us : List Pair) → find k us ≡ none → lo ≤ k → k < hi → LeafHolds lo hi us us
     → LeafHolds lo hi (applied (record { drop = []; take = pair k x ∷ [] }) us) (applied (record { drop = []; take = pair k x ∷ [] }) us)
 leaf-insert k x lo hi us h p q t =

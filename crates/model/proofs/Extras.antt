@@ -9,7 +9,8 @@ use lib.Dec.{T, lit≤}
 use Rattle.model.specs.Basic.{all}
 use Rattle.model.specs.Store.{Store, fresh}
 use Rattle.model.specs.Sound.{sound, broken, firstBroken, rule1, rule2, rule3, rule4, rule5, rule6, rule7}
-use Rattle.model.specs.Climb.{Result, done, refused}
+use Rattle.model.specs.Climb.{done, refused}
+use Rattle.model.specs.Return.{Came, gave, gaveUp}
 use Rattle.model.specs.Histories.{Call, callBy, After, after, run, from}
 use Rattle.model.specs.Settings.{Machine, onward, together, fits, beginning}
 use Rattle.model.proofs.Lists.{both-true}
@@ -51,10 +52,11 @@ run-same : (least : ℕ) (cs : List Call) (x : After) (m : Machine) → run leas
 run-same least [] x m = refl
 run-same least (c ∷ cs) x m = at (callBy least (x .store) c) (λ y n. run-same least cs y n)
   where
-    at : (r : Result) → ((y : After) (n : Machine) → run least y cs .store ≡ together least (record { store = y .store; machine = n }) cs .store)
+    at : (r : Came) → ((y : After) (n : Machine) → run least y cs .store ≡ together least (record { store = y .store; machine = n }) cs .store)
         → run least (after (x .store) r) cs .store ≡ together least (onward (record { store = x .store; machine = m }) c r) cs .store
-    at (done t) ih = ih (record { number = 0; store = t }) _
-    at (refused i) ih = ih (record { number = i; store = x .store }) m
+    at (gave (done t)) ih = ih (record { number = 0; store = t }) _
+    at (gave (refused i)) ih = ih (record { number = i; store = x .store }) m
+    at (gaveUp i t) ih = ih (record { number = i; store = t }) _
 
 pub from-same : (least n : ℕ) (cs : List Call) → from least n cs .store ≡ together least (beginning n) cs .store
 from-same least n cs = run-same least cs (record { number = 0; store = fresh n }) _

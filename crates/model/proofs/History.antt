@@ -2,7 +2,7 @@
 -- Assumes nothing.
 use Prim.Native.Nat.{ℕ, suc, _≤_, _<_}
 use native.Mathlib.Omega.{arith}
-use mathlib.Core.Bool.{Bool, true, false, _||_, not}
+use mathlib.Core.Bool.{Bool, true, false, not}
 use mathlib.Core.Option.{none}
 use mathlib.Core.Path.{_≡_, refl, ap, ap₂, sym, _∙_, subst}
 use mathlib.Core.Logic.{_⊎_, inl, inr, _≢_}
@@ -18,14 +18,15 @@ use Rattle.model.specs.Walk.{rangeOf, between, settings, lookup, find, k
 use Rattle.model.specs.Sound.{sound}
 use Rattle.model.specs.Climb.{Result, done, refused}
 use Rattle.model.specs.Calls.{rule, rawInsert, insert, delete, begin, committed, unchanged, commit, abandon, abandoned}
-use Rattle.model.specs.Histories.{Call, begins, commits, abandons, inserts, deletes, callBy}
+use Rattle.model.specs.Return.{Came, gave, returned}
+use Rattle.model.specs.Histories.{Call, begins, commits, abandons, inserts, deletes, returns, callBy}
 use Rattle.model.specs.Settings.{Machine, put, edited, step, Both, onward, together, fits, beginning}
 use Rattle.model.proofs.Lists.{all-cons}
 use Rattle.model.proofs.Members.{holds-true, true-holds, not-both, bool-cases}
 use Rattle.model.proofs.Local.{applied}
 use Rattle.model.proofs.Given.{Sound, to-tests}
 use Rattle.model.proofs.Main.{Changed}
-use Rattle.model.proofs.Edit.{keep-all}
+use Rattle.model.proofs.Edit.{insert-same, delete-same}
 use Rattle.model.proofs.Fits.{numbered-by, insert-by, delete-by, raw-changes, delete-changes}
 use Rattle.model.proofs.Ranges.{range-is}
 use Rattle.model.proofs.Lookups.{lookup-is}
@@ -33,6 +34,7 @@ use Rattle.model.proofs.Preserve.{Sounds, raw-keeps, delete-keeps}
 use Rattle.model.proofs.Turns.{store, commit-sound, begin-sound, begin-shows, fresh-sound, fresh-shows}
 use Rattle.model.proofs.Abandon.{abandon-sound, steady-kept}
 use Rattle.model.proofs.Alike.{alike-settings}
+use Rattle.model.proofs.Returned.{Stepped, returned-by}
 
 -- the store is sound and shows what the machine has
 pub record Agrees (least : ℕ) (b : Both) : Type 0 where
@@ -61,7 +63,7 @@ module _ (least : ℕ) (four : 4 ≤ least) (b : Both) (a : Agrees least b) wher
   d = a .is-sound
 
   abbrev Then : Call → Result → Type 0
-  Then c r = Agrees least (onward b c r)
+  Then c r = Agrees least (onward b c (gave r))
 
   last-open : s .opened ≡ true → last s ≡ suc (s .current)
   last-open o = ap (λ (q : Bool). lastOf q (s .current)) o
@@ -103,12 +105,13 @@ module _ (least : ℕ) (four : 4 ≤ least) (b : Both) (a : Agrees least b) wher
         shows = λ v z. a .shows v (omega (arith, last-open o));
       }
 
+  abandoned-then : s .opened ≡ true → Agrees least (record { store = abandoned s; machine = step m abandons })
+  unfolding abandoned
+  abandoned-then o = record { is-sound = abandon-sound least two s d o; current = a .current; opened = refl; shows = λ v z. alike-settings s v (abandoned s) v (steady-kept least two s d o v (omega arith)) ∙ a .shows v (omega (arith, last-open o)) }
+
   abandons-then : Then abandons (abandon s)
-  unfolding abandon abandoned
-  abandons-then = numbered-by (Then abandons) (rule 7 (not (s .opened)) ∷ []) (done (abandoned s)) (λ n. a) (λ f. go (not-false (s .opened) (f .0)))
-    where
-      go : s .opened ≡ true → Agrees least (record { store = abandoned s; machine = step m abandons })
-      go o = record { is-sound = abandon-sound least two s d o; current = a .current; opened = refl; shows = λ v z. alike-settings s v (abandoned s) v (steady-kept least two s d o v (omega arith)) ∙ a .shows v (omega (arith, last-open o)) }
+  unfolding abandon
+  abandons-then = numbered-by (Then abandons) (rule 7 (not (s .opened)) ∷ []) (done (abandoned s)) (λ n. a) (λ f. abandoned-then (not-false (s .opened) (f .0)))
 
   -- an edit
   edit-then : (o : s .opened ≡ true) (c : Call) (ch : Change) (g : List Pair → List Pair) → ((us : List Pair) → applied ch us ≡ g us) → ((n : Machine) → step n c ≡ edited g n) → (r : Result) → Sounds least four s d o r → Changed s ch r → Then c r
@@ -137,16 +140,6 @@ module _ (least : ℕ) (four : 4 ≤ least) (b : Both) (a : Agrees least b) wher
   sure : T (sound least s)
   sure = true-holds (sound least s) (to-tests least s d)
 
-  insert-same : (k x : ℕ) (us : List Pair) → applied (record { drop = []; take = pair k x ∷ [] }) us ≡ enterPair (pair k x) us
-  insert-same k x us = ap (enterPair (pair k x)) (keep-all us)
-
-  or-false : (q : Bool) → (q || false) ≡ q
-  or-false true = refl
-  or-false false = refl
-
-  delete-same : (k : ℕ) (us : List Pair) → applied (record { drop = k ∷ []; take = [] }) us ≡ those (λ (y : Pair). not (eqb (y .key) k)) us
-  delete-same k us = λ i. those (λ (y : Pair). not (or-false (eqb (y .key) k) i)) us
-
   -- an insert behind its tests, bench keys too
   pub raw-call : s .opened ≡ true → (k x : ℕ) → k < keyLimit → lookup s k (next s) ≡ none → x < 4294967296 → Then (inserts k x) (rawInsert least s k x)
   raw-call o k x low absent h =
@@ -162,12 +155,36 @@ module _ (least : ℕ) (four : 4 ≤ least) (b : Both) (a : Agrees least b) wher
       at (inl o) = edit-then o (deletes k) (record { drop = k ∷ []; take = [] }) (those (λ (y : Pair). not (eqb (y .key) k))) (delete-same k) (λ n. refl) (delete least s k) (delete-keeps least four s d o k) (delete-changes least two s sure k)
       at (inr o) = delete-by (Then (deletes k)) least s k (λ n. a) (λ y low z. absurd (not-both (s .opened) y o))
 
-  pub one-call : (c : Call) → fits c ≡ true → Then c (callBy least s c)
+  -- 2026-07: done, the open version shows what version v shows; "one that ends in 12 or 13 is itself the abandon"
+  returns-then : (v : ℕ) → Agrees least (onward b (returns v) (returned least s v))
+  returns-then v = returned-by least (λ (q : Came). Agrees least (onward b (returns v) q)) four s d v (λ n. a) whole (λ o h n l. abandoned-then o)
+    where
+      whole : s .opened ≡ true → v ≤ s .current → (t : Store) → Stepped least s t (settings s v) → Agrees least (record { store = t; machine = step m (returns v) })
+      whole o h t g = record {
+        is-sound = g .is-sound;
+        current = g .current ∙ a .current;
+        opened = g .opened ∙ sym (sym (a .opened) ∙ o);
+        shows = λ u z. at u z (bool-cases (leb u (s .current)));
+      }
+        where
+          last-t : last t ≡ suc (s .current)
+          last-t = ap₂ lastOf (g .opened) (g .current)
+
+          at : (u : ℕ) → u ≤ last t → (leb u (s .current) ≡ true) ⊎ (leb u (s .current) ≡ false) → settings t u ≡ put (suc (m .current)) (m .shows v) (m .shows) u
+          at u z (inl q) =
+              let le : u ≤ s .current = leb-true u (s .current) q in
+              alike-settings s u t u (g .steady u le) ∙ a .shows u (omega (arith, last-open o)) ∙ sym (put-away (suc (m .current)) u (m .shows v) (m .shows) (λ (y : u ≡ suc (m .current)). omega (arith, a .current)))
+          at u z (inr q) =
+              let eq : u ≡ next t = omega (arith, leb-false u (s .current) q, last-t, g .current) in
+              ap (settings t) eq ∙ g .openly ∙ a .shows v (omega (arith, last-open o)) ∙ sym (put-here (suc (m .current)) u (m .shows v) (m .shows) (omega (arith, a .current, g .current)))
+
+  pub one-call : (c : Call) → fits c ≡ true → Agrees least (onward b c (callBy least s c))
   one-call begins h = begins-then
   one-call commits h = commits-then
   one-call abandons h = abandons-then
   one-call (inserts k x) h = inserts-then k x (ltb-true x 4294967296 h)
   one-call (deletes k) h = deletes-then k
+  one-call (returns v) h = returns-then v
 
 -- From a store that agrees, every list of calls leads to one that agrees.
 pub many-calls : (least : ℕ) → 4 ≤ least → (cs : List Call) → all fits cs ≡ true → (b : Both) → Agrees least b → Agrees least (together least b cs)

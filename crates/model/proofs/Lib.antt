@@ -23,6 +23,8 @@ pub mod Ranges
 pub mod Merging
 pub mod Differs
 pub mod Same
+pub mod Remade
+pub mod Small
 pub mod Fitted
 pub mod Redo
 pub mod Inv
@@ -39,6 +41,8 @@ pub mod After
 pub mod Preserve
 pub mod Turns
 pub mod Abandon
+pub mod Stops
+pub mod Returned
 pub mod History
 pub mod Undone
 pub mod Theorems

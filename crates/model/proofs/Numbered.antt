@@ -11,18 +11,22 @@ use lib.ListN.{length}
 use borrow.Author.Tests.{eqb-true, eqb-false, eq-eqb, ne-eqb, not-false}
 use Rattle.model.specs.Basic.{all, pick, those}
 use Rattle.model.specs.declared.Pair.{Pair}
+use Rattle.model.specs.declared.Delta.{Delta}
 use Rattle.model.specs.Entry.{pair, enterPair}
 use Rattle.model.specs.Store.{Store, next, last, lastOf}
 use Rattle.model.specs.Walk.{settings}
 use Rattle.model.specs.Sound.{sound}
 use Rattle.model.specs.Climb.{Result, done, refused}
 use Rattle.model.specs.Calls.{rule, insert, delete, begin, committed, unchanged, commit, abandon, abandoned}
-use Rattle.model.specs.Histories.{Call, begins, commits, abandons, inserts, deletes, callBy}
+use Rattle.model.specs.Differ.{differ}
+use Rattle.model.specs.Return.{goes, comes, Came, gave}
+use Rattle.model.specs.Histories.{Call, begins, commits, abandons, inserts, deletes, returns, callBy}
 use Rattle.model.specs.Settings.{Machine, step, Both, onward, together, fits, Tally, nothingYet, putCount, countedBy, tallied, beginning}
 use Rattle.model.proofs.Lists.{all-cons}
 use Rattle.model.proofs.Members.{holds-true, true-holds, not-both, bool-cases}
 use Rattle.model.proofs.Given.{to-tests}
 use Rattle.model.proofs.Fits.{numbered-by, insert-by, delete-by}
+use Rattle.model.proofs.Returned.{Stepped, way, returned-by}
 use Rattle.model.proofs.History.{Agrees, one-call, fresh-agrees}
 use Rattle.model.proofs.Theorems.{OneMore, OneLess, insert-counts, delete-counts}
 
@@ -43,7 +47,7 @@ module _ (least : ℕ) (four : 4 ≤ least) (b : Both) (a : Agrees least b) (t :
   m = b .machine
 
   abbrev Next : Call → Result → Type 0
-  Next c r = Agrees least (onward b c r) → Counts (onward b c r) (countedBy m t c r)
+  Next c r = Agrees least (onward b c (gave r)) → Counts (onward b c (gave r)) (countedBy m t c (gave r))
 
   last-open : s .opened ≡ true → last s ≡ suc (s .current)
   last-open o = ap (λ (q : Bool). lastOf q (s .current)) o
@@ -87,16 +91,18 @@ module _ (least : ℕ) (four : 4 ≤ least) (b : Both) (a : Agrees least b) (t :
       numbered-by (Next commits) (rule 7 (not (s .opened)) ∷ rule 15 (unchanged s) ∷ []) (done (committed s)) (λ n _. k)
       (λ f n. record { is = λ v h. k .is v (omega (arith, last-open (not-false (s .opened) (f .0)))) })
 
-  abandons-next : Next abandons (abandon s)
-  unfolding abandon abandoned
-  abandons-next =
-      numbered-by (Next abandons) (rule 7 (not (s .opened)) ∷ []) (done (abandoned s)) (λ n _. k)
-      (λ f n. record { is = λ v h. at (not-false (s .opened) (f .0)) n v h })
+  abandoned-next : s .opened ≡ true → Agrees least (record { store = abandoned s; machine = step m abandons }) → Counts (record { store = abandoned s; machine = step m abandons }) t
+  unfolding abandoned
+  abandoned-next o n = record { is = λ v h. at o n v h }
     where
       at : s .opened ≡ true → Agrees least (record { store = abandoned s; machine = step m abandons }) → (v : ℕ) → v ≤ s .current → length (settings (abandoned s) v) + t .removed v ≡ t .added v
       at o n v h =
           let y : length (settings (abandoned s) v) ≡ length (settings s v) = same-length _ _ (n .shows v h ∙ sym (a .shows v (omega (arith, last-open o)))) in
           omega (arith, k .is v (omega (arith, last-open o)))
+
+  abandons-next : Next abandons (abandon s)
+  unfolding abandon
+  abandons-next = numbered-by (Next abandons) (rule 7 (not (s .opened)) ∷ []) (done (abandoned s)) (λ n _. k) (λ f n. abandoned-next (not-false (s .opened) (f .0)) n)
 
   past : (o : s .opened ≡ true) (c : Call) (u : Store) → Agrees least (record { store = u; machine = step m c }) → ((v : ℕ) → v ≢ suc (m .current) → step m c .shows v ≡ m .shows v) → step m c .current ≡ m .current → step m c .opened ≡ m .opened
       → (v : ℕ) → v ≤ last u → v ≢ suc (m .current) → length (settings u v) ≡ length (settings s v)
@@ -138,7 +144,50 @@ module _ (least : ℕ) (four : 4 ≤ least) (b : Both) (a : Agrees least b) (t :
           let lu : last u ≡ suc (s .current) = ap₂ lastOf (n .opened ∙ sym (a .opened) ∙ o) (n .current ∙ sym (a .current)) in
           omega (arith, count-away (suc (m .current)) (suc (t .removed (suc (m .current)))) v (t .removed) ne, past o (deletes j) u n (λ i q. ap (λ (b′ : Bool). pick b′ (those (λ (y : Pair). not (eqb (y .key) j)) (m .shows (suc (m .current)))) (m .shows i)) (ne-eqb i (suc (m .current)) q)) refl refl v h ne, k .is v (omega (arith, last-open o, lu)))
 
-  pub one-count : (c : Call) → Next c (callBy least s c)
+  -- a return's own deletes and inserts
+  returns-at : (v : ℕ) → s .opened ≡ true → v ≤ s .current → (u : Store) → Stepped least s u (settings s v) → Next (returns v) (done u)
+  returns-at v o h u g n = record { is = λ i z. at i z (bool-cases (eqb i (suc (m .current)))) }
+    where
+      w : ℕ
+      w = suc (m .current)
+
+      now : m .shows (suc (m .current)) ≡ settings s (next s)
+      now = sym (a .shows (next s) (omega (arith, last-open o)) ∙ ap (λ (i : ℕ). m .shows (suc i)) (a .current))
+
+      ds : differ (m .shows (suc (m .current))) (m .shows v) ≡ differ (settings s (next s)) (settings s v)
+      ds = ap₂ differ now (sym (a .shows v (omega (arith, last-open o))))
+
+      gone : ℕ
+      gone = length (those goes (differ (m .shows (suc (m .current))) (m .shows v)))
+
+      come : ℕ
+      come = length (those comes (differ (m .shows (suc (m .current))) (m .shows v)))
+
+      at : (i : ℕ) → i ≤ last u → (eqb i (suc (m .current)) ≡ true) ⊎ (eqb i (suc (m .current)) ≡ false)
+          → length (settings u i) + putCount (suc (m .current)) (gone + t .removed (suc (m .current))) (t .removed) i ≡ putCount (suc (m .current)) (come + t .added (suc (m .current))) (t .added) i
+      at i z (inl e) =
+          let eq : i ≡ suc (m .current) = eqb-true i (suc (m .current)) e in
+          let path = way least four s (a .is-sound) o v h in
+          let fewer : length (settings s (next s)) ≡ gone + length (path .mid) = path .fewer ∙ ap (λ (xs : List Delta). length (those goes xs) + length (path .mid)) (sym ds) in
+          let more : length (settings s v) ≡ come + length (path .mid) = path .more ∙ ap (λ (xs : List Delta). length (those comes xs) + length (path .mid)) (sym ds) in
+          let shown : length (settings u i) ≡ length (settings s v) = same-length _ _ (ap (settings u) (eq ∙ ap suc (sym (a .current) ∙ sym (g .current))) ∙ g .openly) in
+          let before = k .is (next s) (omega (arith, last-open o)) in
+          let same : next s ≡ suc (m .current) = ap suc (a .current) in
+          let removed : t .removed (next s) ≡ t .removed (suc (m .current)) = ap (t .removed) same in
+          let added : t .added (next s) ≡ t .added (suc (m .current)) = ap (t .added) same in
+          omega (arith, count-here (suc (m .current)) (gone + t .removed (suc (m .current))) i (t .removed) eq, count-here (suc (m .current)) (come + t .added (suc (m .current))) i (t .added) eq)
+      at i z (inr e) =
+          let ne : i ≢ suc (m .current) = eqb-false i (suc (m .current)) e in
+          let lu : last u ≡ suc (s .current) = ap₂ lastOf (g .opened) (g .current) in
+          omega (
+            arith,
+            count-away (suc (m .current)) (gone + t .removed (suc (m .current))) i (t .removed) ne,
+            count-away (suc (m .current)) (come + t .added (suc (m .current))) i (t .added) ne,
+            past o (returns v) u n (λ j q. ap (λ (b′ : Bool). pick b′ (m .shows v) (m .shows j)) (ne-eqb j (suc (m .current)) q)) refl refl i z ne,
+            k .is i (omega (arith, last-open o, lu)),
+          )
+
+  pub one-count : (c : Call) → Agrees least (onward b c (callBy least s c)) → Counts (onward b c (callBy least s c)) (countedBy m t c (callBy least s c))
   one-count begins = begins-next
   one-count commits = commits-next
   one-count abandons = abandons-next
@@ -152,6 +201,9 @@ module _ (least : ℕ) (four : 4 ≤ least) (b : Both) (a : Agrees least b) (t :
       at : (s .opened ≡ true) ⊎ (s .opened ≡ false) → Next (deletes j) (delete least s j)
       at (inl o) = deletes-at o j (delete least s j) (delete-counts least (omega arith) s sure j)
       at (inr o) = delete-by (Next (deletes j)) least s j (λ i _. k) (λ y low z. absurd (not-both (s .opened) y o))
+  one-count (returns v) =
+      returned-by least (λ (q : Came). Agrees least (onward b (returns v) q) → Counts (onward b (returns v) q) (countedBy m t (returns v) q)) four s (a .is-sound) v (λ i _. k) (returns-at v)
+      (λ o h i l. abandoned-next o)
 
 many-counts : (least : ℕ) → 4 ≤ least → (cs : List Call) → all fits cs ≡ true → (b : Both) → Agrees least b → (t : Tally) → Counts b t → Counts (together least b cs) (tallied least b t cs)
 many-counts least four [] h b a t k = k

@@ -9,12 +9,13 @@ use mathlib.Core.List.{List, [], _∷_}
 use lib.Dec.{T, leb}
 use borrow.Author.Tests.{ltb-true, not-false}
 use Rattle.model.specs.Basic.{all}
-use Rattle.model.specs.Store.{Store, next}
+use Rattle.model.specs.Store.{Store}
 use Rattle.model.specs.Walk.{settings, lookup, lookupVisits, rangeOf, rangeVisits}
 use Rattle.model.specs.Sound.{sound}
 use Rattle.model.specs.Climb.{Result, done, refused}
 use Rattle.model.specs.Calls.{rule, insert, delete, begin, committed, unchanged, commit, abandon, abandoned}
-use Rattle.model.specs.Histories.{Call, begins, commits, abandons, inserts, deletes, callBy}
+use Rattle.model.specs.Return.{Came, gave}
+use Rattle.model.specs.Histories.{Call, begins, commits, abandons, inserts, deletes, returns, callBy}
 use Rattle.model.specs.Settings.{Both, onward, together, fits, lent}
 use Rattle.model.proofs.Lists.{all-cons}
 use Rattle.model.proofs.Members.{holds-true, not-both, bool-cases}
@@ -22,6 +23,7 @@ use Rattle.model.proofs.Fits.{numbered-by, insert-by, delete-by}
 use Rattle.model.proofs.Alike.{Alike, alike-self, alike-trans, alike-settings, alike-lookup, alike-visits, alike-range, alike-range-visits}
 use Rattle.model.proofs.Preserve.{Sounds, insert-keeps, delete-keeps}
 use Rattle.model.proofs.Abandon.{steady-kept}
+use Rattle.model.proofs.Returned.{returned-by}
 use Rattle.model.proofs.History.{Agrees, one-call}
 use Rattle.model.proofs.Undone.{lent-agrees}
 
@@ -38,14 +40,19 @@ module _ (least : ℕ) (four : 4 ≤ least) (b : Both) (a : Agrees least b) wher
   s = b .store
 
   abbrev Goes : Call → Result → Type 0
-  Goes c r = Onward s (onward b c r .store)
+  Goes c r = Onward s (onward b c (gave r) .store)
 
   edits : (o : s .opened ≡ true) (c : Call) (r : Result) → Sounds least four s (a .is-sound) o r → Goes c r
   edits o c (refused n) f = itself s
   edits o c (done t) f = record { current = omega (arith, f .current); steady = λ v h. f .steady v (omega arith) }
 
-  goes : (c : Call) → fits c ≡ true → Goes c (callBy least s c)
-  unfolding begin commit abandon abandoned
+  -- an abandon leaves the committed versions
+  left-behind : s .opened ≡ true → Onward s (abandoned s)
+  unfolding abandoned
+  left-behind o = record { current = omega arith; steady = λ v z. steady-kept least (omega arith) s (a .is-sound) o v (omega arith) }
+
+  goes : (c : Call) → fits c ≡ true → Onward s (onward b c (callBy least s c) .store)
+  unfolding begin commit abandon
   goes begins h =
       numbered-by (Goes begins) (rule 8 (s .opened) ∷ rule 9 (leb 1048574 (s .current)) ∷ []) (done (record { current = s .current; opened = true; slots = s .slots; pages = s .pages })) (λ n. itself s)
       (λ f. record { current = omega arith; steady = λ v z. record { root = refl; height = refl; shows = λ n. refl } })
@@ -53,8 +60,7 @@ module _ (least : ℕ) (four : 4 ≤ least) (b : Both) (a : Agrees least b) wher
       numbered-by (Goes commits) (rule 7 (not (s .opened)) ∷ rule 15 (unchanged s) ∷ []) (done (committed s)) (λ n. itself s)
       (λ f. record { current = omega arith; steady = λ v z. record { root = refl; height = refl; shows = λ n. refl } })
   goes abandons h =
-      numbered-by (Goes abandons) (rule 7 (not (s .opened)) ∷ []) (done (abandoned s)) (λ n. itself s)
-      (λ f. record { current = omega arith; steady = λ v z. steady-kept least (omega arith) s (a .is-sound) (not-false (s .opened) (f .0)) v (omega arith) })
+      numbered-by (Goes abandons) (rule 7 (not (s .opened)) ∷ []) (done (abandoned s)) (λ n. itself s) (λ f. left-behind (not-false (s .opened) (f .0)))
   goes (inserts k x) h = at (bool-cases (s .opened))
     where
       at : (s .opened ≡ true) ⊎ (s .opened ≡ false) → Goes (inserts k x) (insert least s k x)
@@ -65,6 +71,9 @@ module _ (least : ℕ) (four : 4 ≤ least) (b : Both) (a : Agrees least b) wher
       at : (s .opened ≡ true) ⊎ (s .opened ≡ false) → Goes (deletes k) (delete least s k)
       at (inl o) = edits o (deletes k) (delete least s k) (delete-keeps least four s (a .is-sound) o k)
       at (inr o) = delete-by (Goes (deletes k)) least s k (λ n. itself s) (λ y low z. absurd (not-both (s .opened) y o))
+  goes (returns v) h =
+      returned-by least (λ (q : Came). Onward s (onward b (returns v) q .store)) four s (a .is-sound) v (λ n. itself s)
+      (λ o z t g. record { current = omega (arith, g .current); steady = g .steady }) (λ o z n l. left-behind o)
 
 pub goes-on : (least : ℕ) → 4 ≤ least → (cs : List Call) → all fits cs ≡ true → (b : Both) → Agrees least b → Onward (b .store) (together least b cs .store)
 goes-on least four [] h b a = itself (b .store)

@@ -19,6 +19,7 @@ use Rattle.model.specs.Walk.{settings, lookup, find, rootAt, heightOf, S
 use Rattle.model.specs.Sound.{sound, fewest}
 use Rattle.model.specs.Climb.{Result, done, refused, update}
 use Rattle.model.specs.Calls.{isSome, rawInsert, insert, delete}
+use Rattle.model.specs.Return.{Came, gave, gaveUp}
 use Rattle.model.specs.Histories.{Call, callBy, after}
 use Rattle.model.specs.Settings.{Machine, onward, fits, lent}
 use Rattle.model.proofs.Lists.{both-true}
@@ -33,9 +34,10 @@ use Rattle.model.proofs.Count.{root-low, root-lower}
 use Rattle.model.proofs.History.{one-call}
 use Rattle.model.proofs.Undone.{lent-agrees}
 
-store-after : (s : Store) (m : Machine) (c : Call) (r : Result) → onward (record { store = s; machine = m }) c r .store ≡ after s r .store
-store-after s m c (done t) = refl
-store-after s m c (refused n) = refl
+store-after : (s : Store) (m : Machine) (c : Call) (r : Came) → onward (record { store = s; machine = m }) c r .store ≡ after s r .store
+store-after s m c (gave (done t)) = refl
+store-after s m c (gave (refused n)) = refl
+store-after s m c (gaveUp n t) = refl
 
 -- Every call leaves a sound store sound.
 pub call-sound : (least : ℕ) → 4 ≤ least → (s : Store) → T (sound least s) → (c : Call) → T (fits c) → T (sound least (after s (callBy least s c) .store))

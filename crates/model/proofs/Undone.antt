@@ -18,15 +18,17 @@ use Rattle.model.specs.Store.{Store, page}
 use Rattle.model.specs.Sound.{sound}
 use Rattle.model.specs.Climb.{Result, done, refused}
 use Rattle.model.specs.Calls.{insert, delete, begin, abandon, abandoned, revivedEnd, revived, restoredEntries, backBy, back}
-use Rattle.model.specs.Histories.{Call, begins, commits, abandons, inserts, deletes, callBy}
-use Rattle.model.specs.Settings.{step, Both, onward, together, fits, isInside, staysIn, inside, lent}
-use Rattle.model.proofs.Lists.{both-true, both-intro, all-cons}
+use Rattle.model.specs.Return.{Came, gave, gaveUp}
+use Rattle.model.specs.Histories.{Call, begins, commits, abandons, inserts, deletes, returns, callBy}
+use Rattle.model.specs.Settings.{step, Both, onward, together, fits, staysIn, inside, lent}
+use Rattle.model.proofs.Lists.{both-true, all-cons}
 use Rattle.model.proofs.Members.{holds-true, true-holds, not-both, bool-cases, In, all-in, all-by}
 use Rattle.model.proofs.Local.{those-all}
 use Rattle.model.proofs.Given.{Sound, from-tests, to-tests, Span, span-of, entry-of}
 use Rattle.model.proofs.Undo.{Undone}
 use Rattle.model.proofs.Fits.{insert-undone, delete-undone}
 use Rattle.model.proofs.Turns.{store}
+use Rattle.model.proofs.Returned.{returned-by}
 use Rattle.model.proofs.History.{Agrees, one-call, many-calls}
 
 -- another open is refused
@@ -35,31 +37,22 @@ unfolding begin
 begin-open s o = rw o refl
 
 -- an open update stays open
-inside-open : (b : Both) (c : Call) (r : Result) → staysIn c r ≡ true → b .machine .opened ≡ true → onward b c r .machine .opened ≡ true
-inside-open b c (refused n) i o = o
-inside-open b begins (done t) i o = refl
-inside-open b commits (done t) i o = absurd (not-both false i refl)
-inside-open b abandons (done t) i o = absurd (not-both false i refl)
-inside-open b (inserts k x) (done t) i o = o
-inside-open b (deletes k) (done t) i o = o
+inside-open : (b : Both) (c : Call) (r : Came) → staysIn c r ≡ true → b .machine .opened ≡ true → onward b c r .machine .opened ≡ true
+inside-open b c (gave (refused n)) i o = o
+inside-open b c (gaveUp n t) i o = absurd (not-both false i refl)
+inside-open b begins (gave (done t)) i o = refl
+inside-open b commits (gave (done t)) i o = absurd (not-both false i refl)
+inside-open b abandons (gave (done t)) i o = absurd (not-both false i refl)
+inside-open b (inserts k x) (gave (done t)) i o = o
+inside-open b (deletes k) (gave (done t)) i o = o
+inside-open b (returns v) (gave (done t)) i o = o
 
 still-open : (least : ℕ) (cs : List Call) (b : Both) → inside least b cs ≡ true → b .machine .opened ≡ true → together least b cs .machine .opened ≡ true
 still-open least [] b e o = o
 still-open least (c ∷ cs) b e o =
-    let r : Result = callBy least (b .store) c in
+    let r : Came = callBy least (b .store) c in
     let (x, y) = both-true (staysIn c r) (inside least (onward b c r) cs) e in
     still-open least cs (onward b c r) y (inside-open b c r x o)
-
--- calls that never end an update, whatever they give
-stays-in : (c : Call) (r : Result) → isInside c ≡ true → staysIn c r ≡ true
-stays-in c (done t) h = h
-stays-in c (refused n) h = refl
-
-pub all-inside : (least : ℕ) (cs : List Call) (b : Both) → all isInside cs ≡ true → inside least b cs ≡ true
-all-inside least [] b h = refl
-all-inside least (c ∷ cs) b h =
-    let (x, y) = all-cons isInside c cs h in
-    both-intro _ _ (stays-in c (callBy least (b .store) c) x) (all-inside least cs (onward b c (callBy least (b .store) c)) y)
 
 -- An abandon after any calls inside an update leaves what an abandon before them leaves.
 pub inside-undone : (least : ℕ) → 4 ≤ least → (cs : List Call) (b : Both) → inside least b cs ≡ true → all fits cs ≡ true → Agrees least b → b .machine .opened ≡ true
@@ -74,20 +67,27 @@ inside-undone least four (c ∷ cs) b e h a o =
     sure : T (sound least (b .store))
     sure = true-holds (sound least (b .store)) (to-tests least (b .store) (a .is-sound))
 
-    by : (r : Result) → Undone (b .store) r → abandoned (onward b c r .store) ≡ abandoned (b .store)
+    by : (r : Result) → Undone (b .store) r → abandoned (onward b c (gave r) .store) ≡ abandoned (b .store)
     by (done t) u = u
     by (refused n) u = refl
 
     again : begin (b .store) ≡ refused 8
     again = begin-open (b .store) (a .opened ∙ o)
 
-    one : (c′ : Call) (r : Result) → callBy least (b .store) c′ ≡ r → staysIn c′ r ≡ true → abandoned (onward b c (callBy least (b .store) c′) .store) ≡ abandoned (b .store)
-    one c′ (refused n) q z = ap (λ (r : Result). abandoned (onward b c r .store)) q
-    one begins (done t) q z = ap (λ (r : Result). abandoned (onward b c r .store)) again
-    one commits (done t) q z = absurd (not-both false z refl)
-    one abandons (done t) q z = absurd (not-both false z refl)
-    one (inserts k x) (done t) q z = by (insert least (b .store) k x) (insert-undone least (omega arith) (b .store) sure k x)
-    one (deletes k) (done t) q z = by (delete least (b .store) k) (delete-undone least (omega arith) (b .store) sure k)
+    one : (c′ : Call) (r : Came) → callBy least (b .store) c′ ≡ r → staysIn c′ r ≡ true → abandoned (onward b c (callBy least (b .store) c′) .store) ≡ abandoned (b .store)
+    one c′ (gave (refused n)) q z = ap (λ (r : Came). abandoned (onward b c r .store)) q
+    one c′ (gaveUp n t) q z = absurd (not-both false z refl)
+    one begins (gave (done t)) q z = ap (λ (r : Result). abandoned (onward b c (gave r) .store)) again
+    one commits (gave (done t)) q z = absurd (not-both false z refl)
+    one abandons (gave (done t)) q z = absurd (not-both false z refl)
+    one (inserts k x) (gave (done t)) q z = by (insert least (b .store) k x) (insert-undone least (omega arith) (b .store) sure k x)
+    one (deletes k) (gave (done t)) q z = by (delete least (b .store) k) (delete-undone least (omega arith) (b .store) sure k)
+    one (returns v) (gave (done t)) q z = ap (λ (r : Came). abandoned (onward b c r .store)) q ∙ subst Ended q (returned-by least Ended four (b .store) (a .is-sound) v (λ n. tt) (λ p h u g. g .undone) (λ p h n l. tt))
+      where
+        Ended : Came → Type 0
+        Ended (gave (done u)) = abandoned u ≡ abandoned (b .store)
+        Ended (gave (refused n)) = Unit {0}
+        Ended (gaveUp n u) = Unit {0}
 
 -- an open and an abandon
 map-places : {A : Type 0} (f : A → A) (d : A) (xs : List A) → ((n : ℕ) → n < length xs → f (getD xs n d) ≡ getD xs n d) → map f xs ≡ xs
@@ -143,7 +143,7 @@ module _ (least c : ℕ) (xs : List Slot) (ps : List Page) (d : Sound least (sto
   begun-abandoned = λ i. record { current = c; opened = false; slots = slots-kept i; pages = map-places (back w) free ps (λ n l. page-kept n) i }
 
 -- a list of calls in two parts
-together-append : (least : ℕ) (b : Both) (cs ds : List Call) → together least b (cs ++ ds) ≡ together least (together least b cs) ds
+pub together-append : (least : ℕ) (b : Both) (cs ds : List Call) → together least b (cs ++ ds) ≡ together least (together least b cs) ds
 together-append least b [] ds = refl
 together-append least b (c ∷ cs) ds = together-append least (onward b c (callBy least (b .store) c)) cs ds
 
@@ -158,17 +158,17 @@ module _ (least : ℕ) (four : 4 ≤ least) (b : Both) (a : Agrees least b) (shu
   unfolding begin
   begin-is = rw (shut, lt-leb 1048574 (s .current) room)
 
-  onward-begin : onward b begins (begin s) ≡ begun
-  onward-begin = ap (onward b begins) begin-is
+  onward-begin : onward b begins (gave (begin s)) ≡ begun
+  onward-begin = ap (λ (r : Result). onward b begins (gave r)) begin-is
 
-  abandon-is : (t : Both) → t .store .opened ≡ true → onward t abandons (abandon (t .store)) .store ≡ abandoned (t .store)
+  abandon-is : (t : Both) → t .store .opened ≡ true → onward t abandons (gave (abandon (t .store))) .store ≡ abandoned (t .store)
   unfolding abandon
   abandon-is t o = rw o
 
   -- The whole: open, calls inside, abandon.
   pub update-abandoned : (cs : List Call) → inside least b (begins ∷ cs) ≡ true → all fits cs ≡ true → together least b (begins ∷ (cs ++ (abandons ∷ []))) .store ≡ s
   update-abandoned cs i h =
-      let e : inside least begun cs ≡ true = subst (λ (x : Both). inside least x cs ≡ true) onward-begin (both-true (staysIn begins (begin s)) (inside least (onward b begins (begin s)) cs) i .1) in
+      let e : inside least begun cs ≡ true = subst (λ (x : Both). inside least x cs ≡ true) onward-begin (both-true (staysIn begins (gave (begin s))) (inside least (onward b begins (gave (begin s))) cs) i .1) in
       let agreed : Agrees least begun = subst (Agrees least) onward-begin (one-call least four b a begins refl) in
       let after : Both = together least begun cs in
       let open-after : after .store .opened ≡ true = many-calls least four cs h begun agreed .opened ∙ still-open least cs begun e refl in

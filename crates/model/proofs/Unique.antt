@@ -1,10 +1,10 @@
 -- The calls on lent bytes, taken as one. `unique`: no second outcome meets a call's contract. `refused`: every number but 0 leaves
--- store and list untouched. `blank`: with such a number every result is 0, but for check's rule with 4 and the count of a call that tells a list with 14.
+-- store and list untouched, but for a return's 12 and 13. `blank`: with such a number every result is 0, but for check's rule with 4 and the count of a call that tells a list with 14.
 -- Assumes nothing.
 use Prim.Native.Nat.{ℕ, zero, suc, _*_}
 use mathlib.Core.Bool.{Bool, true, false}
 use mathlib.Core.Path.{_≡_, refl, sym, _∙_, subst}
-use mathlib.Core.Logic.{_≢_}
+use mathlib.Core.Logic.{_≢_, _⊎_}
 use mathlib.Core.List.{List, [], _∷_}
 use lib.Dec.{ltb}
 use lib.ListN.{length}
@@ -13,27 +13,31 @@ use Rattle.model.specs.declared.Pair.{Pair}
 use Rattle.model.specs.declared.Looked.{Looked}
 use Rattle.model.specs.declared.Looked.the-variants.{Value, Absent, Refused}
 use Rattle.model.specs.declared.Verdict.{Verdict}
-use Rattle.model.specs.Store.{Store, fresh}
+use Rattle.model.specs.Store.{Store, next, fresh}
+use Rattle.model.specs.Walk.{settings}
 use Rattle.model.specs.Layout.{bit, sizeOf, encode, decode}
 use Rattle.model.specs.Judged
 use Rattle.model.specs.Judged.{lengthOk, magicOk, editionOk, brokenIn, judged, verdict, ruled}
 use Rattle.model.specs.Climb
 use Rattle.model.specs.Climb.{Result}
 use Rattle.model.specs.Calls
-use Rattle.model.specs.Calls.{lookedNumber, lookedFound, lookedValue, Ranged, rule, firstOf}
+use Rattle.model.specs.Calls.{abandoned, lookedNumber, lookedFound, lookedValue, Ranged, rule, firstOf}
 use Rattle.model.specs.Told
 use Rattle.model.specs.Visited
 use Rattle.model.specs.Differ
 use Rattle.model.specs.Life
-use Rattle.model.specs.Ended.{Asked, toFresh, toCheck, toOpen, toCommit, toAbandon, toInsert, toDelete, toLookup, toRange, toLife, toDifference, toVisits, Ended, ended, Meets, Untouched, Named, Zeros}
+use Rattle.model.specs.Return
+use Rattle.model.specs.Return.{Ran, reached, stopped, carried, Came, gave, gaveUp, lacking, orAbandoned, returnTests, unless}
+use Rattle.model.specs.Ended.{Asked, toFresh, toCheck, toOpen, toCommit, toAbandon, toInsert, toDelete, toReturn, toLookup, toRange, toLife, toDifference, toVisits, Ended, ended, Meets, Untouched, Excepted, Named, Zeros}
 use Rattle.model.specs.Lent
-use Rattle.model.specs.Lent.{Outcome, Listed, listed, left, judgedFirst, openLent, insertLent, deleteLent, commitLent, abandonLent, freshLent, lookupLent, rangeLent, lifeLent, differenceLent, visitsLent}
+use Rattle.model.specs.Lent.{Outcome, Listed, listed, left, leftBy, judgedFirst, openLent, insertLent, deleteLent, commitLent, abandonLent, returnLent, freshLent, lookupLent, rangeLent, lifeLent, differenceLent, visitsLent}
+use Rattle.model.proofs.Stops.{lacking-is}
 
 -- Two outcomes that meet a call's contract are the same: number, results, store and list.
 pub unique : (least : ℕ) (c : Asked) (b ns : List ℕ) (e f : Ended) → Meets least c b ns e → Meets least c b ns f → e ≡ f
 unique least c b ns e f p q = p ∙ sym q
 
--- ---- "Every number but 0 leaves store and list untouched."
+-- ---- "Every number but 0 leaves store and list untouched", 2026-07's exception aside
 
 abbrev StoreSame : List ℕ → Outcome → Type 0
 StoreSame b o = o .number ≢ 0 → o .store ≡ b
@@ -49,6 +53,33 @@ lent-same least f b = at (judged least b .number)
     at : (n : ℕ) → StoreSame b (judgedFirst n (λ m. record { number = m; store = b }) (left least b (f (decode least b))))
     at zero = left-same least b (f (decode least b))
     at (suc n) = λ h. refl
+
+-- a return leaves another store where it gives 12 or 13, and nowhere else
+abbrev ReturnSame : List ℕ → Outcome → Type 0
+ReturnSame b o = o .number ≢ 0 → ((o .number ≡ 12) ⊎ (o .number ≡ 13) → ⊥) → o .store ≡ b
+
+module _ (least : ℕ) (b : List ℕ) where
+  run-same : (q : Ran) → ReturnSame b (leftBy least b (orAbandoned q))
+  run-same (reached t) = λ h x. absurd (h refl)
+  run-same (stopped n t) = at (lacking n) refl
+    where
+      at : (c : Bool) → lacking n ≡ c → ReturnSame b (leftBy least b (pick c (gaveUp n (abandoned t)) (gave (Climb.refused n))))
+      at true e h x = absurd (x (lacking-is n e))
+      at false e h x = refl
+
+  unless-same : (n : ℕ) (c : Came) → ReturnSame b (leftBy least b c) → ReturnSame b (leftBy least b (unless n c))
+  unless-same zero c s = s
+  unless-same (suc n) c s = λ h x. refl
+
+  return-same : (v : ℕ) → ReturnSame b (returnLent least b v)
+  unfolding Lent.returnLent Return.returned
+  return-same v = at (judged least b .number)
+    where
+      at : (n : ℕ) → ReturnSame b (judgedFirst n (λ m. record { number = m; store = b }) (leftBy least b (Return.returned least (decode least b) v)))
+      at zero =
+          unless-same (firstOf (returnTests (decode least b .current) (decode least b .opened) v)) _
+          (run-same (carried least (Differ.differ (settings (decode least b) (next (decode least b))) (settings (decode least b) v)) (decode least b)))
+      at (suc n) = λ h x. refl
 
 fresh-same : (least : ℕ) (b : List ℕ) → StoreSame b (freshLent least b)
 unfolding Lent.freshLent
@@ -116,23 +147,25 @@ life-same least b k ns = at (judged least b .number)
     at zero = told-same Life.stretchNumbers 3 ns _ _
     at (suc n) = λ h. refl
 
-leaves : (least : ℕ) (c : Asked) (b ns : List ℕ) → ended least c b ns .number ≢ 0 → Untouched b ns (ended least c b ns)
+leaves : (least : ℕ) (c : Asked) (b ns : List ℕ) → ended least c b ns .number ≢ 0 → (Excepted c (ended least c b ns .number) → ⊥) → Untouched b ns (ended least c b ns)
 unfolding Lent.openLent Lent.commitLent Lent.abandonLent Lent.insertLent Lent.deleteLent
-leaves least toFresh b ns h = record { store = fresh-same least b h; list = refl }
-leaves least toCheck b ns h = record { store = refl; list = refl }
-leaves least toOpen b ns h = record { store = lent-same least _ b h; list = refl }
-leaves least toCommit b ns h = record { store = lent-same least _ b h; list = refl }
-leaves least toAbandon b ns h = record { store = lent-same least _ b h; list = refl }
-leaves least (toInsert k x) b ns h = record { store = lent-same least _ b h; list = refl }
-leaves least (toDelete k) b ns h = record { store = lent-same least _ b h; list = refl }
-leaves least (toLookup k v) b ns h = record { store = refl; list = refl }
-leaves least (toRange lo hi v) b ns h = record { store = refl; list = range-same least b lo hi v ns h }
-leaves least (toVisits k v) b ns h = record { store = refl; list = visits-same least b k v ns h }
-leaves least (toDifference u v) b ns h = record { store = refl; list = difference-same least b u v ns h }
-leaves least (toLife k) b ns h = record { store = refl; list = life-same least b k ns h }
+leaves least toFresh b ns h x = record { store = fresh-same least b h; list = refl }
+leaves least toCheck b ns h x = record { store = refl; list = refl }
+leaves least toOpen b ns h x = record { store = lent-same least _ b h; list = refl }
+leaves least toCommit b ns h x = record { store = lent-same least _ b h; list = refl }
+leaves least toAbandon b ns h x = record { store = lent-same least _ b h; list = refl }
+leaves least (toInsert k y) b ns h x = record { store = lent-same least _ b h; list = refl }
+leaves least (toDelete k) b ns h x = record { store = lent-same least _ b h; list = refl }
+leaves least (toReturn v) b ns h x = record { store = return-same least b v h (λ y. x ((v, refl), y)); list = refl }
+leaves least (toLookup k v) b ns h x = record { store = refl; list = refl }
+leaves least (toRange lo hi v) b ns h x = record { store = refl; list = range-same least b lo hi v ns h }
+leaves least (toVisits k v) b ns h x = record { store = refl; list = visits-same least b k v ns h }
+leaves least (toDifference u v) b ns h x = record { store = refl; list = difference-same least b u v ns h }
+leaves least (toLife k) b ns h x = record { store = refl; list = life-same least b k ns h }
 
-pub refused : (least : ℕ) (c : Asked) (b ns : List ℕ) (e : Ended) → Meets least c b ns e → e .number ≢ 0 → Untouched b ns e
-refused least c b ns e m h = subst (Untouched b ns) (sym m) (leaves least c b ns (subst (λ (x : Ended). x .number ≢ 0) m h))
+pub refused : (least : ℕ) (c : Asked) (b ns : List ℕ) (e : Ended) → Meets least c b ns e → e .number ≢ 0 → (Excepted c (e .number) → ⊥) → Untouched b ns e
+refused least c b ns e m h x =
+    subst (Untouched b ns) (sym m) (leaves least c b ns (subst (λ (y : Ended). y .number ≢ 0) m h) (subst (λ (y : Ended). Excepted c (y .number) → ⊥) m x))
 
 -- ---- "any result not named here is 0"
 
@@ -225,6 +258,7 @@ blanks least toCommit b ns h k = refl
 blanks least toAbandon b ns h k = refl
 blanks least (toInsert i x) b ns h k = refl
 blanks least (toDelete i) b ns h k = refl
+blanks least (toReturn v) b ns h k = refl
 blanks least (toLookup i v) b ns h k = looked-blank (lookupLent least b i v) h
 blanks least (toRange lo hi v) b ns h k = zero-one _ (range-blank least b lo hi v ns h k)
 blanks least (toVisits i v) b ns h k = zero-one _ (visits-blank least b i v ns h k)

@@ -7,6 +7,7 @@ use Rattle.model.specs.Basic.{count}
 use Rattle.model.specs.declared.Looked.the-variants.{Value, Absent}
 use Rattle.model.specs.Store.{Store, fresh}
 use Rattle.model.specs.Calls.{rawInsert}
+use Rattle.model.specs.Return.{gave}
 use Rattle.model.specs.Histories.{Call, begins, commits, abandons, deletes, After, after, runOn, from}
 use Rattle.model.specs.Replay.{History, gives, live, looks, ranges, bytesOf}
 use Rattle.model.specs.Table.{history, insertKey}
@@ -15,7 +16,7 @@ use Rattle.model.specs.AlsoRun.{finds}
 -- the keys inserted behind the tests
 abbrev pub entered : Store → List ℕ → Store
 entered s [] = s
-entered s (k ∷ ks) = entered (after s (rawInsert 4 s k (k + 100)) .store) ks
+entered s (k ∷ ks) = entered (after s (gave (rawInsert 4 s k (k + 100))) .store) ks
 
 -- "stores already shipped": version 1 has 22 keys on two leaf pages, the last three the bench's
 abbrev pub shipped : Store

@@ -14,6 +14,7 @@ use Rattle.model.specs.Calls.{insert, delete, begin, commit, abandon, ge
 use Rattle.model.specs.Visited.{visits}
 use Rattle.model.specs.Differ.{difference}
 use Rattle.model.specs.Life.{lived}
+use Rattle.model.specs.Return.{Came, gave, gaveUp, returned}
 
 -- the number that a call gives, and the store's bytes after it
 pub record Outcome : Type 0 where
@@ -47,6 +48,15 @@ commitLent least b = lent least commit b
 
 unfoldable pub abandonLent : ℕ → List ℕ → Outcome
 abandonLent least b = lent least abandon b
+
+-- 2026-07: "the whole update is abandoned, its earlier calls included, and the number returned; [..] this is the only exception to demand 1's
+-- and 01's 'untouched'"
+abbrev pub leftBy : ℕ → List ℕ → Came → Outcome
+leftBy least b (gave r) = left least b r
+leftBy least b (gaveUp n t) = record { number = n; store = encode least t }
+
+unfoldable pub returnLent : ℕ → List ℕ → ℕ → Outcome
+returnLent least b v = judgedFirst (judged least b .number) (λ n. record { number = n; store = b }) (leftBy least b (returned least (decode least b) v))
 
 -- "Making fresh gives only 1."
 unfoldable pub freshLent : ℕ → List ℕ → Outcome

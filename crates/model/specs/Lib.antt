@@ -13,6 +13,7 @@ pub mod Calls
 pub mod Told
 pub mod Visited
 pub mod Differ
+pub mod Return
 pub mod Life
 pub mod Settings
 pub mod Histories
@@ -30,6 +31,7 @@ pub mod Table
 pub mod AlsoRun
 pub mod Bench
 pub mod Releases
+pub mod GoingBack
 pub mod Vectors
 pub mod Figures
 pub mod Samples

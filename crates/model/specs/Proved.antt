@@ -21,6 +21,8 @@ use Rattle.model.specs.Table.{table}
 use Rattle.model.specs.AlsoRun.{alsoRun}
 use Rattle.model.specs.Bench.{benchRun}
 use Rattle.model.specs.Releases.{releases}
+use Rattle.model.specs.Return
+use Rattle.model.specs.GoingBack.{goingBack}
 use Rattle.model.specs.Vectors.{freshBytes, entryForty, fortyBytes}
 use Rattle.model.specs.Figures.{Figure, made, figures}
 use Rattle.model.specs.Samples.{twoLevels, fromElsewhere, served, visited, visitedPages}
@@ -102,6 +104,19 @@ releases-hold = tt
 pub releases-sound : T (all soundWay releases)
 unfolding calling judging
 releases-sound = tt
+
+-- 2026-07; every store on the way of each is sound
+returning : Unit {0}
+unfolding calling Return.setOne Return.through Return.carried Return.returned
+returning = tt
+
+pub back-run : T (all holds goingBack)
+unfolding returning writing
+back-run = tt
+
+pub back-sound : T (all soundWay goingBack)
+unfolding returning judging
+back-sound = tt
 
 -- ---- outside vectors
 

@@ -1,17 +1,20 @@
 -- "The settings alive at a committed version are what the accepted inserts and deletes of the updates committed up to it, applied in
 -- order from a fresh store, leave": a machine with no pages, which a store's history is held to.
 -- Assumes nothing.
-use Prim.Native.Nat.{ℕ, suc}
+use Prim.Native.Nat.{ℕ, suc, _+_}
 use mathlib.Core.Bool.{Bool, true, false, _&&_, not}
 use mathlib.Core.List.{List, [], _∷_}
 use lib.Dec.{ltb, eqb}
+use lib.ListN.{length}
 use Rattle.model.specs.Basic.{those, pick}
 use Rattle.model.specs.declared.Pair.{Pair}
 use Rattle.model.specs.Entry.{pair, enterPair}
 use Rattle.model.specs.Store.{Store, fresh}
 use Rattle.model.specs.Walk.{settings}
-use Rattle.model.specs.Climb.{Result, done, refused}
-use Rattle.model.specs.Histories.{Call, begins, commits, abandons, inserts, deletes, callBy}
+use Rattle.model.specs.Climb.{done, refused}
+use Rattle.model.specs.Differ.{differ}
+use Rattle.model.specs.Return.{goes, comes, Came, gave, gaveUp}
+use Rattle.model.specs.Histories.{Call, begins, commits, abandons, inserts, deletes, returns, callBy}
 
 -- current version, whether an update is open, and the settings of each version up to the last
 pub record Machine : Type 0 where
@@ -39,15 +42,18 @@ step m commits = record { current = suc (m .current); opened = false; shows = m 
 step m abandons = record { current = m .current; opened = false; shows = m .shows }
 step m (inserts k x) = edited (enterPair (pair k x)) m
 step m (deletes k) = edited (those (λ (y : Pair). not (eqb (y .key) k))) m
+-- 2026-07: "makes the open version's settings equal those of a committed version"
+step m (returns v) = edited (λ (us : List Pair). m .shows v) m
 
--- a store and the machine, call by call: a refused call leaves both
+-- a store and the machine, call by call: a refused call leaves both; 2026-07: a return "that ends in 12 or 13 is itself the abandon"
 pub record Both : Type 0 where
   pub store : Store
   pub machine : Machine
 
-abbrev pub onward : Both → Call → Result → Both
-onward b c (done t) = record { store = t; machine = step (b .machine) c }
-onward b c (refused n) = b
+abbrev pub onward : Both → Call → Came → Both
+onward b c (gave (done t)) = record { store = t; machine = step (b .machine) c }
+onward b c (gave (refused n)) = b
+onward b c (gaveUp n t) = record { store = t; machine = step (b .machine) abandons }
 
 abbrev pub together : ℕ → Both → List Call → Both
 together least b [] = b
@@ -68,19 +74,22 @@ fits commits = true
 fits abandons = true
 fits (inserts k x) = ltb x 4294967296
 fits (deletes k) = true
+fits (returns v) = true
 
--- the calls that leave an open update open: all but commit and abandon, which end it. Another open is refused there.
+-- the calls that leave an open update open if they are done: all but commit and abandon, which end it. Another open is refused there.
 abbrev pub isInside : Call → Bool
 isInside begins = true
 isInside commits = false
 isInside abandons = false
 isInside (inserts k x) = true
 isInside (deletes k) = true
+isInside (returns v) = true
 
--- and any call that is refused, as a commit is by 15
-abbrev pub staysIn : Call → Result → Bool
-staysIn c (done t) = isInside c
-staysIn c (refused n) = true
+-- and any call that is refused, as a commit is by 15; not a return that is the abandon
+abbrev pub staysIn : Call → Came → Bool
+staysIn c (gave (done t)) = isInside c
+staysIn c (gave (refused n)) = true
+staysIn c (gaveUp n t) = false
 
 -- calls one after another, none of which ends an open update
 abbrev pub inside : ℕ → Both → List Call → Bool
@@ -104,10 +113,16 @@ counted m t commits = t
 counted m t abandons = t
 counted m t (inserts k x) = record { added = putCount (suc (m .current)) (suc (t .added (suc (m .current)))) (t .added); removed = t .removed }
 counted m t (deletes k) = record { added = t .added; removed = putCount (suc (m .current)) (suc (t .removed (suc (m .current)))) (t .removed) }
+-- a return's own, by what differs
+counted m t (returns v) =
+    let w = suc (m .current) in
+    let ds = differ (m .shows w) (m .shows v) in
+    record { added = putCount w (length (those comes ds) + t .added w) (t .added); removed = putCount w (length (those goes ds) + t .removed w) (t .removed) }
 
-abbrev pub countedBy : Machine → Tally → Call → Result → Tally
-countedBy m t c (done s) = counted m t c
-countedBy m t c (refused n) = t
+abbrev pub countedBy : Machine → Tally → Call → Came → Tally
+countedBy m t c (gave (done s)) = counted m t c
+countedBy m t c (gave (refused n)) = t
+countedBy m t c (gaveUp n s) = t
 
 abbrev pub tallied : ℕ → Both → Tally → List Call → Tally
 tallied least b t [] = t

@@ -2,19 +2,21 @@
 -- Assumes nothing.
 use Prim.Native.Nat.{ℕ, zero, suc, _≤_}
 use native.Mathlib.Omega.{arith}
-use mathlib.Core.Bool.{true}
+use mathlib.Core.Bool.{Bool, true}
 use mathlib.Core.Path.{_≡_, ap, sym, _∙_, subst}
 use mathlib.Core.List.{List, [], _∷_}
 use lib.ListN.{length}
+use Rattle.model.specs.Basic.{pick}
 use Rattle.model.specs.declared.Pair.{Pair}
 use Rattle.model.specs.Store.{Store, fresh}
 use Rattle.model.specs.Sound.{sound}
 use Rattle.model.specs.Layout.{sizeOf, encode, decode}
-use Rattle.model.specs.Climb.{Result, done, refused}
-use Rattle.model.specs.Histories.{Call, callBy, after}
+use Rattle.model.specs.Climb.{done, refused}
+use Rattle.model.specs.Return.{Came, gave, gaveUp}
+use Rattle.model.specs.Histories.{Call, abandons, callBy, after}
 use Rattle.model.specs.Settings
 use Rattle.model.specs.Settings.{Both, beginning, nothingYet, countedBy}
-use Rattle.model.specs.Lent.{left}
+use Rattle.model.specs.Lent.{leftBy}
 use Rattle.model.specs.Ended.{Asked, toFresh, Ended, ofOutcome, ended}
 use Rattle.model.proofs.Lists.{all-cons}
 use Rattle.model.proofs.Members.{true-holds}
@@ -27,9 +29,9 @@ use Rattle.model.proofs.Judging.{accepted as judged-zero}
 use Rattle.store.specs.Tested.{whole-length}
 use Rattle.promises.specs.Accepts.{Accepts, Written}
 use Rattle.promises.specs.Runs.{Turn, Kind, making, changing, kindOf, asks, fitting, each}
-use Rattle.promises.specs.Beside.{Beside, whenDone, stepped, talliedBy, onward, along, fromFresh, fromLent}
+use Rattle.promises.specs.Beside.{Beside, whenDone, stepped, undone, talliedBy, onward, along, fromFresh, fromLent}
 use Rattle.promises.proofs.Encoded.{encoded-sound}
-use Rattle.promises.proofs.High.{High, call-high}
+use Rattle.promises.proofs.High.{HighBy, call-high, Stopping, call-stops}
 use Rattle.promises.proofs.Lending.{kind-asks, by-kind, change-is, fresh-is, Leaves, change-leaves, fresh-leaves, held-sound}
 
 -- the store that the bytes hold, beside the machine
@@ -45,7 +47,7 @@ pub record Agreed (least : ℕ) (x : Beside) : Type 0 where
 abbrev gone : Beside → Ended → Kind → Beside
 gone x e k = record {
   bytes = e .store;
-  machine = whenDone (e .number) (stepped k (x .machine)) (x .machine);
+  machine = whenDone (e .number) (stepped k (x .machine)) (undone k (e .number) (x .machine));
   tally = whenDone (e .number) (talliedBy k (x .machine) (x .tally)) (x .tally);
 }
 
@@ -101,17 +103,25 @@ module _ (least : ℕ) (four : 4 ≤ least) (eight : least ≤ 8) where
         let ag = one-call least four (bothOf least x) (a .agrees) c h in
         let co = one-count least four (bothOf least x) (a .agrees) (x .tally) (a .counts) c ag in
         subst (λ (e : Ended). Agreed least (gone x e (changing c))) (sym is)
-        (at (callBy least s c) (call-high least s c) ag co (subst (λ (e : Ended). Leaves least (x .bytes) (after s (callBy least s c) .store) (e .store)) is l))
+        (at (callBy least s c) (call-high least s c) (call-stops least s c) ag co (subst (λ (e : Ended). Leaves least (x .bytes) (after s (callBy least s c) .store) (e .store)) is l))
       where
-        at : (r : Result) → High r → Agrees least (Settings.onward (bothOf least x) c r) → Counts (Settings.onward (bothOf least x) c r) (countedBy (x .machine) (x .tally) c r)
-            → Leaves least (x .bytes) (after s r .store) (left least (x .bytes) r .store) → Agreed least (gone x (ofOutcome ns (left least (x .bytes) r)) (changing c))
-        at (done t) hi ag co l = record {
+        at : (r : Came) → HighBy r → Stopping c r → Agrees least (Settings.onward (bothOf least x) c r) → Counts (Settings.onward (bothOf least x) c r) (countedBy (x .machine) (x .tally) c r)
+            → Leaves least (x .bytes) (after s r .store) (leftBy least (x .bytes) r .store) → Agreed least (gone x (ofOutcome ns (leftBy least (x .bytes) r)) (changing c))
+        at (gave (done t)) hi st ag co l = record {
           accepted = l .accepts;
           agrees = subst (λ (u : Store). Agrees least (record { store = u; machine = Settings.step (x .machine) c })) (sym (l .holds)) ag;
           counts = subst (λ (u : Store). Counts (record { store = u; machine = Settings.step (x .machine) c }) (Settings.counted (x .machine) (x .tally) c)) (sym (l .holds)) co;
         }
-        at (refused zero) hi ag co l = absurd (omega arith)
-        at (refused (suc n)) hi ag co l = a
+        at (gave (refused zero)) hi st ag co l = absurd (omega arith)
+        at (gave (refused (suc n))) hi st ag co l = subst (λ (b : Bool). Agreed least (record { bytes = x .bytes; machine = pick b (Settings.step (x .machine) abandons) (x .machine); tally = x .tally })) (sym st) a
+        at (gaveUp zero t) hi st ag co l = absurd (omega arith)
+        at (gaveUp (suc n) t) hi st ag co l =
+            subst (λ (b : Bool). Agreed least (record { bytes = encode least t; machine = pick b (Settings.step (x .machine) abandons) (x .machine); tally = x .tally })) (sym st)
+            (record {
+              accepted = l .accepts;
+              agrees = subst (λ (u : Store). Agrees least (record { store = u; machine = Settings.step (x .machine) abandons })) (sym (l .holds)) ag;
+              counts = subst (λ (u : Store). Counts (record { store = u; machine = Settings.step (x .machine) abandons }) (x .tally)) (sym (l .holds)) co;
+            })
 
     -- a call that only reads
     same : (n : ℕ) → Agreed least (record { bytes = x .bytes; machine = whenDone n (x .machine) (x .machine); tally = whenDone n (x .tally) (x .tally) })

@@ -24,17 +24,18 @@ use Rattle.model.specs.Differ
 use Rattle.model.specs.Differ.{differ, deltaNumbers, difference}
 use Rattle.model.specs.Life
 use Rattle.model.specs.Life.{lifeOf, lived, stretchNumbers}
-use Rattle.model.specs.Histories.{begins, commits, abandons, inserts, deletes}
+use Rattle.model.specs.Return.{returnTests}
+use Rattle.model.specs.Histories.{begins, commits, abandons, inserts, deletes, returns}
 use Rattle.model.specs.Settings.{Machine}
 use Rattle.model.specs.Lent
 use Rattle.model.specs.Lent.{judgedFirst, listed}
-use Rattle.model.specs.Ended.{toInsert, toDelete, toLookup, toRange, toLife, toDifference, ofLooked, ofListed, ended}
+use Rattle.model.specs.Ended.{toInsert, toDelete, toReturn, toLookup, toRange, toLife, toDifference, ofLooked, ofListed, ended}
 use Rattle.model.proofs.Lives.{life-ext}
 use Rattle.model.proofs.Lookups.{lookup-is, settings-rise}
 use Rattle.model.proofs.Ranges.{range-is}
 use Rattle.promises.specs.Beside.{Beside}
 use Rattle.promises.specs.Answers.{lastIn, lookupTests, rangeTests, differenceTests, openTests, endTests, commitTests, lookedIn, rangedFrom, livedIn, toldFrom, aliveIn, unchangedIn, Gives, Answers, lifeTests}
-use Rattle.promises.proofs.High.{begin-number, commit-number, abandon-number, insert-number, delete-number}
+use Rattle.promises.proofs.High.{begin-number, commit-number, abandon-number, insert-number, delete-number, return-number}
 use Rattle.promises.proofs.Lending.{change-number}
 use Rattle.promises.proofs.Agreed.{Agreed}
 
@@ -170,6 +171,10 @@ module _ (least : ℕ) (four : 4 ≤ least) (eight : least ≤ 8) (x : Beside) (
   delete-gives k ns = subst (λ (n : ℕ). Gives n (ended least (toDelete k) (x .bytes) ns .number)) (delete-same k)
       (subst (Gives (firstOf (deleteTests k (s .opened) (isSome (lookup s k (next s)))))) (sym (change-number least (x .bytes) (a .accepted) (deletes k) ns)) (delete-number least s k))
 
+  return-gives : (v : ℕ) (ns : List ℕ) → Gives (firstOf (returnTests (m .current) (m .opened) v)) (ended least (toReturn v) (x .bytes) ns .number)
+  return-gives v ns = subst (λ (n : ℕ). Gives n (ended least (toReturn v) (x .bytes) ns .number)) (ap₂ (λ (n : ℕ) (o : Bool). firstOf (returnTests n o v)) (a .agrees .current) (a .agrees .opened))
+      (subst (Gives (firstOf (returnTests (s .current) (s .opened) v))) (sym (change-number least (x .bytes) (a .accepted) (returns v) ns)) (return-number least four s (a .agrees .is-sound) v))
+
   ends : firstOf (endTests (s .opened)) ≡ firstOf (endTests (m .opened))
   ends = ap (λ (o : Bool). firstOf (endTests o)) (a .agrees .opened)
 
@@ -202,4 +207,5 @@ module _ (least : ℕ) (four : 4 ≤ least) (eight : least ≤ 8) (x : Beside) (
     abandons = λ ns. change-number least (x .bytes) (a .accepted) abandons ns ∙ abandon-number least s ∙ ends;
     inserts = insert-gives;
     deletes = delete-gives;
+    returns = return-gives;
   }

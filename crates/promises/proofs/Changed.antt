@@ -18,7 +18,7 @@ use Rattle.model.specs.Settings.{Machine, edited, put}
 use Rattle.model.specs.Ended.{toInsert, toDelete, ended}
 use Rattle.promises.specs.Accepts.{Accepts}
 use Rattle.promises.specs.Runs.{Turn, kindOf, fitting}
-use Rattle.promises.specs.Beside.{whenDone, stepped, onward, fromLent}
+use Rattle.promises.specs.Beside.{whenDone, stepped, undone, onward, fromLent}
 use Rattle.promises.specs.Answers.{Gives, aliveIn}
 use Rattle.promises.specs.Demand2.{Changes, SettingsChange}
 use Rattle.promises.proofs.Judges.{zero-accepts}
@@ -43,7 +43,7 @@ module _ (least : ℕ) (four : 4 ≤ least) (eight : least ≤ 8) (b : List ℕ)
   agreed = one-turn least four eight (fromLent least b) (lent-agreed least four eight b ok) t fit
 
   machine-is : onward least (fromLent least b) t .machine ≡ edited g (fromLent least b .machine)
-  machine-is = ap (λ (n : ℕ). whenDone n (stepped (kindOf (t .call)) (fromLent least b .machine)) (fromLent least b .machine)) done ∙ is
+  machine-is = ap (λ (n : ℕ). whenDone n (stepped (kindOf (t .call)) (fromLent least b .machine)) (undone (kindOf (t .call)) n (fromLent least b .machine))) done ∙ is
 
   last-is : last (decode least (onward least (fromLent least b) t .bytes)) ≡ suc (decode least b .current)
   last-is =

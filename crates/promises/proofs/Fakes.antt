@@ -22,6 +22,7 @@ use Rattle.model.specs.Layout.{decode}
 use Rattle.model.specs.Climb.{Result, done}
 use Rattle.model.specs.Calls
 use Rattle.model.specs.Calls.{isSome, rule, firstOf, benchLimit, insertTests, lookedBy, rangedBy, begin}
+use Rattle.model.specs.Return.{gave}
 use Rattle.model.specs.Histories.{begins, inserts, after}
 use Rattle.model.specs.Settings.{Machine, step, put}
 use Rattle.model.specs.Replay.{gives, keys, holding}
@@ -86,10 +87,10 @@ module _ (f : Implementation) (honest : Honest f) where
 
   -- ---- an open leaves the pages
 
-  begin-pages : (s : Store) → after s (begin s) .store .pages ≡ s .pages
+  begin-pages : (s : Store) → after s (gave (begin s)) .store .pages ≡ s .pages
   unfolding Calls.begin
   begin-pages s =
-      numbered-by (λ (r : Result). after s r .store .pages ≡ s .pages) (rule 8 (s .opened) ∷ rule 9 (leb 1048574 (s .current)) ∷ [])
+      numbered-by (λ (r : Result). after s (gave r) .store .pages ≡ s .pages) (rule 8 (s .opened) ∷ rule 9 (leb 1048574 (s .current)) ∷ [])
       (done (record { current = s .current; opened = true; slots = s .slots; pages = s .pages })) (λ n. refl) (λ x. refl)
 
   opens : SplitsAtOpen f → ⊥

@@ -2,20 +2,28 @@
 -- Assumes nothing.
 use Prim.Native.Nat.{ℕ, zero, suc, _≤_}
 use native.Mathlib.Omega.{arith}
-use mathlib.Core.Bool.{Bool, true, false}
-use mathlib.Core.Path.{_≡_, refl}
-use mathlib.Core.Logic.{_⊎_, inl, inr}
+use mathlib.Core.Bool.{Bool, true, false, not}
+use mathlib.Core.Path.{_≡_, refl, ap₂, sym, subst}
+use mathlib.Core.Logic.{inl, inr, _≢_}
 use mathlib.Core.List.{List, [], _∷_}
-use Rattle.model.specs.Page.{Page, Change}
+use lib.Dec.{ltb}
+use borrow.Author.Tests.{le-ltb}
+use Rattle.model.specs.Basic.{those, pick}
+use Rattle.model.specs.declared.Delta.{Delta}
 use Rattle.model.specs.Store.{Store, next}
-use Rattle.model.specs.declared.Slot.{Slot}
-use Rattle.model.specs.Walk.{lookup}
-use Rattle.model.specs.Climb
-use Rattle.model.specs.Climb.{Rooted, stays, moves, lacks, Result, done, refused, update}
+use Rattle.model.specs.Walk.{lookup, settings}
+use Rattle.model.specs.Climb.{Result, done, refused, update}
 use Rattle.model.specs.Calls
 use Rattle.model.specs.Calls.{Rule, numbered, firstOf, isSome, insertTests, deleteTests, insert, delete, begin, committed, unchanged, commit, abandon, abandoned}
 use Rattle.model.specs.Needs.{inserting, deleting}
-use Rattle.model.specs.Histories.{Call, begins, commits, abandons, inserts, deletes, callBy}
+use Rattle.model.specs.Differ.{differ}
+use Rattle.model.specs.Return
+use Rattle.model.specs.Return.{goes, comes, setTests, endOne, setOne, Ran, reached, stopped, orStopped, through, andOn, carried, Came, gave, gaveUp, lacking, orAbandoned, returnTests, unless, returned}
+use Rattle.model.specs.Histories.{Call, begins, commits, abandons, inserts, deletes, returns, callBy}
+use Rattle.model.proofs.Given.{Sound}
+use Rattle.model.proofs.Stops.{lacking-is, Ends, update-ends}
+use Rattle.model.proofs.Returned.{returned-by}
+use Rattle.promises.specs.Runs.{changing, givesUp}
 use Rattle.promises.specs.Answers.{openTests, endTests, commitTests, Gives}
 
 -- the number that a result stands for
@@ -23,30 +31,19 @@ abbrev pub numberOf : Result → ℕ
 numberOf (done t) = 0
 numberOf (refused n) = n
 
+abbrev pub numberBy : Came → ℕ
+numberBy (gave r) = numberOf r
+numberBy (gaveUp n t) = n
+
 abbrev pub High : Result → Type 0
 High (done t) = Unit {0}
 High (refused n) = 5 ≤ n
 
+abbrev pub HighBy : Came → Type 0
+HighBy (gave r) = High r
+HighBy (gaveUp n t) = 5 ≤ n
+
 -- ---- an update
-
-abbrev pub Ends : Result → Type 0
-Ends (done t) = Unit {0}
-Ends (refused n) = (n ≡ 12) ⊎ (n ≡ 13)
-
-slotted-ends : (b : Bool) (s : Store) (xs : List Slot) (ps : List Page) → Ends (Climb.slotted b s xs ps)
-unfolding Climb.slotted
-slotted-ends true s xs ps = tt
-slotted-ends false s xs ps = inr refl
-
-rooted-ends : (least : ℕ) (s : Store) (x : Rooted) → Ends (Climb.rooted least s x)
-unfolding Climb.rooted
-rooted-ends least s (stays ps) = tt
-rooted-ends least s (moves n ps) = slotted-ends _ s _ ps
-rooted-ends least s lacks = inl refl
-
-update-ends : (least : ℕ) (s : Store) (k : ℕ) (c : Change) → Ends (update least s k c)
-unfolding Climb.update
-update-ends least s k c = rooted-ends least s _
 
 ends-high : (r : Result) → Ends r → High r
 ends-high (done t) e = tt
@@ -67,12 +64,65 @@ chain-high (x ∷ xs) r a h = at (x .holds) (chain-high xs r (a .1) h)
     at true ih = a .0
     at false ih = ih
 
+-- ---- a return
+
+abbrev RanHigh : Ran → Type 0
+RanHigh (reached t) = Unit {0}
+RanHigh (stopped n t) = 5 ≤ n
+
+through-high : (one : Store → Delta → Result) → ((s : Store) (d : Delta) → High (one s d)) → (ds : List Delta) (s : Store) → RanHigh (through one ds s)
+unfolding Return.through
+through-high one h [] s = tt
+through-high one h (d ∷ ds) s = at (one s d) (h s d) (λ t. through-high one h ds t)
+  where
+    at : (r : Result) → High r → ((t : Store) → RanHigh (through one ds t)) → RanHigh (orStopped (through one ds) s r)
+    at (done t) i f = f t
+    at (refused n) i f = i
+
+both-high : (go : Store → Ran) (q : Ran) → RanHigh q → ((t : Store) → RanHigh (go t)) → RanHigh (andOn go q)
+both-high go (reached t) h f = f t
+both-high go (stopped n t) h f = h
+
+given-high : (q : Ran) → RanHigh q → HighBy (orAbandoned q)
+given-high (reached t) h = tt
+given-high (stopped n t) h = at (lacking n)
+  where
+    at : (b : Bool) → HighBy (pick b (gaveUp n (abandoned t)) (gave (refused n)))
+    at true = h
+    at false = h
+
+tested-high : (x y : Bool) (c : Came) → HighBy c → HighBy (unless (firstOf (Calls.rule 6 x ∷ Calls.rule 7 y ∷ [])) c)
+tested-high true y c h = omega arith
+tested-high false true c h = omega arith
+tested-high false false c h = h
+
+-- ---- any call
+
+module _ (least : ℕ) where
+  end-high : (s : Store) (d : Delta) → High (endOne least s d)
+  unfolding Calls.delete
+  end-high s d =
+      chain-high (deleteTests (d .key) (s .opened) (isSome (lookup s (d .key) (next s)))) (update least s (d .key) (deleting (d .key))) (omega arith, (omega arith, (omega arith, tt)))
+      (ends-high (update least s (d .key) (deleting (d .key))) (update-ends least s (d .key) (deleting (d .key))))
+
+  set-high : (s : Store) (d : Delta) → High (setOne least s d)
+  unfolding Return.setOne
+  set-high s d =
+      chain-high (setTests (d .key) (s .opened) (isSome (lookup s (d .key) (next s)))) (update least s (d .key) (inserting (d .key) (d .new))) (omega arith, (omega arith, (omega arith, tt)))
+      (ends-high (update least s (d .key) (inserting (d .key) (d .new))) (update-ends least s (d .key) (inserting (d .key) (d .new))))
+
+  run-high : (ds : List Delta) (s : Store) → RanHigh (carried least ds s)
+  unfolding Return.carried
+  run-high ds s =
+      both-high (through (setOne least) (those comes ds)) (through (endOne least) (those goes ds) s) (through-high (endOne least) end-high (those goes ds) s)
+      (λ t. through-high (setOne least) set-high (those comes ds) t)
+
 module _ (least : ℕ) (s : Store) where
   abbrev alive : ℕ → Bool
   alive k = isSome (lookup s k (next s))
 
-  pub call-high : (c : Call) → High (callBy least s c)
-  unfolding Calls.insert Calls.delete Calls.begin Calls.commit Calls.abandon
+  pub call-high : (c : Call) → HighBy (callBy least s c)
+  unfolding Calls.insert Calls.delete Calls.begin Calls.commit Calls.abandon Return.returned
   call-high begins = chain-high (openTests (s .opened) (s .current)) _ (omega arith, (omega arith, tt)) tt
   call-high commits = chain-high (commitTests (s .opened) (unchanged s)) _ (omega arith, (omega arith, tt)) tt
   call-high abandons = chain-high (endTests (s .opened)) _ (omega arith, tt) tt
@@ -82,6 +132,44 @@ module _ (least : ℕ) (s : Store) where
   call-high (deletes k) =
       chain-high (deleteTests k (s .opened) (alive k)) (update least s k (deleting k)) (omega arith, (omega arith, (omega arith, tt)))
       (ends-high (update least s k (deleting k)) (update-ends least s k (deleting k)))
+  call-high (returns v) =
+      let run = carried least (differ (settings s (next s)) (settings s v)) s in
+      tested-high (ltb (s .current) v) (not (s .opened)) (orAbandoned run) (given-high run (run-high least (differ (settings s (next s)) (settings s v)) s))
+
+-- ---- by its number a return is told from the abandon
+
+abbrev pub Stopping : Call → Came → Type 0
+Stopping c (gave (done t)) = Unit {0}
+Stopping c (gave (refused n)) = givesUp (changing c) n ≡ false
+Stopping c (gaveUp n t) = givesUp (changing c) n ≡ true
+
+run-stops : (v : ℕ) (q : Ran) → Stopping (returns v) (orAbandoned q)
+run-stops v (reached t) = tt
+run-stops v (stopped n t) = at (lacking n) refl
+  where
+    at : (b : Bool) → lacking n ≡ b → Stopping (returns v) (pick b (gaveUp n (abandoned t)) (gave (refused n)))
+    at true e = e
+    at false e = e
+
+tested-stops : (v : ℕ) (x y : Bool) (c : Came) → Stopping (returns v) c → Stopping (returns v) (unless (firstOf (Calls.rule 6 x ∷ Calls.rule 7 y ∷ [])) c)
+tested-stops v true y c h = refl
+tested-stops v false true c h = refl
+tested-stops v false false c h = h
+
+single-stops : (c : Call) → ((n : ℕ) → givesUp (changing c) n ≡ false) → (r : Result) → Stopping c (gave r)
+single-stops c f (done t) = tt
+single-stops c f (refused n) = f n
+
+pub call-stops : (least : ℕ) (s : Store) (c : Call) → Stopping c (callBy least s c)
+unfolding Return.returned
+call-stops least s begins = single-stops begins (λ n. refl) (begin s)
+call-stops least s commits = single-stops commits (λ n. refl) (commit s)
+call-stops least s abandons = single-stops abandons (λ n. refl) (abandon s)
+call-stops least s (inserts k x) = single-stops (inserts k x) (λ n. refl) (insert least s k x)
+call-stops least s (deletes k) = single-stops (deletes k) (λ n. refl) (delete least s k)
+call-stops least s (returns v) =
+    let run = carried least (differ (settings s (next s)) (settings s v)) s in
+    tested-stops v (ltb (s .current) v) (not (s .opened)) (orAbandoned run) (run-stops v run)
 
 -- ---- its number
 
@@ -135,3 +223,18 @@ module _ (least : ℕ) (s : Store) where
   delete-number k =
       chain-gives (deleteTests k (s .opened) (isSome (lookup s k (next s)))) (update least s k (deleting k)) (omega arith, (omega arith, (omega arith, tt)))
       (update-ends least s k (deleting k))
+
+-- where no test of a return holds
+pub return-free : (s : Store) (v : ℕ) → s .opened ≡ true → v ≤ s .current → firstOf (returnTests (s .current) (s .opened) v) ≡ 0
+return-free s v o h = ap₂ (λ (x y : Bool). firstOf (Calls.rule 6 x ∷ Calls.rule 7 (not y) ∷ [])) (le-ltb (s .current) v h) o
+
+pub return-number : (least : ℕ) → 4 ≤ least → (s : Store) → Sound least s → (v : ℕ) → Gives (firstOf (returnTests (s .current) (s .opened) v)) (numberBy (returned least s v))
+return-number least four s d v =
+    returned-by least (λ (q : Came). Gives (firstOf (returnTests (s .current) (s .opened) v)) (numberBy q)) four s d v
+    (λ n. same (firstOf (returnTests (s .current) (s .opened) v)) n)
+    (λ o h t g. subst (λ (m : ℕ). Gives m 0) (sym (return-free s v o h)) (inl refl))
+    (λ o h n l. subst (λ (m : ℕ). Gives m n) (sym (return-free s v o h)) (inr (lacking-is n l)))
+  where
+    same : (n : ℕ) → n ≢ 0 → Gives n n
+    same zero h = absurd (h refl)
+    same (suc n) h = refl

@@ -27,10 +27,11 @@ use Rattle.model.specs.Visited.{pageNumber}
 use Rattle.model.specs.Differ
 use Rattle.model.specs.Differ.{differ, deltaNumbers, tooLate, difference}
 use Rattle.model.specs.Life
-use Rattle.model.specs.Histories.{begins, commits, abandons, inserts, deletes}
+use Rattle.model.specs.Return.{Came, gave, gaveUp, returned}
+use Rattle.model.specs.Histories.{begins, commits, abandons, inserts, deletes, returns}
 use Rattle.model.specs.Lent
-use Rattle.model.specs.Lent.{left, judgedFirst, listed, lookupLent, rangeLent, lifeLent, differenceLent, visitsLent}
-use Rattle.model.specs.Ended.{Asked, toFresh, toCheck, toOpen, toCommit, toAbandon, toInsert, toDelete, toLookup, toRange, toLife, toDifference, toVisits, ofOutcome, ended}
+use Rattle.model.specs.Lent.{left, leftBy, judgedFirst, listed, returnLent, lookupLent, rangeLent, lifeLent, differenceLent, visitsLent}
+use Rattle.model.specs.Ended.{Asked, toFresh, toCheck, toOpen, toCommit, toAbandon, toInsert, toDelete, toReturn, toLookup, toRange, toLife, toDifference, toVisits, ofOutcome, ended}
 use Rattle.model.proofs.Lists.{both-true, both-intro}
 use Rattle.model.proofs.Members.{bool-cases, not-both}
 use Rattle.model.proofs.Judging.{unbroken, whole}
@@ -39,7 +40,7 @@ use Rattle.model.proofs.Unique.{refused as leaves}
 use Rattle.promises.specs.Accepts.{Accepts}
 use Rattle.promises.specs.Runs.{notMaking, kindOf}
 use Rattle.promises.specs.Demand1.{FirstNumbers, Judges, TurnedAway, Untrusted, OneForm, FreshMade}
-use Rattle.promises.proofs.High.{High, call-high}
+use Rattle.promises.proofs.High.{High, HighBy, call-high}
 use Rattle.promises.proofs.Encoded.{accepted}
 use Rattle.promises.proofs.Lending.{fresh-is}
 
@@ -64,6 +65,18 @@ change-past least b f h = at (judged least b .number)
   where
     at : (j : ℕ) → Past j (judgedFirst j (λ m. record { number = m; store = b }) (left least b (f (decode least b))) .number)
     at zero = high-past least b (f (decode least b)) (h (decode least b))
+    at (suc j) = refl
+
+return-past : (least : ℕ) (b : List ℕ) (v : ℕ) → Past (judged least b .number) (returnLent least b v .number)
+unfolding Lent.returnLent
+return-past least b v = at (judged least b .number)
+  where
+    by : (q : Came) → HighBy q → Past 0 (leftBy least b q .number)
+    by (gave r) h = high-past least b r h
+    by (gaveUp n t) h = inr h
+
+    at : (j : ℕ) → Past j (judgedFirst j (λ m. record { number = m; store = b }) (leftBy least b (returned least (decode least b) v)) .number)
+    at zero = by (returned least (decode least b) v) (call-high least (decode least b) (returns v))
     at (suc j) = refl
 
 looked-past : (k v : ℕ) (s : Store) → Past 0 (lookedNumber (get s k v))
@@ -179,11 +192,20 @@ call-past least toCommit b ns h = change-past least b _ (λ s. call-high least s
 call-past least toAbandon b ns h = change-past least b _ (λ s. call-high least s abandons)
 call-past least (toInsert k x) b ns h = change-past least b _ (λ s. call-high least s (inserts k x))
 call-past least (toDelete k) b ns h = change-past least b _ (λ s. call-high least s (deletes k))
+call-past least (toReturn v) b ns h = return-past least b v
 call-past least (toLookup k v) b ns h = lookup-past least b k v
 call-past least (toRange lo hi v) b ns h = range-past least b lo hi v ns
 call-past least (toVisits k v) b ns h = visits-past least b k v ns
 call-past least (toDifference u v) b ns h = difference-past least b u v ns
 call-past least (toLife k) b ns h = life-past least b k ns
+
+-- bytes on which it gives a number from 5 on are accepted
+pub late-accepts : (least : ℕ) (c : Asked) (b ns : List ℕ) → notMaking (kindOf c) ≡ true → 5 ≤ ended least c b ns .number → Accepts least b
+late-accepts least c b ns m h = at (judged least b .number) (judged-low least b) (call-past least c b ns m)
+  where
+    at : (j : ℕ) → j ≤ 4 → Past j (ended least c b ns .number) → j ≡ 0
+    at zero l p = refl
+    at (suc j) l p = absurd (omega arith)
 
 -- bytes on which it gives 0 are accepted
 pub zero-accepts : (least : ℕ) (c : Asked) (b ns : List ℕ) → notMaking (kindOf c) ≡ true → ended least c b ns .number ≡ 0 → Accepts least b
@@ -273,12 +295,16 @@ judges least c b ns h = first-past least b (lengthOk least b) (magicOk b) (editi
 pub untrusted : Untrusted
 untrusted least c b ns h bad = at (judged least b .number) refl (call-past least c b ns h)
   where
+    late : {n j : ℕ} → judged least b .number ≤ 4 → judged least b .number ≡ suc j → n ≡ suc j → (n ≡ 12) ⊎ (n ≡ 13) → ⊥
+    late l e p (inl z) = omega arith
+    late l e p (inr z) = omega arith
+
     at : (j : ℕ) → judged least b .number ≡ j → Past j (ended least c b ns .number) → TurnedAway b ns (ended least c b ns)
     at zero e p = absurd (bad e)
     at (suc j) e p = record {
       low = omega arith;
       high = omega (arith, judged-low least b);
-      untouched = leaves least c b ns (ended least c b ns) refl (λ (z : ended least c b ns .number ≡ 0). omega arith);
+      untouched = leaves least c b ns (ended least c b ns) refl (λ (z : ended least c b ns .number ≡ 0). omega arith) (λ x. late (judged-low least b) e p (x .1));
     }
 
 pub one-form : OneForm

@@ -7,25 +7,25 @@ use mathlib.Core.Path.{_≡_, refl, ap, ap₂, sym, _∙_, subst}
 use mathlib.Core.Logic.{_⊎_, inl, inr}
 use mathlib.Core.List.{List, [], _∷_}
 use lib.Dec.{leb, ltb, eqb}
-use borrow.Author.Tests.{le-leb, leb-false, lt-ltb, eqb-true, eqb-false}
+use borrow.Author.Tests.{le-leb, leb-true, leb-false, lt-ltb, ltb-false, eqb-false}
 use Rattle.model.specs.Basic.{all, pick, those}
 use Rattle.model.specs.declared.Pair.{Pair}
 use Rattle.model.specs.Entry.{pair, enterPair}
 use Rattle.model.specs.Store.{Store, next, last, lastOf, fresh}
-use Rattle.model.specs.Walk.{lookup, settings}
-use Rattle.model.specs.Layout.{encode, decode}
-use Rattle.model.specs.Calls.{isSome, rule, benchLimit, insertTests, deleteTests, firstOf, insert}
-use Rattle.model.specs.Histories.{Call, begins, commits, abandons, inserts, deletes}
+use Rattle.model.specs.Walk.{lookup}
+use Rattle.model.specs.Layout.{decode}
+use Rattle.model.specs.Calls.{isSome, rule, benchLimit, insertTests, firstOf, insert}
+use Rattle.model.specs.Return.{returnTests}
+use Rattle.model.specs.Histories.{Call, begins, commits, abandons, inserts, deletes, returns}
 use Rattle.model.specs.Settings.{Machine, start, step, put}
-use Rattle.model.specs.Ended.{Asked, toFresh, toInsert, toDelete, ended}
+use Rattle.model.specs.Ended.{Asked, toFresh, toInsert, toDelete, toReturn, ended}
 use Rattle.model.proofs.Lists.{all-cons}
-use Rattle.model.proofs.Members.{bool-cases, In, all-in, all-by, in-those}
+use Rattle.model.proofs.Members.{In, all-in, all-by, in-those}
 use Rattle.model.proofs.Fitted.{entered-in}
-use Rattle.promises.specs.Accepts.{Accepts}
-use Rattle.promises.specs.Runs.{Turn, runBytes, Kind, making, kindOf, asks, notMaking, fitting, each}
-use Rattle.promises.specs.Beside.{Beside, whenDone, stepped, onward, along, fromFresh, fromLent}
+use Rattle.promises.specs.Runs.{Turn, Kind, making, changing, reading, kindOf, asks, fitting, givesUp, each}
+use Rattle.promises.specs.Beside.{Beside, whenDone, stepped, undone, onward, along, fromFresh, fromLent}
 use Rattle.promises.specs.Answers.{lastIn, aliveIn, unchangedIn, Gives}
-use Rattle.promises.specs.Bench.{BenchFree, KeptOut}
+use Rattle.promises.specs.Bench.{BenchFree, notBehind, KeptOut}
 use Rattle.promises.proofs.High.{numberOf, insert-number}
 use Rattle.promises.proofs.Lending.{kind-asks, by-kind, change-number}
 use Rattle.promises.proofs.Agreed.{Agreed, one-turn, many-turns, fresh-agreed, lent-agreed}
@@ -64,6 +64,15 @@ insert-low k o alive n g e = at (leb benchLimit k) refl o g
     at false f false g = absurd (omega arith)
     at false f true g = (leb-false benchLimit k f, refl)
 
+-- a return that is done is to a committed version
+return-opened : (current : ℕ) (o : Bool) (v n : ℕ) → Gives (firstOf (returnTests current o v)) n → n ≡ 0 → (o ≡ true) × (v ≤ current)
+return-opened current o v n g e = at (ltb current v) refl o g
+  where
+    at : (p : Bool) → ltb current v ≡ p → (o : Bool) → Gives (firstOf (rule 6 p ∷ rule 7 (not o) ∷ [])) n → (o ≡ true) × (v ≤ current)
+    at true f o g = absurd (omega arith)
+    at false f false g = absurd (omega arith)
+    at false f true g = (refl, ltb-false current v f)
+
 insert-five : (least : ℕ) (s : Store) (k x : ℕ) → benchLimit ≤ k → numberOf (insert least s k x) ≡ 5
 insert-five least s k x h =
     subst (λ (p : Bool). Gives (firstOf (rule 5 p ∷ rule 7 (not (s .opened)) ∷ rule 10 (isSome (lookup s k (next s))) ∷ [])) (numberOf (insert least s k x))) (le-leb benchLimit k h) (insert-number least s k x)
@@ -88,6 +97,28 @@ module _ (u : ℕ) where
   when zero m n′ f g = f refl
   when (suc n) m n′ f g = g
 
+  -- an abandon leaves the committed versions
+  back : (m : Machine) → Free m → Free (step m abandons)
+  back m f = record { from = f .from; keys = λ v h g. f .keys v h (omega (arith, g, current-last (m .opened) (m .current))) }
+
+  undoes : (k : Kind) (n : ℕ) (m : Machine) → Free m → Free (undone k n m)
+  undoes k n m f = at (givesUp k n)
+    where
+      at : (b : Bool) → Free (pick b (step m abandons) m)
+      at true = back m f
+      at false = f
+
+  -- calls that bring no bench key: making fresh from version 0 on, and a return to a version from u on
+  abbrev Brings : Kind → Type 0
+  Brings making = u ≡ 0
+  Brings (changing begins) = Unit {0}
+  Brings (changing commits) = Unit {0}
+  Brings (changing abandons) = Unit {0}
+  Brings (changing (inserts k x)) = Unit {0}
+  Brings (changing (deletes k)) = Unit {0}
+  Brings (changing (returns v)) = u ≤ v
+  Brings reading = Unit {0}
+
   module _ (least : ℕ) (four : 4 ≤ least) (eight : least ≤ 8) where
     module _ (x : Beside) (a : Agreed least x) (f : Free (x .machine)) where
       abbrev m : Machine
@@ -99,7 +130,7 @@ module _ (u : ℕ) where
       opened-last : x .machine .opened ≡ true → lastIn (x .machine) ≡ suc (x .machine .current)
       opened-last o = ap (λ (q : Bool). lastOf q (x .machine .current)) o
 
-      -- an insert or a delete, where an update is open
+      -- an insert, a delete or a return, where an update is open
       edits : x .machine .opened ≡ true → (us : List Pair) → (all isLow (x .machine .shows (suc (x .machine .current))) ≡ true → all isLow us ≡ true)
           → Free (record { current = x .machine .current; opened = x .machine .opened; shows = put (suc (x .machine .current)) us (x .machine .shows) })
       edits o us g = record {
@@ -107,45 +138,51 @@ module _ (u : ℕ) where
         keys = λ v h i. put-free (x .machine) us (g (f .keys (suc (x .machine .current)) (omega (arith, f .from)) (omega (arith, opened-last o)))) earlier v h (omega (arith, i, opened-last o));
       }
 
-      steps : (c : Call) (ns : List ℕ) → ended least (asks c) (x .bytes) ns .number ≡ 0 → Free (step (x .machine) c)
-      steps begins ns e = record { from = f .from; keys = λ v h g. put-free (x .machine) (x .machine .shows (x .machine .current)) (earlier (x .machine .current) (f .from) (omega arith)) earlier v h g }
-      steps commits ns e =
+      steps : (c : Call) → Brings (changing c) → (ns : List ℕ) → ended least (asks c) (x .bytes) ns .number ≡ 0 → Free (step (x .machine) c)
+      steps begins w ns e = record { from = f .from; keys = λ v h g. put-free (x .machine) (x .machine .shows (x .machine .current)) (earlier (x .machine .current) (f .from) (omega arith)) earlier v h g }
+      steps commits w ns e =
           let o : x .machine .opened ≡ true = first-none (x .machine .opened) (unchangedIn (x .machine)) (sym (answers least four eight x a .commits ns) ∙ e) .0 in
           record { from = omega (arith, f .from); keys = λ v h g. f .keys v h (omega (arith, g, opened-last o)) }
-      steps abandons ns e = record { from = f .from; keys = λ v h g. earlier v h g }
-      steps (inserts k y) ns e =
+      steps abandons w ns e = back (x .machine) f
+      steps (inserts k y) w ns e =
           let (low, o) = insert-low k (x .machine .opened) (aliveIn (x .machine) k) (ended least (toInsert k y) (x .bytes) ns .number) (answers least four eight x a .inserts k y ns) e in
           edits o (enterPair (pair k y) (x .machine .shows (suc (x .machine .current)))) (low-entered k y (x .machine .shows (suc (x .machine .current))) low)
-      steps (deletes k) ns e =
+      steps (deletes k) w ns e =
           let o = delete-opened k (x .machine .opened) (aliveIn (x .machine) k) (ended least (toDelete k) (x .bytes) ns .number) (answers least four eight x a .deletes k ns) e in
           edits o (those (λ (y : Pair). not (eqb (y .key) k)) (x .machine .shows (suc (x .machine .current)))) (low-those (λ (y : Pair). not (eqb (y .key) k)) (x .machine .shows (suc (x .machine .current))))
+      steps (returns v) w ns e =
+          let (o, h) = return-opened (x .machine .current) (x .machine .opened) v (ended least (toReturn v) (x .bytes) ns .number) (answers least four eight x a .returns v ns) e in
+          edits o (x .machine .shows v) (λ z. earlier v w h)
 
-      one-free : (t : Turn) → (kindOf (t .call) ≡ making → u ≡ 0) → Free (onward least x t .machine)
+      one-free : (t : Turn) → Brings (kindOf (t .call)) → Free (onward least x t .machine)
       one-free t = at (t .call)
         where
           same : (n : ℕ) → Free (whenDone n (x .machine) (x .machine))
           same n = when n (x .machine) (x .machine) (λ e. f) f
 
-          by : (c : Call) → Free (whenDone (ended least (asks c) (x .bytes) (t .list) .number) (step (x .machine) c) (x .machine))
-          by c = when (ended least (asks c) (x .bytes) (t .list) .number) (x .machine) (step (x .machine) c) (steps c (t .list)) f
+          number : Asked → ℕ
+          number c = ended least c (x .bytes) (t .list) .number
+
+          by : (c : Call) → Brings (changing c) → Free (whenDone (number (asks c)) (step (x .machine) c) (undone (changing c) (number (asks c)) (x .machine)))
+          by c w = when (number (asks c)) (undone (changing c) (number (asks c)) (x .machine)) (step (x .machine) c) (steps c w (t .list)) (undoes (changing c) (number (asks c)) (x .machine) f)
 
           Goes : Asked → Kind → Type 0
-          Goes c q = Free (whenDone (ended least c (x .bytes) (t .list) .number) (stepped q (x .machine)) (x .machine))
+          Goes c q = Free (whenDone (ended least c (x .bytes) (t .list) .number) (stepped q (x .machine)) (undone q (ended least c (x .bytes) (t .list) .number) (x .machine)))
 
-          at : (c : Asked) → (kindOf c ≡ making → u ≡ 0) → Goes c (kindOf c)
+          at : (c : Asked) → Brings (kindOf c) → Goes c (kindOf c)
           at =
-              by-kind least (λ (c : Asked). (kindOf c ≡ making → u ≡ 0) → Goes c (kindOf c))
-              (λ h. when (ended least toFresh (x .bytes) (t .list) .number) (x .machine) start (λ e. record { from = omega (arith, h refl); keys = λ v i g. refl }) f)
-              (λ c h. subst (Goes (asks c)) (sym (kind-asks c)) (by c))
+              by-kind least (λ (c : Asked). Brings (kindOf c) → Goes c (kindOf c))
+              (λ h. when (ended least toFresh (x .bytes) (t .list) .number) (x .machine) start (λ e. record { from = omega (arith, h); keys = λ v i g. refl }) f)
+              (λ c h. subst (Goes (asks c)) (sym (kind-asks c)) (by c (subst Brings (kind-asks c) h)))
               (λ c k stays h. subst (Goes c) (sym k) (same (ended least c (x .bytes) (t .list) .number)))
 
-    many-free : (g : Kind → Bool) → (g making ≡ true → u ≡ 0) → (ts : List Turn) → each fitting ts ≡ true → each g ts ≡ true → (x : Beside) → Agreed least x → Free (x .machine)
+    many-free : (g : Kind → Bool) → ((k : Kind) → g k ≡ true → Brings k) → (ts : List Turn) → each fitting ts ≡ true → each g ts ≡ true → (x : Beside) → Agreed least x → Free (x .machine)
         → Free (along least x ts .machine)
     many-free g z [] h i x a f = f
     many-free g z (t ∷ ts) h i x a f =
         let (p, q) = all-cons (λ (y : Turn). fitting (kindOf (y .call))) t ts h in
         let (r, s) = all-cons (λ (y : Turn). g (kindOf (y .call))) t ts i in
-        many-free g z ts q s (onward least x t) (one-turn least four eight x a t p) (one-free x a f t (λ e. z (sym (ap g e) ∙ r)))
+        many-free g z ts q s (onward least x t) (one-turn least four eight x a t p) (one-free x a f t (z (kindOf (t .call)) r))
 
     -- in the words of the store
     store-free : (x : Beside) → Agreed least x → Free (x .machine) → BenchFree u (decode least (x .bytes))
@@ -159,6 +196,27 @@ any-kind : (ts : List Turn) → each (λ (k : Kind). true) ts ≡ true
 any-kind [] = refl
 any-kind (t ∷ ts) = any-kind ts
 
+-- from version 0 on every call is such a one
+any-brings : (k : Kind) → Brings 0 k
+any-brings making = refl
+any-brings (changing begins) = tt
+any-brings (changing commits) = tt
+any-brings (changing abandons) = tt
+any-brings (changing (inserts k x)) = tt
+any-brings (changing (deletes k)) = tt
+any-brings (changing (returns v)) = omega arith
+any-brings reading = tt
+
+brings-none : (u : ℕ) (k : Kind) → notBehind u k ≡ true → Brings u k
+brings-none u making e = absurd (let z : _≡_ {A = ℕ} 0 1 = cc in omega arith)
+brings-none u (changing begins) e = tt
+brings-none u (changing commits) e = tt
+brings-none u (changing abandons) e = tt
+brings-none u (changing (inserts k x)) e = tt
+brings-none u (changing (deletes k)) e = tt
+brings-none u (changing (returns v)) e = leb-true u v e
+brings-none u reading e = tt
+
 pub kept-out : KeptOut
 kept-out = record {
   five = λ least b ok k x ns h. change-number least b ok (inserts k x) ns ∙ insert-five least (decode least b) k x h;
@@ -167,15 +225,12 @@ kept-out = record {
       let a : Agreed least x = fresh-agreed least four eight n six most in
       let f : Free 0 (x .machine) = record { from = omega arith; keys = λ v i g. refl } in
       subst (λ (b : List ℕ). BenchFree 0 (decode least b)) (along-bytes least ts x)
-      (store-free 0 least four eight (along least x ts) (many-turns least four eight ts h x a) (many-free 0 least four eight (λ (k : Kind). true) (λ e. refl) ts h (any-kind ts) x a f));
+      (store-free 0 least four eight (along least x ts) (many-turns least four eight ts h x a) (many-free 0 least four eight (λ (k : Kind). true) (λ k e. any-brings k) ts h (any-kind ts) x a f));
   cleaned = λ least four eight b ok clean ts h i.
       let u : ℕ = decode least b .current in
       let x : Beside = fromLent least b in
       let a : Agreed least x = lent-agreed least four eight b ok in
       let f : Free u (x .machine) = record { from = omega arith; keys = λ v j g. clean v j g } in
       subst (λ (q : List ℕ). BenchFree u (decode least q)) (along-bytes least ts x)
-      (store-free u least four eight (along least x ts) (many-turns least four eight ts h x a) (many-free u least four eight notMaking (λ e. absurd (no e)) ts h i x a f));
+      (store-free u least four eight (along least x ts) (many-turns least four eight ts h x a) (many-free u least four eight (notBehind u) (brings-none u) ts h i x a f));
 }
-  where
-    no : false ≡ true → ⊥
-    no e = let z : _≡_ {A = ℕ} 0 1 = cc in omega arith

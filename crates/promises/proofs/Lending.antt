@@ -13,11 +13,12 @@ use Rattle.model.specs.Sound.{sound}
 use Rattle.model.specs.Layout.{sizeOf, encode, decode}
 use Rattle.model.specs.Judged.{lengthOk}
 use Rattle.model.specs.Climb.{Result, done, refused}
-use Rattle.model.specs.Histories.{Call, begins, commits, abandons, inserts, deletes, callBy, after}
+use Rattle.model.specs.Return.{Came, gave, gaveUp, returned}
+use Rattle.model.specs.Histories.{Call, begins, commits, abandons, inserts, deletes, returns, callBy, after}
 use Rattle.model.specs.Settings
 use Rattle.model.specs.Lent
-use Rattle.model.specs.Lent.{left, judgedFirst}
-use Rattle.model.specs.Ended.{Asked, toFresh, toCheck, toOpen, toCommit, toAbandon, toInsert, toDelete, toLookup, toRange, toLife, toDifference, toVisits, Ended, ofOutcome, ended}
+use Rattle.model.specs.Lent.{left, leftBy, judgedFirst, returnLent}
+use Rattle.model.specs.Ended.{Asked, toFresh, toCheck, toOpen, toCommit, toAbandon, toInsert, toDelete, toReturn, toLookup, toRange, toLife, toDifference, toVisits, Ended, ofOutcome, ended}
 use Rattle.model.proofs.Members.{true-holds}
 use Rattle.model.proofs.Given.{to-tests}
 use Rattle.model.proofs.Turns.{fresh-sound}
@@ -26,7 +27,7 @@ use Rattle.model.proofs.Judging.{accepted as judged-zero}
 use Rattle.store.specs.Tested.{whole-length}
 use Rattle.promises.specs.Accepts.{Accepts, Written}
 use Rattle.promises.specs.Runs.{changing, reading, kindOf, asks, fitting}
-use Rattle.promises.proofs.High.{numberOf}
+use Rattle.promises.proofs.High.{numberBy}
 use Rattle.promises.proofs.Encoded.{encoded-sound}
 
 -- ---- calls by their kind
@@ -37,6 +38,7 @@ kind-asks commits = refl
 kind-asks abandons = refl
 kind-asks (inserts k x) = refl
 kind-asks (deletes k) = refl
+kind-asks (returns v) = refl
 
 -- what is shown of making fresh, of each change, and of readings, which leave the store's bytes, holds of every call
 pub by-kind : (least : ℕ) (P : Asked → Type 0) → P toFresh → ((c : Call) → P (asks c))
@@ -48,6 +50,7 @@ by-kind least P f g h toCommit = g commits
 by-kind least P f g h toAbandon = g abandons
 by-kind least P f g h (toInsert k x) = g (inserts k x)
 by-kind least P f g h (toDelete k) = g (deletes k)
+by-kind least P f g h (toReturn v) = g (returns v)
 by-kind least P f g h (toLookup k v) = h (toLookup k v) refl (λ b ns. refl)
 by-kind least P f g h (toRange lo hi v) = h (toRange lo hi v) refl (λ b ns. refl)
 by-kind least P f g h (toVisits k v) = h (toVisits k v) refl (λ b ns. refl)
@@ -61,21 +64,27 @@ module _ (least : ℕ) (b : List ℕ) (ok : Accepts least b) where
   unfolding Lent.lent
   lent-is f = ap (λ (n : ℕ). judgedFirst n (λ m. record { number = m; store = b }) (left least b (f (decode least b)))) ok
 
+  return-is : (v : ℕ) → returnLent least b v ≡ leftBy least b (returned least (decode least b) v)
+  unfolding Lent.returnLent
+  return-is v = ap (λ (n : ℕ). judgedFirst n (λ m. record { number = m; store = b }) (leftBy least b (returned least (decode least b) v))) ok
+
   -- "After every call the pages are byte for byte what the published page rules produce."
-  pub change-is : (c : Call) (ns : List ℕ) → ended least (asks c) b ns ≡ ofOutcome ns (left least b (callBy least (decode least b) c))
+  pub change-is : (c : Call) (ns : List ℕ) → ended least (asks c) b ns ≡ ofOutcome ns (leftBy least b (callBy least (decode least b) c))
   unfolding Lent.openLent Lent.commitLent Lent.abandonLent Lent.insertLent Lent.deleteLent
   change-is begins ns = ap (ofOutcome ns) (lent-is _)
   change-is commits ns = ap (ofOutcome ns) (lent-is _)
   change-is abandons ns = ap (ofOutcome ns) (lent-is _)
   change-is (inserts k x) ns = ap (ofOutcome ns) (lent-is _)
   change-is (deletes k) ns = ap (ofOutcome ns) (lent-is _)
+  change-is (returns v) ns = ap (ofOutcome ns) (return-is v)
 
-  pub change-number : (c : Call) (ns : List ℕ) → ended least (asks c) b ns .number ≡ numberOf (callBy least (decode least b) c)
+  pub change-number : (c : Call) (ns : List ℕ) → ended least (asks c) b ns .number ≡ numberBy (callBy least (decode least b) c)
   change-number c ns = ap (λ (e : Ended). e .number) (change-is c ns) ∙ left-number (callBy least (decode least b) c)
     where
-      left-number : (r : Result) → left least b r .number ≡ numberOf r
-      left-number (done t) = refl
-      left-number (refused n) = refl
+      left-number : (r : Came) → leftBy least b r .number ≡ numberBy r
+      left-number (gave (done t)) = refl
+      left-number (gave (refused n)) = refl
+      left-number (gaveUp n t) = refl
 
 -- ---- making fresh
 
@@ -95,9 +104,10 @@ module _ (least : ℕ) (four : 4 ≤ least) (eight : least ≤ 8) where
   written : (b : List ℕ) (s : Store) → T (sound least s) → Leaves least b s (encode least s)
   written b s sure = let w : Written least s = encoded-sound least four eight s sure in record { accepts = w .accepted; holds = w .held; bytes = λ h. w .bytes }
 
-  left-leaves : (b : List ℕ) → Accepts least b → (r : Result) → T (sound least (after (decode least b) r .store)) → Leaves least b (after (decode least b) r .store) (left least b r .store)
-  left-leaves b ok (done t) sure = written b t sure
-  left-leaves b ok (refused n) sure = record { accepts = ok; holds = refl; bytes = λ h. h }
+  left-leaves : (b : List ℕ) → Accepts least b → (r : Came) → T (sound least (after (decode least b) r .store)) → Leaves least b (after (decode least b) r .store) (leftBy least b r .store)
+  left-leaves b ok (gave (done t)) sure = written b t sure
+  left-leaves b ok (gave (refused n)) sure = record { accepts = ok; holds = refl; bytes = λ h. h }
+  left-leaves b ok (gaveUp n t) sure = written b t sure
 
   pub held-sound : (b : List ℕ) → Accepts least b → T (sound least (decode least b))
   held-sound b ok = true-holds (sound least (decode least b)) (judged-zero least b ok .is-sound)

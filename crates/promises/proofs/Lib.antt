@@ -1,5 +1,3 @@
-pub mod Holding
-pub mod Spare
 pub mod Encoded
 pub mod High
 pub mod Lending
@@ -17,5 +15,7 @@ pub mod KeptOut
 pub mod Replaying
 pub mod Fakes
 pub mod Releasing
+pub mod Returning
+pub mod Singly
 pub mod Promises
 pub mod Sampled

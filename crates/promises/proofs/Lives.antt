@@ -18,14 +18,15 @@ use Rattle.model.specs.Entry.{alive}
 use Rattle.model.specs.Store.{Store, next, last, lastOf}
 use Rattle.model.specs.Walk.{keyLimit, lookup}
 use Rattle.model.specs.Layout.{decode}
-use Rattle.model.specs.Climb.{Result, done, refused}
+use Rattle.model.specs.Climb.{done, refused}
 use Rattle.model.specs.Calls
 use Rattle.model.specs.Calls.{rule, firstOf, lookedAt, lookedBy, get, committed, unchanged, commit}
 use Rattle.model.specs.Told
 use Rattle.model.specs.Told.{toldIn, toldBy}
 use Rattle.model.specs.Life
 use Rattle.model.specs.Life.{lifeOf, life, lived, stretchNumbers}
-use Rattle.model.specs.Histories.{Call, begins, commits, abandons, inserts, deletes, callBy, after}
+use Rattle.model.specs.Return.{Came, gave, gaveUp}
+use Rattle.model.specs.Histories.{Call, begins, commits, abandons, inserts, deletes, returns, callBy, after}
 use Rattle.model.specs.Settings.{Both, lent, onward, together}
 use Rattle.model.specs.Lent
 use Rattle.model.specs.Lent.{judgedFirst, Listed, listed, lookupLent, lifeLent}
@@ -171,13 +172,15 @@ calls-keep (t ∷ ts) h = let (x, y) = all-cons (λ (u : Turn). uncommitting (ki
     at reading x y = y
 
 -- the machine's current version is moved by commits alone
-one-kept : (y : Both) (c : Call) (r : Result) → keeps c ≡ true → onward y c r .machine .current ≡ y .machine .current
-one-kept y c (refused n) h = refl
-one-kept y begins (done t) h = refl
-one-kept y commits (done t) h = absurd (let z : _≡_ {A = ℕ} 0 1 = cc in omega arith)
-one-kept y abandons (done t) h = refl
-one-kept y (inserts k x) (done t) h = refl
-one-kept y (deletes k) (done t) h = refl
+one-kept : (y : Both) (c : Call) (r : Came) → keeps c ≡ true → onward y c r .machine .current ≡ y .machine .current
+one-kept y c (gave (refused n)) h = refl
+one-kept y c (gaveUp n t) h = refl
+one-kept y begins (gave (done t)) h = refl
+one-kept y commits (gave (done t)) h = absurd (let z : _≡_ {A = ℕ} 0 1 = cc in omega arith)
+one-kept y abandons (gave (done t)) h = refl
+one-kept y (inserts k x) (gave (done t)) h = refl
+one-kept y (deletes k) (gave (done t)) h = refl
+one-kept y (returns v) (gave (done t)) h = refl
 
 all-kept : (least : ℕ) (cs : List Call) → all keeps cs ≡ true → (y : Both) → together least y cs .machine .current ≡ y .machine .current
 all-kept least [] h y = refl
@@ -206,7 +209,7 @@ module _ (least : ℕ) (b : List ℕ) (ok : Accepts least b) where
 
   commit-after : decode least b .opened ≡ true → unchanged (decode least b) ≡ false → after (decode least b) (callBy least (decode least b) commits) .store ≡ committed (decode least b)
   unfolding Calls.commit
-  commit-after o c = ap₂ (λ (q r : Bool). after (decode least b) (Calls.numbered (rule 7 (not q) ∷ rule 15 r ∷ []) (done (committed (decode least b)))) .store) o c
+  commit-after o c = ap₂ (λ (q r : Bool). after (decode least b) (gave (Calls.numbered (rule 7 (not q) ∷ rule 15 r ∷ []) (done (committed (decode least b))))) .store) o c
 
 pub left-alone : LeftAlone
 left-alone least four eight b ok ms given k same =

@@ -1,13 +1,15 @@
 -- Calls on accepted bytes, making fresh aside, are those calls on the store that they hold.
 -- Assumes nothing.
 use Prim.Native.Nat.{ℕ, _≤_}
-use mathlib.Core.Bool.{Bool, true, false, _||_}
+use mathlib.Core.Bool.{Bool, true, false, _||_, not}
 use mathlib.Core.Path.{_≡_, refl, ap, sym, _∙_, subst}
 use mathlib.Core.List.{List, [], _∷_, _++_}
+use borrow.Author.Tests.{not-true}
 use Rattle.model.specs.Basic.{all}
 use Rattle.model.specs.Store.{Store}
 use Rattle.model.specs.Layout.{decode}
-use Rattle.model.specs.Climb.{Result, done, refused}
+use Rattle.model.specs.Climb.{done, refused}
+use Rattle.model.specs.Return.{Came, gave, gaveUp}
 use Rattle.model.specs.Histories.{Call, callBy, after}
 use Rattle.model.specs.Settings
 use Rattle.model.specs.Settings.{Both, together}
@@ -15,8 +17,8 @@ use Rattle.model.specs.Ended.{Asked, ended}
 use Rattle.model.proofs.Lists.{both-true, all-cons, both-intro}
 use Rattle.model.proofs.Members.{not-both}
 use Rattle.promises.specs.Accepts.{Accepts}
-use Rattle.promises.specs.Runs.{Turn, turned, runBytes, Kind, making, changing, reading, kindOf, asks, notMaking, fitting, staying, inside, each}
-use Rattle.promises.proofs.High.{numberOf}
+use Rattle.promises.specs.Runs.{Turn, turned, runBytes, Kind, making, changing, reading, kindOf, asks, notMaking, fitting, givesUp, staying, inside, each}
+use Rattle.promises.proofs.High.{numberBy, Stopping, call-stops}
 use Rattle.promises.proofs.Lending.{kind-asks, by-kind, change-number, Leaves, change-leaves}
 
 -- ---- the calls that may change the store
@@ -44,9 +46,13 @@ staying-not making n h = h
 staying-not (changing c) n h = refl
 staying-not reading n h = refl
 
+-- a return that is the abandon is none of them
+pub staying-up : (c : Call) (n : ℕ) → staying (changing c) n ≡ true → givesUp (changing c) n ≡ false
+staying-up c n h = not-true (givesUp (changing c) n) (both-true (not (givesUp (changing c) n)) _ h .0)
+
 -- a call that is done and leaves an update open is none that ends one
 pub staying-done : (c : Call) → staying (changing c) 0 ≡ true → Settings.isInside c ≡ true
-staying-done c h = at (Settings.isInside c) h
+staying-done c h = at (Settings.isInside c) (both-true (not (givesUp (changing c) 0)) _ h .1)
   where
     at : (b : Bool) → (b || false) ≡ true → b ≡ true
     at true g = refl
@@ -73,9 +79,10 @@ bothBy least making y = y
 bothBy least (changing c) y = Settings.onward y c (callBy least (y .store) c)
 bothBy least reading y = y
 
-onward-store : (y : Both) (c : Call) (r : Result) → Settings.onward y c r .store ≡ after (y .store) r .store
-onward-store y c (done t) = refl
-onward-store y c (refused n) = refl
+onward-store : (y : Both) (c : Call) (r : Came) → Settings.onward y c r .store ≡ after (y .store) r .store
+onward-store y c (gave (done t)) = refl
+onward-store y c (gave (refused n)) = refl
+onward-store y c (gaveUp n t) = refl
 
 by-store : (least : ℕ) (k : Kind) (y : Both) → bothBy least k y .store ≡ stored least k (y .store)
 by-store least making y = refl
@@ -124,11 +131,12 @@ module _ (least : ℕ) (four : 4 ≤ least) (eight : least ≤ 8) where
   staysBy reading s = true
 
   change-stays : (b : List ℕ) → Accepts least b → (c : Call) (ns : List ℕ) → staying (changing c) (ended least (asks c) b ns .number) ≡ true → staysBy (changing c) (decode least b) ≡ true
-  change-stays b ok c ns h = at (callBy least (decode least b) c) (subst (λ (n : ℕ). staying (changing c) n ≡ true) (change-number least b ok c ns) h)
+  change-stays b ok c ns h = at (callBy least (decode least b) c) (subst (λ (n : ℕ). staying (changing c) n ≡ true) (change-number least b ok c ns) h) (call-stops least (decode least b) c)
     where
-      at : (r : Result) → staying (changing c) (numberOf r) ≡ true → Settings.staysIn c r ≡ true
-      at (done s) g = staying-done c g
-      at (refused n) g = refl
+      at : (r : Came) → staying (changing c) (numberBy r) ≡ true → Stopping c r → Settings.staysIn c r ≡ true
+      at (gave (done s)) g u = staying-done c g
+      at (gave (refused n)) g u = refl
+      at (gaveUp n t) g u = absurd (not-both (givesUp (changing c) n) u (staying-up c n g))
 
   turn-stays : (b : List ℕ) → Accepts least b → (a : Asked) (ns : List ℕ) → staying (kindOf a) (ended least a b ns .number) ≡ true → staysBy (kindOf a) (decode least b) ≡ true
   turn-stays b ok =

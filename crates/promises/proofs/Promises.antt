@@ -1,5 +1,5 @@
 -- The promises, each under its name: what it says stands in specs/Demand1, Demand2, Demand3, in a file for each request of document 02
--- (OldReadings, Bench, Differences, Lives, Releases), in Replayed and Fakes.
+-- (OldReadings, Bench, Differences, Lives, Releases, Returns), in Replayed and Fakes.
 -- Assumes nothing.
 use Prim.Native.Nat.{ℕ}
 use native.Mathlib.Omega.{arith}
@@ -16,9 +16,10 @@ use Rattle.model.specs.Walk.{Seen, seen, rootAt}
 use Rattle.model.specs.Sound.{sound}
 use Rattle.model.specs.Layout.{encode, decode}
 use Rattle.model.specs.Judged.{lengthOk}
-use Rattle.model.specs.Climb.{Result, done, refused as stopped}
+use Rattle.model.specs.Climb.{done, refused as stopped}
+use Rattle.model.specs.Return.{Came, gave, gaveUp}
 use Rattle.model.specs.Histories.{callBy, after}
-use Rattle.model.specs.Lent.{left}
+use Rattle.model.specs.Lent.{leftBy}
 use Rattle.model.specs.Ended.{Asked, toFresh, Ended, ended}
 use Rattle.model.proofs.Members.{true-holds, either-left, either-right, bool-cases, In, all-by}
 use Rattle.model.proofs.Judging.{accepted as judged-zero}
@@ -37,6 +38,7 @@ use Rattle.promises.specs.Lives.{LifeGiven, LivesAgree, StretchesApart, 
 use Rattle.promises.specs.Replayed.{TableLent}
 use Rattle.promises.specs.Bench.{KeptOut}
 use Rattle.promises.specs.Releases.{EmptyReleases}
+use Rattle.promises.specs.Returns.{Returns}
 use Rattle.promises.specs.Fakes.{FakesStopped}
 use Rattle.promises.proofs.Encoded as encoded
 use Rattle.promises.proofs.Judges as judging
@@ -51,6 +53,8 @@ use Rattle.promises.proofs.Restored as restored
 use Rattle.promises.proofs.KeptOut as bench
 use Rattle.promises.proofs.Replaying as replaying
 use Rattle.promises.proofs.Releasing as releasing
+use Rattle.promises.proofs.Returning as returning
+use Rattle.promises.proofs.Singly as singly
 use Rattle.promises.proofs.Fakes as fakes
 
 -- ---- demand 1
@@ -119,9 +123,10 @@ views-stay = stays.views-stay
 pub by-the-rules : ByTheRules
 by-the-rules least four eight b bytes ok c ns = ap (λ (e : Ended). e .store) (change-is least b ok c ns) ∙ at (callBy least (decode least b) c)
   where
-    at : (r : Result) → left least b r .store ≡ encode least (after (decode least b) r .store)
-    at (done t) = refl
-    at (stopped n) = sym (encoded.accepted least four eight b bytes ok .same)
+    at : (r : Came) → leftBy least b r .store ≡ encode least (after (decode least b) r .store)
+    at (gave (done t)) = refl
+    at (gave (stopped n)) = sym (encoded.accepted least four eight b bytes ok .same)
+    at (gaveUp n t) = refl
 
 pub reads-only : ReadsOnly
 reads-only least c b ns =
@@ -216,6 +221,18 @@ left-alone = lives.left-alone
 
 pub empty-releases : EmptyReleases
 empty-releases = releasing.empty-releases
+
+-- ---- 2026-07, return to an earlier version
+
+pub returns : Returns
+returns = record {
+  gives = returning.gives;
+  done = returning.when-done;
+  singly = singly.singly;
+  nothing = returning.when-nothing;
+  stopped = returning.when-stopped;
+  abandons = returning.is-abandon;
+}
 
 -- ---- fakes
 

@@ -1,10 +1,11 @@
 -- 15 is given exactly when the open version's settings equal the current version's, key for key.
 -- Assumes nothing.
-use Prim.Native.Nat.{ℕ, zero, suc, _*_, _≤_, _<_}
+use Prim.Native.Nat.{ℕ, suc, _*_, _≤_, _<_}
 use native.Mathlib.Omega.{arith}
 use mathlib.Core.Bool.{Bool, true, false, not}
 use mathlib.Core.Path.{_≡_, refl, ap, ap₂, sym, _∙_}
 use mathlib.Core.Option.{Option, none, some}
+use mathlib.Core.Logic.{_⊎_, inl, inr}
 use mathlib.Core.List.{List, [], _∷_}
 use lib.Dec.{leb, ltb, eqb}
 use lib.ListN.{length, getD}
@@ -17,7 +18,6 @@ use Rattle.model.specs.Store.{Store, next, last, lastOf}
 use Rattle.model.specs.Walk.{keyLimit, find, settings}
 use Rattle.model.specs.Same.{samePairs}
 use Rattle.model.specs.Layout.{bit, decode}
-use Rattle.model.specs.Judged.{judged}
 use Rattle.model.specs.Calls.{isSome, unchanged, rule, benchLimit, firstOf, lookedAt, lookedBy, lookedFound, lookedValue}
 use Rattle.model.specs.Histories.{commits}
 use Rattle.model.specs.Settings.{Machine, edited}
@@ -34,7 +34,7 @@ use Rattle.promises.specs.Views.{SaysSame}
 use Rattle.promises.specs.Differences.{Readable, differences}
 use Rattle.promises.specs.Releases.{Opened, Equal, Commits, NothingDiffers, EmptyReleases}
 use Rattle.promises.proofs.High.{commit-number}
-use Rattle.promises.proofs.Judges.{zero-accepts, untrusted}
+use Rattle.promises.proofs.Judges.{zero-accepts, late-accepts}
 use Rattle.promises.proofs.Lending.{change-number}
 use Rattle.promises.proofs.Agreed.{Agreed, one-turn, lent-agreed}
 use Rattle.promises.proofs.Answering.{answers}
@@ -70,11 +70,7 @@ module _ (least : ℕ) (b ns : List ℕ) where
   number-is ok = change-number least b ok commits ns ∙ commit-number least s
 
   fifteen-accepts : n ≡ 15 → Accepts least b
-  fifteen-accepts e = at (judged least b .number) refl
-    where
-      at : (j : ℕ) → judged least b .number ≡ j → Accepts least b
-      at zero z = z
-      at (suc j) z = absurd (omega (arith, untrusted least toCommit b ns refl (λ (k : Accepts least b). omega arith) .high))
+  fifteen-accepts e = late-accepts least toCommit b ns refl (omega arith)
 
   commits-so : Commits least b ns
   commits-so = record {
@@ -86,9 +82,13 @@ module _ (least : ℕ) (b ns : List ℕ) where
       λ e. let ok = zero-accepts least toCommit b ns refl e in let (o, q) = first-none (s .opened) (unchanged s) (sym (number-is ok) ∙ e) in (record { accepted = ok; opened = o }, λ z. not-both (unchanged s) (equal-settings s z) q),
       λ (o, q). number-is (o .accepted) ∙ ap (λ (x : Bool). firstOf (commitTests x (unchanged s))) (o .opened) ∙ by (unchanged s) refl q,
     );
-    nothing = λ e. refused least toCommit b ns (ended least toCommit b ns) refl (λ (z : n ≡ 0). omega arith);
+    nothing = λ e. refused least toCommit b ns (ended least toCommit b ns) refl (λ (z : n ≡ 0). omega arith) (λ x. late e (x .1));
   }
     where
+      late : n ≡ 15 → (n ≡ 12) ⊎ (n ≡ 13) → ⊥
+      late e (inl z) = omega arith
+      late e (inr z) = omega arith
+
       by : (q : Bool) → unchanged s ≡ q → (Equal s → ⊥) → firstOf (commitTests true q) ≡ 0
       by true e z = absurd (z (same-settings s e))
       by false e z = refl

@@ -14,7 +14,8 @@ use Rattle.model.specs.declared.Looked.the-variants.{Value, Absent}
 use Rattle.model.specs.Store.{Store, fresh}
 use Rattle.model.specs.Sound.{sound}
 use Rattle.model.specs.Layout.{bit, encode, decode}
-use Rattle.model.specs.Climb.{Result, done, refused}
+use Rattle.model.specs.Climb.{done, refused}
+use Rattle.model.specs.Return.{Came, gave, gaveUp}
 use Rattle.model.specs.Calls.{get, lookedNumber, lookedFound, lookedValue}
 use Rattle.model.specs.Histories
 use Rattle.model.specs.Histories.{Call, commits, abandons, deletes, callBy, After, after, runOn, from}
@@ -22,7 +23,7 @@ use Rattle.model.specs.Settings.{fits}
 use Rattle.model.specs.Replay.{History, allOf, holds, soundFrom, soundWay, looks, lookedNumbers, bytesOf}
 use Rattle.model.specs.Table.{history, insertKey, twenty, twentyOne, deleteFrom, reopened, table}
 use Rattle.model.specs.Proved.{P1-to-P12, table-sound}
-use Rattle.model.specs.Lent.{Outcome, left}
+use Rattle.model.specs.Lent.{Outcome, leftBy}
 use Rattle.model.specs.Ended.{toLookup, Ended, ofOutcome, ofLooked, ended}
 use Rattle.model.proofs.Lists.{both-true, all-cons}
 use Rattle.model.proofs.Members.{holds-true, true-holds, In, all-in, in-getD}
@@ -37,15 +38,16 @@ use Rattle.promises.proofs.Stays.{lookup-lent}
 -- ---- calls on the bytes of a sound store
 
 module _ (least : ℕ) (four : 4 ≤ least) (eight : least ≤ 8) where
-  left-after : (s : Store) (r : Result) → left least (encode least s) r ≡ record { number = after s r .number; store = encode least (after s r .store) }
-  left-after s (done t) = refl
-  left-after s (refused n) = refl
+  left-after : (s : Store) (r : Came) → leftBy least (encode least s) r ≡ record { number = after s r .number; store = encode least (after s r .store) }
+  left-after s (gave (done t)) = refl
+  left-after s (gave (refused n)) = refl
+  left-after s (gaveUp n t) = refl
 
   -- one
   one : (s : Store) → T (sound least s) → (c : Call) → ended least (asks c) (encode least s) [] ≡ ofOutcome [] (record { number = after s (callBy least s c) .number; store = encode least (after s (callBy least s c) .store) })
   one s sure c =
       let w : Written least s = encoded-sound least four eight s sure in
-      change-is least (encode least s) (w .accepted) c [] ∙ ap (λ (t : Store). ofOutcome [] (left least (encode least s) (callBy least t c))) (w .held)
+      change-is least (encode least s) (w .accepted) c [] ∙ ap (λ (t : Store). ofOutcome [] (leftBy least (encode least s) (callBy least t c))) (w .held)
       ∙ ap (ofOutcome []) (left-after s (callBy least s c))
 
   -- one after another

@@ -10,7 +10,8 @@ use borrow.Author.Tests.{leb-false}
 use Rattle.model.specs.Field.{Bytes}
 use Rattle.model.specs.Layout.{decode}
 use Rattle.model.specs.Calls.{rule, firstOf}
-use Rattle.model.specs.Histories.{Call, begins, commits, abandons, inserts, deletes}
+use Rattle.model.specs.Basic.{pick}
+use Rattle.model.specs.Histories.{Call, begins, commits, abandons, inserts, deletes, returns}
 use Rattle.model.specs.Settings.{Machine, step, isInside, lent, together}
 use Rattle.model.specs.Ended.{toOpen, toAbandon, ended}
 use Rattle.model.proofs.Lists.{both-true, both-intro, all-cons}
@@ -19,12 +20,12 @@ use Rattle.model.proofs.Undone.{abandoned-update}
 use Rattle.promises.specs.Accepts.{Accepts}
 use Rattle.promises.specs.Runs.{Turn, turned, runBytes, Kind, making, changing, reading, kindOf, notMaking, fitting, staying, inside, each}
 use Rattle.promises.specs.Demand3.{opening, abandoning, Restored, Abandoned}
-use Rattle.promises.specs.Beside.{Beside, whenDone, stepped, onward, along, fromLent}
+use Rattle.promises.specs.Beside.{Beside, whenDone, stepped, undone, onward, along, fromLent}
 use Rattle.promises.specs.Answers.{endTests}
 use Rattle.promises.proofs.High.{begin-number}
 use Rattle.promises.proofs.Judges.{zero-accepts, one-form}
 use Rattle.promises.proofs.Lending.{Leaves, held-sound, change-number}
-use Rattle.promises.proofs.Projected.{callsOf, calls-fit, staying-not, staying-done, calls-inside, calls-append, ran}
+use Rattle.promises.proofs.Projected.{callsOf, calls-fit, staying-not, staying-up, staying-done, calls-inside, calls-append, ran}
 use Rattle.promises.proofs.Agreed.{many-turns, lent-agreed}
 use Rattle.promises.proofs.Answering.{answers}
 
@@ -48,15 +49,21 @@ inside-open commits m h o = absurd (not-both false h refl)
 inside-open abandons m h o = absurd (not-both false h refl)
 inside-open (inserts k x) m h o = o
 inside-open (deletes k) m h o = o
+inside-open (returns v) m h o = o
 
 step-open : (k : Kind) (m : Machine) → staying k 0 ≡ true → m .opened ≡ true → stepped k m .opened ≡ true
 step-open making m h o = absurd (not-both false h refl)
 step-open (changing c) m h o = inside-open c m (staying-done c h) o
 step-open reading m h o = o
 
-when-open : (n : ℕ) (k : Kind) (m : Machine) → staying k n ≡ true → m .opened ≡ true → whenDone n (stepped k m) m .opened ≡ true
+undone-open : (k : Kind) (n : ℕ) (m : Machine) → staying k n ≡ true → m .opened ≡ true → undone k n m .opened ≡ true
+undone-open making n m h o = o
+undone-open (changing c) n m h o = ap (λ (b : Bool). pick b (step m abandons) m .opened) (staying-up c n h) ∙ o
+undone-open reading n m h o = o
+
+when-open : (n : ℕ) (k : Kind) (m : Machine) → staying k n ≡ true → m .opened ≡ true → whenDone n (stepped k m) (undone k n m) .opened ≡ true
 when-open zero k m h o = step-open k m h o
-when-open (suc n) k m h o = o
+when-open (suc n) k m h o = undone-open k (suc n) m h o
 
 still-open : (least : ℕ) (ts : List Turn) (x : Beside) → inside least (x .bytes) ts ≡ true → x .machine .opened ≡ true → along least x ts .machine .opened ≡ true
 still-open least [] x h o = o

@@ -1,20 +1,21 @@
 -- The premises of the promises can be met: by the model's two samples, by fresh stores of both editions, and by bytes that are no store.
 -- Assumes nothing.
-use Prim.Native.Nat.{ℕ, _≤_}
+use Prim.Native.Nat.{ℕ, suc, _≤_}
 use native.Mathlib.Omega.{arith}
 use mathlib.Core.Bool.{true, _&&_}
-use mathlib.Core.Path.{_≡_, refl, ap, _∙_}
+use mathlib.Core.Path.{_≡_, refl, ap, ap₂, sym, _∙_}
 use mathlib.Core.List.{List, [], _∷_}
 use lib.Dec.{lit≤}
 use Rattle.model.specs.Field.{Bytes}
-use Rattle.model.specs.Store.{Store, fresh}
+use Rattle.model.specs.Store.{Store, next, last, lastOf, fresh}
+use Rattle.model.specs.Walk.{settings}
 use Rattle.model.specs.Sound.{sound}
 use Rattle.model.specs.Layout.{encode, decode}
 use Rattle.model.specs.Judged
 use Rattle.model.specs.Calls.{firstOf}
-use Rattle.model.specs.Histories.{begins, commits}
+use Rattle.model.specs.Histories.{begins, commits, returns}
 use Rattle.model.specs.Settings.{start, step}
-use Rattle.model.specs.Ended.{toCheck, toOpen, toCommit, toInsert, toDelete, toLookup, toRange, toLife, toVisits, Asked, ended}
+use Rattle.model.specs.Ended.{toCheck, toOpen, toCommit, toInsert, toDelete, toLookup, toRange, toLife, toVisits, toReturn, Asked, Ended, ended}
 use Rattle.model.specs.Samples.{twoLevels, fromElsewhere}
 use Rattle.model.specs.Proved.{two-levels-sound, from-elsewhere-sound}
 use Rattle.model.proofs.Members.{true-holds}
@@ -26,17 +27,19 @@ use Rattle.promises.specs.Beside.{whenDone, onward, fromFresh}
 use Rattle.promises.specs.Answers.{commitTests, unchangedIn}
 use Rattle.promises.specs.Demand3.{opening}
 use Rattle.promises.specs.Fakes.{Honest}
-use Rattle.promises.proofs.Agreed.{many-turns, fresh-agreed}
+use Rattle.promises.proofs.Agreed.{Agreed, many-turns, fresh-agreed}
 use Rattle.promises.proofs.Answering.{answers}
+use Rattle.promises.proofs.Lending.{call-bytes}
+use Rattle.promises.proofs.Returning.{when-nothing}
 use Rattle.promises.proofs.Promises.{encoded-sound}
 
 abbrev turn : Asked → Turn
 turn c = record { call = c; list = [] }
 
--- calls of every kind that may stand inside an update, a commit and another open among them, which are refused
+-- calls of every kind that may stand inside an update, a return that is done, and a commit and another open, which are refused
 abbrev pub calls : List Turn
 calls =
-    turn toCommit ∷ turn toCheck ∷ turn (toInsert 5 50) ∷ turn (toInsert 5 51) ∷ turn (toDelete 2) ∷ turn toOpen ∷ turn (toLookup 5 2)
+    turn (toReturn 0) ∷ turn toCommit ∷ turn toCheck ∷ turn (toInsert 5 50) ∷ turn (toInsert 5 51) ∷ turn (toDelete 2) ∷ turn toOpen ∷ turn (toLookup 5 2)
     ∷ record { call = toRange 0 100 2; list = 0 ∷ 0 ∷ [] } ∷ record { call = toVisits 5 1; list = 0 ∷ 0 ∷ [] }
     ∷ turn (toLife 5) ∷ []
 
@@ -71,11 +74,28 @@ none e = omega arith
 opened : turned 4 (encode 4 (fresh 6)) opening .number ≡ 0
 opened = answers 4 (lit≤ tt) (lit≤ tt) (fromFresh 4 6) (fresh-agreed 4 (lit≤ tt) (lit≤ tt) 6 (lit≤ tt) (lit≤ tt)) .opens []
 
+agreed : Agreed 4 (onward 4 (fromFresh 4 6) opening)
+agreed = many-turns 4 (lit≤ tt) (lit≤ tt) (opening ∷ []) refl (fromFresh 4 6) (fresh-agreed 4 (lit≤ tt) (lit≤ tt) 6 (lit≤ tt) (lit≤ tt))
+
 empty : ended 4 toCommit (turned 4 (encode 4 (fresh 6)) opening .store) [] .number ≡ 15
 empty =
-    answers 4 (lit≤ tt) (lit≤ tt) (onward 4 (fromFresh 4 6) opening)
-    (many-turns 4 (lit≤ tt) (lit≤ tt) (opening ∷ []) refl (fromFresh 4 6) (fresh-agreed 4 (lit≤ tt) (lit≤ tt) 6 (lit≤ tt) (lit≤ tt))) .commits []
+    answers 4 (lit≤ tt) (lit≤ tt) (onward 4 (fromFresh 4 6) opening) agreed .commits []
     ∙ ap (λ (n : ℕ). firstOf (commitTests (whenDone n (step start begins) start .opened) (unchangedIn (whenDone n (step start begins) start)))) opened
+
+-- and a return to version 0 is done, with nothing to do
+abbrev begun : List ℕ
+begun = turned 4 (encode 4 (fresh 6)) opening .store
+
+returned : ended 4 (toReturn 0) begun [] ≡ record { number = 0; results = []; store = begun; list = [] }
+returned =
+    let w : Written 4 (fresh 6) = fresh-written 4 (lit≤ tt) (lit≤ tt) in
+    let s : Store = decode 4 begun in
+    let open-then : s .opened ≡ true = agreed .agrees .opened ∙ ap (λ (n : ℕ). whenDone n (step start begins) start .opened) opened in
+    let first : s .current ≡ 0 = agreed .agrees .current ∙ ap (λ (n : ℕ). whenDone n (step start begins) start .current) opened in
+    let readable : last s ≡ 1 = ap₂ lastOf open-then first in
+    let new : settings s (next s) ≡ [] = agreed .agrees .shows (next s) (omega arith) ∙ ap₂ (λ (n c : ℕ). whenDone n (step start begins) start .shows (suc c)) opened first in
+    let old : settings s 0 ≡ [] = agreed .agrees .shows 0 (omega arith) ∙ ap (λ (n : ℕ). whenDone n (step start begins) start .shows 0) opened in
+    when-nothing 4 (lit≤ tt) (lit≤ tt) begun (call-bytes 4 (lit≤ tt) (lit≤ tt) (encode 4 (fresh 6)) (w .accepted) (w .bytes) toOpen refl []) (agreed .accepted) open-then 0 (omega arith) (new ∙ sym old) []
 
 pub met : Met
 met =
@@ -87,7 +107,9 @@ met =
       committed = omega (arith, ap (λ (s : Store). s .current) (two .held));
       no-store = none;
       fit = refl;
-      stay = ap (λ (n : ℕ). staying (changing commits) n && true) empty;
+      stay =
+          ap₂ (λ (m n : ℕ). staying (changing (returns 0)) m && (staying (changing commits) n && true)) (ap (λ (e : Ended). e .number) returned)
+          (ap (λ (e : Ended). ended 4 toCommit (e .store) [] .number) returned ∙ empty);
       not-fresh = refl;
       opens = (fresh-written 4 (lit≤ tt) (lit≤ tt) .bytes, opened);
       honest = λ c b ns. refl;

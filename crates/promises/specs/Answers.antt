@@ -17,9 +17,10 @@ use Rattle.model.specs.Calls.{isSome, Rule, rule, insertTests, deleteTests, fir
 use Rattle.model.specs.Told.{toldBy}
 use Rattle.model.specs.Differ.{differ, deltaNumbers}
 use Rattle.model.specs.Life.{lifeOf, stretchNumbers}
+use Rattle.model.specs.Return.{returnTests}
 use Rattle.model.specs.Settings.{Machine}
 use Rattle.model.specs.Lent.{listed}
-use Rattle.model.specs.Ended.{toOpen, toCommit, toAbandon, toInsert, toDelete, toLookup, toRange, toLife, toDifference, ended, ofLooked, ofListed}
+use Rattle.model.specs.Ended.{toOpen, toCommit, toAbandon, toInsert, toDelete, toReturn, toLookup, toRange, toLife, toDifference, ended, ofLooked, ofListed}
 use Rattle.promises.specs.Accepts.{Accepts}
 use Rattle.promises.specs.Beside.{Beside}
 
@@ -27,7 +28,8 @@ use Rattle.promises.specs.Beside.{Beside}
 abbrev pub lastIn : Machine → ℕ
 lastIn m = lastOf (m .opened) (m .current)
 
--- ---- the tests of each call's refusals, smallest number first; insert's and delete's stand with the calls (model/specs/Calls)
+-- ---- the tests of each call's refusals, smallest number first; insert's, delete's and return's stand with the calls (model's Calls and
+-- Return)
 
 -- 5 "key too large", 6 "version above last"
 abbrev pub lookupTests : ℕ → ℕ → ℕ → List Rule
@@ -83,8 +85,8 @@ aliveIn m k = isSome (find k (m .shows (suc (m .current))))
 abbrev pub unchangedIn : Machine → Bool
 unchangedIn m = samePairs (m .shows (m .current)) (m .shows (suc (m .current)))
 
--- The number of an insert or a delete: that of the first test that holds; if none does, 0, or 12 or 13 (which are given exactly when the
--- rules lack a page or a slot: `Lacking`).
+-- The number of an insert, a delete or a return: that of the first test that holds; if none does, 0, or 12 or 13 (which an insert or a delete gives
+-- exactly when the rules lack a page or a slot: `Lacking`).
 abbrev pub Gives : ℕ → ℕ → Type 0
 Gives zero n = (n ≡ 0) ⊎ ((n ≡ 12) ⊎ (n ≡ 13))
 Gives (suc m) n = n ≡ suc m
@@ -106,3 +108,4 @@ pub record Answers (least : ℕ) (x : Beside) : Type 0 where
   pub abandons : (ns : List ℕ) → ended least toAbandon (x .bytes) ns .number ≡ firstOf (endTests (x .machine .opened))
   pub inserts : (k v : ℕ) (ns : List ℕ) → Gives (firstOf (insertTests k (x .machine .opened) (aliveIn (x .machine) k))) (ended least (toInsert k v) (x .bytes) ns .number)
   pub deletes : (k : ℕ) (ns : List ℕ) → Gives (firstOf (deleteTests k (x .machine .opened) (aliveIn (x .machine) k))) (ended least (toDelete k) (x .bytes) ns .number)
+  pub returns : (v : ℕ) (ns : List ℕ) → Gives (firstOf (returnTests (x .machine .current) (x .machine .opened) v)) (ended least (toReturn v) (x .bytes) ns .number)

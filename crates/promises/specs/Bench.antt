@@ -2,10 +2,10 @@
 -- delete still take them, so that stores already shipped can be read and cleaned".
 -- Assumes nothing.
 use Prim.Native.Nat.{ℕ, _≤_}
-use mathlib.Core.Bool.{true}
+use mathlib.Core.Bool.{Bool, true, false}
 use mathlib.Core.Path.{_≡_}
 use mathlib.Core.List.{List}
-use lib.Dec.{ltb}
+use lib.Dec.{leb, ltb}
 use Rattle.model.specs.Basic.{all}
 use Rattle.model.specs.declared.Pair.{Pair}
 use Rattle.model.specs.Store
@@ -13,19 +13,31 @@ use Rattle.model.specs.Store.{Store, last}
 use Rattle.model.specs.Walk.{settings}
 use Rattle.model.specs.Layout.{encode, decode}
 use Rattle.model.specs.Calls.{benchLimit}
+use Rattle.model.specs.Histories.{begins, commits, abandons, inserts, deletes, returns}
 use Rattle.model.specs.Ended.{toInsert, ended}
 use Rattle.promises.specs.Accepts.{Accepts}
-use Rattle.promises.specs.Runs.{Turn, runBytes, notMaking, fitting, each}
+use Rattle.promises.specs.Runs.{Turn, runBytes, Kind, making, changing, reading, fitting, each}
 
 -- from version u on, none has a bench key
 abbrev pub BenchFree : ℕ → Store → Type 0
 BenchFree u s = (v : ℕ) → u ≤ v → v ≤ last s → all (λ (x : Pair). ltb (x .key) benchLimit) (settings s v) ≡ true
+
+-- any call but making fresh, and a return to a version before u: "Bench keys from before 2026-06 are let through here" (2026-07)
+abbrev pub notBehind : ℕ → Kind → Bool
+notBehind u making = false
+notBehind u (changing begins) = true
+notBehind u (changing commits) = true
+notBehind u (changing abandons) = true
+notBehind u (changing (inserts k x)) = true
+notBehind u (changing (deletes k)) = true
+notBehind u (changing (returns v)) = leb u v
+notBehind u reading = true
 
 pub record KeptOut : Type 0 where
   -- whatever else speaks against the insert; by `refused` store and list are untouched
   pub five : (least : ℕ) (b : List ℕ) → Accepts least b → (k x : ℕ) (ns : List ℕ) → benchLimit ≤ k → ended least (toInsert k x) b ns .number ≡ 5
   -- from a fresh store on, whatever is called
   pub fresh : (least : ℕ) → 4 ≤ least → least ≤ 8 → (n : ℕ) → 6 ≤ n → n ≤ 4096 → (ts : List Turn) → each fitting ts ≡ true → BenchFree 0 (decode least (runBytes least (encode least (Store.fresh n)) ts))
-  -- a store that is clean from its current version on stays so, whatever is called, short of making it fresh
+  -- a store that is clean from its current version on stays so, whatever is called, short of making it fresh or returning to an older version
   pub cleaned : (least : ℕ) → 4 ≤ least → least ≤ 8 → (b : List ℕ) → Accepts least b → BenchFree (decode least b .current) (decode least b)
-      → (ts : List Turn) → each fitting ts ≡ true → each notMaking ts ≡ true → BenchFree (decode least b .current) (decode least (runBytes least b ts))
+      → (ts : List Turn) → each fitting ts ≡ true → each (notBehind (decode least b .current)) ts ≡ true → BenchFree (decode least b .current) (decode least (runBytes least b ts))

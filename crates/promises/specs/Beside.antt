@@ -1,14 +1,16 @@
 -- The machine of plain settings (model's Settings) beside lent bytes. Accepted calls step it; refused calls and readings leave it; making
--- fresh begins it anew.
+-- fresh begins it anew; a return that ends in 12 or 13 abandons.
 -- Assumes nothing.
 use Prim.Native.Nat.{ℕ, zero, suc}
 use mathlib.Core.List.{List, [], _∷_}
 use lib.ListN.{length}
+use Rattle.model.specs.Basic.{pick}
 use Rattle.model.specs.Store.{fresh}
 use Rattle.model.specs.Walk.{settings}
 use Rattle.model.specs.Layout.{encode, decode}
+use Rattle.model.specs.Histories.{abandons}
 use Rattle.model.specs.Settings.{Machine, start, step, Tally, nothingYet, counted}
-use Rattle.promises.specs.Runs.{Turn, turned, Kind, making, changing, reading, kindOf}
+use Rattle.promises.specs.Runs.{Turn, turned, Kind, making, changing, reading, kindOf, givesUp}
 
 -- bytes, the machine, and how many inserts and deletes were accepted
 pub record Beside : Type 0 where
@@ -28,6 +30,10 @@ stepped making m = start
 stepped (changing c) m = step m c
 stepped reading m = m
 
+-- after a number other than 0; 2026-07: "one that ends in 12 or 13 is itself the abandon"
+abbrev pub undone : Kind → ℕ → Machine → Machine
+undone k n m = pick (givesUp k n) (step m abandons) m
+
 abbrev pub talliedBy : Kind → Machine → Tally → Tally
 talliedBy making m t = nothingYet
 talliedBy (changing c) m t = counted m t c
@@ -39,7 +45,7 @@ onward least x t =
     let k = kindOf (t .call) in
     record {
       bytes = e .store;
-      machine = whenDone (e .number) (stepped k (x .machine)) (x .machine);
+      machine = whenDone (e .number) (stepped k (x .machine)) (undone k (e .number) (x .machine));
       tally = whenDone (e .number) (talliedBy k (x .machine) (x .tally)) (x .tally);
     }
 

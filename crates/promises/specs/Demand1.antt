@@ -13,7 +13,7 @@ use Rattle.model.specs.Sound.{sound}
 use Rattle.model.specs.Layout.{sizeOf, encode, decode}
 use Rattle.model.specs.Clean.{clean}
 use Rattle.model.specs.Judged.{lengthOk, magicOk, editionOk}
-use Rattle.model.specs.Ended.{Asked, toFresh, Ended, ended, Meets, Untouched, Named, Zeros}
+use Rattle.model.specs.Ended.{Asked, toFresh, Ended, ended, Meets, Untouched, Excepted, Named, Zeros}
 use Rattle.promises.specs.Accepts.{Accepts}
 use Rattle.promises.specs.Runs.{notMaking, kindOf}
 
@@ -22,10 +22,10 @@ use Rattle.promises.specs.Runs.{notMaking, kindOf}
 abbrev pub Unique : Type 0
 Unique = (least : ℕ) (c : Asked) (b ns : List ℕ) (e f : Ended) → Meets least c b ns e → Meets least c b ns f → e ≡ f
 
--- ---- "A refused call changes no byte of the store or of the caller's list."
+-- ---- "A refused call changes no byte of the store or of the caller's list": but for a return that gives 12 or 13 (`Excepted`)
 
 abbrev pub Refused : Type 0
-Refused = (least : ℕ) (c : Asked) (b ns : List ℕ) (e : Ended) → Meets least c b ns e → e .number ≢ 0 → Untouched b ns e
+Refused = (least : ℕ) (c : Asked) (b ns : List ℕ) (e : Ended) → Meets least c b ns e → e .number ≢ 0 → (Excepted c (e .number) → ⊥) → Untouched b ns e
 
 -- and "any result not named here is 0"
 abbrev pub Blank : Type 0

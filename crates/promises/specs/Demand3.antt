@@ -26,7 +26,8 @@ pub record Restored (least : ℕ) (b : List ℕ) (ts : List Turn) : Type 0 where
   pub later : (c : Asked) (ns : List ℕ) → ended least c (runBytes least b (opening ∷ (ts ++ (abandoning ∷ [])))) ns ≡ ended least c b ns
 
 -- An open is accepted on no other bytes than those of a sound store with no update open. The calls inside (`inside`) are all but abandon, a
--- commit that is done, which end the update, and making fresh. "refused calls" are among them, a commit refused by 15 too.
+-- commit that is done and a return that ends in 12 or 13, which end the update, and making fresh. "refused calls" are among them, a commit
+-- refused by 15 too, and a return that is done: 2026-07, "Demand 3 takes a return that is done as one more call".
 abbrev pub Abandoned : Type 0
 Abandoned = (least : ℕ) → 4 ≤ least → least ≤ 8 → (b : List ℕ) → Bytes b → turned least b opening .number ≡ 0
     → (ts : List Turn) → each fitting ts ≡ true → inside least b (opening ∷ ts) ≡ true → Restored least b ts

@@ -12,4 +12,5 @@ pub mod Differences
 pub mod Releases
 pub mod Replayed
 pub mod Bench
+pub mod Returns
 pub mod Fakes

@@ -5,10 +5,11 @@ use mathlib.Core.Bool.{Bool, true, false, _&&_, _||_, not}
 use mathlib.Core.List.{List, [], _∷_}
 use lib.Dec.{eqb}
 use Rattle.model.specs.Basic.{all}
-use Rattle.model.specs.Histories.{Call, begins, commits, abandons, inserts, deletes}
+use Rattle.model.specs.Return.{lacking}
+use Rattle.model.specs.Histories.{Call, begins, commits, abandons, inserts, deletes, returns}
 use Rattle.model.specs.Settings
 use Rattle.model.specs.Lent.{Outcome}
-use Rattle.model.specs.Ended.{Asked, toFresh, toCheck, toOpen, toCommit, toAbandon, toInsert, toDelete, toLookup, toRange, toLife, toDifference, toVisits, Ended, ended}
+use Rattle.model.specs.Ended.{Asked, toFresh, toCheck, toOpen, toCommit, toAbandon, toInsert, toDelete, toReturn, toLookup, toRange, toLife, toDifference, toVisits, Ended, ended}
 
 -- a call, and the list lent with it; each may bring another list
 pub record Turn : Type 0 where
@@ -44,6 +45,7 @@ kindOf toCommit = changing commits
 kindOf toAbandon = changing abandons
 kindOf (toInsert k x) = changing (inserts k x)
 kindOf (toDelete k) = changing (deletes k)
+kindOf (toReturn v) = changing (returns v)
 kindOf (toLookup k v) = reading
 kindOf (toRange lo hi v) = reading
 kindOf (toVisits k v) = reading
@@ -57,6 +59,7 @@ asks commits = toCommit
 asks abandons = toAbandon
 asks (inserts k x) = toInsert k x
 asks (deletes k) = toDelete k
+asks (returns v) = toReturn v
 
 -- any call but making fresh
 abbrev pub notMaking : Kind → Bool
@@ -70,11 +73,22 @@ fitting making = true
 fitting (changing c) = Settings.fits c
 fitting reading = true
 
--- A call, by the number that it gave, that leaves an open update open: all but making fresh; commit and abandon only if refused, as a commit
--- is by 15.
+-- 2026-07: a return that ends in 12 or 13 "is itself the abandon"
+abbrev pub givesUp : Kind → ℕ → Bool
+givesUp making n = false
+givesUp (changing begins) n = false
+givesUp (changing commits) n = false
+givesUp (changing abandons) n = false
+givesUp (changing (inserts k x)) n = false
+givesUp (changing (deletes k)) n = false
+givesUp (changing (returns v)) n = lacking n
+givesUp reading n = false
+
+-- A call, by the number that it gave, that leaves an open update open: all but making fresh and a return that is the abandon; commit and
+-- abandon only if refused, as a commit is by 15.
 abbrev pub staying : Kind → ℕ → Bool
 staying making n = false
-staying (changing c) n = Settings.isInside c || not (eqb n 0)
+staying (changing c) n = not (givesUp (changing c) n) && (Settings.isInside c || not (eqb n 0))
 staying reading n = true
 
 -- each of a list of calls, made one after the other on bytes
@@ -90,6 +104,7 @@ uncommitting (changing commits) = false
 uncommitting (changing abandons) = true
 uncommitting (changing (inserts k x)) = true
 uncommitting (changing (deletes k)) = true
+uncommitting (changing (returns v)) = true
 uncommitting reading = true
 
 -- each call of a list so

@@ -2,3 +2,4 @@ pub mod Foreseen
 pub mod Level
 pub mod Applied
 pub mod Whole
+pub mod Single

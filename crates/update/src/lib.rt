@@ -1,11 +1,15 @@
 // One change at the leaf for a key, at the open version, on a sound store. The number that it comes to is foreseen before the first
 // byte is written, so that a refusal leaves the store untouched.
+mod single;
+
 use climb::Worked;
 use edit::Change;
 use model::Limits;
 use plan::Outlook;
 use plan::Way;
 use root::Rooted;
+pub use single::raw_delete;
+pub use single::raw_insert;
 ghost use mathlib.Core.Path.{_≡_};
 ghost use mathlib.Core.Bool.{true};
 ghost use Prim.Native.Nat.{_<_};

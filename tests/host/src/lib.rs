@@ -16,6 +16,7 @@ mod c {
         pub fn rcst_delete(store: *mut u8, length: usize, key: u32) -> u32;
         pub fn rcst_commit(store: *mut u8, length: usize) -> u32;
         pub fn rcst_abandon(store: *mut u8, length: usize) -> u32;
+        pub fn rcst_return(store: *mut u8, length: usize, version: u32) -> u32;
         pub fn rcst_lookup(
             store: *const u8,
             length: usize,
@@ -98,6 +99,12 @@ pub fn commit(store: &mut [u8]) -> u32 {
 /// Abandons the open update.
 pub fn abandon(store: &mut [u8]) -> u32 {
     unsafe { c::rcst_abandon(store.as_mut_ptr(), store.len()) }
+}
+
+/// Makes the open version's settings those of a committed version; with 12 or
+/// 13 the update is abandoned.
+pub fn return_to(store: &mut [u8], version: u32) -> u32 {
+    unsafe { c::rcst_return(store.as_mut_ptr(), store.len(), version) }
 }
 
 /// The number, whether the key is alive at the version, and its value.
@@ -200,6 +207,7 @@ impl Engine for Proved {
             Call::Abandon => Answer::of(abandon(store)),
             Call::Insert(key, value) => Answer::of(insert(store, key, value)),
             Call::Delete(key) => Answer::of(delete(store, key)),
+            Call::Return(version) => Answer::of(return_to(store, version)),
             Call::Check => {
                 let (number, rule) = check(store);
                 Answer {

@@ -28,6 +28,9 @@ fn small_stores() {
     for work in ["root grown", "root gone", "root copied", "freed", "killed"] {
         assert!(met.did(work) > 10, "{work}: {met:?}");
     }
+    for number in [0, 6, 12] {
+        assert!(met.returns.contains_key(&number), "{number}: {met:?}");
+    }
 }
 
 #[test]

@@ -52,6 +52,12 @@ pub fn abandon(bytes: &mut [u8]) -> u32 {
     judged(bytes).unwrap_or_else(|| unjudged::abandon(bytes))
 }
 
+/// Makes the open version's settings those of a committed version. With 12 and
+/// 13 the whole update is abandoned.
+pub fn return_to(bytes: &mut [u8], version: u32) -> u32 {
+    judged(bytes).unwrap_or_else(|| unjudged::return_to(bytes, version))
+}
+
 /// The number, whether the key was found, and its value.
 pub fn lookup(bytes: &[u8], key: u32, version: u32) -> (u32, bool, u32) {
     match judged(bytes) {

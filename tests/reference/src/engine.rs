@@ -15,6 +15,8 @@ pub enum Call {
     Delete(u32),
     Commit,
     Abandon,
+    /// Version.
+    Return(u32),
     /// Key and version.
     Lookup(u32, u32),
     /// Low, high, version, and how many numbers the lent list holds.
@@ -115,6 +117,7 @@ pub fn apply(call: Call, store: &mut [u8], list: &mut [u32]) -> Answer {
         Call::Delete(key) => Answer::of(calls::delete(store, key)),
         Call::Commit => Answer::of(calls::commit(store)),
         Call::Abandon => Answer::of(calls::abandon(store)),
+        Call::Return(version) => Answer::of(calls::return_to(store, version)),
         Call::Check => {
             let (number, rule) = calls::check(store);
             Answer {

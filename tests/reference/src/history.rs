@@ -51,6 +51,9 @@ pub struct History {
     left: u32,
     /// One in this many closings is an abandon.
     abandons: u32,
+    /// Whether it goes back to earlier versions. That undoes what has grown, so
+    /// only half of the histories do.
+    returns: bool,
     /// Refusals for lack of a page or slot since the last fresh store.
     stuck: u32,
     begun: bool,
@@ -85,6 +88,7 @@ impl History {
             growing: true,
             left: 0,
             abandons: rng.between(2, 12),
+            returns: seed / 4 % 2 == 1,
             stuck: 0,
             begun: true,
             model,
@@ -122,6 +126,10 @@ impl History {
         }
         if [number::NO_FREE_PAGE, number::NO_FREE_SLOT].contains(&answer.number) {
             self.stuck += 1;
+            if matches!(call, Call::Return(_)) {
+                // "The whole update is abandoned, its earlier calls included."
+                self.model.record(Call::Abandon);
+            }
             // What cannot grow may still shrink, or start over by an abandon.
             self.growing = self.rng.once_in(3);
             self.left = self.left.min(self.rng.below(8));
@@ -143,9 +151,20 @@ impl History {
         }
         self.left -= 1;
         match self.kind {
+            Kind::NewRoots if self.returns && self.rng.once_in(150) => self.go_back(),
             Kind::NewRoots => self.renew(),
+            _ if self.returns && self.rng.once_in(25) => self.go_back(),
             _ => self.insert_or_delete(),
         }
+    }
+
+    fn go_back(&mut self) -> Call {
+        let current = self.model.current;
+        Call::Return(match self.rng.below(4) {
+            0 => current,
+            1 => current.saturating_sub(1),
+            _ => self.rng.between(0, current),
+        })
     }
 
     fn length_of_update(&mut self) -> u32 {
@@ -308,7 +327,7 @@ impl History {
         };
         let (key, version) = (self.some_key(), self.some_version());
         let word = self.rng.word();
-        match self.rng.below(18) {
+        match self.rng.below(if self.returns { 20 } else { 18 }) {
             0 => Call::Insert(too_large, word),
             1 => Call::Delete(too_large),
             2 => Call::Lookup(too_large, version),
@@ -327,6 +346,9 @@ impl History {
             14 => Call::Difference(late, version, 4),
             15 => Call::Difference(version, late, 0),
             16 => Call::Life(too_large, 3),
+            18 => Call::Return(late),
+            19 if self.model.is_open() => Call::Return(self.model.last()),
+            19 => self.go_back(),
             _ => Call::Range(too_large, too_large, version, 4),
         }
     }

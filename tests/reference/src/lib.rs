@@ -7,7 +7,7 @@
 //! - [`bits`], [`layout`], [`store`]: where each number stands in the bytes;
 //! - [`check`]: when a store is sound, a module for each rule;
 //! - [`walk`]: lookups and ranges; [`update`] over a [`draft`]: the page rules;
-//!   [`mod@abandon`]; [`mod@difference`]; [`mod@life`];
+//!   [`mod@abandon`]; [`mod@difference`]; [`mod@life`]; [`returning`];
 //! - [`unjudged`]: the calls on a store known to be sound, and [`calls`]: the
 //!   calls as the console has them, on any bytes;
 //! - [`console`]: the line language.
@@ -43,6 +43,7 @@ pub mod life;
 pub mod lines;
 pub mod model;
 pub mod number;
+pub mod returning;
 pub mod rng;
 pub mod samples;
 pub mod store;

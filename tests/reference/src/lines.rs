@@ -57,13 +57,23 @@ impl Session {
     /// The history's first call makes the store fresh.
     fn begin(&mut self, input: &mut Vec<u8>) {
         self.store = vec![0; self.pages * PAGE_BYTES];
-        let call = self.history.next_call();
+        let call = self.next_call();
         self.write(call, input, None);
     }
 
     fn line(&mut self, rng: &mut Rng, input: &mut Vec<u8>) {
-        let call = self.history.next_call();
+        let call = self.next_call();
         self.write(call, input, Some(rng));
+    }
+
+    /// The console has no line for a return, and none stands for it.
+    fn next_call(&mut self) -> Call {
+        loop {
+            match self.history.next_call() {
+                Call::Return(_) => continue,
+                call => return call,
+            }
+        }
     }
 
     fn write(&mut self, call: Call, input: &mut Vec<u8>, rng: Option<&mut Rng>) {
@@ -85,7 +95,7 @@ impl Session {
         match call {
             Call::Fresh => format!("store {}", self.pages),
             // There is no line for these; a lookup judges the store as well.
-            Call::Check | Call::Difference(..) | Call::Life(..) => {
+            Call::Check | Call::Difference(..) | Call::Life(..) | Call::Return(_) => {
                 format!("get 0 {}", self.history.model().last())
             }
             Call::Open => "open".to_string(),

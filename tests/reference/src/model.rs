@@ -85,6 +85,8 @@ impl Model {
             Call::Open => Answer::of(self.number_of_open()),
             Call::Commit if self.nothing_changed() => Answer::of(number::NOTHING_CHANGED),
             Call::Commit | Call::Abandon => Answer::of(self.number_unless_open()),
+            Call::Return(version) if version > self.current => Answer::of(number::VERSION),
+            Call::Return(_) => Answer::of(self.number_unless_open()),
             Call::Insert(key, _) if key >= FIRST_BENCH_KEY => Answer::of(number::ARGUMENT),
             Call::Insert(key, _) => Answer::of(self.number_of_update(key, number::KEY_ALIVE)),
             Call::Delete(key) => Answer::of(self.number_of_update(key, number::KEY_NOT_ALIVE)),
@@ -229,6 +231,7 @@ impl Model {
                 self.committed.insert(self.current, settings);
             }
             Call::Abandon => self.open = None,
+            Call::Return(version) => *self.opened() = self.at(version).clone(),
             Call::Check | Call::Lookup(..) | Call::Range(..) => {}
             Call::Visits(..) | Call::Difference(..) | Call::Life(..) => {}
         }

@@ -8,7 +8,7 @@
 use crate::difference::differences;
 use crate::layout::{Header, FIRST_BENCH_KEY, HIGHEST_KEY, HIGHEST_VERSION};
 use crate::update::{self, Change};
-use crate::{abandon, life, number, store, walk};
+use crate::{abandon, life, number, returning, store, walk};
 
 pub fn open(bytes: &mut [u8]) -> u32 {
     let header = store::header(bytes);
@@ -105,6 +105,23 @@ pub fn abandon(bytes: &mut [u8]) -> u32 {
     }
     abandon::abandon(bytes);
     number::DONE
+}
+
+/// Makes the open version's settings those of a committed version, or abandons
+/// the update with the number of the first step that is refused.
+pub fn return_to(bytes: &mut [u8], version: u32) -> u32 {
+    let header = store::header(bytes);
+    if version > header.current {
+        return number::VERSION;
+    }
+    if !header.open {
+        return number::NONE_OPEN;
+    }
+    let number = returning::make_steps(bytes, version);
+    if number != number::DONE {
+        abandon::abandon(bytes);
+    }
+    number
 }
 
 /// The number, whether the key was found, and its value.

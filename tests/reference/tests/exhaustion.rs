@@ -119,7 +119,7 @@ fn thirteen_never_where_the_open_version_has_its_slot() {
 #[test]
 fn thirteen_in_histories() {
     let mut history = History::new(5, Kind::NewRoots, 280);
-    let followed = follow(&mut history, vec![0; 280 * 256], 3800);
+    let followed = follow(&mut history, vec![0; 280 * 256], 4000);
     println!("{:?}", followed.tally);
     assert!(followed.tally[&13] > 3);
 }

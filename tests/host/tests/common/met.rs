@@ -2,6 +2,7 @@
 
 use std::collections::BTreeMap;
 
+use super::may_write;
 use host::Proved;
 use reference::beside::{compare, Tally};
 use reference::engine::{Call, Reference};
@@ -14,6 +15,8 @@ use reference::{store, walk};
 #[derive(Debug, Default)]
 pub struct Met {
     pub numbers: Tally,
+    /// Those of returns alone.
+    pub returns: Tally,
     pub works: BTreeMap<&'static str, u64>,
     pub highest_level: u32,
 }
@@ -37,7 +40,11 @@ impl Met {
                 .unwrap_or_else(|difference| panic!("call {at}: {difference:?}"));
             history.observe(call, &answer);
             *self.numbers.entry(answer.number).or_default() += 1;
-            assert!(answer.number == 0 || left == before, "call {at}: {call:?}");
+            let untouched = !may_write(call, answer.number);
+            assert!(!untouched || left == before, "call {at}: {call:?}");
+            if let Call::Return(_) = call {
+                *self.returns.entry(answer.number).or_default() += 1;
+            }
             if answer.number == 0 && matches!(call, Call::Insert(..) | Call::Delete(_)) {
                 self.observe(&before, &left);
             }

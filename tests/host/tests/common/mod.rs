@@ -19,6 +19,12 @@ pub fn rounds(usual: u64) -> u64 {
     }
 }
 
+/// Whether a call with this number may have changed the store: one that is
+/// done, and a return that ends in 12 or 13, which is the abandon.
+pub fn may_write(call: Call, number: u32) -> bool {
+    number == 0 || matches!((call, number), (Call::Return(_), 12 | 13))
+}
+
 /// One call on both programs, each on a copy of `store`: equal in number,
 /// results, every byte of the store and every number of the list. Its answer,
 /// and the store after it.

@@ -155,7 +155,7 @@ impl Writer {
             _ => self.rng.below(12),
         };
         let (key, other) = (self.any_key(), self.any_key());
-        let call = match self.rng.below(14) {
+        let call = match self.rng.below(15) {
             0 => Call::Check,
             1 => Call::Open,
             2 => Call::Insert(key, other),
@@ -166,6 +166,7 @@ impl Writer {
             8 | 9 => Call::Lookup(key, version),
             10 => Call::Difference(version, self.rng.below(12), 40),
             11 => Call::Life(key, 9),
+            12 => Call::Return(version),
             _ => Call::Range(key, other, version, self.rng.below(400) as usize),
         };
         self.write_call(call);
@@ -207,6 +208,9 @@ pub const MALFORMED: &[&str] = &[
     "range 1 2",
     "life",
     "life 1 2",
+    "return",
+    "return 1 2",
+    "return to 1",
     "diff 1",
     "diff 1 2 3",
     "difference 1 2",

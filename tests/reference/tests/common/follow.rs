@@ -18,6 +18,9 @@ pub struct Followed {
     pub highest_level: u32,
     pub abandons: u64,
     pub roots_that_went: u64,
+    /// Returns that were done, and that ended in 12 or 13.
+    pub returns: u64,
+    pub stopped: u64,
 }
 
 struct Follower {
@@ -54,6 +57,10 @@ pub fn follow(history: &mut History, store: Vec<u8>, count: usize) -> Followed {
     follower.followed
 }
 
+fn is_lack(number: u32) -> bool {
+    [number::NO_FREE_PAGE, number::NO_FREE_SLOT].contains(&number)
+}
+
 fn settings_of(model: &Model) -> i64 {
     model.at(model.last()).len() as i64
 }
@@ -67,7 +74,14 @@ impl Follower {
         self.compare(call, answer, &before, model);
         compare_list(call, answer, &list, &before, model);
         if answer.number == number::DONE {
-            self.accepted(call, before);
+            self.accepted(call, before, model);
+        } else if let (Call::Return(_), true) = (call, is_lack(answer.number)) {
+            // Such a return "is itself the abandon".
+            let mut abandoned = before.clone();
+            assert_eq!(calls::abandon(&mut abandoned), 0);
+            assert_eq!(abandoned, self.followed.store, "{call:?} stopped");
+            self.followed.stopped += 1;
+            self.accepted(Call::Abandon, before, model);
         } else {
             assert_eq!(before, self.followed.store, "{call:?} refused");
         }
@@ -82,8 +96,8 @@ impl Follower {
             expected.number = if short { number::LIST_TOO_SHORT } else { 0 };
             expected.count = wanted as u32;
         }
-        let lacking = [number::NO_FREE_PAGE, number::NO_FREE_SLOT].contains(&answer.number);
-        let update = matches!(call, Call::Insert(..) | Call::Delete(..));
+        let lacking = is_lack(answer.number);
+        let update = matches!(call, Call::Insert(..) | Call::Delete(..) | Call::Return(_));
         if update && expected.number == number::DONE {
             lacks_exactly_when_needed(call, answer.number, before, &self.followed.store);
         }
@@ -95,7 +109,7 @@ impl Follower {
         }
     }
 
-    fn accepted(&mut self, call: Call, before: Vec<u8>) {
+    fn accepted(&mut self, call: Call, before: Vec<u8>, model: &Model) {
         match call {
             Call::Open => self.before_open = Some(before),
             Call::Insert(..) => self.settings.1 += 1,
@@ -110,6 +124,10 @@ impl Follower {
                 if let Some(opened) = self.before_open.take() {
                     assert_eq!(opened, self.followed.store, "abandon");
                 }
+            }
+            Call::Return(version) => {
+                self.settings.1 = model.at(version).len() as i64 - self.settings.0;
+                self.followed.returns += 1;
             }
             Call::Fresh => self.settings = (0, 0),
             Call::Check | Call::Lookup(..) | Call::Range(..) => return,

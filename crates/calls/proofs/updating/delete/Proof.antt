@@ -1,8 +1,7 @@
 -- `delete` meets its contract. Assumes nothing.
-use mathlib.Core.Bool.{false}
 use mathlib.Core.Path.{sym, _∙_}
-use Rattle.calls.specs.Guard.{four-is, edition, guard-sound}
-use Rattle.calls.specs.Updating.{updating, passed, delete-refused, delete-done, delete-leaves}
+use Rattle.calls.specs.Guard.{four-is, edition}
+use Rattle.calls.specs.Updating.{ends, delete-refused, delete-done}
 use borrow.Author.Needs.{needs}
 use Rattle.calls.proofs.updating.delete.Statement.{statement}
 use Rattle.calls.proofs.updating.delete.Tie as tie
@@ -22,26 +21,20 @@ returns c =
     let q = four-is (c .before .before .before .edition-one .result) (c .before .before .before .edition-one .ensures) in
     delete-refused 4 (a .s .now) (a .key) (c .before .guard-updating .result) (rw q at (c .before .guard-updating .ensures)) (c .if1 .taken)
 
-deleting-requires : tie.Need-deleting-requires
-deleting-requires c κs = search needs
-
-update-requires : tie.Need-update-requires
-update-requires c κs =
-    let a = c .before .before .before .before .before .before .before .args in
-    let d = edition (c .before .before .before .before .before .edition-one .result) (c .before .before .before .before .before .edition-one .ensures) in
-    let z = sym (c .before .before .before .guard-updating .ensures) ∙ c .before .before .if1 .left in
-    let p = passed d (a .s .now) (a .key) false z in
-    (d, guard-sound (c .before .before .before .before .before .edition-one .result .least) (a .s .now) (updating false (a .key)) z, p .opened, p .key, c .deleting .ensures .1, delete-leaves d (a .s .now) (a .key) z _ (c .deleting .ensures .0))
+raw-delete-requires : tie.Need-raw-delete-requires
+raw-delete-requires c κs =
+    let a = c .before .before .before .before .before .before .args in
+    ends (edition (c .before .before .before .before .edition-one .result) (c .before .before .before .before .edition-one .ensures)) (a .s .now) (a .key) (sym (c .before .before .guard-updating .ensures) ∙ c .before .if1 .left)
 
 same-length-2 : tie.Need-same-length-2
 same-length-2 c = search needs
 
 returns-2 : tie.Need-returns-2
 returns-2 c =
-    let a = c .before .before .before .before .before .before .before .before .before .before .args in
-    let q = four-is (c .before .before .before .before .before .before .before .before .edition-one .result) (c .before .before .before .before .before .before .before .before .edition-one .ensures) in
-    let u = rw q at (c .before .before .update .ensures) in
-    delete-done 4 (a .s .now) (a .key) (c .before .before .before .before .before .before .guard-updating .result) (rw q at (c .before .before .before .before .before .before .guard-updating .ensures)) (c .before .before .before .before .before .if1 .left) _ (c .before .before .before .deleting .ensures .0) _ _ (u .0) (u .1)
+    let a = c .before .before .before .before .before .before .before .before .before .args in
+    let q = four-is (c .before .before .before .before .before .before .before .edition-one .result) (c .before .before .before .before .before .before .before .edition-one .ensures) in
+    let u = rw q at (c .before .before .raw-delete .ensures) in
+    delete-done 4 (a .s .now) (a .key) (c .before .before .before .before .before .guard-updating .result) (rw q at (c .before .before .before .before .before .guard-updating .ensures)) (c .before .before .before .before .if1 .left) _ _ (u .0) (u .1)
 
 pub delete-spec : {M : Type 1} → statement M
 delete-spec =
@@ -51,7 +44,6 @@ delete-spec =
     guard-updating-requires
     same-length
     returns
-    deleting-requires
-    update-requires
+    raw-delete-requires
     same-length-2
     returns-2)

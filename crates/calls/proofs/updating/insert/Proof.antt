@@ -33,7 +33,8 @@ returns-2 : tie.Need-returns-2
 returns-2 c =
     let a = c .before .before .before .before .before .before .before .before .before .args in
     let q = four-is (c .before .before .before .before .before .before .before .edition-one .result) (c .before .before .before .before .before .before .before .edition-one .ensures) in
-    insert-done 4 (a .s .now) (a .key) (a .value) (c .before .before .before .before .before .guard-updating .result) (rw q at (c .before .before .before .before .before .guard-updating .ensures)) (c .before .before .before .before .if1 .left) _ (rw q at (c .before .before .raw-insert .ensures))
+    let u = rw q at (c .before .before .raw-insert .ensures) in
+    insert-done 4 (a .s .now) (a .key) (a .value) (c .before .before .before .before .before .guard-updating .result) (rw q at (c .before .before .before .before .before .guard-updating .ensures)) (c .before .before .before .before .if1 .left) _ _ (u .0) (u .1)
 
 pub insert-spec : {M : Type 1} → statement M
 insert-spec =

@@ -1,8 +1,8 @@
 -- `raw_insert` meets its contract. Assumes nothing.
-use Rattle.calls.specs.Updating.{raw-leaves, raw-done}
+use Rattle.update.specs.Single.{insert-leaves, comes-to}
 use borrow.Author.Needs.{needs}
-use Rattle.calls.proofs.updating.raw_insert.Statement.{statement}
-use Rattle.calls.proofs.updating.raw_insert.Tie as tie
+use Rattle.update.proofs.single.raw_insert.Statement.{statement}
+use Rattle.update.proofs.single.raw_insert.Tie as tie
 
 inserting-requires : tie.Need-inserting-requires
 inserting-requires c κs = c .before .before .pre .key
@@ -11,7 +11,7 @@ update-requires : tie.Need-update-requires
 update-requires c κs =
     let a = c .before .before .before .args in
     let p = c .before .before .before .pre in
-    (p .edition, p .sound, p .opened, p .key, c .inserting .ensures .1, raw-leaves (p .edition) (a .s .now) (a .key) p (a .value) (search needs) _ (c .inserting .ensures .0))
+    (p .edition, p .sound, p .opened, p .key, c .inserting .ensures .1, insert-leaves p (a .value) (search needs) _ (c .inserting .ensures .0))
 
 same-length : tie.Need-same-length
 same-length c = search needs
@@ -19,7 +19,7 @@ same-length c = search needs
 returns : tie.Need-returns
 returns c =
     let a = c .before .before .before .before .before .before .args in
-    raw-done (a .l .least) (a .s .now) (a .key) (a .value) _ (c .before .before .before .inserting .ensures .0) _ _ (c .before .before .update .ensures .0) (c .before .before .update .ensures .1)
+    comes-to (a .l .least) (a .s .now) (a .key) _ _ (c .before .before .before .inserting .ensures .0) _ _ (c .before .before .update .ensures .0) (c .before .before .update .ensures .1)
 
 pub raw-insert-spec : {M : Type 1} → statement M
 raw-insert-spec = tie.close (tie.spec inserting-requires update-requires same-length returns)

@@ -1,0 +1,32 @@
+-- `leaves::alike` meets its contract. Assumes nothing.
+use Rattle.differ.specs.Leaves.{leaf-stands, same-none}
+use Rattle.walk.specs.Sure.{covers-inside}
+use Rattle.cursor.specs.Leaf.{below-covers}
+use Rattle.store.specs.Sure.{few}
+use mathlib.Core.Path.{sym, _∙_}
+use borrow.Author.Needs.{needs}
+use Rattle.differ.proofs.leaves.alike.Statement.{statement}
+use Rattle.differ.proofs.leaves.alike.Tie as tie
+
+part-requires : tie.Need-part-requires
+part-requires c κs =
+    let r = c .before .pre .0 in
+    (r .edition, covers-inside r _ _ _ (below-covers r _ _ _ (c .before .pre .2)) .part, few (r .edition) (c .before .args .s .now) (r .sound))
+
+head-of-requires : tie.Need-head-of-requires
+head-of-requires c κs = search needs
+
+same-requires : tie.Need-same-requires
+same-requires c κs =
+    let a = c .before .before .before .args in
+    let p = c .before .before .before .pre in
+    leaf-stands (p .0) (a .a .low) (a .x) (p .2) _ _ (c .before .part .ensures .0) (c .head-of .ensures)
+
+returns : tie.Need-returns
+returns c =
+    let a = c .before .before .before .before .args in
+    let p = c .before .before .before .before .pre in
+    λ z. same-none (a .a) (p .0) (p .1) (a .x) (a .y) (p .2) (p .3) _ _ (c .before .before .part .ensures .0) (c .before .head-of .ensures) (sym (c .same .ensures) ∙ z)
+
+pub alike-spec : {M : Type 1} → statement M
+alike-spec = tie.close (tie.spec part-requires head-of-requires same-requires returns)
