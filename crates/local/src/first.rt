@@ -9,7 +9,7 @@ ghost use Rattle.local.specs.Local.{Sized};
 ghost use Rattle.local.specs.First.{rooted};
 
 // The root page of every used slot is a page.
-fn roots_ok(s: &[u8], l: Limits, roots: usize, size: usize) -> bool
+pub(crate) fn roots_ok(s: &[u8], l: Limits, roots: usize, size: usize) -> bool
     requires { ⌜ Edition l × Sized (l .least) (now s) size × (roots ≤ 64 * l .least) ⌝ }
     ensures { λ r. ⌜ r ≡ rooted size (readSlots (now (s .entry)) (512 * l .least) roots) ⌝ }
 {

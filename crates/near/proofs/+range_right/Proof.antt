@@ -1,0 +1,245 @@
+-- `range_right` meets its contract: what is left of the later routers answers as the whole. Assumes nothing.
+use Prim.Native.Nat.{ℕ, pred, _≤_, _<_, _+_, _-_}
+use native.Mathlib.Omega.{arith}
+use mathlib.Core.List.{_∷_}
+use mathlib.Core.Path.{_≡_, ap, sym, _∙_}
+use borrow.Author.Tests.{not-true, not-false}
+use borrow.Author.Needs.{needs}
+use borrow.Fn.Kinds.{In}
+use borrow.Fn.PlainCycle.{Measures, is, falls, and}
+use Rattle.model.specs.Layout.{pageOf}
+use Rattle.model.specs.Walk.{between}
+use Rattle.model.specs.Entry.{pairOf}
+use Rattle.page.specs.Head.{readHead}
+use Rattle.local.specs.Near.{rangeRight}
+use Rattle.walk.specs.Live.{live}
+use Rattle.walk.specs.Scan.{Stands, from, entry}
+use Rattle.near.specs.Inside.{level-inside}
+use Rattle.near.specs.Across.{rightFrom, and-on, and-off, across-wrong, across-leaf, across-none, across-on, from-on, from-same, from-end}
+use Rattle.near.proofs.range_right.Reads as range-right
+use Rattle.near.proofs.range_right.Kinds as range-right-kinds
+use Rattle.near.proofs.+range_right.Lts-range_right as range-right-lts
+use Rattle.local.proofs.page_right.Reads as page-right-reads
+use Rattle.near.proofs.starts.Reads as starts-reads
+use Rattle.near.proofs.wide.Reads as wide-reads
+use Rattle.page.proofs.entry_at.Reads as entry-at-reads
+use Rattle.page.proofs.head_of.Reads as head-of-reads
+use Rattle.store.proofs.part.Reads as part-reads
+use Rattle.walk.proofs.next_place.Reads as next-place-reads
+use Rattle.walk.proofs.own_router.Reads as own-router-reads
+use Rattle.near.proofs.+range_right.{statement}
+use Rattle.near.proofs.+range_right.Tie.{close}
+
+abbrev μ-range-right : Measures 1 range-right-kinds.ps ℕ
+μ-range-right κs a = a .1 .1 .1 .1 .0
+
+abbrev range-right-at : ℕ → In 1 range-right-kinds.ps
+range-right-at t = and 1 range-right-kinds.ps (is 1 range-right-kinds.ps μ-range-right t) range-right.Pre
+
+abbrev range-right-below : ℕ → In 1 range-right-kinds.ps
+range-right-below t = and 1 range-right-kinds.ps (falls 1 range-right-kinds.ps _<_ μ-range-right t) range-right.Pre
+
+-- what the callees ask and give
+abbrev claims : ℕ → range-right-lts.Claims
+claims t = (
+  page-right-reads.Asked,
+  page-right-reads.Learnt,
+  starts-reads.Asked,
+  starts-reads.Learnt,
+  part-reads.Asked,
+  part-reads.Learnt,
+  head-of-reads.Asked,
+  head-of-reads.Learnt,
+  own-router-reads.Asked,
+  own-router-reads.Learnt,
+  wide-reads.Asked,
+  wide-reads.Learnt,
+  range-right-below t,
+  range-right.Post,
+  next-place-reads.Asked,
+  next-place-reads.Learnt,
+  entry-at-reads.Asked,
+  entry-at-reads.Learnt,
+)
+
+abbrev range-right-Inv-loop : range-right-lts.InvT-loop
+range-right-Inv-loop s l q n level at p count i₀ i =
+    (i ≤ count) × (i < count → between 0 (q .high) (live (q .version) (from p i count)) ≡ pairOf (entry p i) ∷ between 0 (q .high) (live (q .version) (from p (i + 1) count)))
+    × (rangeRight (l .least) s (q .version) (pred level) (q .high) at n ≡ rightFrom (l .least) s (q .version) (q .high) (pred (level - 1)) p count i) × Stands p count
+
+abbrev range-right-μ-loop : range-right-lts.MeasureT-loop
+range-right-μ-loop s l q n level at p count i₀ i = count - i
+
+range-right-page-right-requires : (t : ℕ) → range-right-lts.Need-page-right-requires (claims t) (range-right-at t) range-right.Post range-right-Inv-loop range-right-μ-loop
+range-right-page-right-requires t c κs = (c .before .pre .1 .0, c .before .pre .1 .1, c .before .pre .1 .3)
+
+range-right-returns : (t : ℕ) → range-right-lts.Need-returns (claims t) (range-right-at t) range-right.Post range-right-Inv-loop range-right-μ-loop
+range-right-returns t c =
+    let a = c .before .before .before .args in
+    across-wrong (a .l .least) (a .s .now) (a .q .version) (a .q .high) (a .at) (a .n) (a .level) (c .before .before .before .pre .1 .3) (sym (c .before .page-right .ensures) ∙ not-true (c .before .page-right .result) (c .if1 .taken))
+
+range-right-returns-2 : (t : ℕ) → range-right-lts.Need-returns-2 (claims t) (range-right-at t) range-right.Post range-right-Inv-loop range-right-μ-loop
+range-right-returns-2 t c =
+    let a = c .before .before .before .before .args in
+    let r = sym (c .before .before .page-right .ensures) ∙ not-false (c .before .before .page-right .result) (c .before .if1 .left) in
+    across-leaf (a .l .least) (a .s .now) (a .q .version) (a .q .high) (a .at) (a .n) (a .level) (c .if2 .taken) r
+
+range-right-starts-requires : (t : ℕ) → range-right-lts.Need-starts-requires (claims t) (range-right-at t) range-right.Post range-right-Inv-loop range-right-μ-loop
+range-right-starts-requires t c κs =
+    let a = c .before .before .before .before .args in
+    let r = sym (c .before .before .page-right .ensures) ∙ not-false (c .before .before .page-right .result) (c .before .if1 .left) in
+    let i = level-inside (c .before .before .before .before .pre .1 .0) (a .s .now) (a .q .size) (c .before .before .before .before .pre .1 .1 .sized) (a .level) (a .n) (c .before .before .before .before .pre .1 .3) r in
+    (c .before .before .before .before .pre .1 .0, i, c .before .before .before .before .pre .1 .2)
+
+range-right-returns-3 : (t : ℕ) → range-right-lts.Need-returns-3 (claims t) (range-right-at t) range-right.Post range-right-Inv-loop range-right-μ-loop
+range-right-returns-3 t c =
+    let a = c .before .before .before .before .before .before .args in
+    let r = sym (c .before .before .before .before .page-right .ensures) ∙ not-false (c .before .before .before .before .page-right .result) (c .before .before .before .if1 .left) in
+    let big : 1 < a .level = omega (arith, c .before .before .if2 .left, c .before .before .before .before .before .before .pre .1 .3) in
+    across-none (a .l .least) (a .s .now) (a .q .version) (a .q .high) (a .at) (a .n) (a .level) big r (sym (c .before .starts .ensures) ∙ not-true (c .before .starts .result) (c .if3 .taken))
+
+range-right-part-requires : (t : ℕ) → range-right-lts.Need-part-requires (claims t) (range-right-at t) range-right.Post range-right-Inv-loop range-right-μ-loop
+range-right-part-requires t c κs =
+    let a = c .before .before .before .before .before .before .args in
+    let r = sym (c .before .before .before .before .page-right .ensures) ∙ not-false (c .before .before .before .before .page-right .result) (c .before .before .before .if1 .left) in
+    let i = level-inside (c .before .before .before .before .before .before .pre .1 .0) (a .s .now) (a .q .size) (c .before .before .before .before .before .before .pre .1 .1 .sized) (a .level) (a .n) (c .before .before .before .before .before .before .pre .1 .3) r in
+    (c .before .before .before .before .before .before .pre .1 .0, i .part, c .before .before .before .before .before .before .pre .1 .2)
+
+range-right-head-of-requires : (t : ℕ) → range-right-lts.Need-head-of-requires (claims t) (range-right-at t) range-right.Post range-right-Inv-loop range-right-μ-loop
+range-right-head-of-requires t c κs = (c .before .before .before .before .before .before .before .pre .1 .0, omega (arith, c .part .ensures .1, c .before .before .before .before .before .before .before .pre .1 .0 .four), omega (arith, c .part .ensures .1, c .before .before .before .before .before .before .before .pre .1 .0 .eight))
+
+range-right-own-router-requires : (t : ℕ) → range-right-lts.Need-own-router-requires (claims t) (range-right-at t) range-right.Post range-right-Inv-loop range-right-μ-loop
+range-right-own-router-requires t c κs =
+    let a = c .before .before .before .before .before .before .before .before .args in
+    let r = sym (c .before .before .before .before .before .before .page-right .ensures) ∙ not-false (c .before .before .before .before .before .before .page-right .result) (c .before .before .before .before .before .if1 .left) in
+    let i = level-inside (c .before .before .before .before .before .before .before .before .pre .1 .0) (a .s .now) (a .q .size) (c .before .before .before .before .before .before .before .before .pre .1 .1 .sized) (a .level) (a .n) (c .before .before .before .before .before .before .before .before .pre .1 .3) r in
+    let st = sym (c .before .before .before .starts .ensures) ∙ not-false (c .before .before .before .starts .result) (c .before .before .if3 .left) in
+    rw (c .head-of .ensures, c .before .part .ensures .0) (i .stands, rw (i .pairs (a .q .version)) at st)
+
+range-right-wide-requires : (t : ℕ) → range-right-lts.Need-wide-requires (claims t) (range-right-at t) range-right.Post range-right-Inv-loop range-right-μ-loop
+range-right-wide-requires t c κs = search needs
+
+range-right-sub-range-right : (t : ℕ) → range-right-lts.Need-sub-range-right (claims t) (range-right-at t) range-right.Post range-right-Inv-loop range-right-μ-loop
+range-right-sub-range-right t c = omega (arith, c .before .before .before .before .before .before .before .before .before .before .pre .1 .3)
+
+range-right-range-right-requires : (t : ℕ) → range-right-lts.Need-range-right-requires (claims t) (range-right-at t) range-right.Post range-right-Inv-loop range-right-μ-loop
+range-right-range-right-requires t c κs = (omega (arith, c .before .before .before .before .before .before .if2 .left, c .before .before .before .before .before .before .before .before .before .before .pre .1 .3, c .before .before .before .before .before .before .before .before .before .before .pre .0), (c .before .before .before .before .before .before .before .before .before .before .pre .1 .0, c .before .before .before .before .before .before .before .before .before .before .pre .1 .1, c .before .before .before .before .before .before .before .before .before .before .pre .1 .2, omega (arith, c .before .before .before .before .before .before .if2 .left, c .before .before .before .before .before .before .before .before .before .before .pre .1 .3)))
+
+range-right-returns-4 : (t : ℕ) → range-right-lts.Need-returns-4 (claims t) (range-right-at t) range-right.Post range-right-Inv-loop range-right-μ-loop
+range-right-returns-4 t c =
+    let a = c .before .before .before .before .before .before .before .before .before .before .before .before .args in
+    let r = sym (c .before .before .before .before .before .before .before .before .before .before .page-right .ensures) ∙ not-false (c .before .before .before .before .before .before .before .before .before .before .page-right .result) (c .before .before .before .before .before .before .before .before .before .if1 .left) in
+    let big : 1 < a .level = omega (arith, c .before .before .before .before .before .before .before .before .if2 .left, c .before .before .before .before .before .before .before .before .before .before .before .before .pre .1 .3) in
+    let i = level-inside (c .before .before .before .before .before .before .before .before .before .before .before .before .pre .1 .0) (a .s .now) (a .q .size) (c .before .before .before .before .before .before .before .before .before .before .before .before .pre .1 .1 .sized) (a .level) (a .n) (c .before .before .before .before .before .before .before .before .before .before .before .before .pre .1 .3) r in
+    let st = sym (c .before .before .before .before .before .before .before .starts .ensures) ∙ not-false (c .before .before .before .before .before .before .before .starts .result) (c .before .before .before .before .before .before .if3 .left) in
+    let p = pageOf (a .l .least) (a .s .now) (a .n) in
+    let m = readHead (a .l .least) p .count in
+    let w = rw (c .before .before .before .before .head-of .ensures, c .before .before .before .before .before .part .ensures .0) at (c .before .before .before .own-router .ensures) in
+    let on = across-on (a .l .least) (a .s .now) (a .q .version) (a .q .high) (a .at) (a .n) (a .level) big r st p m (i .pairs (a .q .version)) (c .before .before .before .own-router .result) w in
+    let f = rw (c .before .before .wide .ensures) at (sym (c .before .range-right .ensures)) ∙ not-true (c .before .range-right .result) (c .if4 .taken) in
+    sym (on ∙ and-off _ _ f)
+
+range-right-next-place-requires : (t : ℕ) → range-right-lts.Need-next-place-requires (claims t) (range-right-at t) range-right.Post range-right-Inv-loop range-right-μ-loop
+range-right-next-place-requires t c κs =
+    let a = c .before .before .before .before .before .before .before .before .before .before .before .before .args in
+    let r = sym (c .before .before .before .before .before .before .before .before .before .before .page-right .ensures) ∙ not-false (c .before .before .before .before .before .before .before .before .before .before .page-right .result) (c .before .before .before .before .before .before .before .before .before .if1 .left) in
+    let i = level-inside (c .before .before .before .before .before .before .before .before .before .before .before .before .pre .1 .0) (a .s .now) (a .q .size) (c .before .before .before .before .before .before .before .before .before .before .before .before .pre .1 .1 .sized) (a .level) (a .n) (c .before .before .before .before .before .before .before .before .before .before .before .before .pre .1 .3) r in
+    (rw (c .before .before .before .before .head-of .ensures, c .before .before .before .before .before .part .ensures .0) (i .stands), c .before .before .before .own-router .ensures .within)
+
+range-right-loop-holds : (t : ℕ) → range-right-lts.Need-loop-holds (claims t) (range-right-at t) range-right.Post range-right-Inv-loop range-right-μ-loop
+range-right-loop-holds t c =
+    let a = c .before .before .before .before .before .before .before .before .before .before .before .before .before .args in
+    let r = sym (c .before .before .before .before .before .before .before .before .before .before .before .page-right .ensures) ∙ not-false (c .before .before .before .before .before .before .before .before .before .before .before .page-right .result) (c .before .before .before .before .before .before .before .before .before .before .if1 .left) in
+    let big : 1 < a .level = omega (arith, c .before .before .before .before .before .before .before .before .before .if2 .left, c .before .before .before .before .before .before .before .before .before .before .before .before .before .pre .1 .3) in
+    let i = level-inside (c .before .before .before .before .before .before .before .before .before .before .before .before .before .pre .1 .0) (a .s .now) (a .q .size) (c .before .before .before .before .before .before .before .before .before .before .before .before .before .pre .1 .1 .sized) (a .level) (a .n) (c .before .before .before .before .before .before .before .before .before .before .before .before .before .pre .1 .3) r in
+    let st = sym (c .before .before .before .before .before .before .before .before .starts .ensures) ∙ not-false (c .before .before .before .before .before .before .before .before .starts .result) (c .before .before .before .before .before .before .before .if3 .left) in
+    let p = pageOf (a .l .least) (a .s .now) (a .n) in
+    let m = readHead (a .l .least) p .count in
+    let w = rw (c .before .before .before .before .before .head-of .ensures, c .before .before .before .before .before .before .part .ensures .0) at (c .before .before .before .before .own-router .ensures) in
+    let on = across-on (a .l .least) (a .s .now) (a .q .version) (a .q .high) (a .at) (a .n) (a .level) big r st p m (i .pairs (a .q .version)) (c .before .before .before .before .own-router .result) w in
+    let f = rw (c .before .before .before .wide .ensures) at (sym (c .before .before .range-right .ensures)) ∙ not-false (c .before .before .range-right .result) (c .before .if4 .left) in
+    let x = c .next-place .ensures in
+    let y = rw (c .before .before .before .before .before .head-of .ensures, c .before .before .before .before .before .before .part .ensures .0) at (x .same) in (
+      x .within,
+      x .here,
+      rw (c .before .before .before .before .before .head-of .ensures, c .before .before .before .before .before .before .part .ensures .0) (on ∙ and-on _ _ f ∙ from-same (a .l .least) (a .s .now) (a .q .version) (a .q .high) (pred (a .level - 1)) p m _ _ y),
+      rw (c .before .before .before .before .before .head-of .ensures, c .before .before .before .before .before .before .part .ensures .0) (i .stands),
+    )
+
+range-right-entry-at-requires : (t : ℕ) → range-right-lts.Need-entry-at-requires (claims t) (range-right-at t) range-right.Post range-right-Inv-loop range-right-μ-loop
+range-right-entry-at-requires t c κs = let s = c .before .loop .inv .3 in (omega (arith, s .long, c .loop-test .taken), s .short)
+
+range-right-wide-requires-2 : (t : ℕ) → range-right-lts.Need-wide-requires-2 (claims t) (range-right-at t) range-right.Post range-right-Inv-loop range-right-μ-loop
+range-right-wide-requires-2 t c κs = search needs
+
+range-right-sub-range-right-2 : (t : ℕ) → range-right-lts.Need-sub-range-right-2 (claims t) (range-right-at t) range-right.Post range-right-Inv-loop range-right-μ-loop
+range-right-sub-range-right-2 t c = omega (arith, c .before .before .before .before .before .before .before .before .before .before .before .before .before .before .before .before .before .pre .1 .3)
+
+range-right-range-right-requires-2 : (t : ℕ) → range-right-lts.Need-range-right-requires-2 (claims t) (range-right-at t) range-right.Post range-right-Inv-loop range-right-μ-loop
+range-right-range-right-requires-2 t c κs = (omega (arith, c .before .before .before .before .before .before .before .before .before .before .before .before .before .if2 .left, c .before .before .before .before .before .before .before .before .before .before .before .before .before .before .before .before .before .pre .1 .3, c .before .before .before .before .before .before .before .before .before .before .before .before .before .before .before .before .before .pre .0), (c .before .before .before .before .before .before .before .before .before .before .before .before .before .before .before .before .before .pre .1 .0, c .before .before .before .before .before .before .before .before .before .before .before .before .before .before .before .before .before .pre .1 .1, c .before .before .before .before .before .before .before .before .before .before .before .before .before .before .before .before .before .pre .1 .2, omega (arith, c .before .before .before .before .before .before .before .before .before .before .before .before .before .if2 .left, c .before .before .before .before .before .before .before .before .before .before .before .before .before .before .before .before .before .pre .1 .3)))
+
+range-right-returns-5 : (t : ℕ) → range-right-lts.Need-returns-5 (claims t) (range-right-at t) range-right.Post range-right-Inv-loop range-right-μ-loop
+range-right-returns-5 t c =
+    let a = c .before .before .before .before .before .before .before .before .before .before .before .before .before .before .before .before .before .before .before .args in
+    let k = c .before .before .before .before .before .loop in
+    let f = rw (c .before .before .wide2 .ensures, c .before .before .before .entry-at .ensures) at (sym (c .before .range-right2 .ensures)) ∙ not-true (c .before .range-right2 .result) (c .if5 .taken) in
+    sym (k .inv .2 ∙ from-on (a .l .least) (a .s .now) (a .q .version) (a .q .high) (pred (a .level - 1)) _ _ (k .i) (k .inv .1 (c .before .before .before .before .loop-test .taken)) ∙ and-off _ _ f)
+
+range-right-add-next-place : (t : ℕ) → range-right-lts.Need-add-next-place (claims t) (range-right-at t) range-right.Post range-right-Inv-loop range-right-μ-loop
+range-right-add-next-place t c = let s = c .before .before .before .before .before .loop .inv .3 in omega (arith, s .long, s .short, c .before .before .before .before .loop-test .taken)
+
+range-right-next-place-requires-2 : (t : ℕ) → range-right-lts.Need-next-place-requires-2 (claims t) (range-right-at t) range-right.Post range-right-Inv-loop range-right-μ-loop
+range-right-next-place-requires-2 t c κs = (c .before .before .before .before .before .loop .inv .3, omega (arith, c .before .before .before .before .loop-test .taken))
+
+range-right-loop-less : (t : ℕ) → range-right-lts.Need-loop-less (claims t) (range-right-at t) range-right.Post range-right-Inv-loop range-right-μ-loop
+range-right-loop-less t c = omega (arith, c .next-place2 .ensures .behind, c .next-place2 .ensures .within, c .before .before .before .before .before .loop-test .taken)
+
+range-right-loop-again : (t : ℕ) → range-right-lts.Need-loop-again (claims t) (range-right-at t) range-right.Post range-right-Inv-loop range-right-μ-loop
+range-right-loop-again t c =
+    let a = c .before .before .before .before .before .before .before .before .before .before .before .before .before .before .before .before .before .before .before .before .args in
+    let k = c .before .before .before .before .before .before .loop in
+    let x = c .next-place2 .ensures in
+    let f = rw (c .before .before .before .wide2 .ensures, c .before .before .before .before .entry-at .ensures) at (sym (c .before .before .range-right2 .ensures)) ∙ not-false (c .before .before .range-right2 .result) (c .before .if5 .left) in (
+      x .within,
+      x .here,
+      k .inv .2 ∙ from-on (a .l .least) (a .s .now) (a .q .version) (a .q .high) (pred (a .level - 1)) _ _ (k .i) (k .inv .1 (c .before .before .before .before .before .loop-test .taken)) ∙ and-on _ _ f ∙ from-same (a .l .least) (a .s .now) (a .q .version) (a .q .high) (pred (a .level - 1)) _ _ _ _ (x .same),
+      k .inv .3,
+    )
+
+range-right-returns-6 : (t : ℕ) → range-right-lts.Need-returns-6 (claims t) (range-right-at t) range-right.Post range-right-Inv-loop range-right-μ-loop
+range-right-returns-6 t c =
+    let a = c .before .before .before .before .before .before .before .before .before .before .before .before .before .before .before .args in
+    let k = c .before .loop in
+    let e : k .i ≡ c .before .before .before .before .before .before .before .head-of .result .count = omega (arith, k .inv .0, c .loop-test .left) in
+    sym (k .inv .2 ∙ ap (rightFrom (a .l .least) (a .s .now) (a .q .version) (a .q .high) (pred (a .level - 1)) (c .before .before .before .before .before .before .before .before .part .result .now) (c .before .before .before .before .before .before .before .head-of .result .count)) e ∙ from-end (a .l .least) (a .s .now) (a .q .version) (a .q .high) (pred (a .level - 1)) (c .before .before .before .before .before .before .before .before .part .result .now) (c .before .before .before .before .before .before .before .head-of .result .count))
+
+pub +range-right-spec : {M : Type 1} → statement M
++range-right-spec = close μ-range-right λ t. range-right-lts.spec (claims t)
+    (range-right-at t)
+    range-right.Post
+    range-right-Inv-loop
+    range-right-μ-loop
+    (range-right-page-right-requires t)
+    (range-right-returns t)
+    (range-right-returns-2 t)
+    (range-right-starts-requires t)
+    (range-right-returns-3 t)
+    (range-right-part-requires t)
+    (range-right-head-of-requires t)
+    (range-right-own-router-requires t)
+    (range-right-wide-requires t)
+    (range-right-sub-range-right t)
+    (range-right-range-right-requires t)
+    (range-right-returns-4 t)
+    (range-right-next-place-requires t)
+    (range-right-loop-holds t)
+    (range-right-entry-at-requires t)
+    (range-right-wide-requires-2 t)
+    (range-right-sub-range-right-2 t)
+    (range-right-range-right-requires-2 t)
+    (range-right-returns-5 t)
+    (range-right-add-next-place t)
+    (range-right-next-place-requires-2 t)
+    (range-right-loop-less t)
+    (range-right-loop-again t)
+    (range-right-returns-6 t)

@@ -1,0 +1,11 @@
+pub mod Inside
+pub mod Down
+pub mod Early
+pub mod Starts
+pub mod Across
+pub mod Here
+pub mod Bound
+pub mod Crossed
+pub mod Off
+pub mod Same
+pub mod OffRange
