@@ -9,3 +9,6 @@ pub mod Crossed
 pub mod Off
 pub mod Same
 pub mod OffRange
+pub mod Told
+pub mod Table
+pub mod Cells
