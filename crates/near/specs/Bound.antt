@@ -23,7 +23,7 @@ use Rattle.local.specs.Near.{pageRight, rangeRight}
 use Rattle.walk.specs.Bound.{length-those, length-followed, most, most-rises}
 use Rattle.near.specs.Here.{page-of, all-of}
 
-flat-most : (f : Pair → Bool) (g : Pair → List Pair) (m : ℕ) → ((x : Pair) → f x ≡ true → length (g x) ≤ m) → (xs : List Pair) → all f xs ≡ true → length (flatMap g xs) ≤ length xs * m
+pub flat-most : (f : Pair → Bool) (g : Pair → List Pair) (m : ℕ) → ((x : Pair) → f x ≡ true → length (g x) ≤ m) → (xs : List Pair) → all f xs ≡ true → length (flatMap g xs) ≤ length xs * m
 flat-most f g m h [] e = omega arith
 flat-most f g m h (x ∷ xs) e =
     let q = all-cons f x xs e in
@@ -36,7 +36,7 @@ module _ (least : ℕ) (b : List ℕ) (eight : least ≤ 8) where
   ps = decode least b .pages
 
   -- its level, and its entries
-  parts : (level n : ℕ) → pageRight least b level n ≡ true → (level ≤ 7) × (length (page ps n .entries) ≤ 40)
+  pub parts : (level n : ℕ) → pageRight least b level n ≡ true → (level ≤ 7) × (length (page ps n .entries) ≤ 40)
   unfolding pageRight
   parts level n e =
       let m : ℕ = last (decode least b) in
@@ -54,7 +54,7 @@ module _ (least : ℕ) (b : List ℕ) (eight : least ≤ 8) where
   few-pairs : (v level n : ℕ) → pageRight least b level n ≡ true → length (pairsAt v (page ps n)) ≤ 40
   few-pairs v level n e = omega (arith, length-map (those (liveAt v) (page ps n .entries)) pairOf, length-those (liveAt v) (page ps n .entries), parts level n e .1)
 
-  below-most : (up v lo hi at n : ℕ) → rangeRight least b v up hi at n ≡ true → length (rangeBelow up ps v lo hi at n) ≤ most up
+  pub below-most : (up v lo hi at n : ℕ) → rangeRight least b v up hi at n ≡ true → length (rangeBelow up ps v lo hi at n) ≤ most up
   unfolding most
   below-most zero v lo hi at n c = omega (arith, length-those (λ (x : Pair). leb lo (x .key) && leb (x .key) hi) (pairsAt v (page ps n)), few-pairs v 1 n (page-of least b v hi at n zero c))
   below-most (suc up) v lo hi at n c =

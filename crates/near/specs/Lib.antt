@@ -12,3 +12,4 @@ pub mod OffRange
 pub mod Told
 pub mod Table
 pub mod Cells
+pub mod Most
