@@ -1,9 +1,10 @@
 -- The table: one number for each place of each page, filled level by level, and on each level page by page. Of the pages that are right
 -- and whose turn has been it has the routers' numbers.
 -- Assumes nothing.
-use Prim.Native.Nat.{ℕ, suc, _+_, _*_, _-_, _^_, _≤_, _<_}
+use Prim.Native.Nat.{ℕ, zero, suc, pred, _+_, _*_, _-_, _^_, _≤_, _<_}
 use native.Mathlib.Omega.{arith}
 use native.Mathlib.Nat.{mul-le-mul-right}
+use native.Mathlib.Numerals.{sub-one}
 use mathlib.Core.Bool.{Bool, true, false, _&&_}
 use mathlib.Core.Path.{_≡_, ap, sym, _∙_, subst}
 use mathlib.Core.Logic.{_⊎_, inl, inr, ⊎-elim}
@@ -29,7 +30,7 @@ use Rattle.near.specs.Table.{behind}
 
 -- ---- places: w numbers for each page
 
-place-after : (w n m i : ℕ) → i < w → n < m → n * w + i < m * w
+pub place-after : (w n m i : ℕ) → i < w → n < m → n * w + i < m * w
 place-after w n m i a h =
     let q : suc n * w ≤ m * w = mul-le-mul-right w h in
     let e : suc n * w ≡ w + n * w = omega arith in
@@ -62,6 +63,12 @@ unfolding pageRight
 right-level least b level n e =
     let x = both-true (cleanPage least (pageOf least b n)) (pageOk least (last (decode least b)) (length (decode least b .pages)) (page (decode least b .pages) n) && eqb (page (decode least b .pages) n .level) level) e in
     eqb-true (page (decode least b .pages) n .level) level (both-true (pageOk least (last (decode least b)) (length (decode least b .pages)) (page (decode least b .pages) n)) (eqb (page (decode least b .pages) n .level) level) (x .1) .1)
+
+-- a level above the leaves, by the level below its children's
+pub two-up : (level : ℕ) → 1 < level → suc (suc (pred (level - 1))) ≡ level
+two-up zero h = absurd (omega arith)
+two-up (suc zero) h = absurd (omega arith)
+two-up (suc (suc up)) h = ap (λ (u : ℕ). suc (suc u)) (ap pred (sub-one (suc (suc up))))
 
 -- ---- the table
 

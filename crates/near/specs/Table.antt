@@ -9,7 +9,7 @@ use mathlib.Core.Bool.{Bool, true, false, _&&_}
 use mathlib.Core.Path.{_≡_, refl, ap, sym, _∙_, subst}
 use mathlib.Core.Logic.{_⊎_, inl, inr, ⊎-elim}
 use mathlib.Core.List.{List, [], _∷_, _++_}
-use lib.Dec.{leb, eqb}
+use lib.Dec.{leb, ltb}
 use lib.ListN.{length, getD, set, length-set, length-append, length-map}
 use lib.Seq.{getD-set-same, getD-set-other}
 use borrow.Author.Tests.{leb-true, leb-false, eqb-true, le-leb, lt-leb, lt-ltb, le-ltb}
@@ -69,13 +69,40 @@ module _ (least : ℕ) (b : List ℕ) (v lo hi : ℕ) where
   unfoldable pub turn : ℕ → Entry → ℕ
   turn up e = pick (liveAt v e && leb (e .key) hi) (found up (e .key) (e .value)) 1
 
-  pub turn-not : (up : ℕ) (e : Entry) → (liveAt v e && leb (e .key) hi) ≡ false → turn up e ≡ 1
+  turn-not : (up : ℕ) (e : Entry) → (liveAt v e && leb (e .key) hi) ≡ false → turn up e ≡ 1
   unfolding turn
   turn-not up e h = rw h
 
-  pub turn-so : (up : ℕ) (e : Entry) → (liveAt v e && leb (e .key) hi) ≡ true → turn up e ≡ found up (e .key) (e .value)
+  turn-so : (up : ℕ) (e : Entry) → (liveAt v e && leb (e .key) hi) ≡ true → turn up e ≡ found up (e .key) (e .value)
   unfolding turn
   turn-so up e h = rw h
+
+  module _ (up : ℕ) (e : Entry) where
+    -- it starts later, has ended, or stands behind the high key
+    pub turn-early : v < e .start → turn up e ≡ 1
+    turn-early h = turn-not up e (rw (lt-leb (e .start) v h))
+
+    pub turn-late : e .end ≤ v → turn up e ≡ 1
+    turn-late h = turn-not up e (at (leb (e .start) v) (ltb v (e .end)) (leb (e .key) hi) (le-ltb v (e .end) h))
+      where
+        at : (a c d : Bool) → c ≡ false → (a && c && d) ≡ false
+        at true c d q = rw q
+        at false c d q = refl
+
+    pub turn-high : hi < e .key → turn up e ≡ 1
+    turn-high h = turn-not up e (at (liveAt v e) (leb (e .key) hi) (lt-leb (e .key) hi h))
+      where
+        at : (a c : Bool) → c ≡ false → (a && c) ≡ false
+        at true c q = q
+        at false c q = refl
+
+    pub turn-on : e .start ≤ v → v < e .end → e .key ≤ hi → turn up e ≡ found up (e .key) (e .value)
+    turn-on a c h = turn-so up e (rw (le-leb (e .start) v a, lt-ltb v (e .end) c, le-leb (e .key) hi h))
+
+  -- a leaf is the same for each key
+  pub found-foot : (at k n : ℕ) → k ≡ 1 → found (pred k) at n ≡ found 0 0 n
+  unfolding found rangeRight
+  found-foot at k n e = rw e
 
   -- ---- a page
 

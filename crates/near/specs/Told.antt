@@ -75,6 +75,12 @@ join-some zero c p q = absurd (p refl)
 join-some (suc a) zero p q = absurd (q refl)
 join-some (suc a) (suc c) p q = omega arith
 
+pub join-most : (a c : ℕ) → join a c ≤ a + c
+unfolding join
+join-most zero c = omega arith
+join-most (suc a) zero = omega arith
+join-most (suc a) (suc c) = omega arith
+
 pub join-on : (a c d : ℕ) → join a (join c d) ≡ join (join a c) d
 unfolding join
 join-on zero c d = refl

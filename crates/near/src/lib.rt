@@ -26,6 +26,8 @@ ghost use Rattle.near.specs.Here.{Reads};
 ghost use Rattle.near.specs.Early.{fronted, guarded, badRange};
 ghost use Rattle.near.specs.Crossed.{crossed};
 
+mod table;
+
 // "Keys are 0 to 16,777,215".
 const KEYS: u32 = 16777216;
 
@@ -92,7 +94,7 @@ fn level_at(s: &[u8], l: Limits, size: usize, n: usize) -> u32
 }
 
 // Whether page n has a router alive at v at or below a key.
-fn starts(s: &[u8], l: Limits, n: usize, v: u32, key: u32) -> bool
+pub(crate) fn starts(s: &[u8], l: Limits, n: usize, v: u32, key: u32) -> bool
     requires { ⌜ Edition l × Inside (l .least) (now s) n × (length (now s) ≤ 2 ^ 40) ⌝ }
     ensures { λ r. ⌜ r ≡ startsBy key (pairsAt v (page (decode (l .least) (now (s .entry)) .pages) n)) ⌝ }
 {
@@ -112,15 +114,16 @@ fn value_in(s: &[u8], l: Limits, n: usize, v: u32, key: u32) -> Looked
     walk::find(p, h.count, v, key)
 }
 
-// What a range asks of the pages of its walk: its high key and its version; and what they are judged by.
+// What a range asks of the pages of its walk: its low and high keys and its version; and what they are judged by.
 pub struct Asked {
+    pub low: u32,
     pub high: u32,
     pub version: u32,
     pub last: u32,
     pub size: usize,
 }
 
-fn wide(x: u32) -> usize
+pub(crate) fn wide(x: u32) -> usize
     ensures { λ r. ⌜ r ≡ x ⌝ }
 {
     x as usize
@@ -306,6 +309,7 @@ fn across(
         };
     }
     let q = Asked {
+        low: low,
         high: high,
         version: v,
         last: last,
