@@ -13,3 +13,4 @@ pub mod Told
 pub mod Table
 pub mod Cells
 pub mod Most
+pub mod Filling

@@ -137,7 +137,7 @@ fn through(s: &[u8], l: Limits, q: Asked, table: &[usize], e: Entry, level: u32)
 }
 
 // The numbers of page n, which is right and has this level, from its last router on.
-fn fill_page(s: &[u8], l: Limits, q: Asked, table: &mut [usize], n: usize, level: u32)
+fn fill_page(table: &mut [usize], s: &[u8], l: Limits, q: Asked, n: usize, level: u32)
     requires { ⌜ Edition l × Known (l .least) (now s) (q .size) (q .last) × (length (now s) ≤ 2 ^ 40) × (1 < level) × (level ≤ 7) × (pageRight (l .least) (now s) level n ≡ true) × Table (l .least) (now s) (q .version) (q .low) (q .high) (level * 4096 + n) (now table) ⌝ }
     ensures { λ _. ⌜ Table (l .least) (now (s .entry)) (q .version) (q .low) (q .high) (level * 4096 + n + 1) (now (table .exit)) ⌝ }
 {
@@ -155,36 +155,36 @@ fn fill_page(s: &[u8], l: Limits, q: Asked, table: &mut [usize], n: usize, level
 }
 
 // Page n, if it is right and has this level.
-fn fill_at(s: &[u8], l: Limits, q: Asked, table: &mut [usize], n: usize, level: u32)
+fn fill_at(table: &mut [usize], s: &[u8], l: Limits, q: Asked, n: usize, level: u32)
     requires { ⌜ Edition l × Known (l .least) (now s) (q .size) (q .last) × (length (now s) ≤ 2 ^ 40) × (1 < level) × (level ≤ 7) × (n < 4096) × Table (l .least) (now s) (q .version) (q .low) (q .high) (level * 4096 + n) (now table) ⌝ }
     ensures { λ _. ⌜ Table (l .least) (now (s .entry)) (q .version) (q .low) (q .high) (level * 4096 + n + 1) (now (table .exit)) ⌝ }
 {
     if !local::page_right(s, l, q.last, q.size, level, n) {
         return;
     }
-    fill_page(s, l, q, table, n, level);
+    fill_page(table, s, l, q, n, level);
 }
 
 // The pages of one level.
-fn fill_level(s: &[u8], l: Limits, q: Asked, table: &mut [usize], level: u32)
+fn fill_level(table: &mut [usize], s: &[u8], l: Limits, q: Asked, level: u32)
     requires { ⌜ Edition l × Known (l .least) (now s) (q .size) (q .last) × (length (now s) ≤ 2 ^ 40) × (1 < level) × (level ≤ 7) × Table (l .least) (now s) (q .version) (q .low) (q .high) (level * 4096) (now table) ⌝ }
     ensures { λ _. ⌜ Table (l .least) (now (s .entry)) (q .version) (q .low) (q .high) ((level + 1) * 4096) (now (table .exit)) ⌝ }
 {
     let mut n = 0;
     while n < 4096 {
-        fill_at(s, l, q, table, n, level);
+        fill_at(table, s, l, q, n, level);
         n += 1;
     }
 }
 
 // The pages of each level up to this one, from the lowest up: a walk goes down a level at a time.
-pub(crate) fn fill(s: &[u8], l: Limits, q: Asked, table: &mut [usize], level: u32)
+pub(crate) fn fill(table: &mut [usize], s: &[u8], l: Limits, q: Asked, level: u32)
     requires { ⌜ Edition l × Known (l .least) (now s) (q .size) (q .last) × (length (now s) ≤ 2 ^ 40) × (0 < level) × (level ≤ 7) × (4096 * (5 * l .least + 1) ≤ length (now table)) ⌝ }
     ensures { λ _. ⌜ Table (l .least) (now (s .entry)) (q .version) (q .low) (q .high) ((level + 1) * 4096) (now (table .exit)) ⌝ }
 {
     let mut k = 2;
     while k <= level {
-        fill_level(s, l, q, table, k);
+        fill_level(table, s, l, q, k);
         k += 1;
     }
 }
