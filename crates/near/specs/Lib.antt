@@ -14,3 +14,5 @@ pub mod Table
 pub mod Cells
 pub mod Most
 pub mod Filling
+pub mod Skips
+pub mod Within

@@ -27,6 +27,7 @@ ghost use Rattle.near.specs.Early.{fronted, guarded, badRange};
 ghost use Rattle.near.specs.Crossed.{crossed};
 
 mod table;
+mod within;
 
 // "Keys are 0 to 16,777,215".
 const KEYS: u32 = 16777216;

@@ -178,7 +178,7 @@ fn fill_level(table: &mut [usize], s: &[u8], l: Limits, q: Asked, level: u32)
 }
 
 // The pages of each level up to this one, from the lowest up: a walk goes down a level at a time.
-pub(crate) fn fill(table: &mut [usize], s: &[u8], l: Limits, q: Asked, level: u32)
+pub(crate) fn fill_levels(table: &mut [usize], s: &[u8], l: Limits, q: Asked, level: u32)
     requires { ⌜ Edition l × Known (l .least) (now s) (q .size) (q .last) × (length (now s) ≤ 2 ^ 40) × (0 < level) × (level ≤ 7) × (4096 * (5 * l .least + 1) ≤ length (now table)) ⌝ }
     ensures { λ _. ⌜ Table (l .least) (now (s .entry)) (q .version) (q .low) (q .high) ((level + 1) * 4096) (now (table .exit)) ⌝ }
 {

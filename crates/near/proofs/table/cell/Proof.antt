@@ -6,9 +6,6 @@ use native.Mathlib.Omega.{arith}
 use borrow.Author.Needs.{needs}
 use Rattle.near.proofs.table.cell.Statement.{statement}
 use Rattle.near.proofs.table.cell.Tie as tie
-use Rattle.near.proofs.table.cell.Reads as reads
-use Rattle.near.proofs.table.cell.Lts as lts
-use Rattle.near.proofs.table.place.Reads as place-reads
 
 -- src/table.rt:33:9
 place-requires : tie.Need-place-requires

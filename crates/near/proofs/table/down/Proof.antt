@@ -8,11 +8,6 @@ use native.Mathlib.Omega.{arith}
 use borrow.Author.Needs.{needs}
 use Rattle.near.proofs.table.down.Statement.{statement}
 use Rattle.near.proofs.table.down.Tie as tie
-use Rattle.near.proofs.table.down.Reads as reads
-use Rattle.near.proofs.table.down.Lts as lts
-use Rattle.near.proofs.table.joined.Reads as joined-reads
-use Rattle.near.proofs.table.leaf.Reads as leaf-reads
-use Rattle.near.proofs.table.step.Reads as step-reads
 
 abbrev Inv-loop : tie.InvT-loop
 Inv-loop s l q table n level at sum₀ m₀ k₀ sum m k =

@@ -5,10 +5,7 @@ use native.Mathlib.Omega.{arith}
 use borrow.Author.Needs.{needs}
 use Rattle.near.proofs.table.fill_at.Statement.{statement}
 use Rattle.near.proofs.table.fill_at.Tie as tie
-use Rattle.near.proofs.table.fill_at.Reads as reads
-use Rattle.near.proofs.table.fill_at.Lts as lts
 use Rattle.local.proofs.page_right.Reads as page-right-reads
-use Rattle.near.proofs.table.fill_page.Reads as fill-page-reads
 
 -- src/table.rt:162:9
 page-right-requires : tie.Need-page-right-requires

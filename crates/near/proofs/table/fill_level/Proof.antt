@@ -6,9 +6,6 @@ use native.Mathlib.Omega.{arith}
 use borrow.Author.Needs.{needs}
 use Rattle.near.proofs.table.fill_level.Statement.{statement}
 use Rattle.near.proofs.table.fill_level.Tie as tie
-use Rattle.near.proofs.table.fill_level.Reads as reads
-use Rattle.near.proofs.table.fill_level.Lts as lts
-use Rattle.near.proofs.table.fill_at.Reads as fill-at-reads
 
 abbrev Inv-loop : tie.InvT-loop
 Inv-loop table₀ s l q level n₀ table n = (n ≤ 4096) × Table (l .least) s (q .version) (q .low) (q .high) (level * 4096 + n) table × (length table ≡ length table₀)

@@ -16,11 +16,6 @@ use native.Mathlib.Omega.{arith}
 use borrow.Author.Needs.{needs}
 use Rattle.near.proofs.table.fill_page.Statement.{statement}
 use Rattle.near.proofs.table.fill_page.Tie as tie
-use Rattle.near.proofs.table.fill_page.Reads as reads
-use Rattle.near.proofs.table.fill_page.Lts as lts
-use Rattle.near.proofs.table.joined.Reads as joined-reads
-use Rattle.near.proofs.table.put.Reads as put-reads
-use Rattle.near.proofs.table.through.Reads as through-reads
 use Rattle.page.proofs.entry_at.Reads as entry-at-reads
 use Rattle.page.proofs.head_of.Reads as head-of-reads
 use Rattle.store.proofs.part.Reads as part-reads

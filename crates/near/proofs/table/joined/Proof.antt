@@ -4,8 +4,6 @@ use native.Mathlib.Omega.{arith}
 use borrow.Author.Needs.{needs}
 use Rattle.near.proofs.table.joined.Statement.{statement}
 use Rattle.near.proofs.table.joined.Tie as tie
-use Rattle.near.proofs.table.joined.Reads as reads
-use Rattle.near.proofs.table.joined.Lts as lts
 
 -- src/table.rt:51:9
 returns : tie.Need-returns

@@ -15,8 +15,6 @@ use native.Mathlib.Omega.{arith}
 use borrow.Author.Needs.{needs}
 use Rattle.near.proofs.table.leaf.Statement.{statement}
 use Rattle.near.proofs.table.leaf.Tie as tie
-use Rattle.near.proofs.table.leaf.Reads as reads
-use Rattle.near.proofs.table.leaf.Lts as lts
 use Rattle.local.proofs.page_right.Reads as page-right-reads
 use Rattle.page.proofs.head_of.Reads as head-of-reads
 use Rattle.store.proofs.part.Reads as part-reads

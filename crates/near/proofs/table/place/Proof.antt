@@ -4,8 +4,6 @@ use native.Mathlib.Omega.{arith}
 use borrow.Author.Needs.{needs}
 use Rattle.near.proofs.table.place.Statement.{statement}
 use Rattle.near.proofs.table.place.Tie as tie
-use Rattle.near.proofs.table.place.Reads as reads
-use Rattle.near.proofs.table.place.Lts as lts
 
 -- src/table.rt:26:10
 mul-result : tie.Need-mul-result

@@ -6,9 +6,6 @@ use native.Mathlib.Omega.{arith}
 use borrow.Author.Needs.{needs}
 use Rattle.near.proofs.table.put.Statement.{statement}
 use Rattle.near.proofs.table.put.Tie as tie
-use Rattle.near.proofs.table.put.Reads as reads
-use Rattle.near.proofs.table.put.Lts as lts
-use Rattle.near.proofs.table.place.Reads as place-reads
 
 -- src/table.rt:41:9
 place-requires : tie.Need-place-requires

@@ -5,9 +5,6 @@ use native.Mathlib.Omega.{arith}
 use borrow.Author.Needs.{needs}
 use Rattle.near.proofs.table.through.Statement.{statement}
 use Rattle.near.proofs.table.through.Tie as tie
-use Rattle.near.proofs.table.through.Reads as reads
-use Rattle.near.proofs.table.through.Lts as lts
-use Rattle.near.proofs.table.down.Reads as down-reads
 use Rattle.near.proofs.wide.Reads as wide-reads
 
 -- src/table.rt:128:9
