@@ -28,3 +28,7 @@ module _ (left rest : ℕ) (le : rest ≤ left) where
 
     pub goes-on : r .fine ≡ true → (r .left ≤ left) × (0 < r .left → x ≡ z)
     goes-on f = (omega (arith, k .less), λ lt. by lt ∙ ap (λ (b : Bool). b && z) f)
+
+-- a call that has read a page has left one more
+pub fewer : (left : ℕ) (x : Bool) (r : Within) → Answers (left - 1) x r → Answers left x r
+fewer left x r k = record { less = omega (arith, k .less); right = k .right }
