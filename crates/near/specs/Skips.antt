@@ -1,24 +1,46 @@
 -- A range's routers by the table: those below which it finds nothing are passed over. Assumes nothing.
-use Prim.Native.Nat.{ℕ, suc, _+_, _*_, _≤_, _<_}
+use Prim.Native.Nat.{ℕ, suc, _+_, _*_, _-_, _≤_, _<_}
 use native.Mathlib.Omega.{arith}
 use mathlib.Core.Bool.{true}
-use mathlib.Core.Path.{_≡_, refl, ap, sym, _∙_}
+use mathlib.Core.Path.{_≡_, refl, ap, sym, _∙_, subst}
 use mathlib.Core.List.{List, [], _∷_, _++_}
 use lib.ListN.{length, getD, length-append}
 use Rattle.model.specs.declared.Pair.{Pair}
 use Rattle.model.specs.Entry.{pairOf}
 use Rattle.model.specs.Page.{Page}
 use Rattle.model.specs.Walk.{between, rangeBelow}
-use Rattle.model.specs.Layout.{pageOf, decode}
+use Rattle.model.specs.Layout.{pageOf, sizeOf, decode}
 use Rattle.local.specs.Local.{countAt}
-use Rattle.local.specs.Near.{pageRight}
+use Rattle.local.specs.Near.{pageRight, rangeRight}
 use Rattle.walk.specs.Live.{live}
 use Rattle.walk.specs.Scan.{entry, from, Next}
 use Rattle.walk.specs.Below.{later, later-step, later-same}
+use Rattle.model.specs.declared.Limits.{Limits}
+use Rattle.near.specs.Here.{Reads, page-of}
 use Rattle.near.specs.Across.{rightFrom, from-first, from-same}
 use Rattle.near.specs.Told.{told-right}
 use Rattle.near.specs.Table.{behind}
-use Rattle.near.specs.Cells.{Row}
+use Rattle.near.specs.Cells.{right-low, Table, Row, table-row}
+
+-- page n is right, its children stand `up` levels above the leaves, and the table has its numbers
+pub record Turns (l : Limits) (b : List ℕ) (v lo hi up n : ℕ) (t : List ℕ) : Type 0 where
+  pub reads : Reads l b
+  pub right : pageRight (l .least) b (suc (suc up)) n ≡ true
+  pub long : 4096 * (5 * l .least + 1) ≤ length t
+  pub row : Row (l .least) b v lo hi up n 0 t
+
+-- so it is at an index page of a walk that is right
+pub turns-here : {l : Limits} {b : List ℕ} (r : Reads l b) (v lo hi up n k : ℕ) → rangeRight (l .least) b v up hi k n ≡ true → (up ≡ 0 → ⊥) → (t : List ℕ) → Table (l .least) b v lo hi ((up + 2) * 4096) t → Turns l b v lo hi (up - 1) n t
+turns-here {l} {b} r v lo hi up n k c z t x =
+    let e : suc up ≡ suc (suc (up - 1)) = omega arith in
+    let right : pageRight (l .least) b (suc (suc (up - 1))) n ≡ true = subst (λ (u : ℕ). pageRight (l .least) b u n ≡ true) e (page-of (l .least) b v hi k n up c) in
+    let low : n < 4096 = right-low (l .least) b (sizeOf (l .least) b) (r .sized) (suc (suc (up - 1))) n (omega arith) right in
+    record {
+      reads = r;
+      right = right;
+      long = x .long;
+      row = table-row (l .least) b (sizeOf (l .least) b) (r .sized) v lo hi (up - 1) n ((up + 2) * 4096) t x (omega arith) right;
+    }
 
 module _ (least : ℕ) (b : List ℕ) (v lo hi up n : ℕ) where
   abbrev ps : List Page

@@ -28,6 +28,7 @@ ghost use Rattle.near.specs.Crossed.{crossed};
 
 mod table;
 mod within;
+mod write;
 
 // "Keys are 0 to 16,777,215".
 const KEYS: u32 = 16777216;
