@@ -10,7 +10,7 @@ use mathlib.Core.Path.{_≡_, ap, sym, _∙_, subst}
 use mathlib.Core.Logic.{_⊎_, inl, inr, ⊎-elim}
 use mathlib.Core.List.{List}
 use lib.Dec.{eqb}
-use lib.ListN.{length, getD, set, length-set}
+use lib.ListN.{length, getD, set, replicate, length-set, length-replicate}
 use lib.Seq.{getD-set-same, getD-set-other}
 use borrow.Author.Tests.{eqb-true}
 use Rattle.bits.specs.Put.{less}
@@ -86,6 +86,13 @@ pub record Table (least : ℕ) (b : List ℕ) (v lo hi c : ℕ) (t : List ℕ) :
 -- the places of page n from j on
 pub record Row (least : ℕ) (b : List ℕ) (v lo hi up n j : ℕ) (t : List ℕ) : Type 0 where
   pub from : (i : ℕ) → j ≤ i → i ≤ countAt least b n → getD t (n * (5 * least + 1) + i) 0 ≡ behind least b v lo hi up (pageOf least b n) (countAt least b n) i
+
+-- a table of zeros that is long enough
+pub small-long : (least : ℕ) → least ≤ 4 → 4096 * (5 * least + 1) ≤ length (replicate {A = ℕ} 86016 0)
+small-long least h = omega (arith, length-replicate {A = ℕ} 86016 0)
+
+pub large-long : (least : ℕ) → least ≤ 8 → 4096 * (5 * least + 1) ≤ length (replicate {A = ℕ} 167936 0)
+large-long least h = omega (arith, length-replicate {A = ℕ} 167936 0)
 
 module _ (least : ℕ) (b : List ℕ) (size : ℕ) (z : Sized least b size) (v lo hi : ℕ) where
   abbrev w : ℕ

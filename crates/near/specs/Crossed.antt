@@ -17,6 +17,18 @@ use Rattle.model.specs.Lent.{judgedFirst, Listed, listed}
 use Rattle.local.specs.Near.{fromRoot, rangeRight, early, rangeNear}
 use Rattle.near.specs.Early.{chain-on, guarded, numbers, badRange}
 
+-- what a range gives and leaves in the caller's list by a walk that is right, or not
+unfoldable pub answered : List ℕ → Bool → List Pair → Listed
+answered ns right xs = listed ns (rangedBy (firstOf (rule 4 (not right) ∷ [])) (length ns) xs)
+
+pub answered-wrong : (ns : List ℕ) (right : Bool) (xs : List Pair) → right ≡ false → record { number = 4; count = 0; list = ns } ≡ answered ns right xs
+unfolding answered rangedBy
+answered-wrong ns right xs e = sym (rw e)
+
+pub answered-right : (ns : List ℕ) (right : Bool) (xs : List Pair) → right ≡ true → listed ns (rangedBy 0 (length ns) xs) ≡ answered ns right xs
+unfolding answered
+answered-right ns right xs e = sym (rw e)
+
 module _ (least : ℕ) (b : List ℕ) (lo hi v : ℕ) (ns : List ℕ) where
   abbrev ps : List Page
   ps = decode least b .pages
@@ -28,47 +40,37 @@ module _ (least : ℕ) (b : List ℕ) (lo hi v : ℕ) (ns : List ℕ) where
   abbrev pub kept : ℕ → Listed
   kept n = record { number = n; count = 0; list = ns }
 
-  -- by a walk that is right, or not
-  abbrev by : Bool → List Pair → Listed
-  by right xs = listed ns (rangedBy (firstOf (rule 4 (not right) ∷ [])) (length ns) xs)
-
   -- what a range gives in which 1, 2, 3, the front, 5 and 6 are settled
   unfoldable pub crossed : Listed
-  crossed = by (fromRoot least b v (λ up n. rangeRight least b v up hi lo n)) (rangeOf (decode least b) lo hi v)
-
-  four : (xs : List Pair) → kept 4 ≡ by false xs
-  unfolding rangedBy
-  four xs = refl
+  crossed = answered ns (fromRoot least b v (λ up n. rangeRight least b v up hi lo n)) (rangeOf (decode least b) lo hi v)
 
   pub cross-free : page ps root .level ≡ 0 → kept 4 ≡ crossed
   unfolding crossed
-  cross-free e = four (rangeOf (decode least b) lo hi v) ∙ sym (ap (λ (x : ℕ). by (not (eqb x 0) && rangeRight least b v (pred x) hi lo root) (rangeOf (decode least b) lo hi v)) e)
+  cross-free e =
+      answered-wrong ns (not (eqb (page ps root .level) 0) && rangeRight least b v (pred (page ps root .level)) hi lo root) (rangeOf (decode least b) lo hi v)
+      (ap (λ (x : ℕ). not (eqb x 0) && rangeRight least b v (pred x) hi lo root) e)
 
-  at-level : (up : ℕ) → page ps root .level ≡ suc up → crossed ≡ by (rangeRight least b v up hi lo root) (rangeBelow up ps v lo hi lo root)
+  at-level : (up : ℕ) → page ps root .level ≡ suc up → crossed ≡ answered ns (rangeRight least b v up hi lo root) (rangeBelow up ps v lo hi lo root)
   unfolding crossed
   at-level up e =
-      ap (λ (x : ℕ). by (not (eqb x 0) && rangeRight least b v (pred x) hi lo root) (rangeBelow (pred x) ps v lo hi lo root)) e
-      ∙ ap (λ (t : Bool). by (not t && rangeRight least b v up hi lo root) (rangeBelow up ps v lo hi lo root)) (ne-eqb (suc up) 0 (λ q. omega arith))
+      ap (λ (x : ℕ). answered ns (not (eqb x 0) && rangeRight least b v (pred x) hi lo root) (rangeBelow (pred x) ps v lo hi lo root)) e
+      ∙ ap (λ (t : Bool). answered ns (not t && rangeRight least b v up hi lo root) (rangeBelow up ps v lo hi lo root)) (ne-eqb (suc up) 0 (λ q. omega arith))
 
   pub cross-at : (up : ℕ) → page ps root .level ≡ suc up → rangeRight least b v up hi lo root ≡ true → crossed ≡ listed ns (rangedBy 0 (length ns) (rangeBelow up ps v lo hi lo root))
-  cross-at up e f = at-level up e ∙ ap (λ (x : Bool). by x (rangeBelow up ps v lo hi lo root)) f
+  cross-at up e f = at-level up e ∙ sym (answered-right ns (rangeRight least b v up hi lo root) (rangeBelow up ps v lo hi lo root) f)
 
   pub cross-not : (up : ℕ) → page ps root .level ≡ suc up → rangeRight least b v up hi lo root ≡ false → kept 4 ≡ crossed
-  cross-not up e f = four (rangeBelow up ps v lo hi lo root) ∙ sym (at-level up e ∙ ap (λ (x : Bool). by x (rangeBelow up ps v lo hi lo root)) f)
+  cross-not up e f = answered-wrong ns (rangeRight least b v up hi lo root) (rangeBelow up ps v lo hi lo root) f ∙ sym (at-level up e)
 
-  pub cross-wrong : (level : ℕ) → 0 < level → page ps root .level ≡ level → rangeRight least b v (pred level) hi lo root ≡ false → kept 4 ≡ crossed
-  cross-wrong zero h e f = absurd (omega arith)
-  cross-wrong (suc up) h e f = cross-not up e f
-
-  pub cross-right : (level : ℕ) → 0 < level → page ps root .level ≡ level → rangeRight least b v (pred level) hi lo root ≡ true
-      → listed ns (rangedBy 0 (length ns) (rangeBelow (pred level) ps v lo hi lo root)) ≡ crossed
-  cross-right zero h e f = absurd (omega arith)
-  cross-right (suc up) h e f = sym (cross-at up e f)
+  -- by the walk from the root
+  pub cross-by : (level : ℕ) → 0 < level → page ps root .level ≡ level → answered ns (rangeRight least b v (pred level) hi lo root) (rangeBelow (pred level) ps v lo hi lo root) ≡ crossed
+  cross-by zero h e = absurd (omega arith)
+  cross-by (suc up) h e = sym (at-level up e)
 
   -- ---- by its guard
 
   pub range-by : rangeNear least b lo hi v ns ≡ judgedFirst (guarded least b (badRange lo hi) v) kept crossed
-  unfolding rangeNear guarded crossed
+  unfolding rangeNear guarded crossed answered
   range-by =
       let rs : List Rule = early least b (rule 5 (badRange lo hi) ∷ rule 6 (ltb (last (decode least b)) v) ∷ []) in
       let q : List Rule = rule 4 (not (fromRoot least b v (λ up n. rangeRight least b v up hi lo n))) ∷ [] in

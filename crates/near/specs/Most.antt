@@ -5,6 +5,7 @@ use native.Mathlib.Nat.{mul-le-mul-right}
 use native.Mathlib.Numerals.{sub-one}
 use mathlib.Core.Bool.{Bool, true, false, _&&_}
 use mathlib.Core.Path.{_≡_, ap, sym, _∙_, subst}
+use mathlib.Core.Logic.{_⊎_, inl, inr}
 use mathlib.Core.List.{List}
 use lib.Dec.{leb}
 use lib.ListN.{length, getD, length-map}
@@ -14,6 +15,7 @@ use Rattle.model.specs.declared.Pair.{Pair}
 use Rattle.model.specs.Entry.{pairOf, liveAt}
 use Rattle.model.specs.Walk.{between, rangeBelow}
 use Rattle.model.specs.Layout.{pageOf, decode}
+use Rattle.model.proofs.Members.{bool-cases}
 use Rattle.page.specs.Read.{length-entries}
 use Rattle.local.specs.Local.{Sized, countAt}
 use Rattle.local.specs.Near.{pageRight, rangeRight}
@@ -21,7 +23,7 @@ use Rattle.walk.specs.Live.{live}
 use Rattle.walk.specs.Scan.{from}
 use Rattle.walk.specs.Below.{through, later}
 use Rattle.walk.specs.Bound.{length-those, most, most-rises}
-use Rattle.near.specs.Across.{under, rightFrom}
+use Rattle.near.specs.Across.{under, rightFrom, across-wrong}
 use Rattle.near.specs.Bound.{flat-most, parts, below-most, right-few}
 use Rattle.near.specs.Told.{told-most}
 use Rattle.near.specs.Table.{found, behind, turn}
@@ -30,6 +32,14 @@ use Rattle.near.specs.Cells.{Table, right-count, right-low}
 length-from : (p : List ℕ) (i n : ℕ) → length (from p i n) ≤ n
 unfolding from
 length-from p i n = omega (arith, length-entries p (128 + 96 * i) (n - i))
+
+-- no page of a level above 7 is right
+pub high-wrong : (least : ℕ) (b : List ℕ) → least ≤ 8 → (v hi at level n : ℕ) → 7 < level → rangeRight least b v (pred level) hi at n ≡ false
+high-wrong least b eight v hi at level n h = sym (across-wrong least b v hi at n level (omega arith) (by (bool-cases (pageRight least b level n))))
+  where
+    by : (pageRight least b level n ≡ true) ⊎ (pageRight least b level n ≡ false) → pageRight least b level n ≡ false
+    by (inl e) = absurd (omega (arith, parts least b eight level n e .0))
+    by (inr e) = e
 
 module _ (least : ℕ) (b : List ℕ) (eight : least ≤ 8) (v lo hi : ℕ) where
   pub found-most : (up at n : ℕ) → found least b v lo hi up at n ≤ suc (2 ^ 40)

@@ -33,7 +33,7 @@ use Rattle.walk.specs.Scan.{entry, from, from-step, Owns}
 use Rattle.walk.specs.Below.{through, later, later-end, followed-through}
 use Rattle.walk.specs.Bound.{length-those}
 use Rattle.near.specs.Across.{under, rightFrom, across-wrong, across-none, across-on, from-end}
-use Rattle.near.specs.Told.{told, join, told-right, told-wrong, told-most, told-both, join-last}
+use Rattle.near.specs.Told.{told, join, told-right, told-wrong, told-some, told-none, told-both, join-last}
 
 -- the next one of routers: followed if it is alive and at or below the high key
 module _ (v hi : ℕ) (e : Entry) (es : List Entry) where
@@ -98,6 +98,16 @@ module _ (least : ℕ) (b : List ℕ) (v lo hi : ℕ) where
 
     pub turn-on : e .start ≤ v → v < e .end → e .key ≤ hi → turn up e ≡ found up (e .key) (e .value)
     turn-on a c h = turn-so up e (rw (le-leb (e .start) v a, lt-ltb v (e .end) c, le-leb (e .key) hi h))
+
+  -- what the number says
+  module _ (up at n r : ℕ) (e : r ≡ found up at n) where
+    pub found-some : (r ≡ 0 → ⊥) → (rangeRight least b v up hi at n ≡ true) × (r ≡ suc (length (rangeBelow up ps v lo hi at n)))
+    unfolding found
+    found-some z = told-some (rangeRight least b v up hi at n) (length (rangeBelow up ps v lo hi at n)) r e z
+
+    pub found-zero : r ≡ 0 → rangeRight least b v up hi at n ≡ false
+    unfolding found
+    found-zero z = told-none (rangeRight least b v up hi at n) (length (rangeBelow up ps v lo hi at n)) r e z
 
   -- a leaf is the same for each key
   pub found-foot : (at k n : ℕ) → k ≡ 1 → found (pred k) at n ≡ found 0 0 n

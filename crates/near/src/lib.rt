@@ -26,6 +26,7 @@ ghost use Rattle.near.specs.Here.{Reads};
 ghost use Rattle.near.specs.Early.{fronted, guarded, badRange};
 ghost use Rattle.near.specs.Crossed.{crossed};
 
+mod bounded;
 mod table;
 mod within;
 mod write;
@@ -129,38 +130,6 @@ pub(crate) fn wide(x: u32) -> usize
     ensures { λ r. ⌜ r ≡ x ⌝ }
 {
     x as usize
-}
-
-// Whether the walk of a range below page n, which is to have this level and cover the key `at`, is right.
-fn range_right(s: &[u8], l: Limits, q: Asked, n: usize, level: u32, at: u32) -> bool
-    requires { ⌜ Edition l × Known (l .least) (now s) (q .size) (q .last) × (length (now s) ≤ 2 ^ 40) × (0 < level) ⌝ }
-    ensures { λ r. ⌜ r ≡ rangeRight (l .least) (now (s .entry)) (q .version) (pred level) (q .high) at n ⌝ }
-{
-    if !local::page_right(s, l, q.last, q.size, level, n) {
-        return false;
-    }
-    if level == 1 {
-        return true;
-    }
-    if !starts(s, l, n, q.version, at) {
-        return false;
-    }
-    let p = store::part(s, l, n);
-    let h = page::head_of(p, l);
-    let count = h.count;
-    let o = walk::own_router(p, count, q.version, at);
-    if !range_right(s, l, q, wide(o.page), level - 1, at) {
-        return false;
-    }
-    let mut i = walk::next_place(p, count, q.version, 0, q.high, o.next);
-    while i < count {
-        let e = page::entry_at(p, i);
-        if !range_right(s, l, q, wide(e.value), level - 1, e.key) {
-            return false;
-        }
-        i = walk::next_place(p, count, q.version, 0, q.high, i + 1);
-    }
-    true
 }
 
 // The settings that a range asks for below page n, `up` levels above the leaves, behind the first `found` of a list; gives how many there
@@ -288,7 +257,8 @@ fn bad_range(low: u32, high: u32) -> bool
     high < low
 }
 
-// The walk of a range: all of it is judged before anything is counted or written.
+// The walk of a range: all of it is judged before anything is counted or written. Where the judging has come to its end within as many
+// visits as there are pages, counting and writing visit the same pages.
 fn across(
     s: &[u8],
     l: Limits,
@@ -317,7 +287,11 @@ fn across(
         last: last,
         size: size,
     };
-    if !range_right(s, l, q, root, level, low) {
+    let w = within::range_right(s, l, q, root, level, low, size);
+    if w.left == 0 {
+        return bounded::by_table(s, l, q, root, level, list);
+    }
+    if !w.fine {
         return Counted {
             number: 4,
             count: 0,
