@@ -7,5 +7,4 @@ pub mod Ruled
 pub mod Second
 pub mod Third
 pub mod Linked
-pub mod Near
 pub mod Right

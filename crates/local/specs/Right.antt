@@ -6,7 +6,7 @@ use mathlib.Core.List.{List}
 use native.Mathlib.Omega.{arith}
 use lib.Dec.{leb, eqb}
 use lib.ListN.{length, List·getD-eq-default}
-use borrow.Author.Tests.{eq-eqb, ne-eqb, lt-leb, le-leb, leb-true}
+use borrow.Author.Tests.{eq-eqb, ne-eqb, lt-leb, le-leb}
 use Rattle.model.specs.Basic.{all}
 use Rattle.model.specs.Limits.{rootBits}
 use Rattle.model.specs.Page.{free, isFree}
@@ -23,7 +23,7 @@ use Rattle.store.specs.Read.{count-pages, page-at, front-free, slots-of}
 use Rattle.local.specs.Local.{Sized}
 use Rattle.local.specs.First.{rooted}
 use Rattle.local.specs.Loops.{and-false, and-true}
-use Rattle.local.specs.Near.{frontRight, pageRight}
+use Rattle.model.specs.Near.{frontRight, pageRight}
 
 -- a store's header, as it was read, with no more roots than there are slots
 pub record Slotted (least : ℕ) (s : List ℕ) (h : Header) : Type 0 where
@@ -131,17 +131,6 @@ module _ (least : ℕ) (s : List ℕ) (size : ℕ) (z : Sized least s size) wher
         where
           used : pageFine least (last (decode least s)) size (decodePage least p) ≡ pageOk least (last (decode least s)) size (decodePage least p)
           used = let q : isFree (decodePage least p) ≡ false = rw (level-of least p) (ne-eqb (readHead least p .level) 0 (λ e. omega arith)) in rw q
-
--- a header that is right has no more roots than there are slots
-pub clean-roots : (least : ℕ) (s : List ℕ) → cleanFront least s ≡ true → readHeader least s .roots ≤ 64 * least
-unfolding cleanFront
-clean-roots least s e =
-    let n : ℕ = readHeader least s .roots in
-    let far : Bool = zeroFrom s (512 * least + 32 * n) (2560 * least) in
-    let near : Bool = zeroFrom s (74 + rootBits least) (512 * least) in
-    let x = both-true (eqb (readHeader least s .pages) (sizeOf least s)) (near && (leb n (64 * least) && far)) e in
-    let y = both-true near (leb n (64 * least) && far) (x .1) in
-    leb-true n (64 * least) (both-true (leb n (64 * least)) far (y .1) .0)
 
 -- a front that is right has its header so
 pub front-true : (least : ℕ) (s : List ℕ) → frontRight least s ≡ true → cleanFront least s ≡ true

@@ -6,10 +6,10 @@ ghost use Rattle.model.specs.Limits.{Edition};
 ghost use Rattle.model.specs.Layout.{readHeader};
 ghost use Rattle.model.specs.Clean.{cleanFront};
 ghost use Rattle.local.specs.Local.{Sized};
-ghost use Rattle.local.specs.Near.{frontRight};
+ghost use Rattle.model.specs.Near.{frontRight};
 
 // The header's page count and undefined bits, the number of roots, and the unused slots.
-fn header_right(s: &[u8], l: Limits, h: Header, size: usize) -> bool
+pub(crate) fn header_right(s: &[u8], l: Limits, h: Header, size: usize) -> bool
     requires { ⌜ Edition l × Sized (l .least) (now s) size × (h ≡ readHeader (l .least) (now s)) ⌝ }
     ensures { λ r. ⌜ r ≡ cleanFront (l .least) (now (s .entry)) ⌝ }
 {

@@ -11,7 +11,7 @@ use Rattle.model.specs.Layout.{decode}
 use Rattle.model.specs.Walk.{rootAt, rangeBelow}
 use Rattle.model.specs.Calls.{rangedBy}
 use Rattle.model.specs.Lent.{listed}
-use Rattle.local.specs.Near.{rangeRight}
+use Rattle.model.specs.Near.{rangeRight}
 use Rattle.near.specs.Crossed.{cross-free, cross-wrong, cross-right}
 use Rattle.near.proofs.across.Statement.{statement}
 use Rattle.near.proofs.across.Tie as tie

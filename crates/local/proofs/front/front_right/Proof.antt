@@ -6,8 +6,8 @@ use borrow.Author.Needs.{needs}
 use Rattle.model.specs.declared.Header.{Header}
 use Rattle.model.specs.Store.{lastOf}
 use Rattle.store.specs.Read.{current-lt}
-use Rattle.local.specs.First.{last-is}
-use Rattle.local.specs.Right.{front-clean, front-last, front-rooted, front-rest, clean-roots}
+use Rattle.local.specs.First.{last-is, clean-roots}
+use Rattle.local.specs.Right.{front-clean, front-last, front-rooted, front-rest}
 use Rattle.local.proofs.front.front_right.Statement.{statement}
 use Rattle.local.proofs.front.front_right.Tie as tie
 

@@ -1,7 +1,7 @@
 -- `bad_range` meets its contract. Assumes nothing.
 use borrow.Author.Tests.{le-leb, lt-leb}
-use Rattle.near.proofs.bad_range.Statement.{statement}
-use Rattle.near.proofs.bad_range.Tie as tie
+use Rattle.near.proofs.guard.bad_range.Statement.{statement}
+use Rattle.near.proofs.guard.bad_range.Tie as tie
 
 returns : tie.Need-returns
 returns c = simp (le-leb _ _ (c .if1 .taken))

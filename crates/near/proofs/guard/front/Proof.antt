@@ -7,8 +7,8 @@ use Rattle.model.specs.Layout.{sizeOf}
 use Rattle.local.specs.Local.{Sized}
 use Rattle.local.specs.Sizes.{sized}
 use Rattle.near.specs.Early.{front-one, front-two, front-three, front-four, front-none}
-use Rattle.near.proofs.front.Statement.{statement}
-use Rattle.near.proofs.front.Tie as tie
+use Rattle.near.proofs.guard.front.Statement.{statement}
+use Rattle.near.proofs.guard.front.Tie as tie
 
 whole-requires : tie.Need-whole-requires
 whole-requires c κs = search needs

@@ -1,24 +1,23 @@
--- Request 2026-04, "lookups judge only what they read": what lookup and range give on lent bytes from then on. They judge the header and
--- the slots, and then each page that their own walk comes to; the walk itself is Walk's, which is total on any bytes.
--- It stands here for the time being; its place is model/specs, beside Judged and Lent. Assumes nothing.
+-- 2026-04, "lookups judge only what they read": what lookup and range give on any lent bytes. They judge the header and the slots, and then
+-- each page that their own walk comes to; the walk is Walk's, which is total on any store. "01's row 4 is amended for these two".
+-- Assumes nothing.
 use Prim.Native.Nat.{ℕ, zero, suc}
 use mathlib.Core.Bool.{Bool, false, _&&_, _||_, not}
 use mathlib.Core.List.{List, [], _∷_}
 use lib.Dec.{leb, ltb, eqb}
 use lib.ListN.{length}
 use Rattle.model.specs.Basic.{all}
 use Rattle.model.specs.declared.Pair.{Pair}
 use Rattle.model.specs.declared.Slot.{Slot}
 use Rattle.model.specs.declared.Looked.{Looked}
 use Rattle.model.specs.Page.{isFree, pairsAt}
 use Rattle.model.specs.Store.{page, last}
 use Rattle.model.specs.Walk.{keyLimit, rootAt, heightOf, around, followed, lookup, rangeOf}
 use Rattle.model.specs.Sound.{isPage, pageOk, rule2}
 use Rattle.model.specs.Layout.{pageOf, decode}
 use Rattle.model.specs.Clean.{cleanPage, cleanFront}
 use Rattle.model.specs.Judged.{lengthOk, magicOk, editionOk}
-use Rattle.model.specs.Calls.{Rule, rule, firstOf, lookedBy, rangedBy}
-use Rattle.model.specs.Lent.{Listed, listed}
+use Rattle.model.specs.Calls.{Rule, rule, firstOf, lookedBy, Ranged, rangedBy}
 
 -- "the header, a directory slot .. breaks rules 1 or 2 of 01 locally": what rule 1 says of the header's fields and zero bits and of the
 -- slots, unused ones too, and rule 2
@@ -70,7 +69,8 @@ abbrev pub early : ℕ → List ℕ → List Rule → List Rule
 early least b rs =
     rule 1 (not (lengthOk least b)) ∷ rule 2 (not (magicOk b)) ∷ rule 3 (not (editionOk least b)) ∷ rule 4 (not (frontRight least b)) ∷ rs
 
--- "Otherwise they answer by the entries alive on the walked pages in walk order, a lookup by the first with its key"
+-- "Otherwise they answer by the entries alive on the walked pages in walk order, a lookup by the first with its key, whether or not the rest
+-- is sound."
 unfoldable pub lookupNear : ℕ → List ℕ → ℕ → ℕ → Looked
 lookupNear least b k v =
     let s = decode least b in
@@ -80,13 +80,11 @@ lookupNear least b k v =
     (lookup s k v)
 
 -- 14 comes last: it needs the whole walk
-unfoldable pub rangeNear : ℕ → List ℕ → ℕ → ℕ → ℕ → List ℕ → Listed
-rangeNear least b lo hi v ns =
+unfoldable pub rangeNear : ℕ → List ℕ → ℕ → ℕ → ℕ → ℕ → Ranged
+rangeNear least b lo hi v room =
     let s = decode least b in
-    listed ns
-    (rangedBy
+    rangedBy
     (firstOf (early least b
     (rule 5 (leb keyLimit lo || leb keyLimit hi || ltb hi lo) ∷ rule 6 (ltb (last s) v)
     ∷ rule 4 (not (fromRoot least b v (λ up n. rangeRight least b v up hi lo n))) ∷ [])))
-    (length ns)
-    (rangeOf s lo hi v))
+    room (rangeOf s lo hi v)

@@ -5,8 +5,8 @@ use borrow.Author.Needs.{needs}
 use Rattle.model.specs.declared.Pair.{Pair}
 use Rattle.model.specs.Walk.{find}
 use Rattle.model.specs.Calls.{lookedAt}
-use Rattle.near.proofs.value_in.Statement.{statement}
-use Rattle.near.proofs.value_in.Tie as tie
+use Rattle.near.proofs.down.value_in.Statement.{statement}
+use Rattle.near.proofs.down.value_in.Tie as tie
 
 part-requires : tie.Need-part-requires
 part-requires c κs = search needs

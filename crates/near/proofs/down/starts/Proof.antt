@@ -6,10 +6,10 @@ use borrow.Author.Needs.{needs}
 use Rattle.model.specs.declared.Pair.{Pair}
 use Rattle.model.specs.Layout.{pageOf}
 use Rattle.page.specs.Head.{readHead}
-use Rattle.local.specs.Near.{startsBy}
+use Rattle.model.specs.Near.{startsBy}
 use Rattle.near.specs.Starts.{starts-next}
-use Rattle.near.proofs.starts.Statement.{statement}
-use Rattle.near.proofs.starts.Tie as tie
+use Rattle.near.proofs.down.starts.Statement.{statement}
+use Rattle.near.proofs.down.starts.Tie as tie
 
 part-requires : tie.Need-part-requires
 part-requires c κs = search needs

@@ -7,8 +7,8 @@ use Rattle.page.specs.Read.{level-of}
 use Rattle.store.specs.Read.{page-at, front-free}
 use Rattle.local.specs.Sizes.{part-fits}
 use Rattle.local.specs.Right.{far-free}
-use Rattle.near.proofs.level_at.Statement.{statement}
-use Rattle.near.proofs.level_at.Tie as tie
+use Rattle.near.proofs.down.level_at.Statement.{statement}
+use Rattle.near.proofs.down.level_at.Tie as tie
 
 returns : tie.Need-returns
 returns c = let a = c .before .before .args in sym (ap (λ (x : Page). x .level) (front-free (a .l .least) (a .s .now) (a .n) (c .if1 .taken)))

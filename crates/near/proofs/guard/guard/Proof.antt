@@ -7,8 +7,8 @@ use Rattle.model.specs.Store.{lastOf}
 use Rattle.store.specs.Read.{current-lt}
 use Rattle.local.specs.First.{last-is}
 use Rattle.near.specs.Early.{guard-front, guard-five, guard-six, guard-none, none-sized}
-use Rattle.near.proofs.guard.Statement.{statement}
-use Rattle.near.proofs.guard.Tie as tie
+use Rattle.near.proofs.guard.guard.Statement.{statement}
+use Rattle.near.proofs.guard.guard.Tie as tie
 
 front-requires : tie.Need-front-requires
 front-requires c κs = search needs

@@ -1,23 +1,26 @@
-use Rattle.quick.specs.Number.{edition-by}
+-- `of_edition` meets its contract. Assumes nothing.
+use Prim.Native.Nat.{ℕ}
 use native.Mathlib.Omega.{arith}
-use mathlib.Core.Path.{sym, _∙_}
+use mathlib.Core.Path.{_≡_, refl, sym, _∙_}
+use mathlib.Core.List.{List}
+use lib.Dec.{eqb}
 use borrow.Author.Needs.{needs}
-use Rattle.quick.proofs.of_edition.Statement.{statement}
-use Rattle.quick.proofs.of_edition.Tie as tie
-use Rattle.quick.proofs.of_edition.Reads as reads
-use Rattle.quick.proofs.of_edition.Lts as lts
-use Rattle.bits.proofs.field.Reads as field-reads
-use Rattle.model.proofs.edition_of.Reads as edition-of-reads
+use Rattle.model.specs.Limits.{editionOf}
+use Rattle.model.specs.Field.{field}
+use Rattle.model.specs.Judged.{editionOk}
+use Rattle.store.proofs.of_edition.Statement.{statement}
+use Rattle.store.proofs.of_edition.Tie as tie
 
--- src/lib.rt:63:5
+edition-by : (least : ℕ) (b : List ℕ) → editionOk least b ≡ eqb (field b 32 8) (editionOf least)
+unfolding editionOk
+edition-by least b = refl
+
 field-requires : tie.Need-field-requires
 field-requires c κs = (omega (arith, c .before .pre .1), omega arith, c .before .pre .2)
 
--- src/lib.rt:63:30
 edition-of-requires : tie.Need-edition-of-requires
 edition-of-requires c κs = search needs
 
--- src/lib.rt:59:1
 returns : tie.Need-returns
 returns c = let a = c .before .before .before .args in sym (edition-by (a .l .least) (a .s .now) ∙ rw (← c .before .field .ensures, ← c .edition-of .ensures))
 

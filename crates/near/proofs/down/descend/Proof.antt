@@ -5,11 +5,11 @@ use mathlib.Core.Bool.{true}
 use mathlib.Core.Path.{_≡_, ap, sym, _∙_, subst}
 use borrow.Author.Tests.{not-true, not-false}
 use borrow.Author.Needs.{needs}
-use Rattle.local.specs.Near.{pageRight}
+use Rattle.model.specs.Near.{pageRight}
 use Rattle.near.specs.Inside.{right-inside}
 use Rattle.near.specs.Down.{walked, descended, walk-free, level-start, level-wrong, level-none, level-on, level-leaf}
-use Rattle.near.proofs.descend.Statement.{statement}
-use Rattle.near.proofs.descend.Tie as tie
+use Rattle.near.proofs.down.descend.Statement.{statement}
+use Rattle.near.proofs.down.descend.Tie as tie
 
 abbrev Inv-loop : tie.InvT-loop
 Inv-loop s l last size key v n₀ level₀ n level = (0 < level) × (walked (l .least) s v key ≡ descended (l .least) s v key (pred level) n)
