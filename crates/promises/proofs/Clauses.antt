@@ -44,11 +44,11 @@ fails-right false c e = refl
 
 fails-all : {A : Type 0} (f : A → Bool) (g : A → Type 0) (xs : List A) → ((x : A) → f x ≡ false → g x) → all f xs ≡ false → Some g xs
 fails-all f g [] h e = clash e
-fails-all f g (x ∷ xs) h e = at (fails-or (f x) (all f xs) e)
+fails-all f g (x ∷ xs) h e = at (fails-or (f x) (all f xs) e) (λ q. fails-all f g xs h q)
   where
-    at : (f x ≡ false) ⊎ (all f xs ≡ false) → Some g (x ∷ xs)
-    at (inl q) = inl (h x q)
-    at (inr q) = inr (fails-all f g xs h q)
+    at : (f x ≡ false) ⊎ (all f xs ≡ false) → (all f xs ≡ false → Some g xs) → Some g (x ∷ xs)
+    at (inl q) ih = inl (h x q)
+    at (inr q) ih = inr (ih q)
 
 some-fails : {A : Type 0} (f : A → Bool) (g : A → Type 0) (xs : List A) → ((x : A) → g x → f x ≡ false) → Some g xs → all f xs ≡ false
 some-fails f g [] h e = absurd e

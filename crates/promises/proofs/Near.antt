@@ -180,18 +180,23 @@ looked-done : (n : ℕ) (o : Option ℕ) → lookedNumber (lookedBy n o) ≡ 0 �
 looked-done zero o e = refl
 looked-done (suc n) o e = absurd (omega arith)
 
+module _ (least : ℕ) (b : List ℕ) (k v : ℕ) where
+  abbrev right-way : Bool
+  right-way = fromRoot least b v (λ up n. downRight least b v up k n)
+
+  abbrev told : ℕ
+  told = chain (lengthOk least b) (magicOk b) (editionOk least b) (frontRight least b) (leb keyLimit k) (ltb (last (decode least b)) v) right-way
+
 pub lookup-judges : LookupJudges
 unfolding Lent.lookupLent Near.lookupNear
 lookup-judges = record {
   numbers = λ least b k v ns.
       let top : ℕ = last (decode least b) in
-      let w : Bool = fromRoot least b v (λ up n. downRight least b v up k n) in
-      carried _ _ _ _ (frontRight least b) (leb keyLimit k) (ltb top v) w (front-clauses least b) (leb-true keyLimit k, le-leb keyLimit k) (ltb-true top v, lt-ltb top v) (lookup-clauses least b v k)
-      (lengthOk least b) (magicOk b) (editionOk least b) (chain (lengthOk least b) (magicOk b) (editionOk least b) (frontRight least b) (leb keyLimit k) (ltb top v) w) _
-      (inl (sym (looked-number _ (lookup (decode least b) k v))))
-      (numbers-are _ _ _ _ (frontRight least b) (leb keyLimit k) (ltb top v) w (front-clauses least b) (leb-true keyLimit k, le-leb keyLimit k) (ltb-true top v, lt-ltb top v) (lookup-clauses least b v k)
+      carried _ _ _ _ (frontRight least b) (leb keyLimit k) (ltb top v) (right-way least b k v) (front-clauses least b) (leb-true keyLimit k, le-leb keyLimit k) (ltb-true top v, lt-ltb top v) (lookup-clauses least b v k)
+      (lengthOk least b) (magicOk b) (editionOk least b) (told least b k v) _ (inl (sym (looked-number (told least b k v) (lookup (decode least b) k v))))
+      (numbers-are _ _ _ _ (frontRight least b) (leb keyLimit k) (ltb top v) (right-way least b k v) (front-clauses least b) (leb-true keyLimit k, le-leb keyLimit k) (ltb-true top v, lt-ltb top v) (lookup-clauses least b v k)
       (lengthOk least b) (magicOk b) (editionOk least b));
-  answers = λ least b k v ns e. ap (ofLooked b ns) (looked-done _ (lookup (decode least b) k v) e);
+  answers = λ least b k v ns e. ap (ofLooked b ns) (looked-done (told least b k v) (lookup (decode least b) k v) e);
 }
 
 -- ---- a range
@@ -219,7 +224,7 @@ bad-is lo hi = (to (leb keyLimit lo) refl (leb keyLimit hi) refl, back)
     back (inr (inr e)) = rw (lt-ltb hi lo e) (last-one (leb keyLimit lo) (leb keyLimit hi))
 
 module _ (room : ℕ) (xs : List Pair) where
-  in-list : (t : Bool) → (0 ≡ rangedIn (firstOf (rule 14 t ∷ [])) xs .number) ⊎ ((0 ≡ 0) × (rangedIn (firstOf (rule 14 t ∷ [])) xs .number ≡ 14))
+  in-list : (t : Bool) → (_≡_ {A = ℕ} 0 (rangedIn (firstOf (rule 14 t ∷ [])) xs .number)) ⊎ ((_≡_ {A = ℕ} 0 0) × (rangedIn (firstOf (rule 14 t ∷ [])) xs .number ≡ 14))
   unfolding Calls.rangedIn
   in-list true = inr (refl, refl)
   in-list false = inl refl
