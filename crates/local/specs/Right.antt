@@ -1,5 +1,5 @@
 -- What a reading judges: the header and the slots, and one page, in the order in which the code tests them. Assumes nothing.
-use Prim.Native.Nat.{ℕ, _+_, _*_, _-_, _<_, _≤_}
+use Prim.Native.Nat.{ℕ, _+_, _*_, _<_, _≤_}
 use mathlib.Core.Bool.{Bool, true, false, _&&_}
 use mathlib.Core.Path.{_≡_, ap, sym, _∙_}
 use mathlib.Core.List.{List}
@@ -14,7 +14,6 @@ use Rattle.model.specs.Store.{page, last}
 use Rattle.model.specs.Sound.{isPage, pageOk, pageFine, rule2}
 use Rattle.model.specs.Layout.{pageOf, decodePage, readHeader, readSlots, decode, sizeOf}
 use Rattle.model.specs.Clean.{zeroFrom, cleanPage, cleanFront}
-use Rattle.model.specs.declared.Header.{Header}
 use Rattle.model.specs.declared.Slot.{Slot}
 use Rattle.model.proofs.Lists.{both-true}
 use Rattle.page.specs.Head.{readHead}
@@ -23,13 +22,9 @@ use Rattle.store.specs.Read.{count-pages, page-at, front-free, slots-of}
 use Rattle.local.specs.Local.{Sized}
 use Rattle.local.specs.First.{rooted}
 use Rattle.local.specs.Loops.{and-false, and-true}
+use Rattle.local.specs.Second.{rule2-is, two-none}
+use Rattle.local.specs.Front.{slotsFrom, slots-all, some-slots}
 use Rattle.model.specs.Near.{frontRight, pageRight}
-
--- a store's header, as it was read, with no more roots than there are slots
-pub record Slotted (least : ℕ) (s : List ℕ) (h : Header) : Type 0 where
-  pub header : h ≡ readHeader least s
-  pub sized : Sized least s (sizeOf least s)
-  pub roots : readHeader least s .roots ≤ 64 * least
 
 -- the number of pages, and the last version, as they were read
 pub record Known (least : ℕ) (s : List ℕ) (size top : ℕ) : Type 0 where
@@ -83,11 +78,14 @@ module _ (least : ℕ) (s : List ℕ) (size : ℕ) (z : Sized least s size) wher
     front-last b = front-is ∙ rw (a, lt-leb (last (decode least s)) 1048574 b)
 
     module _ (b : last (decode least s) ≤ 1048574) where
-      pub front-rooted : rooted size (readSlots s (512 * least) roots) ≡ false → frontRight least s ≡ false
-      front-rooted c = front-is ∙ rw (a, le-leb (last (decode least s)) 1048574 b, c)
+      pub front-none : roots ≡ 0 → frontRight least s ≡ false
+      front-none c = front-is ∙ rw (a, le-leb (last (decode least s)) 1048574 b, two-none least s c) (and-false (rooted size (readSlots s (512 * least) roots)))
 
-      pub front-rest : rooted size (readSlots s (512 * least) roots) ≡ true → frontRight least s ≡ rule2 (decode least s)
-      front-rest c = front-is ∙ rw (a, le-leb (last (decode least s)) 1048574 b, c)
+      pub front-slots : (n top : ℕ) → n ≡ roots → top ≡ last (decode least s) → 0 < n → frontRight least s ≡ slotsFrom size top 0 0 (readSlots s (512 * least) n)
+      front-slots n top e f h =
+          rw (e, f)
+          (front-is ∙ rw (a, le-leb (last (decode least s)) 1048574 b, rule2-is least s)
+          (sym (slots-all size (last (decode least s)) (readSlots s (512 * least) roots) (some-slots s (512 * least) roots (rw e at h)))))
 
   -- ---- one page
 
