@@ -7,5 +7,5 @@ pub mod Ruled
 pub mod Second
 pub mod Third
 pub mod Linked
-pub mod Near
+pub mod Front
 pub mod Right

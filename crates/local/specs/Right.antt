@@ -1,12 +1,12 @@
 -- What a reading judges: the header and the slots, and one page, in the order in which the code tests them. Assumes nothing.
-use Prim.Native.Nat.{ℕ, _+_, _*_, _-_, _<_, _≤_}
+use Prim.Native.Nat.{ℕ, _+_, _*_, _<_, _≤_}
 use mathlib.Core.Bool.{Bool, true, false, _&&_}
 use mathlib.Core.Path.{_≡_, ap, sym, _∙_}
 use mathlib.Core.List.{List}
 use native.Mathlib.Omega.{arith}
 use lib.Dec.{leb, eqb}
 use lib.ListN.{length, List·getD-eq-default}
-use borrow.Author.Tests.{eq-eqb, ne-eqb, lt-leb, le-leb, leb-true}
+use borrow.Author.Tests.{eq-eqb, ne-eqb, lt-leb, le-leb}
 use Rattle.model.specs.Basic.{all}
 use Rattle.model.specs.Limits.{rootBits}
 use Rattle.model.specs.Page.{free, isFree}
@@ -14,7 +14,6 @@ use Rattle.model.specs.Store.{page, last}
 use Rattle.model.specs.Sound.{isPage, pageOk, pageFine, rule2}
 use Rattle.model.specs.Layout.{pageOf, decodePage, readHeader, readSlots, decode, sizeOf}
 use Rattle.model.specs.Clean.{zeroFrom, cleanPage, cleanFront}
-use Rattle.model.specs.declared.Header.{Header}
 use Rattle.model.specs.declared.Slot.{Slot}
 use Rattle.model.proofs.Lists.{both-true}
 use Rattle.page.specs.Head.{readHead}
@@ -23,13 +22,9 @@ use Rattle.store.specs.Read.{count-pages, page-at, front-free, slots-of}
 use Rattle.local.specs.Local.{Sized}
 use Rattle.local.specs.First.{rooted}
 use Rattle.local.specs.Loops.{and-false, and-true}
-use Rattle.local.specs.Near.{frontRight, pageRight}
-
--- a store's header, as it was read, with no more roots than there are slots
-pub record Slotted (least : ℕ) (s : List ℕ) (h : Header) : Type 0 where
-  pub header : h ≡ readHeader least s
-  pub sized : Sized least s (sizeOf least s)
-  pub roots : readHeader least s .roots ≤ 64 * least
+use Rattle.local.specs.Second.{rule2-is, two-none}
+use Rattle.local.specs.Front.{slotsFrom, slots-all, some-slots}
+use Rattle.model.specs.Near.{frontRight, pageRight}
 
 -- the number of pages, and the last version, as they were read
 pub record Known (least : ℕ) (s : List ℕ) (size top : ℕ) : Type 0 where
@@ -83,11 +78,14 @@ module _ (least : ℕ) (s : List ℕ) (size : ℕ) (z : Sized least s size) wher
     front-last b = front-is ∙ rw (a, lt-leb (last (decode least s)) 1048574 b)
 
     module _ (b : last (decode least s) ≤ 1048574) where
-      pub front-rooted : rooted size (readSlots s (512 * least) roots) ≡ false → frontRight least s ≡ false
-      front-rooted c = front-is ∙ rw (a, le-leb (last (decode least s)) 1048574 b, c)
+      pub front-none : roots ≡ 0 → frontRight least s ≡ false
+      front-none c = front-is ∙ rw (a, le-leb (last (decode least s)) 1048574 b, two-none least s c) (and-false (rooted size (readSlots s (512 * least) roots)))
 
-      pub front-rest : rooted size (readSlots s (512 * least) roots) ≡ true → frontRight least s ≡ rule2 (decode least s)
-      front-rest c = front-is ∙ rw (a, le-leb (last (decode least s)) 1048574 b, c)
+      pub front-slots : (n top : ℕ) → n ≡ roots → top ≡ last (decode least s) → 0 < n → frontRight least s ≡ slotsFrom size top 0 0 (readSlots s (512 * least) n)
+      front-slots n top e f h =
+          rw (e, f)
+          (front-is ∙ rw (a, le-leb (last (decode least s)) 1048574 b, rule2-is least s)
+          (sym (slots-all size (last (decode least s)) (readSlots s (512 * least) roots) (some-slots s (512 * least) roots (rw e at h)))))
 
   -- ---- one page
 
@@ -131,17 +129,6 @@ module _ (least : ℕ) (s : List ℕ) (size : ℕ) (z : Sized least s size) wher
         where
           used : pageFine least (last (decode least s)) size (decodePage least p) ≡ pageOk least (last (decode least s)) size (decodePage least p)
           used = let q : isFree (decodePage least p) ≡ false = rw (level-of least p) (ne-eqb (readHead least p .level) 0 (λ e. omega arith)) in rw q
-
--- a header that is right has no more roots than there are slots
-pub clean-roots : (least : ℕ) (s : List ℕ) → cleanFront least s ≡ true → readHeader least s .roots ≤ 64 * least
-unfolding cleanFront
-clean-roots least s e =
-    let n : ℕ = readHeader least s .roots in
-    let far : Bool = zeroFrom s (512 * least + 32 * n) (2560 * least) in
-    let near : Bool = zeroFrom s (74 + rootBits least) (512 * least) in
-    let x = both-true (eqb (readHeader least s .pages) (sizeOf least s)) (near && (leb n (64 * least) && far)) e in
-    let y = both-true near (leb n (64 * least) && far) (x .1) in
-    leb-true n (64 * least) (both-true (leb n (64 * least)) far (y .1) .0)
 
 -- a front that is right has its header so
 pub front-true : (least : ℕ) (s : List ℕ) → frontRight least s ≡ true → cleanFront least s ≡ true

@@ -30,25 +30,14 @@ pub fn first_rule(s: &[u8], l: Limits, size: usize) -> bool
     ensures { λ r. ⌜ r ≡ clean (l .least) (now (s .entry)) ⌝ }
 {
     let h = store::header(s, l);
-    if crate::wide(h.pages) != size {
-        return false;
-    }
-    let front = 8 * l.bytes;
-    if !crate::pages::zero_from(s, 74 + l.rooter, front) {
-        return false;
-    }
-    let roots = crate::wide(h.roots);
-    if l.slots < roots {
-        return false;
-    }
-    if !crate::pages::zero_from(s, front + 32 * roots, 5 * front) {
+    if !crate::front::header_right(s, l, h, size) {
         return false;
     }
     let last = h.last();
     if 1048574 < last {
         return false;
     }
-    if !roots_ok(s, l, roots, size) {
+    if !roots_ok(s, l, crate::wide(h.roots), size) {
         return false;
     }
     crate::pages::pages_ok(s, l, size, last)

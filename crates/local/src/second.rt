@@ -9,7 +9,6 @@ ghost use Rattle.model.specs.Sound.{rule2};
 ghost use Rattle.model.specs.Layout.{readSlots, decode};
 ghost use Rattle.model.proofs.Rising.{firstOk, sooner};
 ghost use Rattle.local.specs.Local.{Held, slotAt};
-ghost use Rattle.local.specs.Right.{Slotted};
 
 // The slot behind place i, if there is one, has a higher version.
 fn slot_rises(s: &[u8], l: Limits, i: usize, n: usize) -> bool
@@ -24,9 +23,8 @@ fn slot_rises(s: &[u8], l: Limits, i: usize, n: usize) -> bool
     x.version < y.version
 }
 
-// The rule, by what the header says alone.
-pub(crate) fn slots_rise(s: &[u8], l: Limits, h: Header) -> bool
-    requires { ⌜ Edition l × Slotted (l .least) (now s) h ⌝ }
+pub fn second_rule(s: &[u8], l: Limits, h: Header) -> bool
+    requires { ⌜ Edition l × Held (l .least) (now s) h ⌝ }
     ensures { λ r. ⌜ r ≡ rule2 (decode (l .least) (now (s .entry))) ⌝ }
 {
     let roots = crate::wide(h.roots);
@@ -50,12 +48,4 @@ pub(crate) fn slots_rise(s: &[u8], l: Limits, h: Header) -> bool
         i += 1;
     }
     true
-}
-
-// The rule in a store of which rule 1 holds.
-pub fn second_rule(s: &[u8], l: Limits, h: Header) -> bool
-    requires { ⌜ Edition l × Held (l .least) (now s) h ⌝ }
-    ensures { λ r. ⌜ r ≡ rule2 (decode (l .least) (now (s .entry))) ⌝ }
-{
-    slots_rise(s, l, h)
 }

@@ -23,7 +23,7 @@ use Rattle.model.specs.Clean.{cleanPage}
 use Rattle.model.proofs.Lists.{both-true}
 use Rattle.model.proofs.Members.{not-both}
 use Rattle.local.specs.Local.{Sized, countAt}
-use Rattle.local.specs.Near.{pageRight}
+use Rattle.model.specs.Near.{pageRight}
 use Rattle.local.specs.Pages.{clean-count}
 use Rattle.local.specs.Right.{page-far}
 use Rattle.near.specs.Table.{behind}

@@ -13,8 +13,8 @@ use Rattle.model.specs.Store.{page, last}
 use Rattle.model.specs.Walk.{rootAt, rangeBelow, rangeOf}
 use Rattle.model.specs.Layout.{decode}
 use Rattle.model.specs.Calls.{Rule, rule, firstOf, rangedBy}
-use Rattle.model.specs.Lent.{judgedFirst, Listed, listed}
-use Rattle.local.specs.Near.{fromRoot, rangeRight, early, rangeNear}
+use Rattle.model.specs.Near.{fromRoot, rangeRight, early, rangeNear}
+use Rattle.model.specs.Lent.{judgedFirst, Listed, listed, rangeLent}
 use Rattle.near.specs.Early.{chain-on, guarded, numbers, badRange}
 
 -- what a range gives and leaves in the caller's list by a walk that is right, or not
@@ -69,8 +69,8 @@ module _ (least : ℕ) (b : List ℕ) (lo hi v : ℕ) (ns : List ℕ) where
 
   -- ---- by its guard
 
-  pub range-by : rangeNear least b lo hi v ns ≡ judgedFirst (guarded least b (badRange lo hi) v) kept crossed
-  unfolding rangeNear guarded crossed answered
+  pub range-by : rangeLent least b lo hi v ns ≡ judgedFirst (guarded least b (badRange lo hi) v) kept crossed
+  unfolding rangeLent rangeNear guarded crossed answered
   range-by =
       let rs : List Rule = early least b (rule 5 (badRange lo hi) ∷ rule 6 (ltb (last (decode least b)) v) ∷ []) in
       let q : List Rule = rule 4 (not (fromRoot least b v (λ up n. rangeRight least b v up hi lo n))) ∷ [] in
@@ -84,12 +84,12 @@ module _ (least : ℕ) (b : List ℕ) (lo hi v : ℕ) (ns : List ℕ) where
       at (suc n) m = unfold rangedBy in refl
 
   module _ (n : ℕ) (e : n ≡ guarded least b (badRange lo hi) v) where
-    pub range-refused : (n ≡ 0 → ⊥) → kept n ≡ rangeNear least b lo hi v ns
+    pub range-refused : (n ≡ 0 → ⊥) → kept n ≡ rangeLent least b lo hi v ns
     range-refused z = at n z ∙ ap (λ (m : ℕ). judgedFirst m kept crossed) e ∙ sym range-by
       where
         at : (m : ℕ) → (m ≡ 0 → ⊥) → kept m ≡ judgedFirst m kept crossed
         at zero z = absurd (z refl)
         at (suc m) z = refl
 
-    pub range-crossed : n ≡ 0 → crossed ≡ rangeNear least b lo hi v ns
+    pub range-crossed : n ≡ 0 → crossed ≡ rangeLent least b lo hi v ns
     range-crossed z = sym (range-by ∙ ap (λ (m : ℕ). judgedFirst m kept crossed) (sym e ∙ z))

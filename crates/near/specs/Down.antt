@@ -16,7 +16,7 @@ use Rattle.model.specs.Store.{page}
 use Rattle.model.specs.Walk.{rootAt, around, find, lookup}
 use Rattle.model.specs.Layout.{decode}
 use Rattle.model.specs.Calls.{rule, firstOf, lookedAt, lookedBy}
-use Rattle.local.specs.Near.{pageRight, startsBy, downRight, fromRoot}
+use Rattle.model.specs.Near.{pageRight, startsBy, downRight, fromRoot}
 use Rattle.walk.specs.Down.{leafDown, way-leaf}
 
 module _ (least : ℕ) (b : List ℕ) (v k : ℕ) where

@@ -5,22 +5,22 @@ use native.Mathlib.Omega.{arith}
 use mathlib.Core.Bool.{Bool, true, false, _||_, not}
 use mathlib.Core.Path.{_≡_, refl, ap, sym, _∙_}
 use mathlib.Core.List.{List, [], _∷_, _++_}
-use lib.Dec.{leb, ltb, eqb}
+use lib.Dec.{leb, ltb}
 use borrow.Author.Tests.{lt-ltb, le-ltb}
 use Rattle.model.specs.declared.Looked.the-variants.{Refused}
 use Rattle.model.specs.declared.Limits.{Limits}
-use Rattle.model.specs.Limits.{Edition, editionOf}
-use Rattle.model.specs.Field.{field}
+use Rattle.model.specs.Limits.{Edition}
 use Rattle.model.specs.Store.{last}
 use Rattle.model.specs.Walk.{keyLimit, lookup}
 use Rattle.model.specs.Layout.{decode, sizeOf}
 use Rattle.model.specs.Judged.{lengthOk, magicOk, editionOk}
 use Rattle.model.specs.Calls.{Rule, rule, firstOf, lookedBy}
-use Rattle.model.specs.Lent.{judgedFirst}
+use Rattle.model.specs.Near.{frontRight, fromRoot, downRight, early, lookupNear}
+use Rattle.model.specs.Lent.{judgedFirst, lookupLent}
 use Rattle.local.specs.Local.{Sized}
 use Rattle.local.specs.Sizes.{sized}
-use Rattle.local.specs.Near.{frontRight, fromRoot, downRight, early, lookupNear}
-use Rattle.local.specs.Right.{front-true, clean-roots}
+use Rattle.local.specs.First.{clean-roots}
+use Rattle.local.specs.Right.{front-true}
 use Rattle.walk.specs.Sure.{Fronted}
 use Rattle.near.specs.Down.{walked}
 
@@ -38,10 +38,6 @@ chain-on (x ∷ xs) qs h = at (x .number) (x .holds) (h .0) (chain-on xs qs (h .
     at zero t p ih = absurd (omega arith)
     at (suc m) true p ih = refl
     at (suc m) false p ih = ih
-
-pub edition-by : (least : ℕ) (b : List ℕ) → editionOk least b ≡ eqb (field b 32 8) (editionOf least)
-unfolding editionOk
-edition-by least b = refl
 
 abbrev pub badRange : ℕ → ℕ → Bool
 badRange lo hi = leb keyLimit lo || leb keyLimit hi || ltb hi lo
@@ -111,8 +107,8 @@ module _ (least : ℕ) (b : List ℕ) where
 
   -- ---- a lookup by its guard
 
-  pub lookup-by : (k v : ℕ) → lookupNear least b k v ≡ judgedFirst (guarded (leb keyLimit k) v) (λ n. Refused n) (walked least b v k)
-  unfolding lookupNear guarded walked
+  pub lookup-by : (k v : ℕ) → lookupLent least b k v ≡ judgedFirst (guarded (leb keyLimit k) v) (λ n. Refused n) (walked least b v k)
+  unfolding lookupLent lookupNear guarded walked
   lookup-by k v =
       let rs : List Rule = early least b (rule 5 (leb keyLimit k) ∷ rule 6 (ltb (last (decode least b)) v) ∷ []) in
       let q : List Rule = rule 4 (not (fromRoot least b v (λ up n. downRight least b v up k n))) ∷ [] in
@@ -124,14 +120,14 @@ module _ (least : ℕ) (b : List ℕ) where
       at (suc n) m = refl
 
   module _ (k v n : ℕ) (e : n ≡ guarded (leb keyLimit k) v) where
-    pub lookup-refused : (n ≡ 0 → ⊥) → Refused n ≡ lookupNear least b k v
+    pub lookup-refused : (n ≡ 0 → ⊥) → Refused n ≡ lookupLent least b k v
     lookup-refused z = at n z ∙ ap (λ (m : ℕ). judgedFirst m (λ j. Refused j) (walked least b v k)) e ∙ sym (lookup-by k v)
       where
         at : (m : ℕ) → (m ≡ 0 → ⊥) → Refused m ≡ judgedFirst m (λ j. Refused j) (walked least b v k)
         at zero z = absurd (z refl)
         at (suc m) z = refl
 
-    pub lookup-walked : n ≡ 0 → walked least b v k ≡ lookupNear least b k v
+    pub lookup-walked : n ≡ 0 → walked least b v k ≡ lookupLent least b k v
     lookup-walked z = sym (lookup-by k v ∙ rw (sym e ∙ z))
 
 -- ---- what 0 gives

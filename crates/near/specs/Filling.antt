@@ -7,7 +7,7 @@ use mathlib.Core.List.{List}
 use lib.ListN.{length, set}
 use Rattle.model.specs.Layout.{pageOf}
 use Rattle.local.specs.Local.{Sized, countAt}
-use Rattle.local.specs.Near.{pageRight}
+use Rattle.model.specs.Near.{pageRight}
 use Rattle.walk.specs.Scan.{entry}
 use Rattle.near.specs.Bound.{parts}
 use Rattle.near.specs.Told.{join}

@@ -20,7 +20,7 @@ use Rattle.model.proofs.Lists.{both-true}
 use Rattle.page.specs.declared.Head.{Head}
 use Rattle.page.specs.Head.{readHead}
 use Rattle.local.specs.Local.{Sized}
-use Rattle.local.specs.Near.{pageRight, startsBy, shown, rangeRight}
+use Rattle.model.specs.Near.{pageRight, startsBy, shown, rangeRight}
 use Rattle.walk.specs.declared.search.Own.{Own}
 use Rattle.walk.specs.Live.{live}
 use Rattle.walk.specs.Scan.{Stands, from, Owns}

@@ -26,7 +26,7 @@ use Rattle.store.specs.Parts.{length-page}
 use Rattle.local.specs.Local.{Sized}
 use Rattle.local.specs.Sizes.{part-fits}
 use Rattle.local.specs.Pages.{clean-count}
-use Rattle.local.specs.Near.{pageRight}
+use Rattle.model.specs.Near.{pageRight}
 use Rattle.local.specs.Right.{page-low, page-far}
 use Rattle.walk.specs.Live.{live}
 use Rattle.walk.specs.Scan.{from-start}

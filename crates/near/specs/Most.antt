@@ -18,7 +18,7 @@ use Rattle.model.specs.Layout.{pageOf, decode}
 use Rattle.model.proofs.Members.{bool-cases}
 use Rattle.page.specs.Read.{length-entries}
 use Rattle.local.specs.Local.{Sized, countAt}
-use Rattle.local.specs.Near.{pageRight, rangeRight}
+use Rattle.model.specs.Near.{pageRight, rangeRight}
 use Rattle.walk.specs.Live.{live}
 use Rattle.walk.specs.Scan.{from}
 use Rattle.walk.specs.Below.{through, later}

@@ -2,7 +2,7 @@
 -- Assumes nothing.
 use Prim.Native.Nat.{ℕ, zero, suc, _+_, _*_, _-_, _/_, _%_, _≤_, _<_}
 use native.Mathlib.Omega.{arith}
-use mathlib.Core.Bool.{Bool, true, false, not}
+use mathlib.Core.Bool.{Bool, true, false}
 use mathlib.Core.Path.{_≡_, refl, ap, sym, _∙_}
 use mathlib.Core.Logic.{_⊎_, inl, inr, ⊎-elim}
 use mathlib.Core.List.{List, [], _∷_}
@@ -26,12 +26,12 @@ use Rattle.model.specs.Layout.{pageOf, decodePage, readSlot, readSlots, readHea
 use Rattle.model.specs.Clean.{zeroFrom, cleanFront}
 use Rattle.model.specs.Judged.{lengthOk, magicOk, editionOk}
 use Rattle.model.specs.Calls.{rule, firstOf, lookedAt}
-use Rattle.model.specs.Lent.{judgedFirst}
+use Rattle.model.specs.Near.{frontRight, pageRight, startsBy}
+use Rattle.model.specs.Lent.{judgedFirst, lookupLent}
 use Rattle.model.proofs.Members.{bool-cases}
 use Rattle.store.specs.Read.{length-pages, page-at, front-free, slots-of}
-use Rattle.local.specs.First.{last-is}
-use Rattle.local.specs.Near.{frontRight, pageRight, startsBy, lookupNear}
-use Rattle.local.specs.Right.{clean-roots, front-true}
+use Rattle.local.specs.First.{last-is, clean-roots}
+use Rattle.local.specs.Right.{front-true}
 use Rattle.near.specs.Down.{walked, descended, walk-free, walk-start, down-wrong, down-none, down-on, down-leaf}
 use Rattle.near.specs.Early.{fronted, guarded, guard-is, guard-front-right, lookup-by}
 
@@ -198,7 +198,7 @@ module _ (least : ℕ) (some : 1 ≤ least) (b c : List ℕ) (s : SameFront leas
         at (suc up) e =
             walk-start least b v k up e ∙ down-same up root (w .1 up e) ∙ ap (λ (m : ℕ). descended least c v k up m) q ∙ sym (walk-start least c v k up (sym level ∙ e))
 
-    pub lookup-off : SameWalk → lookupNear least b k v ≡ lookupNear least c k v
+    pub lookup-off : SameWalk → lookupLent least b k v ≡ lookupLent least c k v
     lookup-off w = lookup-by least b k v ∙ at (guarded least b (leb keyLimit k) v) refl ∙ sym (lookup-by least c k v)
       where
         at : (n : ℕ) → guarded least b (leb keyLimit k) v ≡ n

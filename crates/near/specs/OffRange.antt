@@ -1,7 +1,7 @@
 -- The same of a range: it depends on the header, the slots, and the pages of its own walk.
 -- Assumes nothing.
 use Prim.Native.Nat.{ℕ, zero, suc, _≤_}
-use mathlib.Core.Bool.{Bool, true, false, _&&_, not}
+use mathlib.Core.Bool.{Bool, true, false, _&&_}
 use mathlib.Core.Path.{_≡_, refl, ap, ap₂, sym, _∙_}
 use mathlib.Core.Logic.{_⊎_, inl, inr}
 use mathlib.Core.List.{List, [], _∷_, _++_}
@@ -14,9 +14,9 @@ use Rattle.model.specs.Store.{page}
 use Rattle.model.specs.Walk.{rootAt, between, followed, rangeBelow}
 use Rattle.model.specs.Layout.{pageOf, decode}
 use Rattle.model.specs.Calls.{rangedBy}
-use Rattle.model.specs.Lent.{judgedFirst, listed}
+use Rattle.model.specs.Near.{pageRight, startsBy, rangeRight}
+use Rattle.model.specs.Lent.{judgedFirst, listed, rangeLent}
 use Rattle.model.proofs.Members.{In, bool-cases, all-in}
-use Rattle.local.specs.Near.{pageRight, startsBy, rangeRight, rangeNear}
 use Rattle.local.specs.Right.{front-true}
 use Rattle.near.specs.Here.{page-of, all-of}
 use Rattle.near.specs.Early.{guarded, guard-front-right, badRange}
@@ -108,7 +108,7 @@ module _ (least : ℕ) (some : 1 ≤ least) (b c : List ℕ) (s : SameFront leas
                 ∙ sym (cross-at least c lo hi v ns up (sym level ∙ e) (sym r2 ∙ r))
             by (inr r) = sym (cross-not least b lo hi v ns up e r) ∙ cross-not least c lo hi v ns up (sym level ∙ e) (sym r2 ∙ r)
 
-    pub range-off : SameWalks → rangeNear least b lo hi v ns ≡ rangeNear least c lo hi v ns
+    pub range-off : SameWalks → rangeLent least b lo hi v ns ≡ rangeLent least c lo hi v ns
     range-off w = range-by least b lo hi v ns ∙ at (guarded least b (badRange lo hi) v) refl ∙ sym (range-by least c lo hi v ns)
       where
         at : (n : ℕ) → guarded least b (badRange lo hi) v ≡ n

@@ -8,7 +8,8 @@ use mathlib.Core.Option.{Option, none, some}
 use mathlib.Core.Logic.{inl, inr}
 use mathlib.Core.List.{List, [], _∷_}
 use lib.Dec.{leb, ltb}
-use borrow.Author.Tests.{le-leb, eq-eqb, leb-false, ltb-false, eqb-true}
+use lib.ListN.{length}
+use borrow.Author.Tests.{le-leb, eq-eqb, leb-false, ltb-false}
 use Rattle.model.specs.Basic.{all, those, keep}
 use Rattle.model.specs.declared.Pair.{Pair}
 use Rattle.model.specs.declared.Limits.{Limits}
@@ -20,9 +21,10 @@ use Rattle.model.specs.Walk.{keyLimit, rootAt, heightOf, Around, around, around
 use Rattle.model.specs.Sound.{rule1, rule2}
 use Rattle.model.specs.Layout.{pageOf, decode, sizeOf}
 use Rattle.model.specs.Clean.{clean, cleanFront, cleanPages, cleanPage}
-use Rattle.model.specs.Judged.{isSound, judged, lengthOk, magicOk, editionOk}
+use Rattle.model.specs.Judged.{isSound, lengthOk, magicOk, editionOk}
 use Rattle.model.specs.Calls.{Rule, rule, firstOf, get, range}
-use Rattle.model.specs.Lent.{lookupLent, rangeLent}
+use Rattle.model.specs.Near.{frontRight, pageRight, shown, downRight, rangeRight, fromRoot, early, lookupNear, rangeNear}
+use Rattle.model.specs.Lent.{listed, lookupLent, rangeLent}
 use Rattle.model.proofs.Members.{In}
 use Rattle.model.proofs.Lists.{both-true}
 use Rattle.model.proofs.Given.{Sound}
@@ -31,7 +33,6 @@ use Rattle.store.specs.Tested.{pages-clean}
 use Rattle.store.specs.Sure.{sure, taken, whole}
 use Rattle.walk.specs.Covers.{Covers, covers-starts, covers-own, covers-later}
 use Rattle.walk.specs.Sure.{Readable, root-covers, size, five}
-use Rattle.local.specs.Near.{frontRight, pageRight, shown, downRight, rangeRight, fromRoot, early, lookupNear, rangeNear}
 
 -- ---- the routers that a range follows all pass, if the last at or below the key does, and every one by its own key
 
@@ -147,19 +148,15 @@ module _ {l : Limits} (d : Edition l) (b : List ℕ) (h : isSound (l .least) b �
       let t = taken d b h in
       early-none (lengthOk (l .least) b) (magicOk b) (editionOk (l .least) b) (frontRight (l .least) b) rs (t .length-ok) (t .magic-ok) (t .edition-ok) (front-right d b h)
 
-  number-is : judged (l .least) b .number ≡ 0
-  unfolding isSound
-  number-is = eqb-true (judged (l .least) b .number) 0 h
-
   -- "On a sound store the answers stay."
-  pub lookup-same : (k v : ℕ) → lookupNear (l .least) b k v ≡ lookupLent (l .least) b k v
-  unfolding lookupNear lookupLent get
+  pub lookup-same : (k v : ℕ) → lookupLent (l .least) b k v ≡ get (decode (l .least) b) k v
+  unfolding lookupLent lookupNear get
   lookup-same k v =
       let x = fromRoot (l .least) b v (λ up n. downRight (l .least) b v up k n) in
-      rw (number-is, none-early _, chain-same (leb keyLimit k) (ltb (last (decode (l .least) b)) v) x (λ p q. lookup-right d b h v (ltb-false _ _ q) k (leb-false _ _ p)))
+      rw (none-early _, chain-same (leb keyLimit k) (ltb (last (decode (l .least) b)) v) x (λ p q. lookup-right d b h v (ltb-false _ _ q) k (leb-false _ _ p)))
 
-  pub range-same : (lo hi v : ℕ) (ns : List ℕ) → rangeNear (l .least) b lo hi v ns ≡ rangeLent (l .least) b lo hi v ns
-  unfolding rangeNear rangeLent range
+  pub range-same : (lo hi v : ℕ) (ns : List ℕ) → rangeLent (l .least) b lo hi v ns ≡ listed ns (range (decode (l .least) b) lo hi v (length ns))
+  unfolding rangeLent rangeNear range
   range-same lo hi v ns =
       let x = fromRoot (l .least) b v (λ up n. rangeRight (l .least) b v up hi lo n) in
-      rw (number-is, none-early _, chain-same (leb keyLimit lo || leb keyLimit hi || ltb hi lo) (ltb (last (decode (l .least) b)) v) x (λ p q. range-all-right d b h v (ltb-false _ _ q) lo hi (low-in lo hi p)))
+      rw (none-early _, chain-same (leb keyLimit lo || leb keyLimit hi || ltb hi lo) (ltb (last (decode (l .least) b)) v) x (λ p q. range-all-right d b h v (ltb-false _ _ q) lo hi (low-in lo hi p)))

@@ -11,7 +11,7 @@ use Rattle.model.specs.Page.{Page}
 use Rattle.model.specs.Walk.{between, rangeBelow}
 use Rattle.model.specs.Layout.{pageOf, sizeOf, decode}
 use Rattle.local.specs.Local.{countAt}
-use Rattle.local.specs.Near.{pageRight, rangeRight}
+use Rattle.model.specs.Near.{pageRight, rangeRight}
 use Rattle.walk.specs.Live.{live}
 use Rattle.walk.specs.Scan.{entry, from, Next}
 use Rattle.walk.specs.Below.{later, later-step, later-same}

@@ -15,13 +15,13 @@ use Rattle.model.specs.declared.Entry.{Entry}
 use Rattle.model.specs.Entry.{pairOf, liveAt, before}
 use Rattle.model.specs.Walk.{between}
 use Rattle.model.proofs.Members.{bool-cases}
-use Rattle.local.specs.Near.{startsBy}
+use Rattle.model.specs.Near.{startsBy}
 use Rattle.walk.specs.Live.{live, above, live-on, live-off, live-above, order-rest}
 use Rattle.walk.specs.Ends.{between-above}
 use Rattle.walk.specs.Scan.{Stands, from, order-from, Next, entry, next-none}
 
 -- where the first one alive is above the key, all are
-none-above : (v k : ℕ) (es : List Entry) → inOrder before es ≡ true → startsBy k (live v es) ≡ false → above k (live v es) ≡ true
+pub none-above : (v k : ℕ) (es : List Entry) → inOrder before es ≡ true → startsBy k (live v es) ≡ false → above k (live v es) ≡ true
 none-above v k [] o h = refl
 none-above v k (e ∷ es) o h = at (none-above v k es (order-rest e es o)) (bool-cases (liveAt v e))
   where

@@ -26,7 +26,7 @@ use Rattle.model.specs.Walk.{between, rangeBelow}
 use Rattle.model.specs.Layout.{pageOf, sizeOf, decode}
 use Rattle.page.specs.Read.{length-entries}
 use Rattle.local.specs.Local.{Sized, countAt}
-use Rattle.local.specs.Near.{pageRight, startsBy, rangeRight}
+use Rattle.model.specs.Near.{pageRight, startsBy, rangeRight}
 use Rattle.walk.specs.declared.search.Own.{Own}
 use Rattle.walk.specs.Live.{live, live-on, live-off}
 use Rattle.walk.specs.Scan.{entry, from, from-step, Owns}

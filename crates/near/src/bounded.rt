@@ -9,7 +9,7 @@ ghost use lib.ListN.{length};
 ghost use Rattle.model.specs.Limits.{Edition};
 ghost use Rattle.model.specs.Walk.{rangeBelow};
 ghost use Rattle.model.specs.Layout.{decode};
-ghost use Rattle.local.specs.Near.{rangeRight};
+ghost use Rattle.model.specs.Near.{rangeRight};
 ghost use Rattle.local.specs.Right.{Known};
 ghost use Rattle.walk.specs.Counted.{withList};
 ghost use Rattle.near.specs.Cells.{Table};

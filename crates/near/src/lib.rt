@@ -1,121 +1,31 @@
 // Lookups that judge only what they read (request 2026-04): the header and the slots, and then each page of their own walk.
+mod bounded;
+mod down;
+mod guard;
+mod table;
+mod within;
+mod write;
+
+pub use guard::KEYS;
 use model::Limits;
 use model::Looked;
 use walk::Counted;
 use walk::Query;
 ghost use mathlib.Core.Path.{_≡_};
 ghost use mathlib.Core.Bool.{true};
-ghost use Prim.Native.Nat.{pred, _^_, _≤_, _<_};
 ghost use lib.ListN.{length};
-ghost use Rattle.model.specs.Page.{pairsAt};
-ghost use Rattle.model.specs.Store.{page};
-ghost use Rattle.model.specs.Walk.{find, rangeBelow};
+ghost use Rattle.model.specs.Walk.{rangeBelow};
 ghost use Rattle.model.specs.Limits.{Edition};
 ghost use Rattle.model.specs.Layout.{decode};
-ghost use Rattle.model.specs.Judged.{editionOk};
-ghost use Rattle.model.specs.Calls.{lookedAt, rangedBy};
-ghost use Rattle.model.specs.Lent.{listed};
-ghost use Rattle.local.specs.Local.{Sized};
-ghost use Rattle.local.specs.Near.{startsBy, rangeRight, lookupNear, rangeNear};
+ghost use Rattle.model.specs.Near.{rangeRight};
+ghost use Rattle.model.specs.Calls.{rangedBy};
+ghost use Rattle.model.specs.Lent.{listed, lookupLent, rangeLent};
 ghost use Rattle.local.specs.Right.{Known};
-ghost use Rattle.walk.specs.Sure.{Fronted, Inside};
+ghost use Rattle.walk.specs.Sure.{Fronted};
 ghost use Rattle.walk.specs.Written.{Space, Gathers};
 ghost use Rattle.walk.specs.Counted.{withList};
-ghost use Rattle.near.specs.Down.{walked};
 ghost use Rattle.near.specs.Here.{Reads};
-ghost use Rattle.near.specs.Early.{fronted, guarded, badRange};
 ghost use Rattle.near.specs.Crossed.{crossed};
-
-mod bounded;
-mod table;
-mod within;
-mod write;
-
-// "Keys are 0 to 16,777,215".
-const KEYS: u32 = 16777216;
-
-fn of_edition(s: &[u8], l: Limits) -> bool
-    requires { ⌜ Edition l × (5 ≤ length (now s)) × (length (now s) ≤ 2 ^ 40) ⌝ }
-    ensures { λ r. ⌜ r ≡ editionOk (l .least) (now (s .entry)) ⌝ }
-{
-    bits::field(s, 32, 8) == model::edition_of(l)
-}
-
-// 1, 2, 3, and 4 by the header and the slots; else 0.
-pub fn front(s: &[u8], l: Limits) -> u32
-    requires { ⌜ Edition l ⌝ }
-    ensures { λ r. ⌜ r ≡ fronted (l .least) (now (s .entry)) ⌝ }
-{
-    if !store::whole(s, l) {
-        return 1;
-    }
-    if !store::named(s) {
-        return 2;
-    }
-    if !of_edition(s, l) {
-        return 3;
-    }
-    let size = store::size(s, l);
-    if !local::front_right(s, l, size) {
-        return 4;
-    }
-    0
-}
-
-// The guard of a reading: "With 5 or 6 only the header and the slots are judged first."
-pub fn guard(s: &[u8], l: Limits, bad: bool, v: u32) -> u32
-    requires { ⌜ Edition l ⌝ }
-    ensures { λ r. ⌜ r ≡ guarded (l .least) (now (s .entry)) bad v ⌝ }
-{
-    let n = front(s, l);
-    if n != 0 {
-        return n;
-    }
-    if bad {
-        return 5;
-    }
-    let h = store::header(s, l);
-    if h.last() < v {
-        return 6;
-    }
-    0
-}
-
-// The level of page n; 0 also where there is no such page.
-fn level_at(s: &[u8], l: Limits, size: usize, n: usize) -> u32
-    requires { ⌜ Edition l × Sized (l .least) (now s) size ⌝ }
-    ensures { λ r. ⌜ r ≡ page (decode (l .least) (now (s .entry)) .pages) n .level ⌝ }
-{
-    if n < 5 {
-        return 0;
-    }
-    if size <= n {
-        return 0;
-    }
-    let h = page::head_of(store::part(s, l, n), l);
-    h.level
-}
-
-// Whether page n has a router alive at v at or below a key.
-pub(crate) fn starts(s: &[u8], l: Limits, n: usize, v: u32, key: u32) -> bool
-    requires { ⌜ Edition l × Inside (l .least) (now s) n × (length (now s) ≤ 2 ^ 40) ⌝ }
-    ensures { λ r. ⌜ r ≡ startsBy key (pairsAt v (page (decode (l .least) (now (s .entry)) .pages) n)) ⌝ }
-{
-    let p = store::part(s, l, n);
-    let h = page::head_of(p, l);
-    let count = h.count;
-    walk::next_place(p, count, v, 0, key, 0) < count
-}
-
-// The value of a key at v in page n, a leaf.
-fn value_in(s: &[u8], l: Limits, n: usize, v: u32, key: u32) -> Looked
-    requires { ⌜ Edition l × Inside (l .least) (now s) n × (length (now s) ≤ 2 ^ 40) ⌝ }
-    ensures { λ r. ⌜ r ≡ lookedAt (find key (pairsAt v (page (decode (l .least) (now (s .entry)) .pages) n))) ⌝ }
-{
-    let p = store::part(s, l, n);
-    let h = page::head_of(p, l);
-    walk::find(p, h.count, v, key)
-}
 
 // What a range asks of the pages of its walk: its low and high keys and its version; and what they are judged by.
 pub struct Asked {
@@ -205,56 +115,17 @@ fn fill(
     }
 }
 
-// The walk of a lookup: each page is judged before it is searched.
-fn descend(s: &[u8], l: Limits, last: u32, size: usize, key: u32, v: u32) -> Looked
-    requires { ⌜ Edition l × Known (l .least) (now s) size last × Fronted (l .least) (now s) ⌝ }
-    ensures { λ r. ⌜ r ≡ walked (l .least) (now (s .entry)) v key ⌝ }
-{
-    let mut n = walk::root_among(s, l, v);
-    let mut level = level_at(s, l, size, n);
-    if level == 0 {
-        return Looked::Refused(4);
-    }
-    while 1 < level {
-        if !local::page_right(s, l, last, size, level, n) {
-            return Looked::Refused(4);
-        }
-        if !starts(s, l, n, v, key) {
-            return Looked::Refused(4);
-        }
-        n = walk::child(s, l, n, v, key);
-        level -= 1;
-    }
-    if !local::page_right(s, l, last, size, 1, n) {
-        return Looked::Refused(4);
-    }
-    value_in(s, l, n, v, key)
-}
-
 // "lookup(s, key, version)" for any bytes: the value, that the key is absent, or a number.
 pub fn lookup(s: &[u8], l: Limits, key: u32, v: u32) -> Looked
     requires { ⌜ Edition l ⌝ }
-    ensures { λ r. ⌜ r ≡ lookupNear (l .least) (now (s .entry)) key v ⌝ }
+    ensures { λ r. ⌜ r ≡ lookupLent (l .least) (now (s .entry)) key v ⌝ }
 {
-    let n = guard(s, l, KEYS <= key, v);
+    let n = guard::guard(s, l, KEYS <= key, v);
     if n != 0 {
         return Looked::Refused(n);
     }
     let h = store::header(s, l);
-    descend(s, l, h.last(), store::size(s, l), key, v)
-}
-
-// Whether a range's keys are wrong: "key too large, or range low above high".
-fn bad_range(low: u32, high: u32) -> bool
-    ensures { λ r. ⌜ r ≡ badRange low high ⌝ }
-{
-    if KEYS <= low {
-        return true;
-    }
-    if KEYS <= high {
-        return true;
-    }
-    high < low
+    down::descend(s, l, h.last(), store::size(s, l), key, v)
 }
 
 // The walk of a range: all of it is judged before anything is counted or written. Where the judging has come to its end within as many
@@ -273,7 +144,7 @@ fn across(
     ensures { λ r. ⌜ withList r (now (list .exit)) ≡ crossed (l .least) (now (s .entry)) low high v (now (list .entry)) ⌝ }
 {
     let root = walk::root_among(s, l, v);
-    let level = level_at(s, l, size, root);
+    let level = down::level_at(s, l, size, root);
     if level == 0 {
         return Counted {
             number: 4,
@@ -303,9 +174,9 @@ fn across(
 // The settings from low to high for any bytes: their number, and key, value, key, value in the caller's list.
 pub fn range(s: &[u8], l: Limits, low: u32, high: u32, v: u32, list: &mut [u32]) -> Counted
     requires { ⌜ Edition l ⌝ }
-    ensures { λ r. ⌜ withList r (now (list .exit)) ≡ rangeNear (l .least) (now (s .entry)) low high v (now (list .entry)) ⌝ }
+    ensures { λ r. ⌜ withList r (now (list .exit)) ≡ rangeLent (l .least) (now (s .entry)) low high v (now (list .entry)) ⌝ }
 {
-    let n = guard(s, l, bad_range(low, high), v);
+    let n = guard::guard(s, l, guard::bad_range(low, high), v);
     if n != 0 {
         return Counted {
             number: n,

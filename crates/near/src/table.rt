@@ -13,7 +13,7 @@ ghost use mathlib.Core.Bool.{true};
 ghost use Prim.Native.Nat.{pred, _+_, _*_, _-_, _^_, _≤_, _<_};
 ghost use lib.ListN.{length, getD, set};
 ghost use Rattle.model.specs.Limits.{Edition};
-ghost use Rattle.local.specs.Near.{pageRight};
+ghost use Rattle.model.specs.Near.{pageRight};
 ghost use Rattle.local.specs.Right.{Known};
 ghost use Rattle.near.specs.Told.{join};
 ghost use Rattle.near.specs.Table.{found, turn};
@@ -89,7 +89,7 @@ fn step(s: &[u8], l: Limits, q: Asked, table: &[usize], n: usize, level: u32, at
     if !local::page_right(s, l, q.last, q.size, level, n) {
         return Passed { rest: 0, page: 0 };
     }
-    if !crate::starts(s, l, n, q.version, at) {
+    if !crate::down::starts(s, l, n, q.version, at) {
         return Passed { rest: 0, page: 0 };
     }
     let p = store::part(s, l, n);

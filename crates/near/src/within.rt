@@ -5,7 +5,7 @@ use model::Limits;
 ghost use Prim.Native.Nat.{pred, _-_, _^_, _≤_, _<_};
 ghost use lib.ListN.{length};
 ghost use Rattle.model.specs.Limits.{Edition};
-ghost use Rattle.local.specs.Near.{rangeRight};
+ghost use Rattle.model.specs.Near.{rangeRight};
 ghost use Rattle.local.specs.Right.{Known};
 ghost use Rattle.near.specs.Within.{Answers};
 
@@ -40,7 +40,7 @@ pub(crate) fn range_right(s: &[u8], l: Limits, q: Asked, n: usize, level: u32, a
             left: rest,
         };
     }
-    if !crate::starts(s, l, n, q.version, at) {
+    if !crate::down::starts(s, l, n, q.version, at) {
         return Within {
             fine: false,
             left: rest,

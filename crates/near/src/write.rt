@@ -8,7 +8,7 @@ ghost use Prim.Native.Nat.{_+_, _*_, _≤_};
 ghost use Rattle.model.specs.Walk.{rangeBelow};
 ghost use Rattle.model.specs.Layout.{pageOf, decode};
 ghost use Rattle.local.specs.Local.{countAt};
-ghost use Rattle.local.specs.Near.{rangeRight};
+ghost use Rattle.model.specs.Near.{rangeRight};
 ghost use Rattle.walk.specs.Written.{Space, Gathers};
 ghost use Rattle.near.specs.Across.{rightFrom};
 ghost use Rattle.near.specs.Here.{Reads};

@@ -1,5 +1,5 @@
 use Rattle.near.specs.Crossed.{answered-wrong, answered-right, cross-free, cross-by}
-use Rattle.local.specs.Near.{rangeRight}
+use Rattle.model.specs.Near.{rangeRight}
 use Rattle.model.specs.Lent.{listed}
 use Rattle.model.specs.Calls.{rangedBy}
 use Rattle.model.specs.Walk.{rootAt, rangeBelow}

@@ -1,13 +1,13 @@
 -- `local::front::front_right` meets its contract: each way out is a law of header and slots. Assumes nothing.
-use mathlib.Core.Path.{ap, sym, _∙_}
+use mathlib.Core.Path.{_≡_, ap, sym, _∙_}
 use native.Mathlib.Omega.{arith}
 use borrow.Author.Tests.{not-true, not-false}
 use borrow.Author.Needs.{needs}
 use Rattle.model.specs.declared.Header.{Header}
 use Rattle.model.specs.Store.{lastOf}
 use Rattle.store.specs.Read.{current-lt}
-use Rattle.local.specs.First.{last-is}
-use Rattle.local.specs.Right.{front-clean, front-last, front-rooted, front-rest, clean-roots}
+use Rattle.local.specs.First.{last-is, clean-roots}
+use Rattle.local.specs.Right.{front-clean, front-last, front-none, front-slots}
 use Rattle.local.proofs.front.front_right.Statement.{statement}
 use Rattle.local.proofs.front.front_right.Tie as tie
 
@@ -35,34 +35,30 @@ returns-2 c =
 wide-requires : tie.Need-wide-requires
 wide-requires c κs = search needs
 
-roots-ok-requires : tie.Need-roots-ok-requires
-roots-ok-requires c κs =
-    let a = c .before .before .before .before .before .before .before .args in
-    let f = sym (c .before .before .before .before .header-right .ensures) ∙ not-false (c .before .before .before .before .header-right .result) (c .before .before .before .if1 .left) in
-    (c .before .before .before .before .before .before .before .pre .0, c .before .before .before .before .before .before .before .pre .1, omega (arith, clean-roots (a .l .least) (a .s .now) f, c .wide .ensures ∙ ap (λ (x : Header). x .roots) (c .before .before .before .before .before .header .ensures)))
-
 returns-3 : tie.Need-returns-3
 returns-3 c =
+    let a = c .before .before .before .before .before .before .before .before .args in
+    let t = c .before .before .before .last .ensures ∙ ap (λ (x : Header). lastOf (x .opened) (x .current)) (c .before .before .before .before .before .before .header .ensures) ∙ sym (last-is (a .l .least) (a .s .now)) in
+    let f = sym (c .before .before .before .before .before .header-right .ensures) ∙ not-false (c .before .before .before .before .before .header-right .result) (c .before .before .before .before .if1 .left) in
+    let n = c .before .wide .ensures ∙ ap (λ (x : Header). x .roots) (c .before .before .before .before .before .before .header .ensures) in
+    sym (front-none (a .l .least) (a .s .now) (a .size) (c .before .before .before .before .before .before .before .before .pre .1) f (rw t at (c .before .before .if2 .left)) (sym n ∙ c .if3 .taken))
+
+slots-right-requires : tie.Need-slots-right-requires
+slots-right-requires c κs =
+    let a = c .before .before .before .before .before .before .before .before .args in
+    let f = sym (c .before .before .before .before .before .header-right .ensures) ∙ not-false (c .before .before .before .before .before .header-right .result) (c .before .before .before .before .if1 .left) in
+    let n = c .before .wide .ensures ∙ ap (λ (x : Header). x .roots) (c .before .before .before .before .before .before .header .ensures) in
+    (c .before .before .before .before .before .before .before .before .pre .0, c .before .before .before .before .before .before .before .before .pre .1, omega (arith, clean-roots (a .l .least) (a .s .now) f, n), c .before .before .if2 .left)
+
+returns-4 : tie.Need-returns-4
+returns-4 c =
     let a = c .before .before .before .before .before .before .before .before .before .args in
     let t = c .before .before .before .before .last .ensures ∙ ap (λ (x : Header). lastOf (x .opened) (x .current)) (c .before .before .before .before .before .before .before .header .ensures) ∙ sym (last-is (a .l .least) (a .s .now)) in
     let f = sym (c .before .before .before .before .before .before .header-right .ensures) ∙ not-false (c .before .before .before .before .before .before .header-right .result) (c .before .before .before .before .before .if1 .left) in
     let n = c .before .before .wide .ensures ∙ ap (λ (x : Header). x .roots) (c .before .before .before .before .before .before .before .header .ensures) in
-    sym (front-rooted (a .l .least) (a .s .now) (a .size) (c .before .before .before .before .before .before .before .before .before .pre .1) f (rw t at (c .before .before .before .if2 .left)) (rw n at (sym (c .before .roots-ok .ensures) ∙ not-true (c .before .roots-ok .result) (c .if3 .taken))))
-
-slots-rise-requires : tie.Need-slots-rise-requires
-slots-rise-requires c κs =
-    let a = c .before .before .before .before .before .before .before .before .before .args in
-    let f = sym (c .before .before .before .before .before .before .header-right .ensures) ∙ not-false (c .before .before .before .before .before .before .header-right .result) (c .before .before .before .before .before .if1 .left) in
-    (c .before .before .before .before .before .before .before .before .before .pre .0, record { header = c .before .before .before .before .before .before .before .header .ensures; sized = rw (c .before .before .before .before .before .before .before .before .before .pre .1 .is) (c .before .before .before .before .before .before .before .before .before .pre .1); roots = clean-roots (a .l .least) (a .s .now) f })
-
-returns-4 : tie.Need-returns-4
-returns-4 c =
-    let a = c .before .before .before .before .before .before .before .before .before .before .args in
-    let t = c .before .before .before .before .before .last .ensures ∙ ap (λ (x : Header). lastOf (x .opened) (x .current)) (c .before .before .before .before .before .before .before .before .header .ensures) ∙ sym (last-is (a .l .least) (a .s .now)) in
-    let f = sym (c .before .before .before .before .before .before .before .header-right .ensures) ∙ not-false (c .before .before .before .before .before .before .before .header-right .result) (c .before .before .before .before .before .before .if1 .left) in
-    let n = c .before .before .before .wide .ensures ∙ ap (λ (x : Header). x .roots) (c .before .before .before .before .before .before .before .before .header .ensures) in
-    c .slots-rise .ensures
-    ∙ sym (front-rest (a .l .least) (a .s .now) (a .size) (c .before .before .before .before .before .before .before .before .before .before .pre .1) f (rw t at (c .before .before .before .before .if2 .left)) (rw n at (sym (c .before .before .roots-ok .ensures) ∙ not-false (c .before .before .roots-ok .result) (c .before .if3 .left))))
+    let some : c .before .before .wide .result ≡ 0 → ⊥ = c .before .if3 .left in
+    c .slots-right .ensures
+    ∙ sym (front-slots (a .l .least) (a .s .now) (a .size) (c .before .before .before .before .before .before .before .before .before .pre .1) f (rw t at (c .before .before .before .if2 .left)) (c .before .before .wide .result) (c .before .before .before .before .last .result) n t (omega arith))
 
 pub front-right-spec : {M : Type 1} → statement M
 front-right-spec =
@@ -74,7 +70,6 @@ front-right-spec =
     last-requires
     returns-2
     wide-requires
-    roots-ok-requires
     returns-3
-    slots-rise-requires
+    slots-right-requires
     returns-4)

@@ -1,6 +1,6 @@
 use Rattle.near.specs.Crossed.{answered-wrong}
 use Rattle.near.specs.Most.{high-wrong}
-use Rattle.local.specs.Near.{rangeRight}
+use Rattle.model.specs.Near.{rangeRight}
 use Rattle.model.specs.Walk.{rangeBelow}
 use Rattle.model.specs.Layout.{decode}
 use Prim.Native.Nat.{pred}

@@ -5,7 +5,7 @@ use Rattle.near.specs.Table.{found-some, found-zero}
 use Rattle.near.specs.Bound.{right-few}
 use Rattle.walk.specs.Counted.{counted-short, counted-all}
 use Rattle.walk.specs.Written.{numbers, written, Space, written-all}
-use Rattle.local.specs.Near.{rangeRight}
+use Rattle.model.specs.Near.{rangeRight}
 use Rattle.model.specs.Lent.{Listed}
 use Rattle.model.specs.Walk.{rangeBelow}
 use Rattle.model.specs.Layout.{decode}

@@ -13,7 +13,7 @@ use borrow.Author.Needs.{needs}
 use Rattle.near.proofs.table.step.Statement.{statement}
 use Rattle.near.proofs.table.step.Tie as tie
 use Rattle.local.proofs.page_right.Reads as page-right-reads
-use Rattle.near.proofs.starts.Reads as starts-reads
+use Rattle.near.proofs.down.starts.Reads as starts-reads
 use Rattle.near.proofs.wide.Reads as wide-reads
 use Rattle.page.proofs.head_of.Reads as head-of-reads
 use Rattle.store.proofs.part.Reads as part-reads

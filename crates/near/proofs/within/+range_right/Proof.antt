@@ -12,7 +12,7 @@ use Rattle.model.specs.Layout.{pageOf}
 use Rattle.model.specs.Walk.{between}
 use Rattle.model.specs.Entry.{pairOf}
 use Rattle.page.specs.Head.{readHead}
-use Rattle.local.specs.Near.{rangeRight}
+use Rattle.model.specs.Near.{rangeRight}
 use Rattle.walk.specs.Live.{live}
 use Rattle.walk.specs.Scan.{Stands, from, entry}
 use Rattle.near.specs.Inside.{level-inside}
@@ -22,7 +22,7 @@ use Rattle.near.proofs.within.range_right.Reads as range-right
 use Rattle.near.proofs.within.range_right.Kinds as range-right-kinds
 use Rattle.near.proofs.within.+range_right.Lts-range_right as range-right-lts
 use Rattle.local.proofs.page_right.Reads as page-right-reads
-use Rattle.near.proofs.starts.Reads as starts-reads
+use Rattle.near.proofs.down.starts.Reads as starts-reads
 use Rattle.near.proofs.wide.Reads as wide-reads
 use Rattle.page.proofs.entry_at.Reads as entry-at-reads
 use Rattle.page.proofs.head_of.Reads as head-of-reads
