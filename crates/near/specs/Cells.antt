@@ -1,11 +1,11 @@
 -- The table: one number for each place of each page, filled level by level, and on each level page by page. Of the pages that are right
 -- and whose turn has been it has the routers' numbers.
 -- Assumes nothing.
-use Prim.Native.Nat.{ℕ, zero, suc, pred, _+_, _*_, _-_, _^_, _≤_, _<_}
+use Prim.Native.Nat.{ℕ, zero, suc, pred, _+_, _*_, _-_, _≤_, _<_}
 use native.Mathlib.Omega.{arith}
 use native.Mathlib.Nat.{mul-le-mul-right}
 use native.Mathlib.Numerals.{sub-one}
-use mathlib.Core.Bool.{Bool, true, false, _&&_}
+use mathlib.Core.Bool.{true, false, _&&_}
 use mathlib.Core.Path.{_≡_, ap, sym, _∙_, subst}
 use mathlib.Core.Logic.{_⊎_, inl, inr, ⊎-elim}
 use mathlib.Core.List.{List}
@@ -14,8 +14,6 @@ use lib.ListN.{length, getD, set, replicate, length-set, length-replicate}
 use lib.Seq.{getD-set-same, getD-set-other}
 use borrow.Author.Tests.{eqb-true}
 use Rattle.bits.specs.Put.{less}
-use Rattle.model.specs.declared.Limits.{Limits}
-use Rattle.model.specs.Limits.{Edition}
 use Rattle.model.specs.Store.{page, last}
 use Rattle.model.specs.Sound.{pageOk}
 use Rattle.model.specs.Layout.{pageOf, decode}

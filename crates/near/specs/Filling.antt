@@ -4,7 +4,7 @@ use native.Mathlib.Omega.{arith}
 use mathlib.Core.Bool.{true, false}
 use mathlib.Core.Path.{_≡_, ap, sym, _∙_, subst}
 use mathlib.Core.List.{List}
-use lib.ListN.{length, set}
+use lib.ListN.{set}
 use Rattle.model.specs.Layout.{pageOf}
 use Rattle.local.specs.Local.{Sized, countAt}
 use Rattle.model.specs.Near.{pageRight}

@@ -1,37 +1,28 @@
 -- What a range finds below each router, in one number for each place of a page: that of the routers from there on. A table of these
 -- numbers is known page by page, from level 2 up.
 -- Assumes nothing.
-use Prim.Native.Nat.{ℕ, zero, suc, pred, _+_, _*_, _-_, _^_, _≤_, _<_}
+use Prim.Native.Nat.{ℕ, zero, suc, pred, _+_, _-_, _≤_, _<_}
 use native.Mathlib.Omega.{arith}
-use native.Mathlib.Nat.{mul-le-mul-right}
 use native.Mathlib.Numerals.{sub-one}
 use mathlib.Core.Bool.{Bool, true, false, _&&_}
-use mathlib.Core.Path.{_≡_, refl, ap, sym, _∙_, subst}
-use mathlib.Core.Logic.{_⊎_, inl, inr, ⊎-elim}
-use mathlib.Core.List.{List, [], _∷_, _++_}
+use mathlib.Core.Path.{_≡_, refl, ap, sym, _∙_}
+use mathlib.Core.List.{List, _∷_}
 use lib.Dec.{leb, ltb}
-use lib.ListN.{length, getD, set, length-set, length-append, length-map}
-use lib.Seq.{getD-set-same, getD-set-other}
-use borrow.Author.Tests.{leb-true, leb-false, eqb-true, le-leb, lt-leb, lt-ltb, le-ltb}
-use Rattle.bits.specs.Put.{less}
+use lib.ListN.{length, length-append}
+use borrow.Author.Tests.{le-leb, lt-leb, lt-ltb, le-ltb}
 use Rattle.model.specs.Basic.{pick, all, flatMap}
 use Rattle.model.specs.declared.Entry.{Entry}
-use Rattle.model.specs.declared.Limits.{Limits}
 use Rattle.model.specs.declared.Pair.{Pair}
-use Rattle.model.specs.Limits.{Edition}
 use Rattle.model.specs.Entry.{pairOf, liveAt}
 use Rattle.model.specs.Page.{Page, pairsAt}
 use Rattle.model.specs.Store.{page}
 use Rattle.model.specs.Walk.{between, rangeBelow}
-use Rattle.model.specs.Layout.{pageOf, sizeOf, decode}
-use Rattle.page.specs.Read.{length-entries}
-use Rattle.local.specs.Local.{Sized, countAt}
+use Rattle.model.specs.Layout.{decode}
 use Rattle.model.specs.Near.{pageRight, startsBy, rangeRight}
 use Rattle.walk.specs.declared.search.Own.{Own}
 use Rattle.walk.specs.Live.{live, live-on, live-off}
 use Rattle.walk.specs.Scan.{entry, from, from-step, Owns}
 use Rattle.walk.specs.Below.{through, later, later-end, followed-through}
-use Rattle.walk.specs.Bound.{length-those}
 use Rattle.near.specs.Across.{under, rightFrom, across-wrong, across-none, across-on, from-end}
 use Rattle.near.specs.Told.{told, join, told-right, told-wrong, told-some, told-none, told-both, join-last}
 

@@ -1,10 +1,10 @@
 -- A walk told by one number: 0 where it is wrong, else one more than the settings that it finds. Two walks one after the other are told
 -- by the two numbers.
 -- Assumes nothing.
-use Prim.Native.Nat.{ℕ, zero, suc, _+_, _-_, _≤_, _<_}
+use Prim.Native.Nat.{ℕ, zero, suc, _+_, _-_, _≤_}
 use native.Mathlib.Omega.{arith}
 use mathlib.Core.Bool.{Bool, true, false, _&&_}
-use mathlib.Core.Path.{_≡_, refl, ap, sym, _∙_}
+use mathlib.Core.Path.{_≡_, refl, ap}
 
 unfoldable pub told : Bool → ℕ → ℕ
 told true k = suc k

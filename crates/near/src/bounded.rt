@@ -17,7 +17,15 @@ ghost use Rattle.near.specs.Crossed.{answered};
 
 // What a range gives, and what it leaves in the caller's list, by a table that has the numbers of all pages up to this level. The
 // settings are counted there, so that nothing is written before 14.
-fn listed_by(table: &[usize], s: &[u8], l: Limits, q: Asked, n: usize, level: u32, list: &mut [u32]) -> Counted
+fn listed_by(
+    table: &[usize],
+    s: &[u8],
+    l: Limits,
+    q: Asked,
+    n: usize,
+    level: u32,
+    list: &mut [u32],
+) -> Counted
     requires { ⌜ Edition l × Known (l .least) (now s) (q .size) (q .last) × (length (now s) ≤ 2 ^ 40) × (0 < level) × (level ≤ 7) × Table (l .least) (now s) (q .version) (q .low) (q .high) ((level + 1) * 4096) (now table) ⌝ }
     ensures { λ r. ⌜ withList r (now (list .exit)) ≡ answered (now (list .entry)) (rangeRight (l .least) (now (s .entry)) (q .version) (pred level) (q .high) (q .low) n) (rangeBelow (pred level) (decode (l .least) (now (s .entry)) .pages) (q .version) (q .low) (q .high) (q .low) n) ⌝ }
 {
@@ -41,14 +49,32 @@ fn listed_by(table: &[usize], s: &[u8], l: Limits, q: Asked, n: usize, level: u3
         version: q.version,
         write: true,
     };
-    crate::write::gather_by(table, s, l, writing, n, crate::wide(level) - 1, q.low, list, 0);
+    crate::write::gather_by(
+        table,
+        s,
+        l,
+        writing,
+        n,
+        crate::wide(level) - 1,
+        q.low,
+        list,
+        0,
+    );
     Counted {
         number: 0,
         count: found,
     }
 }
 
-fn filled(table: &mut [usize], s: &[u8], l: Limits, q: Asked, n: usize, level: u32, list: &mut [u32]) -> Counted
+fn filled(
+    table: &mut [usize],
+    s: &[u8],
+    l: Limits,
+    q: Asked,
+    n: usize,
+    level: u32,
+    list: &mut [u32],
+) -> Counted
     requires { ⌜ Edition l × Known (l .least) (now s) (q .size) (q .last) × (length (now s) ≤ 2 ^ 40) × (0 < level) × (level ≤ 7) × (4096 * (5 * l .least + 1) ≤ length (now table)) ⌝ }
     ensures { λ r. ⌜ withList r (now (list .exit)) ≡ answered (now (list .entry)) (rangeRight (l .least) (now (s .entry)) (q .version) (pred level) (q .high) (q .low) n) (rangeBelow (pred level) (decode (l .least) (now (s .entry)) .pages) (q .version) (q .low) (q .high) (q .low) n) ⌝ }
 {
@@ -75,7 +101,14 @@ fn by_large(s: &[u8], l: Limits, q: Asked, n: usize, level: u32, list: &mut [u32
 }
 
 // What a range gives from page n, which is to have this level.
-pub(crate) fn by_table(s: &[u8], l: Limits, q: Asked, n: usize, level: u32, list: &mut [u32]) -> Counted
+pub(crate) fn by_table(
+    s: &[u8],
+    l: Limits,
+    q: Asked,
+    n: usize,
+    level: u32,
+    list: &mut [u32],
+) -> Counted
     requires { ⌜ Edition l × Known (l .least) (now s) (q .size) (q .last) × (length (now s) ≤ 2 ^ 40) × (0 < level) ⌝ }
     ensures { λ r. ⌜ withList r (now (list .exit)) ≡ answered (now (list .entry)) (rangeRight (l .least) (now (s .entry)) (q .version) (pred level) (q .high) (q .low) n) (rangeBelow (pred level) (decode (l .least) (now (s .entry)) .pages) (q .version) (q .low) (q .high) (q .low) n) ⌝ }
 {

@@ -103,7 +103,15 @@ fn step(s: &[u8], l: Limits, q: Asked, table: &[usize], n: usize, level: u32, at
 }
 
 // The walk from page n, which is to have this level and cover the key `at`.
-pub(crate) fn down(s: &[u8], l: Limits, q: Asked, table: &[usize], n: usize, level: u32, at: u32) -> usize
+pub(crate) fn down(
+    s: &[u8],
+    l: Limits,
+    q: Asked,
+    table: &[usize],
+    n: usize,
+    level: u32,
+    at: u32,
+) -> usize
     requires { ⌜ Edition l × Known (l .least) (now s) (q .size) (q .last) × (length (now s) ≤ 2 ^ 40) × (0 < level) × (level ≤ 7) × Table (l .least) (now s) (q .version) (q .low) (q .high) ((level + 1) * 4096) (now table) ⌝ }
     ensures { λ r. ⌜ r ≡ found (l .least) (now (s .entry)) (q .version) (q .low) (q .high) (pred level) at n ⌝ }
 {

@@ -17,7 +17,15 @@ pub(crate) struct Within {
 
 // Whether the walk of a range below page n, which is to have this level and cover the key `at`, is right. A page that is read takes one
 // from what is left, and where nothing is left none is read: no more are read than were left at first, whatever the bytes.
-pub(crate) fn range_right(s: &[u8], l: Limits, q: Asked, n: usize, level: u32, at: u32, left: usize) -> Within
+pub(crate) fn range_right(
+    s: &[u8],
+    l: Limits,
+    q: Asked,
+    n: usize,
+    level: u32,
+    at: u32,
+    left: usize,
+) -> Within
     requires { ⌜ Edition l × Known (l .least) (now s) (q .size) (q .last) × (length (now s) ≤ 2 ^ 40) × (0 < level) ⌝ }
     ensures { λ r. ⌜ Answers (left - 1) (rangeRight (l .least) (now (s .entry)) (q .version) (pred level) (q .high) at n) r ⌝ }
 {

@@ -1,47 +1,41 @@
-use Rattle.near.specs.Crossed.{answered-wrong, answered-right, cross-free, cross-by}
+-- `across` meets its contract: the root, the judging of the walk within its budget, and then the settings. Assumes nothing.
+use Prim.Native.Nat.{ℕ, pred, _<_}
+use native.Mathlib.Omega.{arith}
+use native.Mathlib.Numerals.{sub-one}
+use mathlib.Core.Path.{_≡_, ap, sym, _∙_, subst}
+use mathlib.Core.Bool.{true}
+use lib.ListN.{length}
+use borrow.Author.Tests.{not-true, not-false}
+use borrow.Author.Needs.{needs}
 use Rattle.model.specs.Near.{rangeRight}
 use Rattle.model.specs.Lent.{listed}
 use Rattle.model.specs.Calls.{rangedBy}
 use Rattle.model.specs.Walk.{rootAt, rangeBelow}
 use Rattle.model.specs.Layout.{decode}
-use borrow.Author.Tests.{not-true, not-false}
-use lib.ListN.{length}
-use mathlib.Core.Path.{_≡_, ap, sym, _∙_, subst}
-use mathlib.Core.Bool.{true}
-use Prim.Native.Nat.{ℕ, pred, _<_}
-use native.Mathlib.Omega.{arith}
-use native.Mathlib.Numerals.{sub-one}
-use borrow.Author.Needs.{needs}
+use Rattle.near.specs.Crossed.{answered-wrong, answered-right, cross-free, cross-by}
 use Rattle.near.proofs.across.Statement.{statement}
 use Rattle.near.proofs.across.Tie as tie
 
--- src/lib.rt:275:9
 root-among-requires : tie.Need-root-among-requires
 root-among-requires c κs = (c .before .before .pre .0, c .before .before .pre .2)
 
--- src/lib.rt:276:9
 level-at-requires : tie.Need-level-at-requires
 level-at-requires c κs = (c .before .before .before .pre .0, c .before .before .before .pre .1 .sized)
 
--- src/lib.rt:278:9
 returns : tie.Need-returns
 returns c =
     let a = c .before .before .before .before .before .args in
     cross-free (a .l .least) (a .s .now) (a .low) (a .high) (a .v) (a .list .now) (rw (c .before .before .root-among .ensures) at (sym (c .before .level-at .ensures)) ∙ c .if1 .taken)
 
--- src/lib.rt:290:9
 range-right-requires : tie.Need-range-right-requires
 range-right-requires c κs = (c .before .before .before .before .before .pre .0, c .before .before .before .before .before .pre .1, c .before .before .before .before .before .pre .2 .few, omega (arith, c .if1 .left))
 
--- src/lib.rt:292:9
 by-table-requires : tie.Need-by-table-requires
 by-table-requires c κs = (c .before .before .before .before .before .before .before .before .before .pre .0, c .before .before .before .before .before .before .before .before .before .pre .1, c .before .before .before .before .before .before .before .before .before .pre .2 .few, omega (arith, c .before .before .before .before .if1 .left))
 
--- src/lib.rt:292:9
 same-length : tie.Need-same-length
 same-length c = search needs
 
--- src/lib.rt:292:9
 returns-2 : tie.Need-returns-2
 returns-2 c =
     let a = c .before .before .before .before .before .before .before .before .before .before .before .before .args in
@@ -49,7 +43,6 @@ returns-2 c =
     rw (c .before .before .before .before .before .before .before .before .before .root-among .ensures) at (c .before .before .by-table .ensures)
     ∙ cross-by (a .l .least) (a .s .now) (a .low) (a .high) (a .v) (a .list .now) (c .before .before .before .before .before .before .before .before .level-at .result) some (rw (c .before .before .before .before .before .before .before .before .before .root-among .ensures) at (sym (c .before .before .before .before .before .before .before .before .level-at .ensures)))
 
--- src/lib.rt:295:9
 returns-3 : tie.Need-returns-3
 returns-3 c =
     let a = c .before .before .before .before .before .before .before .before .before .before .args in
@@ -59,15 +52,12 @@ returns-3 c =
     answered-wrong (a .list .now) (rangeRight (a .l .least) (a .s .now) (a .v) (pred (c .before .before .before .before .before .before .level-at .result)) (a .high) (a .low) root) (rangeBelow (pred (c .before .before .before .before .before .before .level-at .result)) (decode (a .l .least) (a .s .now) .pages) (a .v) (a .low) (a .high) (a .low) root) f
     ∙ cross-by (a .l .least) (a .s .now) (a .low) (a .high) (a .v) (a .list .now) (c .before .before .before .before .before .before .level-at .result) some (rw (c .before .before .before .before .before .before .before .root-among .ensures) at (sym (c .before .before .before .before .before .before .level-at .ensures)))
 
--- src/lib.rt:300:22
 wide-requires : tie.Need-wide-requires
 wide-requires c κs = search needs
 
--- src/lib.rt:300:22
 sub-fill : tie.Need-sub-fill
 sub-fill c = omega (arith, c .wide .ensures, c .before .before .before .before .before .before .if1 .left)
 
--- src/lib.rt:300:5
 fill-requires : tie.Need-fill-requires
 fill-requires c κs =
     let a = c .before .before .before .before .before .before .before .before .before .before .before .before .args in
@@ -77,11 +67,9 @@ fill-requires c κs =
       subst (λ (m : ℕ). rangeRight (a .l .least) (a .s .now) (a .v) m (a .high) (a .low) (c .before .before .before .before .before .before .before .before .before .root-among .result) ≡ true) (sym u) f,
     )
 
--- src/lib.rt:262:1
 same-length-2 : tie.Need-same-length-2
 same-length-2 c = search needs
 
--- src/lib.rt:262:1
 returns-4 : tie.Need-returns-4
 returns-4 c =
     let a = c .before .before .before .before .before .before .before .before .before .before .before .before .before .before .before .args in

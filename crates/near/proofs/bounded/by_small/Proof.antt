@@ -1,21 +1,18 @@
-use Rattle.near.specs.Cells.{small-long}
+-- `bounded::by_small` meets its contract. Assumes nothing.
 use borrow.Author.Needs.{needs}
+use Rattle.near.specs.Cells.{small-long}
 use Rattle.near.proofs.bounded.by_small.Statement.{statement}
 use Rattle.near.proofs.bounded.by_small.Tie as tie
 
--- src/bounded.rt:65:12
 slice-aggregate-filled : tie.Need-slice-aggregate-filled
 slice-aggregate-filled c = search needs
 
--- src/bounded.rt:65:5
 filled-requires : tie.Need-filled-requires
 filled-requires c κs = (c .before .before .before .before .pre .0, c .before .before .before .before .pre .1, c .before .before .before .before .pre .2, c .before .before .before .before .pre .3, c .before .before .before .before .pre .4, small-long (c .before .before .before .before .args .l .least) (c .before .before .before .before .pre .5))
 
--- src/bounded.rt:60:1
 same-length : tie.Need-same-length
 same-length c = search needs
 
--- src/bounded.rt:60:1
 returns : tie.Need-returns
 returns c = c .before .before .before .filled .ensures
 

@@ -1,11 +1,12 @@
+-- `table::down` meets its contract: the number of the whole walk is that of what was passed, joined with what is left. Assumes nothing.
+use Prim.Native.Nat.{ℕ, pred, _+_, _*_, _-_, _^_, _≤_, _<_}
+use native.Mathlib.Omega.{arith}
+use mathlib.Core.Path.{_≡_, ap, sym, _∙_}
+use borrow.Author.Needs.{needs}
 use Rattle.near.specs.Most.{found-most}
 use Rattle.near.specs.Cells.{table-fewer}
 use Rattle.near.specs.Table.{found, found-foot}
 use Rattle.near.specs.Told.{join, join-one, join-most, join-on}
-use mathlib.Core.Path.{_≡_, ap, sym, _∙_}
-use Prim.Native.Nat.{ℕ, pred, _+_, _*_, _-_, _^_, _≤_, _<_}
-use native.Mathlib.Omega.{arith}
-use borrow.Author.Needs.{needs}
 use Rattle.near.proofs.table.down.Statement.{statement}
 use Rattle.near.proofs.table.down.Tie as tie
 
@@ -17,51 +18,45 @@ Inv-loop s l q table n level at sum₀ m₀ k₀ sum m k =
 abbrev μ-loop : tie.MeasureT-loop
 μ-loop s l q table n level at sum₀ m₀ k₀ sum m k = k
 
--- src/table.rt:113:5
 loop-holds : tie.Need-loop-holds Inv-loop μ-loop
 loop-holds c =
     let a = c .before .before .args in
     (c .before .before .pre .3, omega arith, omega arith, sym (join-one (found (a .l .least) (a .s .now) (a .q .version) (a .q .low) (a .q .high) (pred (a .level)) (a .at) (a .n))))
 
--- src/table.rt:114:13
 step-requires : tie.Need-step-requires Inv-loop μ-loop
 step-requires c κs =
     let a = c .before .before .before .before .args in
     (c .before .before .before .before .pre .0, c .before .before .before .before .pre .1, c .before .before .before .before .pre .2, c .loop-test .taken, table-fewer (a .l .least) (a .s .now) (a .q .size) (c .before .before .before .before .pre .1 .sized) (a .q .version) (a .q .low) (a .q .high) ((a .level + 1) * 4096) ((c .before .loop .k + 1) * 4096) (a .table .now) (omega (arith, c .before .loop .inv .1)) (c .before .before .before .before .pre .5))
 
--- src/table.rt:115:9
 joined-requires : tie.Need-joined-requires Inv-loop μ-loop
 joined-requires c κs = (omega (arith, c .before .before .loop .inv .2, c .before .before .before .before .before .pre .4, c .before .before .loop .inv .1), omega (arith, c .step .ensures .1))
 
--- src/table.rt:117:9
 sub-k : tie.Need-sub-k Inv-loop μ-loop
 sub-k c = search needs
 
--- src/table.rt:113:5
 loop-less : tie.Need-loop-less Inv-loop μ-loop
 loop-less c = search needs
 
--- src/table.rt:113:5
 loop-again : tie.Need-loop-again Inv-loop μ-loop
 loop-again c =
     let a = c .before .before .before .before .before .before .args in
     let j = c .before .before .before .loop in
     let w = c .before .step .result in
-    let f = found (a .l .least) (a .s .now) (a .q .version) (a .q .low) (a .q .high) (pred (j .k - 1)) (a .at) (w .page) in
-    (omega (arith, c .before .before .loop-test .taken), omega (arith, j .inv .1), omega (arith, j .inv .1, j .inv .2, c .joined .ensures, join-most (j .sum) (w .rest), c .before .step .ensures .1, c .before .before .loop-test .taken),
-    j .inv .3 ∙ ap (join (j .sum)) (c .before .step .ensures .0) ∙ join-on (j .sum) (w .rest) f ∙ ap (λ (x : ℕ). join x f) (sym (c .joined .ensures)))
+    let f = found (a .l .least) (a .s .now) (a .q .version) (a .q .low) (a .q .high) (pred (j .k - 1)) (a .at) (w .page) in (
+      omega (arith, c .before .before .loop-test .taken),
+      omega (arith, j .inv .1),
+      omega (arith, j .inv .1, j .inv .2, c .joined .ensures, join-most (j .sum) (w .rest), c .before .step .ensures .1, c .before .before .loop-test .taken),
+      j .inv .3 ∙ ap (join (j .sum)) (c .before .step .ensures .0) ∙ join-on (j .sum) (w .rest) f ∙ ap (λ (x : ℕ). join x f) (sym (c .joined .ensures)),
+    )
 
--- src/table.rt:119:17
 leaf-requires : tie.Need-leaf-requires Inv-loop μ-loop
 leaf-requires c κs = search needs
 
--- src/table.rt:119:5
 joined-requires-2 : tie.Need-joined-requires-2 Inv-loop μ-loop
 joined-requires-2 c κs =
     let a = c .before .before .before .before .before .args in
     (omega (arith, c .before .before .loop .inv .2, c .before .before .before .before .before .pre .4, c .before .before .loop .inv .1), omega (arith, c .leaf .ensures, found-most (a .l .least) (a .s .now) (c .before .before .before .before .before .pre .0 .eight) (a .q .version) (a .q .low) (a .q .high) 0 0 (c .before .before .loop .m)))
 
--- src/table.rt:106:1
 returns : tie.Need-returns Inv-loop μ-loop
 returns c =
     let a = c .before .before .before .before .before .before .args in

@@ -1,9 +1,9 @@
-use Rattle.near.specs.Cells.{Table, table-fewer}
-use lib.ListN.{length}
-use mathlib.Core.Path.{_≡_, _∙_}
-use Prim.Native.Nat.{ℕ, _+_, _*_, _-_, _≤_}
+-- `table::fill_level` meets its contract: the turns of this level before page n have been. Assumes nothing.
+use Prim.Native.Nat.{_+_, _*_, _-_, _≤_}
 use native.Mathlib.Omega.{arith}
-use borrow.Author.Needs.{needs}
+use mathlib.Core.Path.{_≡_, _∙_}
+use lib.ListN.{length}
+use Rattle.near.specs.Cells.{Table, table-fewer}
 use Rattle.near.proofs.table.fill_level.Statement.{statement}
 use Rattle.near.proofs.table.fill_level.Tie as tie
 
@@ -13,36 +13,29 @@ Inv-loop table₀ s l q level n₀ table n = (n ≤ 4096) × Table (l .least) s 
 abbrev μ-loop : tie.MeasureT-loop
 μ-loop table₀ s l q level n₀ table n = 4096 - n
 
--- src/table.rt:174:5
 loop-holds : tie.Need-loop-holds Inv-loop μ-loop
 loop-holds c =
     let a = c .before .before .args in
     (omega arith, table-fewer (a .l .least) (a .s .now) (a .q .size) (c .before .before .pre .1 .sized) (a .q .version) (a .q .low) (a .q .high) (a .level * 4096) (a .level * 4096 + 0) (a .table .now) (omega arith) (c .before .before .pre .5), omega arith)
 
--- src/table.rt:175:9
 fill-at-requires : tie.Need-fill-at-requires Inv-loop μ-loop
 fill-at-requires c κs = (c .before .before .before .before .before .pre .0, c .before .before .before .before .before .pre .1, c .before .before .before .before .before .pre .2, c .before .before .before .before .before .pre .3, c .before .before .before .before .before .pre .4, c .before .loop-test .taken, c .before .before .loop .inv .1)
 
--- src/table.rt:176:9
 add-n : tie.Need-add-n Inv-loop μ-loop
 add-n c = omega (arith, c .before .before .before .before .loop-test .taken)
 
--- src/table.rt:174:5
 loop-less : tie.Need-loop-less Inv-loop μ-loop
 loop-less c = omega (arith, c .before .before .before .before .loop-test .taken)
 
--- src/table.rt:174:5
 loop-again : tie.Need-loop-again Inv-loop μ-loop
 loop-again c =
     let a = c .before .before .before .before .before .before .before .before .args in
     let n = c .before .before .before .before .before .loop .n in
     (omega (arith, c .before .before .before .before .loop-test .taken), table-fewer (a .l .least) (a .s .now) (a .q .size) (c .before .before .before .before .before .before .before .before .pre .1 .sized) (a .q .version) (a .q .low) (a .q .high) (a .level * 4096 + n + 1) (a .level * 4096 + (n + 1)) (c .before .before .fill-at .last .0) (omega arith) (c .before .before .fill-at .ensures), c .before .before .fill-at .kept .0 ∙ c .before .before .before .before .before .loop .inv .2)
 
--- src/table.rt:169:1
 same-length : tie.Need-same-length Inv-loop μ-loop
 same-length c = c .before .loop .inv .2
 
--- src/table.rt:169:1
 returns : tie.Need-returns Inv-loop μ-loop
 returns c =
     let a = c .before .before .before .before .args in

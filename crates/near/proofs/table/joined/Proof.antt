@@ -1,27 +1,22 @@
-use Rattle.near.specs.Told.{join-none, join-nothing, join-some}
-use mathlib.Core.Path.{sym}
+-- `table::joined` meets its contract. Assumes nothing.
 use native.Mathlib.Omega.{arith}
-use borrow.Author.Needs.{needs}
+use mathlib.Core.Path.{sym}
+use Rattle.near.specs.Told.{join-none, join-nothing, join-some}
 use Rattle.near.proofs.table.joined.Statement.{statement}
 use Rattle.near.proofs.table.joined.Tie as tie
 
--- src/table.rt:51:9
 returns : tie.Need-returns
 returns c = sym (join-none (c .before .args .a) (c .before .args .b) (c .if1 .taken))
 
--- src/table.rt:54:9
 returns-2 : tie.Need-returns-2
 returns-2 c = sym (join-nothing (c .before .before .args .a) (c .before .before .args .b) (c .if2 .taken))
 
--- src/table.rt:56:5
 sub-result : tie.Need-sub-result
 sub-result c = omega (arith, c .before .if1 .left)
 
--- src/table.rt:56:5
 add-result : tie.Need-add-result
 add-result c = omega (arith, c .before .before .pre .0, c .before .before .pre .1)
 
--- src/table.rt:46:1
 returns-3 : tie.Need-returns-3
 returns-3 c = sym (join-some (c .before .before .args .a) (c .before .before .args .b) (c .before .if1 .left) (c .if2 .left))
 

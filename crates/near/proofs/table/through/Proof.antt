@@ -1,33 +1,27 @@
-use Rattle.near.specs.Table.{found, turn-early, turn-late, turn-high, turn-on}
-use mathlib.Core.Path.{ap, sym, _∙_}
-use Prim.Native.Nat.{ℕ, pred}
+-- `table::through` meets its contract. Assumes nothing.
+use Prim.Native.Nat.{pred}
 use native.Mathlib.Omega.{arith}
+use mathlib.Core.Path.{ap, sym, _∙_}
 use borrow.Author.Needs.{needs}
+use Rattle.near.specs.Table.{found, turn-early, turn-late, turn-high, turn-on}
 use Rattle.near.proofs.table.through.Statement.{statement}
 use Rattle.near.proofs.table.through.Tie as tie
-use Rattle.near.proofs.wide.Reads as wide-reads
 
--- src/table.rt:128:9
 returns : tie.Need-returns
 returns c = let a = c .before .before .before .before .before .args in sym (turn-early (a .l .least) (a .s .now) (a .q .version) (a .q .low) (a .q .high) (pred (a .level)) (a .e) (c .if1 .taken))
 
--- src/table.rt:131:9
 returns-2 : tie.Need-returns-2
 returns-2 c = let a = c .before .before .before .before .before .before .before .before .args in sym (turn-late (a .l .least) (a .s .now) (a .q .version) (a .q .low) (a .q .high) (pred (a .level)) (a .e) (c .if2 .taken))
 
--- src/table.rt:134:9
 returns-3 : tie.Need-returns-3
 returns-3 c = let a = c .before .before .before .before .before .before .before .before .before .before .before .args in sym (turn-high (a .l .least) (a .s .now) (a .q .version) (a .q .low) (a .q .high) (pred (a .level)) (a .e) (c .if3 .taken))
 
--- src/table.rt:136:26
 wide-requires : tie.Need-wide-requires
 wide-requires c κs = search needs
 
--- src/table.rt:136:5
 down-requires : tie.Need-down-requires
 down-requires c κs = (c .before .before .before .before .before .before .before .before .before .before .before .before .pre .0, c .before .before .before .before .before .before .before .before .before .before .before .before .pre .1, c .before .before .before .before .before .before .before .before .before .before .before .before .pre .2, c .before .before .before .before .before .before .before .before .before .before .before .before .pre .3, c .before .before .before .before .before .before .before .before .before .before .before .before .pre .4, c .before .before .before .before .before .before .before .before .before .before .before .before .pre .5)
 
--- src/table.rt:123:1
 returns-4 : tie.Need-returns-4
 returns-4 c =
     let a = c .before .before .before .before .before .before .before .before .before .before .before .before .before .args in

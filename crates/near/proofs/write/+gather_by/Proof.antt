@@ -3,7 +3,7 @@ use Prim.Native.Nat.{ℕ, _≤_, _<_, _+_, _*_, _-_}
 use native.Mathlib.Omega.{arith}
 use mathlib.Core.List.{_∷_}
 use mathlib.Core.Bool.{true}
-use mathlib.Core.Path.{_≡_, refl, ap, sym, _∙_}
+use mathlib.Core.Path.{_≡_, refl, ap, _∙_}
 use borrow.Author.Needs.{needs}
 use borrow.Fn.Kinds.{In}
 use borrow.Fn.PlainCycle.{Measures, is, falls, and}
@@ -90,10 +90,11 @@ gather-by-settings-requires : (t : ℕ) → gather-by-lts.Need-settings-requires
 gather-by-settings-requires t c κs =
     let a = c .before .before .before .before .before .before .before .args in
     let r = c .before .before .before .before .before .before .before .pre .1 .0 in
-    let g = c .before .before .before .before .before .before .before .pre .1 .1 in
-    (here-stands r (a .q .version) (a .q .high) (a .up) (a .n) (a .at) g _ _ (c .before .before .before .part .ensures .0) (c .before .before .head-of .ensures),
-    rw (leaf-range (a .up) (decode (a .l .least) (a .s .now) .pages) (a .q .version) (a .q .low) (a .q .high) (a .at) (a .n) _ (c .before .if1 .taken)
-    (here-pairs r (a .q .version) (a .q .high) (a .up) (a .n) (a .at) g _ _ (c .before .before .before .part .ensures .0) (c .before .before .head-of .ensures))) at (c .before .before .before .before .before .before .before .pre .1 .2))
+    let g = c .before .before .before .before .before .before .before .pre .1 .1 in (
+      here-stands r (a .q .version) (a .q .high) (a .up) (a .n) (a .at) g _ _ (c .before .before .before .part .ensures .0) (c .before .before .head-of .ensures),
+      rw (leaf-range (a .up) (decode (a .l .least) (a .s .now) .pages) (a .q .version) (a .q .low) (a .q .high) (a .at) (a .n) _ (c .before .if1 .taken)
+          (here-pairs r (a .q .version) (a .q .high) (a .up) (a .n) (a .at) g _ _ (c .before .before .before .part .ensures .0) (c .before .before .head-of .ensures))) at (c .before .before .before .before .before .before .before .pre .1 .2),
+    )
 
 gather-by-same-length : (t : ℕ) → gather-by-lts.Need-same-length (claims t) (gather-by-at t) gather-by.Post gather-by-Inv-loop gather-by-μ-loop
 gather-by-same-length t c =
@@ -111,9 +112,10 @@ gather-by-own-router-requires : (t : ℕ) → gather-by-lts.Need-own-router-requ
 gather-by-own-router-requires t c κs =
     let a = c .before .before .before .before .before .before .args in
     let r = c .before .before .before .before .before .before .pre .1 .0 in
-    let g = c .before .before .before .before .before .before .pre .1 .1 in
-    (here-stands r (a .q .version) (a .q .high) (a .up) (a .n) (a .at) g _ _ (c .before .before .part .ensures .0) (c .before .head-of .ensures),
-    here-starts r (a .q .version) (a .q .high) (a .up) (a .n) (a .at) g _ _ (c .before .before .part .ensures .0) (c .before .head-of .ensures) (c .if1 .left))
+    let g = c .before .before .before .before .before .before .pre .1 .1 in (
+      here-stands r (a .q .version) (a .q .high) (a .up) (a .n) (a .at) g _ _ (c .before .before .part .ensures .0) (c .before .head-of .ensures),
+      here-starts r (a .q .version) (a .q .high) (a .up) (a .n) (a .at) g _ _ (c .before .before .part .ensures .0) (c .before .head-of .ensures) (c .if1 .left),
+    )
 
 gather-by-wide-requires : (t : ℕ) → gather-by-lts.Need-wide-requires (claims t) (gather-by-at t) gather-by.Post gather-by-Inv-loop gather-by-μ-loop
 gather-by-wide-requires t c κs =
@@ -131,12 +133,15 @@ gather-by-gather-by-requires t c κs =
     let p = pageOf (a .l .least) (a .s .now) (a .n) in
     let h = readHead (a .l .least) p in
     let w = rw (c .before .before .before .before .head-of .ensures, c .before .before .before .before .before .part .ensures .0) at (c .before .before .own-router .ensures) in
-    let o = c .before .before .own-router .result in
-    (omega (arith, c .before .before .before .if1 .left, c .before .before .before .before .before .before .before .before .before .pre .0),
-    (r,
-    rw (c .before .wide .ensures) (here-own r (a .q .version) (a .q .high) (a .up) (a .n) (a .at) g p h refl refl (c .before .before .before .if1 .left) o w),
-    rw (c .before .wide .ensures) (space-front _ _ (rw (here-range r (a .q .version) (a .q .high) (a .up) (a .n) (a .at) g p h refl refl (c .before .before .before .if1 .left) o w (a .q .low)) at (c .before .before .before .before .before .before .before .before .before .pre .1 .2))),
-    table-fewer (a .l .least) (a .s .now) (sizeOf (a .l .least) (a .s .now)) (r .sized) (a .q .version) (a .q .low) (a .q .high) ((a .up + 2) * 4096) ((a .up - 1 + 2) * 4096) (a .table .now) (omega arith) (c .before .before .before .before .before .before .before .before .before .pre .1 .3)))
+    let o = c .before .before .own-router .result in (
+      omega (arith, c .before .before .before .if1 .left, c .before .before .before .before .before .before .before .before .before .pre .0),
+      (
+        r,
+        rw (c .before .wide .ensures) (here-own r (a .q .version) (a .q .high) (a .up) (a .n) (a .at) g p h refl refl (c .before .before .before .if1 .left) o w),
+        rw (c .before .wide .ensures) (space-front _ _ (rw (here-range r (a .q .version) (a .q .high) (a .up) (a .n) (a .at) g p h refl refl (c .before .before .before .if1 .left) o w (a .q .low)) at (c .before .before .before .before .before .before .before .before .before .pre .1 .2))),
+        table-fewer (a .l .least) (a .s .now) (sizeOf (a .l .least) (a .s .now)) (r .sized) (a .q .version) (a .q .low) (a .q .high) ((a .up + 2) * 4096) ((a .up - 1 + 2) * 4096) (a .table .now) (omega arith) (c .before .before .before .before .before .before .before .before .before .pre .1 .3),
+      ),
+    )
 
 gather-by-sub-next-some : (t : ℕ) → gather-by-lts.Need-sub-next-some (claims t) (gather-by-at t) gather-by.Post gather-by-Inv-loop gather-by-μ-loop
 gather-by-sub-next-some t c =
@@ -194,12 +199,15 @@ gather-by-gather-by-requires-2 t c κs =
     let l = c .before .before .before .before .loop in
     let f = l .inv .1 (omega (arith, m, c .before .before .before .loop-test .taken)) in
     let d = from-first (a .l .least) (a .s .now) (a .q .version) (a .q .high) (a .up - 1) p (h .count) (l .i) f (l .inv .3) in
-    let y = gather-same (later-step (a .up - 1) ps (a .q .version) (a .q .low) (a .q .high) p (h .count) (l .i) f) (l .inv .2) in
-    (omega (arith, c .before .before .before .before .before .before .before .before .before .before .before .before .if1 .left, c .before .before .before .before .before .before .before .before .before .before .before .before .before .before .before .before .before .before .pre .0),
-    (r,
-    rw (c .before .wide2 .ensures, c .before .before .entry-at .ensures, c .before .before .before .before .before .before .before .before .before .before .before .before .before .before .part .ensures .0) (d .0),
-    rw (c .before .wide2 .ensures, c .before .before .entry-at .ensures, c .before .before .before .before .before .before .before .before .before .before .before .before .before .before .part .ensures .0) (space-front _ _ (y .space)),
-    table-fewer (a .l .least) (a .s .now) (sizeOf (a .l .least) (a .s .now)) (r .sized) (a .q .version) (a .q .low) (a .q .high) ((a .up + 2) * 4096) ((a .up - 1 + 2) * 4096) (a .table .now) (omega arith) (c .before .before .before .before .before .before .before .before .before .before .before .before .before .before .before .before .before .before .pre .1 .3)))
+    let y = gather-same (later-step (a .up - 1) ps (a .q .version) (a .q .low) (a .q .high) p (h .count) (l .i) f) (l .inv .2) in (
+      omega (arith, c .before .before .before .before .before .before .before .before .before .before .before .before .if1 .left, c .before .before .before .before .before .before .before .before .before .before .before .before .before .before .before .before .before .before .pre .0),
+      (
+        r,
+        rw (c .before .wide2 .ensures, c .before .before .entry-at .ensures, c .before .before .before .before .before .before .before .before .before .before .before .before .before .before .part .ensures .0) (d .0),
+        rw (c .before .wide2 .ensures, c .before .before .entry-at .ensures, c .before .before .before .before .before .before .before .before .before .before .before .before .before .before .part .ensures .0) (space-front _ _ (y .space)),
+        table-fewer (a .l .least) (a .s .now) (sizeOf (a .l .least) (a .s .now)) (r .sized) (a .q .version) (a .q .low) (a .q .high) ((a .up + 2) * 4096) ((a .up - 1 + 2) * 4096) (a .table .now) (omega arith) (c .before .before .before .before .before .before .before .before .before .before .before .before .before .before .before .before .before .before .pre .1 .3),
+      ),
+    )
 
 gather-by-sub-next-some-2 : (t : ℕ) → gather-by-lts.Need-sub-next-some-2 (claims t) (gather-by-at t) gather-by.Post gather-by-Inv-loop gather-by-μ-loop
 gather-by-sub-next-some-2 t c =

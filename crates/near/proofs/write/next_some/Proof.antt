@@ -1,13 +1,13 @@
+-- `write::next_some` meets its contract: what is found from place i on is found from place k on. Assumes nothing.
+use Prim.Native.Nat.{suc, _+_, _-_}
+use native.Mathlib.Omega.{arith}
+use mathlib.Core.Path.{ap, sym, _∙_}
+use Rattle.model.specs.Layout.{sizeOf}
+use Rattle.page.specs.Head.{readHead}
+use Rattle.page.specs.declared.Head.{Head}
 use Rattle.near.specs.Skips.{Skips, skips-next, skips-on, skips-none}
 use Rattle.near.specs.Cells.{right-low, right-count}
 use Rattle.near.specs.Inside.{right-inside}
-use Rattle.page.specs.Head.{readHead}
-use Rattle.page.specs.declared.Head.{Head}
-use Rattle.model.specs.Layout.{sizeOf}
-use mathlib.Core.Path.{_≡_, ap, sym, _∙_}
-use Prim.Native.Nat.{ℕ, suc, _+_, _*_, _-_, _≤_}
-use native.Mathlib.Omega.{arith}
-use borrow.Author.Needs.{needs}
 use Rattle.near.proofs.write.next_some.Statement.{statement}
 use Rattle.near.proofs.write.next_some.Tie as tie
 
@@ -17,18 +17,15 @@ Inv-loop table s l q n up i p count k₀ k = Skips (l .least) s (q .version) (q 
 abbrev μ-loop : tie.MeasureT-loop
 μ-loop table s l q n up i p count k₀ k = count - k
 
--- src/write.rt:24:9
 part-requires : tie.Need-part-requires Inv-loop μ-loop
 part-requires c κs =
     let a = c .before .before .args in
     let r = c .before .before .pre .0 .reads in
     (r .edition, right-inside (r .edition) (a .s .now) (sizeOf (a .l .least) (a .s .now)) (r .sized) (suc (a .up)) (a .n) (c .before .before .pre .0 .right) .part, r .few)
 
--- src/write.rt:25:9
 head-of-requires : tie.Need-head-of-requires Inv-loop μ-loop
 head-of-requires c κs = let r = c .before .before .before .pre .0 .reads in (r .edition, omega (arith, c .part .ensures .1, r .edition .four), omega (arith, c .part .ensures .1, r .edition .eight))
 
--- src/write.rt:27:9
 next-place-requires : tie.Need-next-place-requires Inv-loop μ-loop
 next-place-requires c κs =
     let a = c .before .before .before .before .args in
@@ -36,13 +33,11 @@ next-place-requires c κs =
     let i = right-inside (r .edition) (a .s .now) (sizeOf (a .l .least) (a .s .now)) (r .sized) (suc (a .up)) (a .n) (c .before .before .before .before .pre .0 .right) in
     rw (c .head-of .ensures, c .before .part .ensures .0) (i .stands, c .before .before .before .before .pre .1)
 
--- src/write.rt:28:5
 loop-holds : tie.Need-loop-holds Inv-loop μ-loop
 loop-holds c =
     let a = c .before .before .before .before .before .args in
     skips-next (a .l .least) (a .s .now) (a .q .version) (a .q .low) (a .q .high) (a .up) (a .n) (a .i) (c .next-place .result) (rw (c .before .head-of .ensures, c .before .before .part .ensures .0) at (c .next-place .ensures)) (c .before .before .before .before .before .pre .2)
 
--- src/write.rt:29:13
 cell-requires : tie.Need-cell-requires Inv-loop μ-loop
 cell-requires c κs =
     let a = c .before .before .before .before .before .before .before .args in
@@ -50,7 +45,6 @@ cell-requires c κs =
     let f = right-count (a .l .least) (a .s .now) (sizeOf (a .l .least) (a .s .now)) (r .sized) (suc (suc (a .up))) (a .n) (omega arith) (c .before .before .before .before .before .before .before .pre .0 .right) in
     (r .edition, right-low (a .l .least) (a .s .now) (sizeOf (a .l .least) (a .s .now)) (r .sized) (suc (suc (a .up))) (a .n) (omega arith) (c .before .before .before .before .before .before .before .pre .0 .right), omega (arith, f, c .before .loop .inv .within), c .before .before .before .before .before .before .before .pre .0 .long)
 
--- src/write.rt:30:52
 add-cell : tie.Need-add-cell Inv-loop μ-loop
 add-cell c =
     let a = c .before .before .before .before .before .before .before .before .args in
@@ -58,7 +52,6 @@ add-cell c =
     let f = right-count (a .l .least) (a .s .now) (sizeOf (a .l .least) (a .s .now)) (r .sized) (suc (suc (a .up))) (a .n) (omega arith) (c .before .before .before .before .before .before .before .before .pre .0 .right) in
     omega (arith, f, c .before .before .loop .inv .within, r .edition .eight)
 
--- src/write.rt:30:20
 cell-requires-2 : tie.Need-cell-requires-2 Inv-loop μ-loop
 cell-requires-2 c κs =
     let a = c .before .before .before .before .before .before .before .before .args in
@@ -67,11 +60,9 @@ cell-requires-2 c κs =
     let f = right-count (a .l .least) (a .s .now) (sizeOf (a .l .least) (a .s .now)) (r .sized) (suc (suc (a .up))) (a .n) (omega arith) (c .before .before .before .before .before .before .before .before .pre .0 .right) in
     (r .edition, right-low (a .l .least) (a .s .now) (sizeOf (a .l .least) (a .s .now)) (r .sized) (suc (suc (a .up))) (a .n) (omega arith) (c .before .before .before .before .before .before .before .before .pre .0 .right), omega (arith, f, m, c .before .loop-test .taken), c .before .before .before .before .before .before .before .before .pre .0 .long)
 
--- src/write.rt:31:13
 returns : tie.Need-returns Inv-loop μ-loop
 returns c = c .before .before .before .before .loop .inv
 
--- src/write.rt:33:62
 add-next-place : tie.Need-add-next-place Inv-loop μ-loop
 add-next-place c =
     let a = c .before .before .before .before .before .before .before .before .before .before .args in
@@ -79,7 +70,6 @@ add-next-place c =
     let f = right-count (a .l .least) (a .s .now) (sizeOf (a .l .least) (a .s .now)) (r .sized) (suc (suc (a .up))) (a .n) (omega arith) (c .before .before .before .before .before .before .before .before .before .before .pre .0 .right) in
     omega (arith, f, c .before .before .before .before .loop .inv .within, r .edition .eight)
 
--- src/write.rt:33:9
 next-place-requires-2 : tie.Need-next-place-requires-2 Inv-loop μ-loop
 next-place-requires-2 c κs =
     let a = c .before .before .before .before .before .before .before .before .before .before .args in
@@ -87,11 +77,9 @@ next-place-requires-2 c κs =
     let i = right-inside (r .edition) (a .s .now) (sizeOf (a .l .least) (a .s .now)) (r .sized) (suc (a .up)) (a .n) (c .before .before .before .before .before .before .before .before .before .before .pre .0 .right) in
     (rw (c .before .before .before .before .before .before .head-of .ensures, c .before .before .before .before .before .before .before .part .ensures .0) (i .stands), omega (arith, c .before .before .before .loop-test .taken))
 
--- src/write.rt:28:5
 loop-less : tie.Need-loop-less Inv-loop μ-loop
 loop-less c = omega (arith, c .next-place2 .ensures .behind, c .next-place2 .ensures .within, c .before .before .before .before .loop-test .taken)
 
--- src/write.rt:28:5
 loop-again : tie.Need-loop-again Inv-loop μ-loop
 loop-again c =
     let a = c .before .before .before .before .before .before .before .before .before .before .before .args in
@@ -102,7 +90,6 @@ loop-again c =
     skips-on (a .l .least) (a .s .now) (a .q .version) (a .q .low) (a .q .high) (a .up) (a .n) (a .i) k (c .next-place2 .result) (c .before .before .before .before .before .loop .inv) (y .0)
     (skips-next (a .l .least) (a .s .now) (a .q .version) (a .q .low) (a .q .high) (a .up) (a .n) (k + 1) (c .next-place2 .result) (rw (c .before .before .before .before .before .before .before .head-of .ensures, c .before .before .before .before .before .before .before .before .part .ensures .0) at (c .next-place2 .ensures)) (y .1))
 
--- src/write.rt:20:1
 returns-2 : tie.Need-returns-2 Inv-loop μ-loop
 returns-2 c = c .before .loop .inv
 
