@@ -8,13 +8,13 @@ use Rattle.near.proofs.table.through.Statement.{statement}
 use Rattle.near.proofs.table.through.Tie as tie
 
 returns : tie.Need-returns
-returns c = let a = c .before .before .before .before .before .args in sym (turn-early (a .l .least) (a .s .now) (a .q .version) (a .q .low) (a .q .high) (pred (a .level)) (a .e) (c .if1 .taken))
+returns c = let a = c .before .before .before .before .before .args in sym (turn-early (a .l .least) (a .s .now) (a .q .version) (a .q .low) (a .q .high) (pred (a .level)) (a .e) (omega (arith, c .if1 .taken)))
 
 returns-2 : tie.Need-returns-2
-returns-2 c = let a = c .before .before .before .before .before .before .before .before .args in sym (turn-late (a .l .least) (a .s .now) (a .q .version) (a .q .low) (a .q .high) (pred (a .level)) (a .e) (c .if2 .taken))
+returns-2 c = let a = c .before .before .before .before .before .before .before .before .args in sym (turn-late (a .l .least) (a .s .now) (a .q .version) (a .q .low) (a .q .high) (pred (a .level)) (a .e) (omega (arith, c .if2 .taken)))
 
 returns-3 : tie.Need-returns-3
-returns-3 c = let a = c .before .before .before .before .before .before .before .before .before .before .before .args in sym (turn-high (a .l .least) (a .s .now) (a .q .version) (a .q .low) (a .q .high) (pred (a .level)) (a .e) (c .if3 .taken))
+returns-3 c = let a = c .before .before .before .before .before .before .before .before .before .before .before .args in sym (turn-high (a .l .least) (a .s .now) (a .q .version) (a .q .low) (a .q .high) (pred (a .level)) (a .e) (omega (arith, c .if3 .taken)))
 
 wide-requires : tie.Need-wide-requires
 wide-requires c κs = search needs

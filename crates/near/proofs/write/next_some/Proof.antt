@@ -1,7 +1,8 @@
 -- `write::next_some` meets its contract: what is found from place i on is found from place k on. Assumes nothing.
-use Prim.Native.Nat.{suc, _+_, _-_}
+use Prim.Native.Nat.{suc, _+_, _*_, _-_}
 use native.Mathlib.Omega.{arith}
-use mathlib.Core.Path.{ap, sym, _∙_}
+use mathlib.Core.Path.{_≡_, ap, _∙_}
+use lib.ListN.{getD}
 use Rattle.model.specs.Layout.{sizeOf}
 use Rattle.page.specs.Head.{readHead}
 use Rattle.page.specs.declared.Head.{Head}
@@ -85,7 +86,7 @@ loop-again c =
     let a = c .before .before .before .before .before .before .before .before .before .before .before .args in
     let k = c .before .before .before .before .before .loop .k in
     let m = ap (λ (x : Head). x .count) (c .before .before .before .before .before .before .before .head-of .ensures ∙ ap (readHead (a .l .least)) (c .before .before .before .before .before .before .before .before .part .ensures .0)) in
-    let e = sym (c .before .before .before .cell .ensures) ∙ c .before .if1 .left ∙ c .before .before .cell2 .ensures in
+    let e : getD (a .table .now) (a .n * (5 * a .l .least + 1) + k) 0 ≡ getD (a .table .now) (a .n * (5 * a .l .least + 1) + (k + 1)) 0 = omega (arith, c .before .before .before .cell .ensures, c .before .if1 .left, c .before .before .cell2 .ensures) in
     let y = skips-none (a .l .least) (a .s .now) (a .q .version) (a .q .low) (a .q .high) (a .up) (a .n) (a .i) k (c .before .before .before .before .before .loop .inv) (omega (arith, m, c .before .before .before .before .loop-test .taken)) (a .table .now) (c .before .before .before .before .before .before .before .before .before .before .before .pre .0 .row) e in
     skips-on (a .l .least) (a .s .now) (a .q .version) (a .q .low) (a .q .high) (a .up) (a .n) (a .i) k (c .next-place2 .result) (c .before .before .before .before .before .loop .inv) (y .0)
     (skips-next (a .l .least) (a .s .now) (a .q .version) (a .q .low) (a .q .high) (a .up) (a .n) (k + 1) (c .next-place2 .result) (rw (c .before .before .before .before .before .before .before .head-of .ensures, c .before .before .before .before .before .before .before .before .part .ensures .0) at (c .next-place2 .ensures)) (y .1))
