@@ -91,7 +91,10 @@ impl Walk<'_> {
 
     /// The page, if it has this level.
     fn page(&self, number: u32, level: u32) -> Option<&Page> {
-        let page = self.image.pages.get(number.checked_sub(FIRST_PAGE)? as usize)?;
+        let page = self
+            .image
+            .pages
+            .get(number.checked_sub(FIRST_PAGE)? as usize)?;
         (page.level == level).then_some(page)
     }
 
@@ -109,7 +112,9 @@ impl Walk<'_> {
 
     fn later(&self, page: &Page, from: usize) -> Vec<Entry> {
         let rest = page.entries[from..].iter();
-        rest.filter(|router| self.follows(router)).copied().collect()
+        rest.filter(|router| self.follows(router))
+            .copied()
+            .collect()
     }
 
     fn found(&self, page: &Page) -> Vec<Entry> {

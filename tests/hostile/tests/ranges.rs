@@ -3,7 +3,7 @@
 
 use hostile::ranges::{most_gone, most_written, range, Asked, Work};
 use hostile::stores::grown;
-use hostile::stores::spread::{spread, Keys, Spread, HIGH};
+use hostile::stores::spread::{spread, Keys, Spread, HIGH, PLAIN};
 use reference::layout::PAGE_BYTES;
 use reference::rng::Rng;
 
@@ -39,18 +39,6 @@ fn held(store: &[u8], asked: Asked, name: &str) -> Work {
     }
     most
 }
-
-/// One page a level, twenty routers each to the next.
-const PLAIN: Spread = Spread {
-    seed: 1,
-    depth: 7,
-    wide: 1,
-    fan: 20,
-    settings: 20,
-    bare: 0,
-    keys: Keys::Behind,
-    crowd: 0,
-};
 
 #[test]
 fn one_page_a_level() {

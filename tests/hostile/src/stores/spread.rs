@@ -22,9 +22,56 @@ pub struct Spread {
     /// Of so many leaves more than one, one has settings.
     pub bare: u32,
     pub keys: Keys,
-    /// Whether the pages that nothing leads to stand on the level below the root's,
-    /// and how many: 0 for none.
+    /// More pages of the root's level, to which nothing leads.
     pub crowd: u32,
+}
+
+/// One page a level, twenty routers each to the next.
+pub const PLAIN: Spread = Spread {
+    seed: 1,
+    depth: 7,
+    wide: 1,
+    fan: 20,
+    settings: 20,
+    bare: 0,
+    keys: Keys::Behind,
+    crowd: 0,
+};
+
+/// The stores of the table, with what they are.
+pub fn rows() -> Vec<(&'static str, Spread)> {
+    let (wide, keys) = (681, Keys::Any);
+    let (crowd, same) = (4_083, Keys::Same);
+    vec![
+        ("one page a level, root at 3", Spread { depth: 3, ..PLAIN }),
+        ("one page a level, root at 5", Spread { depth: 5, ..PLAIN }),
+        ("one page a level, root at 7", PLAIN),
+        (
+            "the same keys on each level",
+            Spread {
+                keys: same,
+                ..PLAIN
+            },
+        ),
+        ("681 pages a level", Spread { wide, ..PLAIN }),
+        (
+            "681 pages a level, any keys",
+            Spread {
+                wide,
+                keys,
+                ..PLAIN
+            },
+        ),
+        ("4,083 more of level 7", Spread { crowd, ..PLAIN }),
+        (
+            "4,083 more of level 7, the same keys",
+            Spread {
+                crowd,
+                keys: same,
+                ..PLAIN
+            },
+        ),
+    ]
 }
 
 /// How the keys of routers lie.
@@ -53,12 +100,10 @@ pub fn spread(numbers: Spread) -> Option<Vec<u8>> {
             pages.push(page(numbers, &mut rng, level, place));
         }
     }
-    for place in 0..numbers.crowd {
-        let level = numbers.depth - 1;
-        pages.push(page(numbers, &mut rng, level.max(LEAF), place));
-    }
     let root = FIRST_PAGE + pages.len() as u32;
-    pages.push(page(numbers, &mut rng, numbers.depth, 0));
+    for place in 0..=numbers.crowd {
+        pages.push(page(numbers, &mut rng, numbers.depth, place));
+    }
     Some(with_root(pages, 1, root))
 }
 
