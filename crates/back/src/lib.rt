@@ -2,6 +2,7 @@
 // it inserts what is missing, each in rising key order and each exactly as the single call". Each step is foreseen before it writes, and
 // nothing is judged again in between: a step leaves a sound store. What differs is asked of the cursors anew at each step, so no list
 // is kept.
+use differ::Gap;
 use model::Delta;
 use model::Limits;
 ghost use mathlib.Core.Path.{_≡_};
@@ -11,8 +12,8 @@ ghost use Rattle.model.specs.Walk.{keyLimit};
 ghost use Rattle.model.specs.Layout.{decode};
 ghost use Rattle.model.specs.Lent.{leftBy};
 ghost use Rattle.model.specs.Return.{carried, orAbandoned};
-ghost use Rattle.differ.specs.Merge.{told};
-ghost use Rattle.differ.specs.Listing.{between, nextOf};
+ghost use Rattle.differ.specs.Merge.{told, Onward};
+ghost use Rattle.differ.specs.Listing.{between, leftOf, nextOf};
 ghost use Rattle.back.specs.Going.{Going, Stepped, Went};
 ghost use Rattle.back.specs.Pass.{passed};
 
@@ -58,21 +59,35 @@ fn act(s: &mut [u8], l: Limits, v: u32, w: u32, key: u32, d: Delta, insert: bool
     end_one(s, l, v, w, key, d)
 }
 
-// The deletes, or the inserts, in rising key order, to the first that is refused. Leaves that show the same at both versions are passed
-// over. Each turn leaves a key of one of the two versions behind, so there are at most as many as the two have settings, and one.
+// The key from which a pass goes on: leaves that show the same at both versions are passed over. It is asked once for each leaf that does
+// not, which ends at `high`.
+fn onward(s: &[u8], l: Limits, v: u32, w: u32, key: u32, high: u32) -> Gap
+    requires { ⌜ Going l (now s) v w × (key ≤ keyLimit) ⌝ }
+    ensures { λ r. ⌜ Onward key (r .key) × (leftOf l (now (s .entry)) w v key ≡ leftOf l (now (s .entry)) w v (r .key)) ⌝ }
+{
+    if key < high {
+        return Gap { key, high };
+    }
+    differ::past(s, l, w, v, key)
+}
+
+// The deletes, or the inserts, in rising key order, to the first that is refused. Each turn leaves a key of one of the two versions
+// behind, so there are at most as many as the two have settings, and one.
 fn pass(s: &mut [u8], l: Limits, v: u32, w: u32, insert: bool) -> u32
     requires { ⌜ Going l (now s) v w ⌝ }
     ensures { λ r. ⌜ Went l (now (s .exit)) v w r (passed insert (l .least) (between l (now (s .entry)) w v) (decode (l .least) (now (s .entry)))) ⌝ }
 {
     let mut key = 0;
+    let mut high = 0;
     while key < KEYS {
-        let from = differ::past(s, l, w, v, key);
-        let d = differ::next(s, l, w, v, from);
-        let n = act(s, l, v, w, from, d, insert);
+        let g = onward(s, l, v, w, key, high);
+        let d = differ::next(s, l, w, v, g.key);
+        let n = act(s, l, v, w, g.key, d, insert);
         if n != 0 {
             return n;
         }
         key = d.key + 1;
+        high = g.high;
     }
     0
 }

@@ -45,11 +45,17 @@ fn lower(a: u32, b: u32) -> u32
     b
 }
 
+// A key, and where the first of the leaves for it at two versions ends.
+pub struct Gap {
+    pub key: u32,
+    pub high: u32,
+}
+
 // The first key at or above a key at which the leaves for it are not one page that shows the same at both versions: nothing differs before
 // it. Each step ends where the first of two leaves does.
-pub fn past(s: &[u8], l: Limits, u: u32, v: u32, from: u32) -> u32
+pub fn past(s: &[u8], l: Limits, u: u32, v: u32, from: u32) -> Gap
     requires { ⌜ Readable l (now s) u × Readable l (now s) v × (from ≤ keyLimit) ⌝ }
-    ensures { λ r. ⌜ Onward from r × (leftOf l (now (s .entry)) u v from ≡ leftOf l (now (s .entry)) u v r) ⌝ }
+    ensures { λ r. ⌜ Onward from (r .key) × (leftOf l (now (s .entry)) u v from ≡ leftOf l (now (s .entry)) u v (r .key)) ⌝ }
 {
     let mut key = from;
     while key < KEYS {
@@ -64,11 +70,11 @@ pub fn past(s: &[u8], l: Limits, u: u32, v: u32, from: u32) -> u32
             write: false,
         };
         if !leaves::alike(s, l, a, x, y) {
-            return key;
+            return Gap { key, high };
         }
         key = high;
     }
-    key
+    Gap { key, high: key }
 }
 
 // What differs from version u to version v, into a list or only counted; gives how many differences there are. Each step ends where the
