@@ -4,8 +4,9 @@
  * One store keeps every committed version of a console's settings, in bytes
  * that the caller lends. The library allocates nothing, keeps nothing between
  * calls, and has no precondition: any bytes may be lent as a store, and any
- * numbers as arguments. Every call judges the whole store before it trusts it,
- * so a call costs time in the size of the store (docs/CHECK-COST.md).
+ * numbers as arguments. Every call judges the store before it trusts it: lookup
+ * and range judge the header, the slots and the pages that they walk, every other
+ * call the whole store, and so costs time in its size (docs/CHECK-COST.md).
  *
  * A store is 6 to 4,096 pages of 256 bytes. Keys are 0 to 16,777,215, a value is
  * any 32 bits, versions are 0 to 1,048,574. Version 0 is empty. An update is
@@ -17,8 +18,9 @@
  * 5; lookup, range and delete take them, so that a store that was shipped with
  * bench keys can be read and cleaned. A return lets them through.
  *
- * Every call gives a number, of several that apply the smallest; enum rcst_number
- * has their names, rcst_words their words.
+ * Every call gives a number, of several that apply the smallest; but lookup and
+ * range give 5 or 6 before they look at a page of their walk. enum rcst_number has
+ * the numbers' names, rcst_words their words.
  *
  * Every number but 0 leaves store and list untouched, byte for byte, with one
  * exception: a return that gives 12 or 13 has abandoned the update. After an insert's
@@ -40,8 +42,9 @@
  *
  * A call takes at most RCST_STACK_BYTES of the stack of the thread that makes it;
  * the default of some systems for a thread is less. That is measured and rounded
- * up, not proved (tests/c/stack.c, x86-64): rcst_check took 203 kB, every other call
- * up to 116 kB, on stores made to keep them busy too.
+ * up, not proved (tests/c/stack.c, x86-64): rcst_range took 692 kB on bytes made to
+ * keep it busy, and on no sound store; rcst_check 203 kB, every other call up to
+ * 116 kB, on stores made to keep them busy too.
  *
  * A program that ends between two calls of an update leaves it open, and the next
  * commit would publish the half of it. On start check the store, and abandon: 0
@@ -81,7 +84,7 @@ extern "C" {
 #define RCST_ALIVE 1048575u
 
 /* The stack that a call finds enough. */
-#define RCST_STACK_BYTES 262144u
+#define RCST_STACK_BYTES 786432u
 
 /* The numbers that calls give. What each is given for, rcst_words says. */
 enum rcst_number {
@@ -110,7 +113,7 @@ static inline const char *rcst_words(uint32_t number) {
         "length not 6 to 4,096 whole pages",
         "first four bytes wrong",
         "edition not 1",
-        "not sound",
+        "not sound (lookup, range: the header, a slot, or a page of their own walk is wrong, or the walk cannot go on)",
         "key too large (insert: 16,776,960 or above), or range low above high",
         "version above last (of a difference: either version; of a return: above current)",
         "no update open (insert, delete, return, commit, abandon)",
@@ -176,6 +179,12 @@ uint32_t rcst_return(uint8_t *store, size_t length, uint32_t version);
  * Looks a key up at a version. Gives 0 or 1 to 6. With 0, *found is 1 and *value
  * the key's value, or both are 0: an absent key is an answer. With any other
  * number both are 0.
+ *
+ * It judges what it reads: the header and the slots, and then, from the version's
+ * root down, each page that it comes to. 4 says that one of these is wrong in
+ * itself, that the root is a free page, that a page is not one level lower than
+ * the one above it, or that an index page has no router alive then at or below the
+ * key. Damage elsewhere neither shows nor matters; rcst_check finds it.
  */
 uint32_t rcst_lookup(const uint8_t *store, size_t length, uint32_t key, uint32_t version, uint32_t *found, uint32_t *value);
 
@@ -184,6 +193,9 @@ uint32_t rcst_lookup(const uint8_t *store, size_t length, uint32_t key, uint32_t
  * 6 or 14. With 0 they stand in the list as key, value, key, value, in key order,
  * and nothing behind them is touched. *count is the number of settings found with
  * 0 and with 14, else 0.
+ *
+ * It judges what it reads, as a lookup does, and all of it before it gives 14 or
+ * writes. On a store that check refuses, settings may repeat or not rise in key.
  */
 uint32_t rcst_range(const uint8_t *store, size_t length, uint32_t low, uint32_t high, uint32_t version, uint32_t *list, size_t room,
                     size_t *count);

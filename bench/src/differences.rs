@@ -1,5 +1,6 @@
-//! What differs between two versions, beside two ranges and a merge in Rust. All
-//! judge first, as does a commit that number 7 refuses: that is taken off.
+//! What differs between two versions, beside two ranges and a merge in Rust. A
+//! difference judges first, as does a commit that number 7 refuses: that is taken
+//! off. A range judges what it reads, which is a part of it.
 
 use std::{cmp::Ordering, hint::black_box};
 
@@ -55,7 +56,7 @@ fn row(name: &str, bytes: &[u8], old: u32, new: u32) {
         &mut || (ranged(old, &mut one) + ranged(new, &mut other)) as u64,
         &mut || merged(black_box(&before), &after).len() as u64,
     ]);
-    let (differ, ranges, merge) = (taken.more(0, 1)[1] / 2.0, taken.more(2, 1)[1], taken.of(3));
+    let (differ, ranges, merge) = (taken.more(0, 1)[1] / 2.0, taken.of(2), taken.of(3));
     let ratios = [differ / ranges, differ / (ranges + merge)].map(times);
     let each = [differ, ranges, merge, taken.of(1) / 2.0].map(told);
     let [ratios, each] = [&ratios[..], &each].map(|figures| figures.join(" | "));

@@ -38,6 +38,14 @@ mod c {
         pub fn rcst_delete(store: *mut u8, length: usize, key: u32) -> u32;
         pub fn rcst_commit(store: *mut u8, length: usize) -> u32;
         pub fn rcst_return(store: *mut u8, length: usize, version: u32) -> u32;
+        pub fn rcst_lookup(
+            store: *const u8,
+            length: usize,
+            key: u32,
+            version: u32,
+            found: *mut u32,
+            value: *mut u32,
+        ) -> u32;
         pub fn rcst_range(
             store: *const u8,
             length: usize,
@@ -114,16 +122,34 @@ pub fn return_to(store: &mut [u8], version: u32) -> u32 {
     unsafe { c::rcst_return(store.as_mut_ptr(), store.len(), version) }
 }
 
+/// The number, whether the key was found at a version, and its value.
+pub fn lookup(store: &[u8], key: u32, version: u32) -> (u32, u32, u32) {
+    let (mut found, mut value) = (0, 0);
+    let (bytes, length) = (store.as_ptr(), store.len());
+    let number = unsafe { c::rcst_lookup(bytes, length, key, version, &mut found, &mut value) };
+    (number, found, value)
+}
+
 /// The number and the count of settings with any key at a version, which go to
 /// the list.
 pub fn range(store: &[u8], version: u32, list: &mut [u32]) -> (u32, usize) {
+    range_from(store, (0, HIGHEST_KEY), version, list)
+}
+
+/// The same with the keys from one to another.
+pub fn range_from(
+    store: &[u8],
+    (low, high): (u32, u32),
+    version: u32,
+    list: &mut [u32],
+) -> (u32, usize) {
     let mut count = 0;
     let number = unsafe {
         c::rcst_range(
             store.as_ptr(),
             store.len(),
-            0,
-            HIGHEST_KEY,
+            low,
+            high,
             version,
             list.as_mut_ptr(),
             list.len(),

@@ -2,8 +2,9 @@
  * How much stack the calls take: each runs on a thread whose stack is painted
  * first, and the deepest byte that lost its paint is looked for. It does so on a
  * store that a history leaves, for check and commit on the same with one byte
- * damaged, and on the stores in the files that are named as arguments. Prints the
- * most for each call, and gives 0 if none takes more than the header says.
+ * damaged, for range on a store made to keep it busy, and on the stores in the
+ * files that are named as arguments. Prints the most for each call, and gives 0 if
+ * none takes more than the header says.
  */
 #define _POSIX_C_SOURCE 200809L
 
@@ -104,6 +105,42 @@ static void history(void) {
     rcst_delete(store, length, 5);
 }
 
+/* A field of the store, the highest bit first. */
+static void put(size_t at, int width, uint32_t value) {
+    for (; width > 0; at++) {
+        width--;
+        if (value >> width & 1) {
+            store[at / 8] |= (uint8_t)(128 >> at % 8);
+        }
+    }
+}
+
+/* A page a level, each with twenty routers to the next, and keys by which each way
+ * down is a range's: its budget ends, and it keeps a number for each router. */
+static void busy(void) {
+    uint32_t level, i, number = 5;
+
+    length = 12 * RCST_PAGE_BYTES;
+    rcst_fresh(store, length);
+    rcst_open(store, length);
+    memset(store + 5 * RCST_PAGE_BYTES, 0, 7 * RCST_PAGE_BYTES);
+    for (level = RCST_MOST_LEVELS; level >= 1; level--, number++) {
+        size_t page = 8 * RCST_PAGE_BYTES * number;
+
+        put(page, 4, level);
+        put(page + 4, 5, 20);
+        put(page + 29, 20, RCST_ALIVE);
+        for (i = 0; i < 20; i++) {
+            size_t entry = page + 128 + 96 * i;
+
+            put(entry, 24, i == 0 ? 0 : 20 * (RCST_MOST_LEVELS - level) + i);
+            put(entry + 24, 20, level == 1);
+            put(entry + 44, 20, RCST_ALIVE);
+            put(entry + 64, 32, level == 1 ? 7 : number + 1);
+        }
+    }
+}
+
 int main(int count, char **files) {
     size_t at;
     int i, failed = 0;
@@ -118,6 +155,8 @@ int main(int count, char **files) {
         measure(5, 0);
         memcpy(store, kept, length);
     }
+    busy();
+    measure(8, RCST_HIGHEST_KEY);
     for (i = 1; i < count; i++) {
         FILE *file = fopen(files[i], "rb");
 

@@ -1,5 +1,5 @@
 // The calls, for any bytes and any numbers lent: each is its guard, which judges the store and then goes through the call's
-// refusals in order, and a core that rests on a sound store.
+// refusals in order, and a core that rests on a sound store. Lookup and range judge only what they read, and are near's.
 mod differing;
 mod living;
 mod returning;
@@ -10,6 +10,7 @@ pub use differing::difference;
 pub use living::life;
 use model::Limits;
 use model::Looked;
+pub(crate) use near::KEYS;
 pub use returning::return_to;
 pub use updating::delete;
 pub use updating::insert;
@@ -20,29 +21,13 @@ ghost use Rattle.model.specs.Limits.{Edition};
 ghost use Rattle.model.specs.Lent.{openLent, commitLent, abandonLent, lookupLent, rangeLent};
 ghost use Rattle.walk.specs.Counted.{withList};
 ghost use Rattle.calls.specs.Guard.{guarded};
-ghost use Rattle.calls.specs.Reading.{reading, badRange};
+ghost use Rattle.calls.specs.Reading.{reading};
 ghost use Rattle.calls.specs.Turning.{opening, closing, committing, ended};
-
-// "Keys are 0 to 16,777,215".
-const KEYS: u32 = 16777216;
 
 // "Versions are 0 to 1,048,574."
 const LAST: u32 = 1048574;
 
-// Whether a range's keys are wrong: "key too large, or range low above high".
-fn bad_range(low: u32, high: u32) -> bool
-    ensures { λ r. ⌜ r ≡ badRange low high ⌝ }
-{
-    if KEYS <= low {
-        return true;
-    }
-    if KEYS <= high {
-        return true;
-    }
-    high < low
-}
-
-// The guard of lookup, range, visits and difference: judging, then 5 where the keys are wrong, then 6. Offered to callers that read many
+// The guard of visits and difference: judging, then 5 where the key is wrong, then 6. Offered to callers that read many
 // times from a store that nobody writes in between.
 pub fn guard_reading(s: &[u8], l: Limits, bad: bool, v: u32) -> u32
     requires { ⌜ Edition l ⌝ }
@@ -156,25 +141,12 @@ pub fn abandon(s: &mut [u8]) -> u32
 pub fn lookup(s: &[u8], key: u32, v: u32) -> Looked
     ensures { λ r. ⌜ r ≡ lookupLent 4 (now (s .entry)) key v ⌝ }
 {
-    let l = model::edition_one();
-    let n = guard_reading(s, l, KEYS <= key, v);
-    if n != 0 {
-        return Looked::Refused(n);
-    }
-    walk::lookup(s, l, key, v)
+    near::lookup(s, model::edition_one(), key, v)
 }
 
 // The settings from low to high, both included, in key order: their number, and key, value, key, value in the caller's list.
 pub fn range(s: &[u8], low: u32, high: u32, v: u32, list: &mut [u32]) -> Counted
     ensures { λ r. ⌜ withList r (now (list .exit)) ≡ rangeLent 4 (now (s .entry)) low high v (now (list .entry)) ⌝ }
 {
-    let l = model::edition_one();
-    let n = guard_reading(s, l, bad_range(low, high), v);
-    if n != 0 {
-        return Counted {
-            number: n,
-            count: 0,
-        };
-    }
-    walk::range(s, l, low, high, v, list)
+    near::range(s, model::edition_one(), low, high, v, list)
 }

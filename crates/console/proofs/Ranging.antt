@@ -4,26 +4,23 @@ use mathlib.Core.Path.{_≡_, refl, ap, sym, _∙_}
 use mathlib.Core.Bool.{Bool, true, false}
 use mathlib.Core.List.{List, [], _∷_, _++_}
 use lib.Dec.{ltb}
-use lib.ListN.{length, take, drop, replicate, length-replicate}
+use lib.ListN.{length, drop, replicate, length-replicate}
 use lib.Seq.{take-at}
 use native.Mathlib.Omega.{arith}
 use borrow.Author.Tests.{ltb-false}
 use Rattle.model.specs.declared.Pair.{Pair}
-use Rattle.model.specs.Store.{Store}
-use Rattle.model.specs.Walk.{keyLimit, rangeOf}
+use Rattle.model.specs.Walk.{rangeOf}
 use Rattle.model.specs.Layout.{decode}
-use Rattle.model.specs.Judged.{judged}
-use Rattle.model.specs.Calls.{Ranged, rule, firstOf, rangedIn, rangedBy, range}
-use Rattle.model.specs.Lent.{Listed, listed, judgedFirst, rangeLent}
+use Rattle.model.specs.Near.{rangeNear}
+use Rattle.model.specs.Calls.{Ranged, rule, firstOf, rangedIn, rangedBy}
+use Rattle.model.specs.Lent.{Listed, listed, rangeLent}
 use Rattle.walk.specs.declared.Counted.{Counted}
 use Rattle.walk.specs.Counted.{withList}
 use Rattle.walk.specs.Written.{length-numbers}
-use Rattle.lines.specs.declared.Answer.{Answer}
 use Rattle.lines.specs.declared.Answer.the-variants.{Refused, Count}
 use Rattle.lines.specs.declared.Command.the-variants.{Range}
 use Rattle.lines.specs.Session as Session
-use Rattle.lines.specs.Session.{Said, settings, ranged, said}
-use Rattle.console.specs.declared.Reply.{Reply}
+use Rattle.lines.specs.Session.{settings, ranged, said}
 use Rattle.console.specs.Obeys.{storeIn, Replies}
 
 -- a range that is done wrote two numbers a setting, and they have room
@@ -49,29 +46,17 @@ alike-by zero count w ns ms f =
 alike-by (suc n) count w ns ms f = refl
 
 module _ (least : ℕ) (b : List ℕ) (lo hi v : ℕ) where
-  roomy : (room : ℕ) → Roomy room (range (decode least b) lo hi v room)
-  unfolding range
+  roomy : (room : ℕ) → Roomy room (rangeNear least b lo hi v room)
+  unfolding rangeNear
   roomy room = roomy-by _ room (rangeOf (decode least b) lo hi v)
-
-  alike-judged : (j : ℕ) (r : Ranged) (room : ℕ) (ns ms : List ℕ) → Roomy room r
-      → ranged (judgedFirst j (λ n. record { number = n; count = 0; list = ns }) (listed ns r))
-      ≡ ranged (judgedFirst j (λ n. record { number = n; count = 0; list = ms }) (listed ms r))
-  alike-judged zero r room ns ms k = alike-by (r .number) (r .count) (r .written) ns ms (λ z. k z .0)
-  alike-judged (suc j) r room ns ms k = refl
 
   alike : (ns ms : List ℕ) → length ns ≡ length ms → ranged (rangeLent least b lo hi v ns) ≡ ranged (rangeLent least b lo hi v ms)
   unfolding rangeLent
-  alike ns ms e =
-      rw e (alike-judged (judged least b .number) (range (decode least b) lo hi v (length ms)) (length ms) ns ms (roomy (length ms)))
-
-  fits-judged : (j : ℕ) (r : Ranged) (ns : List ℕ) → Roomy (length ns) r → (l : Listed)
-      → l ≡ judgedFirst j (λ n. record { number = n; count = 0; list = ns }) (listed ns r) → l .number ≡ 0 → 2 * l .count ≤ length ns
-  fits-judged zero r ns k l e z = rw e (k (sym (ap (λ (x : Listed). x .number) e) ∙ z) .1)
-  fits-judged (suc j) r ns k l e z = absurd (omega (arith, ap (λ (x : Listed). x .number) e))
+  alike ns ms e = let r = rangeNear least b lo hi v (length ms) in rw e (alike-by (r .number) (r .count) (r .written) ns ms (λ z. roomy (length ms) z .0))
 
   fits : (ns : List ℕ) (l : Listed) → l ≡ rangeLent least b lo hi v ns → l .number ≡ 0 → 2 * l .count ≤ length ns
   unfolding rangeLent
-  fits ns l e z = fits-judged (judged least b .number) (range (decode least b) lo hi v (length ns)) ns (roomy (length ns)) l e z
+  fits ns l e z = rw e (roomy (length ns) (sym (ap (λ (x : Listed). x .number) e) ∙ z) .1)
 
 -- what the call gave, and the list after it
 module _ (bytes : List ℕ) (pages lo hi v : ℕ) (ns list : List ℕ) (r : Counted) (size : length ns ≡ 10040) (few : pages ≤ 256)

@@ -5,6 +5,8 @@ use Prim.Native.String.{String}
 use mathlib.Core.Path.{_≡_, refl}
 use mathlib.Core.List.{List, [], _∷_, map}
 use Rattle.model.specs.Judged as Judged
+use Rattle.model.specs.Calls as Calls
+use Rattle.model.specs.Near as Near
 use Rattle.model.specs.Lent as Lent
 use Rattle.lines.specs.declared.Command.{Command}
 use Rattle.lines.specs.declared.Command.the-variants.{Store, Open, Insert, Delete, Commit, Abandon, Get, Range, Bad}
@@ -140,5 +142,5 @@ runs =
     ∷ []
 
 pub runs-hold : map (λ (r : Run). written (ascii (r .input))) runs ≡ map (λ (r : Run). ascii (r .output)) runs
-unfolding Console.cut Console.valueFrom Console.numberOf Console.spoken Console.commandOf decimalWithin Session.said Session.writes Lent.lent Lent.openLent Lent.insertLent Lent.deleteLent Lent.commitLent Lent.abandonLent Lent.lookupLent Lent.rangeLent Judged.lengthOk Judged.judged
+unfolding Console.cut Console.valueFrom Console.numberOf Console.spoken Console.commandOf decimalWithin Session.said Session.writes Lent.lent Lent.openLent Lent.insertLent Lent.deleteLent Lent.commitLent Lent.abandonLent Lent.lookupLent Lent.rangeLent Near.lookupNear Near.rangeNear Calls.rangedBy Judged.lengthOk Judged.judged
 runs-hold = refl

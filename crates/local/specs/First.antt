@@ -1,12 +1,12 @@
 -- Laws of rule 1 for a whole store, in the order in which the code tests it. Assumes nothing.
 use Prim.Native.Nat.{ℕ, _+_, _*_, _-_, _<_, _≤_}
 use mathlib.Core.Bool.{Bool, true, false, _&&_}
-use mathlib.Core.Path.{_≡_, refl, sym, _∙_}
+use mathlib.Core.Path.{_≡_, refl, _∙_}
 use mathlib.Core.List.{List}
 use native.Mathlib.Omega.{arith}
 use lib.Dec.{leb, eqb}
 use lib.ListN.{take}
-use borrow.Author.Tests.{eq-eqb, ne-eqb, lt-leb, le-leb}
+use borrow.Author.Tests.{lt-leb, le-leb, leb-true}
 use Rattle.model.specs.declared.Slot.{Slot}
 use Rattle.model.specs.Basic.{all}
 use Rattle.model.specs.Limits.{rootBits}
@@ -15,6 +15,7 @@ use Rattle.model.specs.Store.{last, lastOf}
 use Rattle.model.specs.Sound.{pageFine, isPage, zeroed, rule1}
 use Rattle.model.specs.Layout.{readHeader, readSlots, readPages, decode, sizeOf}
 use Rattle.model.specs.Clean.{zeroFrom, cleanPages, cleanFront, clean}
+use Rattle.model.proofs.Lists.{both-true}
 use Rattle.store.specs.Read.{length-slots, count-pages, behind, slots-of}
 use Rattle.local.specs.Local.{Sized, pagesFine}
 use Rattle.local.specs.Loops.{and-false, and-true}
@@ -25,6 +26,17 @@ rooted size xs = all (λ (x : Slot). isPage size (x .root)) xs
 pub last-is : (least : ℕ) (s : List ℕ) → last (decode least s) ≡ lastOf (readHeader least s .opened) (readHeader least s .current)
 unfolding decode
 last-is least s = refl
+
+-- a header that is right has no more roots than there are slots
+pub clean-roots : (least : ℕ) (s : List ℕ) → cleanFront least s ≡ true → readHeader least s .roots ≤ 64 * least
+unfolding cleanFront
+clean-roots least s e =
+    let n : ℕ = readHeader least s .roots in
+    let far : Bool = zeroFrom s (512 * least + 32 * n) (2560 * least) in
+    let near : Bool = zeroFrom s (74 + rootBits least) (512 * least) in
+    let x = both-true (eqb (readHeader least s .pages) (sizeOf least s)) (near && (leb n (64 * least) && far)) e in
+    let y = both-true near (leb n (64 * least) && far) (x .1) in
+    leb-true n (64 * least) (both-true (leb n (64 * least)) far (y .1) .0)
 
 module _ (least : ℕ) (s : List ℕ) (size : ℕ) (z : Sized least s size) where
   abbrev roots : ℕ
@@ -50,39 +62,24 @@ module _ (least : ℕ) (s : List ℕ) (size : ℕ) (z : Sized least s size) wher
         and-true (leb roots (64 * least) && leb (last (decode least s)) 1048574 && rooted size (readSlots s (512 * least) roots)),
       )
 
-  pub first-pages : (readHeader least s .pages ≡ size → ⊥) → clean least s ≡ false
-  unfolding clean cleanFront
-  first-pages a = rw (ne-eqb (readHeader least s .pages) (sizeOf least s) (λ e. a (e ∙ z .is)))
+  pub first-clean : cleanFront least s ≡ false → clean least s ≡ false
+  unfolding clean
+  first-clean a = rw a
 
-  module _ (a : readHeader least s .pages ≡ size) where
-    counted : eqb (readHeader least s .pages) (sizeOf least s) ≡ true
-    counted = eq-eqb (readHeader least s .pages) (sizeOf least s) (a ∙ sym (z .is))
+  module _ (a : cleanFront least s ≡ true) where
+    few : leb roots (64 * least) ≡ true
+    few = le-leb roots (64 * least) (clean-roots least s a)
 
-    pub first-spare : zeroFrom s (74 + rootBits least) (512 * least) ≡ false → clean least s ≡ false
-    unfolding clean cleanFront
-    first-spare b = rw (counted, b)
+    front : clean least s ≡ (cleanPages least s 5 (size - 5) && rule1 least (decode least s))
+    unfolding clean
+    front = rw (a, z .is)
 
-    module _ (b : zeroFrom s (74 + rootBits least) (512 * least) ≡ true) where
-      pub first-roots : 64 * least < roots → clean least s ≡ false
-      unfolding clean cleanFront
-      first-roots c = rw (counted, b, lt-leb roots (64 * least) c)
+    pub first-last : 1048574 < last (decode least s) → clean least s ≡ false
+    first-last e = front ∙ rw (rule1-is, few, lt-leb (last (decode least s)) 1048574 e) (and-false (cleanPages least s 5 (size - 5)))
 
-      module _ (c : roots ≤ 64 * least) where
-        pub first-slots : zeroFrom s (512 * least + 32 * roots) (2560 * least) ≡ false → clean least s ≡ false
-        unfolding clean cleanFront
-        first-slots d = rw (counted, b, le-leb roots (64 * least) c, d)
+    pub first-rooted : last (decode least s) ≤ 1048574 → rooted size (readSlots s (512 * least) roots) ≡ false → clean least s ≡ false
+    first-rooted e f = front ∙ rw (rule1-is, few, le-leb (last (decode least s)) 1048574 e, f) (and-false (cleanPages least s 5 (size - 5)))
 
-        module _ (d : zeroFrom s (512 * least + 32 * roots) (2560 * least) ≡ true) where
-          front : clean least s ≡ (cleanPages least s 5 (size - 5) && rule1 least (decode least s))
-          unfolding clean cleanFront
-          front = rw (counted, b, le-leb roots (64 * least) c, d, z .is)
-
-          pub first-last : 1048574 < last (decode least s) → clean least s ≡ false
-          first-last e = front ∙ rw (rule1-is, le-leb roots (64 * least) c, lt-leb (last (decode least s)) 1048574 e) (and-false (cleanPages least s 5 (size - 5)))
-
-          pub first-rooted : last (decode least s) ≤ 1048574 → rooted size (readSlots s (512 * least) roots) ≡ false → clean least s ≡ false
-          first-rooted e f = front ∙ rw (rule1-is, le-leb roots (64 * least) c, le-leb (last (decode least s)) 1048574 e, f) (and-false (cleanPages least s 5 (size - 5)))
-
-          pub first-rest : last (decode least s) ≤ 1048574 → rooted size (readSlots s (512 * least) roots) ≡ true → clean least s ≡ pagesFine least (last (decode least s)) size s 5 (size - 5)
-          unfolding pagesFine
-          first-rest e f = front ∙ rw (rule1-is, le-leb roots (64 * least) c, le-leb (last (decode least s)) 1048574 e, f)
+    pub first-rest : last (decode least s) ≤ 1048574 → rooted size (readSlots s (512 * least) roots) ≡ true → clean least s ≡ pagesFine least (last (decode least s)) size s 5 (size - 5)
+    unfolding pagesFine
+    first-rest e f = front ∙ rw (rule1-is, few, le-leb (last (decode least s)) 1048574 e, f)

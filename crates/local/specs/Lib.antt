@@ -7,3 +7,5 @@ pub mod Ruled
 pub mod Second
 pub mod Third
 pub mod Linked
+pub mod Front
+pub mod Right

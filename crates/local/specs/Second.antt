@@ -60,7 +60,7 @@ module _ (least : ℕ) (s : List ℕ) where
   abbrev xs : List Slot
   xs = readSlots s (512 * least) roots
 
-  rule2-is : rule2 (decode least s) ≡ (eqb (firstVersion xs) 0 && slotsOk (last (decode least s)) xs)
+  pub rule2-is : rule2 (decode least s) ≡ (eqb (firstVersion xs) 0 && slotsOk (last (decode least s)) xs)
   unfolding rule2 slotsOk
   rule2-is = rw (slots-of least s) (and-assoc (eqb (firstVersion xs) 0) (inOrder sooner xs) (all (λ (x : Slot). leb (x .version) (last (decode least s))) xs))
 

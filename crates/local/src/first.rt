@@ -9,7 +9,7 @@ ghost use Rattle.local.specs.Local.{Sized};
 ghost use Rattle.local.specs.First.{rooted};
 
 // The root page of every used slot is a page.
-fn roots_ok(s: &[u8], l: Limits, roots: usize, size: usize) -> bool
+pub(crate) fn roots_ok(s: &[u8], l: Limits, roots: usize, size: usize) -> bool
     requires { ⌜ Edition l × Sized (l .least) (now s) size × (roots ≤ 64 * l .least) ⌝ }
     ensures { λ r. ⌜ r ≡ rooted size (readSlots (now (s .entry)) (512 * l .least) roots) ⌝ }
 {
@@ -30,25 +30,14 @@ pub fn first_rule(s: &[u8], l: Limits, size: usize) -> bool
     ensures { λ r. ⌜ r ≡ clean (l .least) (now (s .entry)) ⌝ }
 {
     let h = store::header(s, l);
-    if crate::wide(h.pages) != size {
-        return false;
-    }
-    let front = 8 * l.bytes;
-    if !crate::pages::zero_from(s, 74 + l.rooter, front) {
-        return false;
-    }
-    let roots = crate::wide(h.roots);
-    if l.slots < roots {
-        return false;
-    }
-    if !crate::pages::zero_from(s, front + 32 * roots, 5 * front) {
+    if !crate::front::header_right(s, l, h, size) {
         return false;
     }
     let last = h.last();
     if 1048574 < last {
         return false;
     }
-    if !roots_ok(s, l, roots, size) {
+    if !roots_ok(s, l, crate::wide(h.roots), size) {
         return false;
     }
     crate::pages::pages_ok(s, l, size, last)

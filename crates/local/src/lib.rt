@@ -2,11 +2,14 @@
 // Rules 4 to 6, which want a walk at each version, are in `judge`.
 mod entry;
 mod first;
+mod front;
 mod pages;
 mod second;
 mod third;
 
 pub use first::first_rule;
+pub use front::front_right;
+pub use pages::page_right;
 pub use second::second_rule;
 pub use third::third_rule;
 ghost use mathlib.Core.Path.{_≡_};

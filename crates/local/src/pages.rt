@@ -11,6 +11,8 @@ ghost use Rattle.model.specs.Clean.{zeroFrom, cleanPage};
 ghost use Rattle.model.proofs.Rising.{firstOk};
 ghost use Rattle.page.specs.Head.{readHead};
 ghost use Rattle.local.specs.Local.{Sized, entriesOk, pagesFine};
+ghost use Rattle.model.specs.Near.{pageRight};
+ghost use Rattle.local.specs.Right.{Known};
 
 // Whether the bits from bit a up to, not including, bit b are zero.
 pub(crate) fn zero_from(s: &[u8], a: usize, b: usize) -> bool
@@ -115,4 +117,27 @@ pub(crate) fn pages_ok(s: &[u8], l: Limits, size: usize, last: u32) -> bool
         n += 1;
     }
     true
+}
+
+// Whether page n has this level and is as rule 1 has it: "a page on their own walk breaks rules 1 or 2 of 01 locally", "a child's level
+// isn't one lower". Any number may be asked for.
+pub fn page_right(s: &[u8], l: Limits, last: u32, size: usize, level: u32, n: usize) -> bool
+    requires { ⌜ Edition l × Known (l .least) (now s) size last × (0 < level) ⌝ }
+    ensures { λ r. ⌜ r ≡ pageRight (l .least) (now (s .entry)) level n ⌝ }
+{
+    if n < 5 {
+        return false;
+    }
+    if size <= n {
+        return false;
+    }
+    let p = store::part(s, l, n);
+    let h = page::head_of(p, l);
+    if h.level != level {
+        return false;
+    }
+    if !clean_page(p, l) {
+        return false;
+    }
+    page_fine(p, l, last, size)
 }

@@ -26,6 +26,7 @@ use Rattle.model.specs.Told
 use Rattle.model.specs.Visited
 use Rattle.model.specs.Differ
 use Rattle.model.specs.Life
+use Rattle.model.specs.Near
 use Rattle.model.specs.Return
 use Rattle.model.specs.Return.{Ran, reached, stopped, carried, Came, gave, gaveUp, lacking, orAbandoned, returnTests, unless}
 use Rattle.model.specs.Ended.{Asked, toFresh, toCheck, toOpen, toCommit, toAbandon, toInsert, toDelete, toReturn, toLookup, toRange, toLife, toDifference, toVisits, Ended, ended, Meets, Untouched, Excepted, Named, Zeros}
@@ -104,12 +105,8 @@ module _ (least : ℕ) (b : List ℕ) (lo hi v : ℕ) (ns : List ℕ) where
   by-same (suc n) xs = λ h. refl
 
   range-same : ListSame ns (rangeLent least b lo hi v ns)
-  unfolding Lent.rangeLent Calls.range
-  range-same = at (judged least b .number)
-    where
-      at : (n : ℕ) → ListSame ns (judgedFirst n (λ m. record { number = m; count = 0; list = ns }) (listed ns (Calls.range (decode least b) lo hi v (length ns))))
-      at zero = by-same _ _
-      at (suc n) = λ h. refl
+  unfolding Lent.rangeLent Near.rangeNear
+  range-same = by-same _ _
 
 -- a call that tells a list
 module _ {A : Type 0} (numbers : A → List ℕ) (each : ℕ) (ns : List ℕ) where
@@ -207,12 +204,8 @@ abbrev ListedBlank : Listed → Type 0
 ListedBlank r = r .number ≢ 0 → r .number ≢ 14 → r .count ≡ 0
 
 range-blank : (least : ℕ) (b : List ℕ) (lo hi v : ℕ) (ns : List ℕ) → ListedBlank (rangeLent least b lo hi v ns)
-unfolding Lent.rangeLent Calls.range
-range-blank least b lo hi v ns = at (judged least b .number)
-  where
-    at : (n : ℕ) → ListedBlank (judgedFirst n (λ m. record { number = m; count = 0; list = ns }) (listed ns (Calls.range (decode least b) lo hi v (length ns))))
-    at zero = count-blank _ (length ns) _
-    at (suc n) = λ h k. refl
+unfolding Lent.rangeLent Near.rangeNear
+range-blank least b lo hi v ns = count-blank _ (length ns) _
 
 told-blank : {A : Type 0} (numbers : A → List ℕ) (each n room : ℕ) (xs : List A) → CountBlank (Told.toldBy numbers each n room xs)
 unfolding Told.toldBy Told.toldIn

@@ -5,12 +5,12 @@ use mathlib.Core.List.{List, _++_}
 use lib.ListN.{length, drop}
 use Rattle.model.specs.Basic.{pick}
 use Rattle.model.specs.declared.Looked.{Looked}
-use Rattle.model.specs.declared.Looked.the-variants.{Refused}
 use Rattle.model.specs.Store.{Store, fresh}
 use Rattle.model.specs.Layout.{sizeOf, encode, decode}
 use Rattle.model.specs.Judged.{lengthOk, judged}
 use Rattle.model.specs.Climb.{Result, done, refused}
-use Rattle.model.specs.Calls.{insert, delete, begin, commit, abandon, get, range, Ranged}
+use Rattle.model.specs.Near.{lookupNear, rangeNear}
+use Rattle.model.specs.Calls.{insert, delete, begin, commit, abandon, Ranged}
 use Rattle.model.specs.Visited.{visits}
 use Rattle.model.specs.Differ.{difference}
 use Rattle.model.specs.Life.{lived}
@@ -26,7 +26,8 @@ abbrev pub left : ℕ → List ℕ → Result → Outcome
 left least b (done t) = record { number = 0; store = encode least t }
 left least b (refused n) = record { number = n; store = b }
 
--- "Every call ends and judges the store itself before it trusts it."
+-- "Every call ends and judges the store itself before it trusts it": the whole store, but for lookup and range, which judge what they read
+-- (Near).
 abbrev pub judgedFirst {ℓ} : {A : Type ℓ} → ℕ → (ℕ → A) → A → A
 judgedFirst zero refuse go = go
 judgedFirst (suc n) refuse go = refuse (suc n)
@@ -63,7 +64,7 @@ unfoldable pub freshLent : ℕ → List ℕ → Outcome
 freshLent least b = pick (lengthOk least b) (record { number = 0; store = encode least (fresh (sizeOf least b)) }) (record { number = 1; store = b })
 
 unfoldable pub lookupLent : ℕ → List ℕ → ℕ → ℕ → Looked
-lookupLent least b k v = judgedFirst (judged least b .number) (λ n. Refused n) (get (decode least b) k v)
+lookupLent least b k v = lookupNear least b k v
 
 -- the number of a call that tells a list, its count, and the caller's list after it: "touches nothing behind"
 pub record Listed : Type 0 where
@@ -75,8 +76,7 @@ abbrev pub listed : List ℕ → Ranged → Listed
 listed ns r = record { number = r .number; count = r .count; list = r .written ++ drop (length (r .written)) ns }
 
 unfoldable pub rangeLent : ℕ → List ℕ → ℕ → ℕ → ℕ → List ℕ → Listed
-rangeLent least b lo hi v ns =
-    judgedFirst (judged least b .number) (λ n. record { number = n; count = 0; list = ns }) (listed ns (range (decode least b) lo hi v (length ns)))
+rangeLent least b lo hi v ns = listed ns (rangeNear least b lo hi v (length ns))
 
 unfoldable pub visitsLent : ℕ → List ℕ → ℕ → ℕ → List ℕ → Listed
 visitsLent least b k v ns =

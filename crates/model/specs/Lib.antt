@@ -22,6 +22,7 @@ pub mod Layout
 pub mod Clean
 pub mod Quick
 pub mod Judged
+pub mod Near
 pub mod Lent
 pub mod Ended
 pub mod Needs

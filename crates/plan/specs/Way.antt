@@ -22,7 +22,7 @@ use Rattle.model.specs.declared.Limits.{Limits}
 use Rattle.model.specs.Page.{Page, isFree, pairsAt}
 use Rattle.model.specs.Store.{page}
 use Rattle.model.specs.Layout.{decode}
-use Rattle.walk.specs.Ends.{startsBy}
+use Rattle.model.specs.Near.{startsBy}
 use Rattle.walk.specs.Covers.{Covers, covers-starts, covers-own, covers-later, covers-root}
 use Rattle.walk.specs.Sure.{Readable}
 use Rattle.store.specs.Sure.{sure}

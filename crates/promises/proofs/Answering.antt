@@ -11,7 +11,6 @@ use lib.ListN.{length}
 use borrow.Author.Tests.{leb-false, ltb-false}
 use Rattle.model.specs.Basic.{inOrder}
 use Rattle.model.specs.declared.Pair.{Pair}
-use Rattle.model.specs.declared.Looked.the-variants.{Refused}
 use Rattle.model.specs.Store.{Store, next, last, lastOf}
 use Rattle.model.specs.Walk.{keyLimit, find, lookup, settings, between, rangeOf}
 use Rattle.model.specs.Layout.{decode}
@@ -37,6 +36,7 @@ use Rattle.promises.specs.Beside.{Beside}
 use Rattle.promises.specs.Answers.{lastIn, lookupTests, rangeTests, differenceTests, openTests, endTests, commitTests, lookedIn, rangedFrom, livedIn, toldFrom, aliveIn, unchangedIn, Gives, Answers, lifeTests}
 use Rattle.promises.proofs.High.{begin-number, commit-number, abandon-number, insert-number, delete-number, return-number}
 use Rattle.promises.proofs.Lending.{change-number}
+use Rattle.promises.proofs.Sounding.{lookup-lent, range-lent}
 use Rattle.promises.proofs.Agreed.{Agreed}
 
 module _ (least : ℕ) (four : 4 ≤ least) (eight : least ≤ 8) (x : Beside) (a : Agreed least x) where
@@ -64,9 +64,7 @@ module _ (least : ℕ) (four : 4 ≤ least) (eight : least ≤ 8) (x : Beside) (
       at false e false f = ap (λ (o : Option ℕ). lookedBy 0 o) (lookup-here k v (leb-false keyLimit k e) (ltb-false (last s) v f))
 
   lookup-answers : (k v : ℕ) (ns : List ℕ) → ended least (toLookup k v) (x .bytes) ns ≡ ofLooked (x .bytes) ns (lookedIn m k v)
-  unfolding Lent.lookupLent
-  lookup-answers k v ns =
-      ap (λ (n : ℕ). ofLooked (x .bytes) ns (judgedFirst n (λ j. Refused j) (get s k v))) (a .accepted) ∙ ap (ofLooked (x .bytes) ns) (get-is k v)
+  lookup-answers k v ns = ap (ofLooked (x .bytes) ns) (lookup-lent least four eight (x .bytes) (a .accepted) k v ∙ get-is k v)
 
   -- ---- a range
 
@@ -91,10 +89,7 @@ module _ (least : ℕ) (four : 4 ≤ least) (eight : least ≤ 8) (x : Beside) (
           ap (rangedBy 0 room) (range-is least (omega arith) s (a .agrees .is-sound) lo hi v (low-is lo hi e) h ∙ ap (between lo hi) (a .agrees .shows v h))
 
   range-answers : (lo hi v : ℕ) (ns : List ℕ) → ended least (toRange lo hi v) (x .bytes) ns ≡ ofListed (x .bytes) (listed ns (rangedFrom m lo hi v (length ns)))
-  unfolding Lent.rangeLent
-  range-answers lo hi v ns =
-      ap (λ (n : ℕ). ofListed (x .bytes) (judgedFirst n (λ j. record { number = j; count = 0; list = ns }) (listed ns (range s lo hi v (length ns))))) (a .accepted)
-      ∙ ap (λ (r : Ranged). ofListed (x .bytes) (listed ns r)) (range-here lo hi v (length ns))
+  range-answers lo hi v ns = ap (ofListed (x .bytes)) (range-lent least four eight (x .bytes) (a .accepted) lo hi v ns ∙ ap (listed ns) (range-here lo hi v (length ns)))
 
   -- ---- a difference
 

@@ -117,8 +117,7 @@ module _ (f : Implementation) (honest : Honest f) where
       let c : Asked = toRange (x .low) (x .high) (x .version) in
       let b : List ℕ = x .bytes in
       let zero = number-is c b (x .list) (x .given) in
-      let ok : Accepts 4 b = zero-accepts 4 c b (x .list) refl zero in
-      let a = answers 4 (lit≤ tt) (lit≤ tt) (fromLent 4 b) (lent-agreed 4 (lit≤ tt) (lit≤ tt) b ok) .range (x .low) (x .high) (x .version) (x .list) in
+      let a = answers 4 (lit≤ tt) (lit≤ tt) (fromLent 4 b) (lent-agreed 4 (lit≤ tt) (lit≤ tt) b (x .accepted)) .range (x .low) (x .high) (x .version) (x .list) in
       x .invented
       (results-are c b (x .list) ∙ ap (λ (e : Ended). e .results) a
       ∙ ap (λ (n : ℕ). n ∷ []) (ranged-count _ (length (x .list)) (between (x .low) (x .high) (settings (decode 4 b) (x .version))) (ap (λ (e : Ended). e .number) (sym a) ∙ zero)))

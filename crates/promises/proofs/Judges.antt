@@ -2,25 +2,22 @@
 -- Assumes nothing.
 use Prim.Native.Nat.{ℕ, zero, suc, _*_, _≤_}
 use native.Mathlib.Omega.{arith}
-use mathlib.Core.Bool.{Bool, true, false, _&&_, _||_}
+use mathlib.Core.Bool.{Bool, true, false, _&&_}
 use mathlib.Core.Path.{_≡_, refl, ap, sym, _∙_}
 use mathlib.Core.Logic.{_↔_, _⊎_, inl, inr}
-use mathlib.Core.Option.{Option, none, some}
 use mathlib.Core.List.{List, [], _∷_}
 use lib.Dec.{leb, ltb}
 use lib.ListN.{length}
 use Rattle.model.specs.Basic.{pick}
-use Rattle.model.specs.declared.Looked.the-variants.{Refused as Stopped}
 use Rattle.model.specs.Store.{Store, fresh, last}
-use Rattle.model.specs.Walk.{keyLimit, lookup, rangeOf, settings, lookupVisits}
+use Rattle.model.specs.Walk.{keyLimit, settings, lookupVisits}
 use Rattle.model.specs.Sound.{sound}
 use Rattle.model.specs.Layout.{sizeOf, encode, decode}
 use Rattle.model.specs.Clean.{clean}
 use Rattle.model.specs.Judged
 use Rattle.model.specs.Judged.{lengthOk, magicOk, editionOk, brokenIn, judged, verdict, ruled}
 use Rattle.model.specs.Climb.{Result, done, refused}
-use Rattle.model.specs.Calls
-use Rattle.model.specs.Calls.{rule, firstOf, lookedBy, lookedAt, lookedNumber, get, range}
+use Rattle.model.specs.Calls.{rule, firstOf}
 use Rattle.model.specs.Told
 use Rattle.model.specs.Visited
 use Rattle.model.specs.Visited.{pageNumber}
@@ -30,7 +27,7 @@ use Rattle.model.specs.Life
 use Rattle.model.specs.Return.{Came, gave, gaveUp, returned}
 use Rattle.model.specs.Histories.{begins, commits, abandons, inserts, deletes, returns}
 use Rattle.model.specs.Lent
-use Rattle.model.specs.Lent.{left, leftBy, judgedFirst, listed, returnLent, lookupLent, rangeLent, lifeLent, differenceLent, visitsLent}
+use Rattle.model.specs.Lent.{left, leftBy, judgedFirst, listed, returnLent, lifeLent, differenceLent, visitsLent}
 use Rattle.model.specs.Ended.{Asked, toFresh, toCheck, toOpen, toCommit, toAbandon, toInsert, toDelete, toReturn, toLookup, toRange, toLife, toDifference, toVisits, ofOutcome, ended}
 use Rattle.model.proofs.Lists.{both-true, both-intro}
 use Rattle.model.proofs.Members.{bool-cases, not-both}
@@ -38,8 +35,7 @@ use Rattle.model.proofs.Judging.{unbroken, whole}
 use Rattle.model.proofs.Lacking.{judged-low}
 use Rattle.model.proofs.Unique.{refused as leaves}
 use Rattle.promises.specs.Accepts.{Accepts}
-use Rattle.promises.specs.Runs.{notMaking, kindOf}
-use Rattle.promises.specs.Demand1.{FirstNumbers, Judges, TurnedAway, Untrusted, OneForm, FreshMade}
+use Rattle.promises.specs.Demand1.{FirstNumbers, judgesAll, Judges, TurnedAway, Untrusted, OneForm, FreshMade}
 use Rattle.promises.proofs.High.{High, HighBy, call-high}
 use Rattle.promises.proofs.Encoded.{accepted}
 use Rattle.promises.proofs.Lending.{fresh-is}
@@ -77,48 +73,6 @@ return-past least b v = at (judged least b .number)
 
     at : (j : ℕ) → Past j (judgedFirst j (λ m. record { number = m; store = b }) (leftBy least b (returned least (decode least b) v)) .number)
     at zero = by (returned least (decode least b) v) (call-high least (decode least b) (returns v))
-    at (suc j) = refl
-
-looked-past : (k v : ℕ) (s : Store) → Past 0 (lookedNumber (get s k v))
-unfolding Calls.get
-looked-past k v s = at (leb keyLimit k) (ltb (last s) v)
-  where
-    found : (o : Option ℕ) → Past 0 (lookedNumber (lookedAt o))
-    found none = inl refl
-    found (some x) = inl refl
-
-    at : (p q : Bool) → Past 0 (lookedNumber (lookedBy (firstOf (rule 5 p ∷ rule 6 q ∷ [])) (lookup s k v)))
-    at true q = inr (omega arith)
-    at false true = inr (omega arith)
-    at false false = found (lookup s k v)
-
-lookup-past : (least : ℕ) (b : List ℕ) (k v : ℕ) → Past (judged least b .number) (lookedNumber (lookupLent least b k v))
-unfolding Lent.lookupLent
-lookup-past least b k v = at (judged least b .number)
-  where
-    at : (j : ℕ) → Past j (lookedNumber (judgedFirst j (λ n. Stopped n) (get (decode least b) k v)))
-    at zero = looked-past k v (decode least b)
-    at (suc j) = refl
-
-ranged-past : (s : Store) (lo hi v room : ℕ) → Past 0 (range s lo hi v room .number)
-unfolding Calls.range Calls.rangedBy Calls.rangedIn
-ranged-past s lo hi v room = at (leb keyLimit lo || leb keyLimit hi || ltb hi lo) (ltb (last s) v)
-  where
-    list : (t : Bool) → Past 0 (Calls.rangedIn (firstOf (rule 14 t ∷ [])) (rangeOf s lo hi v) .number)
-    list true = inr (omega arith)
-    list false = inl refl
-
-    at : (p q : Bool) → Past 0 (Calls.rangedBy (firstOf (rule 5 p ∷ rule 6 q ∷ [])) room (rangeOf s lo hi v) .number)
-    at true q = inr (omega arith)
-    at false true = inr (omega arith)
-    at false false = list (ltb room (2 * length (rangeOf s lo hi v)))
-
-range-past : (least : ℕ) (b : List ℕ) (lo hi v : ℕ) (ns : List ℕ) → Past (judged least b .number) (rangeLent least b lo hi v ns .number)
-unfolding Lent.rangeLent
-range-past least b lo hi v ns = at (judged least b .number)
-  where
-    at : (j : ℕ) → Past j (judgedFirst j (λ n. record { number = n; count = 0; list = ns }) (listed ns (range (decode least b) lo hi v (length ns))) .number)
-    at zero = ranged-past (decode least b) lo hi v (length ns)
     at (suc j) = refl
 
 -- a call that tells a list, where no number before 14 is given
@@ -183,7 +137,7 @@ past-same : (j : ℕ) → Past j j
 past-same zero = inl refl
 past-same (suc j) = refl
 
-call-past : (least : ℕ) (c : Asked) (b ns : List ℕ) → notMaking (kindOf c) ≡ true → Past (judged least b .number) (ended least c b ns .number)
+call-past : (least : ℕ) (c : Asked) (b ns : List ℕ) → judgesAll c ≡ true → Past (judged least b .number) (ended least c b ns .number)
 unfolding Lent.openLent Lent.commitLent Lent.abandonLent Lent.insertLent Lent.deleteLent
 call-past least toFresh b ns h = absurd (not-both false h refl)
 call-past least toCheck b ns h = past-same (judged least b .number)
@@ -193,14 +147,14 @@ call-past least toAbandon b ns h = change-past least b _ (λ s. call-high least 
 call-past least (toInsert k x) b ns h = change-past least b _ (λ s. call-high least s (inserts k x))
 call-past least (toDelete k) b ns h = change-past least b _ (λ s. call-high least s (deletes k))
 call-past least (toReturn v) b ns h = return-past least b v
-call-past least (toLookup k v) b ns h = lookup-past least b k v
-call-past least (toRange lo hi v) b ns h = range-past least b lo hi v ns
+call-past least (toLookup k v) b ns h = absurd (not-both false h refl)
+call-past least (toRange lo hi v) b ns h = absurd (not-both false h refl)
 call-past least (toVisits k v) b ns h = visits-past least b k v ns
 call-past least (toDifference u v) b ns h = difference-past least b u v ns
 call-past least (toLife k) b ns h = life-past least b k ns
 
 -- bytes on which it gives a number from 5 on are accepted
-pub late-accepts : (least : ℕ) (c : Asked) (b ns : List ℕ) → notMaking (kindOf c) ≡ true → 5 ≤ ended least c b ns .number → Accepts least b
+pub late-accepts : (least : ℕ) (c : Asked) (b ns : List ℕ) → judgesAll c ≡ true → 5 ≤ ended least c b ns .number → Accepts least b
 late-accepts least c b ns m h = at (judged least b .number) (judged-low least b) (call-past least c b ns m)
   where
     at : (j : ℕ) → j ≤ 4 → Past j (ended least c b ns .number) → j ≡ 0
@@ -208,7 +162,7 @@ late-accepts least c b ns m h = at (judged least b .number) (judged-low least b)
     at (suc j) l p = absurd (omega arith)
 
 -- bytes on which it gives 0 are accepted
-pub zero-accepts : (least : ℕ) (c : Asked) (b ns : List ℕ) → notMaking (kindOf c) ≡ true → ended least c b ns .number ≡ 0 → Accepts least b
+pub zero-accepts : (least : ℕ) (c : Asked) (b ns : List ℕ) → judgesAll c ≡ true → ended least c b ns .number ≡ 0 → Accepts least b
 zero-accepts least c b ns m e = at (judged least b .number) (ended least c b ns .number) (call-past least c b ns m) e
   where
     at : (j n : ℕ) → Past j n → n ≡ 0 → j ≡ 0

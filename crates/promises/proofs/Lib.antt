@@ -2,6 +2,10 @@ pub mod Encoded
 pub mod High
 pub mod Lending
 pub mod Judges
+pub mod Sounding
+pub mod OffWalk
+pub mod Clauses
+pub mod Near
 pub mod Agreed
 pub mod Answering
 pub mod Changed

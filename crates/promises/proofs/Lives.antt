@@ -43,8 +43,9 @@ use Rattle.promises.specs.Runs.{Turn, runBytes, Kind, making, changing, 
 use Rattle.promises.specs.Views.{SaysSame}
 use Rattle.promises.specs.Lives.{LifeGiven, LivesAgree, StretchesApart, OpenUnshown, LeftAlone}
 use Rattle.promises.proofs.Lending.{held-sound, change-leaves}
+use Rattle.promises.proofs.Sounding.{lookup-lent}
 use Rattle.promises.proofs.Projected.{withCall, callsOf, calls-fit}
-use Rattle.promises.proofs.Stays.{lookup-lent, later, goes}
+use Rattle.promises.proofs.Stays.{later, goes}
 use Rattle.promises.proofs.Releasing.{first-none, number-is}
 use Rattle.promises.proofs.Stretches.{life-ends, life-apart, life-lies, life-stays}
 
@@ -67,10 +68,10 @@ module _ (least : ℕ) (b : List ℕ) (ok : Accepts least b) where
   current-low : decode least b .current < alive
   current-low = omega (arith, last-low, upto)
 
-  looked : (k v : ℕ) → k < keyLimit → v ≤ last (decode least b) → lookupLent least b k v ≡ lookedAt (lookup (decode least b) k v)
+  looked : 4 ≤ least → least ≤ 8 → (k v : ℕ) → k < keyLimit → v ≤ last (decode least b) → lookupLent least b k v ≡ lookedAt (lookup (decode least b) k v)
   unfolding Calls.get
-  looked k v h l =
-      lookup-lent least b ok k v
+  looked four eight k v h l =
+      lookup-lent least four eight b ok k v
       ∙ ap₂ (λ (p q : Bool). lookedBy (firstOf (rule 5 p ∷ rule 6 q ∷ [])) (lookup s k v)) (lt-leb keyLimit k h) (le-ltb (last s) v l)
 
   life-lent : (k : ℕ) (ns : List ℕ) → lifeLent least b k ns ≡ listed ns (lived (decode least b) k (length ns))
@@ -114,9 +115,9 @@ life-given least b ok k h ns =
 -- ---- lookups and lives never disagree; stretches stand apart
 
 pub lives-agree : LivesAgree
-lives-agree least b ok k v x h l =
+lives-agree least four eight b ok k v x h l =
     let s = decode least b in
-    let e = looked least b ok k v h (omega (arith, upto least b ok)) in
+    let e = looked least b ok four eight k v h (omega (arith, upto least b ok)) in
     let f = value-is (lookup s k v) x in
     let g = life-lies (s .current) (lookup s k) (current-low least b ok) v x l in
     (λ q. g .0 (f .0 (sym e ∙ q)), λ q. e ∙ f .1 (g .1 q))
@@ -221,4 +222,4 @@ left-alone least four eight b ok ms given k same =
     let up : last s ≡ next s = ap (λ (q : Bool). lastOf q (s .current)) o in
     says-same least b b′ ok (left .accepts) k
     (λ h. ap (λ (t : Store). life t k) is
-    ∙ life-stays (s .current) (lookup s k) (looked-one (lookup s k (next s)) (lookup s k (s .current)) (sym (looked least b ok k (next s) h (omega arith)) ∙ same ∙ looked least b ok k (s .current) h (upto least b ok))))
+    ∙ life-stays (s .current) (lookup s k) (looked-one (lookup s k (next s)) (lookup s k (s .current)) (sym (looked least b ok four eight k (next s) h (omega arith)) ∙ same ∙ looked least b ok four eight k (s .current) h (upto least b ok))))

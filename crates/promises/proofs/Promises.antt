@@ -1,5 +1,5 @@
 -- The promises, each under its name: what it says stands in specs/Demand1, Demand2, Demand3, in a file for each request of document 02
--- (OldReadings, Bench, Differences, Lives, Releases, Returns), in Replayed and Fakes.
+-- (OldReadings, Near, Bench, Differences, Lives, Releases, Returns), in Replayed and Fakes.
 -- Assumes nothing.
 use Prim.Native.Nat.{ℕ}
 use native.Mathlib.Omega.{arith}
@@ -33,6 +33,7 @@ use Rattle.promises.specs.Demand1.{Unique, Refused, Blank, Judges, Untru
 use Rattle.promises.specs.Demand2.{EncodedSound, AcceptedSound, SoundStays, FreshSound, History, HistoryLent, Found, SettingsChange, AnswersStay, ViewsStay, ByTheRules, ReadsOnly, Balanced, Levels, Lacking}
 use Rattle.promises.specs.Demand3.{Abandoned}
 use Rattle.promises.specs.OldReadings.{PagesStay, VisitsTold, VisitsStay}
+use Rattle.promises.specs.Near.{LookupJudges, RangeJudges, OffTheWalk, SoundSame}
 use Rattle.promises.specs.Differences.{DifferenceGiven, DifferenceSays, DifferenceNone, DifferenceExchanged, DifferenceStays}
 use Rattle.promises.specs.Lives.{LifeGiven, LivesAgree, StretchesApart, OpenUnshown, LeftAlone}
 use Rattle.promises.specs.Replayed.{TableLent}
@@ -47,6 +48,9 @@ use Rattle.promises.proofs.Agreed.{many-turns, fresh-agreed, lent-agree
 use Rattle.promises.proofs.Answering.{answers}
 use Rattle.promises.proofs.Changed as changed
 use Rattle.promises.proofs.Stays as stays
+use Rattle.promises.proofs.Near as near
+use Rattle.promises.proofs.OffWalk as off
+use Rattle.promises.proofs.Sounding as sounding
 use Rattle.promises.proofs.Differences as differ
 use Rattle.promises.proofs.Lives as lives
 use Rattle.promises.proofs.Restored as restored
@@ -182,6 +186,20 @@ visits-told = stays.visits-told
 
 pub visits-stay : VisitsStay
 visits-stay = stays.visits-stay
+
+-- ---- 2026-04, lookups judge only what they read
+
+pub lookup-judges : LookupJudges
+lookup-judges = near.lookup-judges
+
+pub range-judges : RangeJudges
+range-judges = near.range-judges
+
+pub off-the-walk : OffTheWalk
+off-the-walk = off.off-the-walk
+
+pub sound-same : SoundSame
+sound-same = sounding.sound-same
 
 -- ---- what differs between two versions
 

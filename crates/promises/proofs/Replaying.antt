@@ -33,7 +33,7 @@ use Rattle.promises.specs.Runs.{run, asks}
 use Rattle.promises.specs.Replayed.{turnOf, madeOn, replayed, Replays, AllReplay, TableLent}
 use Rattle.promises.proofs.Encoded.{encoded-sound}
 use Rattle.promises.proofs.Lending.{change-is}
-use Rattle.promises.proofs.Stays.{lookup-lent}
+use Rattle.promises.proofs.Sounding.{lookup-lent}
 
 -- ---- calls on the bytes of a sound store
 
@@ -172,7 +172,7 @@ looked h i k v x j ns =
     let s : Store = runOn 4 (h .store) (h .calls) .store in
     let same : lookedNumbers (get s k v) ≡ lookedNumbers x = list-true _ _ (fact (looks k v x) (h .facts) (runOn 4 (h .store) (h .calls)) j (in-holds h i)) in
     let ok : Accepts 4 (replayed h .store) = end-accepted h (in-sound h i) (in-fits h i) in
-    ap (ofLooked b ns) (lookup-lent 4 b ok k v ∙ ap (λ (t : Store). get t k v) (end-held h (in-sound h i) (in-fits h i))) ∙ told b ns (get s k v) x same
+    ap (ofLooked b ns) (lookup-lent 4 (lit≤ tt) (lit≤ tt) b ok k v ∙ ap (λ (t : Store). get t k v) (end-held h (in-sound h i) (in-fits h i))) ∙ told b ns (get s k v) x same
   where
     told : (b ns : List ℕ) (x y : Looked) → lookedNumbers x ≡ lookedNumbers y → ofLooked b ns x ≡ ofLooked b ns y
     told b ns x y e =

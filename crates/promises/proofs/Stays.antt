@@ -11,7 +11,6 @@ use lib.ListN.{length, drop}
 use borrow.Author.Tests.{le-ltb, lt-leb}
 use Rattle.model.specs.declared.Pair.{Pair}
 use Rattle.model.specs.declared.Looked.{Looked}
-use Rattle.model.specs.declared.Looked.the-variants.{Refused}
 use Rattle.model.specs.Store.{Store, last, lastOf}
 use Rattle.model.specs.Walk.{keyLimit, lookup, lookupVisits}
 use Rattle.model.specs.Layout.{decode}
@@ -35,17 +34,10 @@ use Rattle.promises.specs.Views.{SameView, SameAnswers}
 use Rattle.promises.specs.Demand2.{ViewsStay, AnswersStay}
 use Rattle.promises.specs.OldReadings.{PagesStay, VisitsTold, VisitsStay}
 use Rattle.promises.proofs.Lending.{Leaves, held-sound}
+use Rattle.promises.proofs.Sounding.{lookup-lent, range-lent}
 use Rattle.promises.proofs.Projected.{callsOf, calls-fit, ran}
 
 -- ---- readings of accepted bytes
-
-pub lookup-lent : (least : ℕ) (b : List ℕ) → Accepts least b → (k v : ℕ) → lookupLent least b k v ≡ get (decode least b) k v
-unfolding Lent.lookupLent
-lookup-lent least b ok k v = ap (λ (n : ℕ). judgedFirst n (λ j. Refused j) (get (decode least b) k v)) ok
-
-range-lent : (least : ℕ) (b : List ℕ) → Accepts least b → (lo hi v : ℕ) (ns : List ℕ) → rangeLent least b lo hi v ns ≡ listed ns (range (decode least b) lo hi v (length ns))
-unfolding Lent.rangeLent
-range-lent least b ok lo hi v ns = ap (λ (n : ℕ). judgedFirst n (λ j. record { number = j; count = 0; list = ns }) (listed ns (range (decode least b) lo hi v (length ns)))) ok
 
 visits-lent : (least : ℕ) (b : List ℕ) → Accepts least b → (k v : ℕ) (ns : List ℕ) → visitsLent least b k v ns ≡ listed ns (visits (decode least b) k v (length ns))
 unfolding Lent.visitsLent
@@ -122,11 +114,11 @@ module _ (least : ℕ) (four : 4 ≤ least) (eight : least ≤ 8) (b : List ℕ)
     }
 
     looks-same : (k : ℕ) → lookupLent least (runBytes least b ts) k v ≡ lookupLent least b k v
-    looks-same k = lookup-lent least b′ (later .accepts) k v ∙ get-same s (decode least b′) v old new view k ∙ sym (lookup-lent least b ok k v)
+    looks-same k = lookup-lent least four eight b′ (later .accepts) k v ∙ get-same s (decode least b′) v old new view k ∙ sym (lookup-lent least four eight b ok k v)
 
     ranges-same : (lo hi : ℕ) (ns : List ℕ) → rangeLent least (runBytes least b ts) lo hi v ns ≡ rangeLent least b lo hi v ns
     ranges-same lo hi ns =
-        range-lent least b′ (later .accepts) lo hi v ns ∙ ap (listed ns) (range-same s (decode least b′) v old new view lo hi (length ns)) ∙ sym (range-lent least b ok lo hi v ns)
+        range-lent least four eight b′ (later .accepts) lo hi v ns ∙ ap (listed ns) (range-same s (decode least b′) v old new view lo hi (length ns)) ∙ sym (range-lent least four eight b ok lo hi v ns)
 
     told-same : (k : ℕ) (ns : List ℕ) → visitsLent least (runBytes least b ts) k v ns ≡ visitsLent least b k v ns
     told-same k ns =

@@ -13,9 +13,8 @@ use Rattle.model.specs.Sound.{sound}
 use Rattle.model.specs.Layout.{sizeOf, encode, decode}
 use Rattle.model.specs.Clean.{clean}
 use Rattle.model.specs.Judged.{lengthOk, magicOk, editionOk}
-use Rattle.model.specs.Ended.{Asked, toFresh, Ended, ended, Meets, Untouched, Excepted, Named, Zeros}
+use Rattle.model.specs.Ended.{Asked, toFresh, toCheck, toOpen, toCommit, toAbandon, toInsert, toDelete, toReturn, toLookup, toRange, toVisits, toDifference, toLife, Ended, ended, Meets, Untouched, Excepted, Named, Zeros}
 use Rattle.promises.specs.Accepts.{Accepts}
-use Rattle.promises.specs.Runs.{notMaking, kindOf}
 
 -- ---- every call is pinned: no second outcome meets its contract
 
@@ -40,19 +39,36 @@ pub record FirstNumbers (length magic edition rules : Bool) (n : ℕ) : Type 0 w
   pub three : n ≡ 3 ↔ ((length ≡ true) × ((magic ≡ true) × (edition ≡ false)))
   pub four : n ≡ 4 ↔ ((length ≡ true) × ((magic ≡ true) × ((edition ≡ true) × (rules ≡ false))))
 
--- any call but making fresh, on any bytes
+-- The calls that judge the whole store: all but making fresh, which gives only 1, and lookup and range, which judge what they read (2026-04;
+-- specs/Near has their numbers).
+abbrev pub judgesAll : Asked → Bool
+judgesAll toFresh = false
+judgesAll toCheck = true
+judgesAll toOpen = true
+judgesAll toCommit = true
+judgesAll toAbandon = true
+judgesAll (toInsert k x) = true
+judgesAll (toDelete k) = true
+judgesAll (toReturn v) = true
+judgesAll (toLookup k v) = false
+judgesAll (toRange lo hi v) = false
+judgesAll (toVisits k v) = true
+judgesAll (toDifference u v) = true
+judgesAll (toLife k) = true
+
+-- these, on any bytes
 abbrev pub Judges : Type 0
-Judges = (least : ℕ) (c : Asked) (b ns : List ℕ) → notMaking (kindOf c) ≡ true
+Judges = (least : ℕ) (c : Asked) (b ns : List ℕ) → judgesAll c ≡ true
     → FirstNumbers (lengthOk least b) (magicOk b) (editionOk least b) (clean least b && sound least (decode least b)) (ended least c b ns .number)
 
--- so bytes that check does not accept are touched by no call but making fresh
+-- so none of them touches bytes that check does not accept; lookup and range touch no store's (`ReadsOnly`)
 pub record TurnedAway (b ns : List ℕ) (e : Ended) : Type 0 where
   pub low : 1 ≤ e .number
   pub high : e .number ≤ 4
   pub untouched : Untouched b ns e
 
 abbrev pub Untrusted : Type 0
-Untrusted = (least : ℕ) (c : Asked) (b ns : List ℕ) → notMaking (kindOf c) ≡ true → (Accepts least b → ⊥) → TurnedAway b ns (ended least c b ns)
+Untrusted = (least : ℕ) (c : Asked) (b ns : List ℕ) → judgesAll c ≡ true → (Accepts least b → ⊥) → TurnedAway b ns (ended least c b ns)
 
 -- ---- "down to a bit set that we don't define": of all the bytes that hold one store, one form alone is accepted
 

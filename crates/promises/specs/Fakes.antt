@@ -9,6 +9,7 @@ use lib.ListN.{length}
 use Rattle.model.specs.Walk.{settings, between}
 use Rattle.model.specs.Layout.{decode}
 use Rattle.model.specs.Ended.{Asked, toOpen, toInsert, toLookup, toRange, Ended, Meets}
+use Rattle.promises.specs.Accepts.{Accepts}
 
 abbrev pub Implementation : Type 0
 Implementation = Asked → List ℕ → List ℕ → Ended
@@ -46,13 +47,14 @@ pub record Hides (f : Implementation) : Type 0 where
   pub given : f (toInsert key value) bytes list .number ≡ 0
   pub hidden : f (toLookup key (suc (decode 4 bytes .current))) (f (toInsert key value) bytes list .store) list .results ≢ 1 ∷ value ∷ []
 
--- "a range with an invented count": some range is done, and its count is not that of the settings alive
+-- "a range with an invented count": some range of a sound store is done, and its count is not that of the settings alive
 pub record Invents (f : Implementation) : Type 0 where
   pub low : ℕ
   pub high : ℕ
   pub version : ℕ
   pub bytes : List ℕ
   pub list : List ℕ
+  pub accepted : Accepts 4 bytes
   pub given : f (toRange low high version) bytes list .number ≡ 0
   pub invented : f (toRange low high version) bytes list .results ≢ length (between low high (settings (decode 4 bytes) version)) ∷ []
 

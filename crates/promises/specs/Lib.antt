@@ -3,6 +3,7 @@ pub mod Runs
 pub mod Beside
 pub mod Answers
 pub mod Views
+pub mod Near
 pub mod Lives
 pub mod Demand1
 pub mod Demand2

@@ -41,7 +41,7 @@ Lies v x (a ∷ more) = ((a .start ≤ v) × (v < a .end) × (a .value ≡ x)) �
 
 -- a committed version shows the key with the value x exactly when it lies in a stretch with that value
 abbrev pub LivesAgree : Type 0
-LivesAgree = (least : ℕ) (b : List ℕ) → Accepts least b → (k v x : ℕ) → k < keyLimit → v ≤ decode least b .current
+LivesAgree = (least : ℕ) → 4 ≤ least → least ≤ 8 → (b : List ℕ) → Accepts least b → (k v x : ℕ) → k < keyLimit → v ≤ decode least b .current
     → (lookupLent least b k v ≡ Value x) ↔ Lies v x (life (decode least b) k)
 
 -- ---- "oldest first"; "neighbouring stretches with equal values are joined and unequal ones aren't"

@@ -1,19 +1,17 @@
 -- Quick judging, one test after the other. Assumes nothing.
 use Prim.Native.Nat.{ℕ}
 use mathlib.Core.Bool.{Bool, true, false, _&&_}
-use mathlib.Core.Path.{_≡_, refl, ap}
+use mathlib.Core.Path.{_≡_, ap}
 use mathlib.Core.List.{List}
 use lib.Dec.{eqb}
 use lib.ListN.{drop}
 use Rattle.model.specs.Basic.{inOrder}
-use Rattle.model.specs.Limits.{editionOf}
-use Rattle.model.specs.Field.{field}
 use Rattle.model.specs.Page.{Page}
 use Rattle.model.specs.Store.{Store}
 use Rattle.model.specs.Sound.{rule2, rule3, pagesPass}
 use Rattle.model.specs.Layout.{decode}
 use Rattle.model.specs.Clean.{clean}
-use Rattle.model.specs.Judged.{editionOk, judged, isSound}
+use Rattle.model.specs.Judged.{judged, isSound}
 use Rattle.model.specs.Quick.{apart, childrenFine, slotsFine, spansMet, quick, quickIn}
 
 -- ---- rules 4 to 6
@@ -46,10 +44,6 @@ module _ (least : ℕ) (b : List ℕ) where
       in-rest z = rw (x, y, z)
 
   -- ---- the number
-
-  pub edition-by : editionOk least b ≡ eqb (field b 32 8) (editionOf least)
-  unfolding editionOk
-  edition-by = refl
 
   pub sound-by : (n : ℕ) → n ≡ judged least b .number → eqb n 0 ≡ isSound least b
   unfolding isSound

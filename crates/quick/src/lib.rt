@@ -15,11 +15,11 @@ use model::Header;
 use model::Limits;
 ghost use mathlib.Core.Path.{_≡_};
 ghost use mathlib.Core.Bool.{_&&_};
-ghost use Prim.Native.Nat.{_+_, _*_, _≤_, _^_};
-ghost use lib.ListN.{length, drop};
+ghost use Prim.Native.Nat.{_+_, _*_, _≤_};
+ghost use lib.ListN.{drop};
 ghost use Rattle.model.specs.Limits.{Edition};
 ghost use Rattle.model.specs.Layout.{decode};
-ghost use Rattle.model.specs.Judged.{editionOk, judged, isSound};
+ghost use Rattle.model.specs.Judged.{judged, isSound};
 ghost use Rattle.model.specs.Quick.{spansMet, slotsFine, quick, quickIn};
 ghost use Rattle.local.specs.Local.{Sized};
 ghost use Rattle.notes.specs.Ready.{Ready};
@@ -87,13 +87,6 @@ fn rules_hold(s: &[u8], l: Limits, size: usize) -> bool
     quick(s, l, h)
 }
 
-fn of_edition(s: &[u8], l: Limits) -> bool
-    requires { ⌜ Edition l × (5 ≤ length (now s)) × (length (now s) ≤ 2 ^ 40) ⌝ }
-    ensures { λ r. ⌜ r ≡ editionOk (l .least) (now (s .entry)) ⌝ }
-{
-    bits::field(s, 32, 8) == model::edition_of(l)
-}
-
 // The number of check for any bytes that are lent, without the rule that 4 comes with.
 pub fn number(s: &[u8], l: Limits) -> u32
     requires { ⌜ Edition l ⌝ }
@@ -105,7 +98,7 @@ pub fn number(s: &[u8], l: Limits) -> u32
     if !store::named(s) {
         return 2;
     }
-    if !of_edition(s, l) {
+    if !store::of_edition(s, l) {
         return 3;
     }
     let size = store::size(s, l);

@@ -12,7 +12,7 @@ ghost use Rattle.model.specs.Limits.{Edition};
 ghost use Rattle.model.specs.Field.{lay};
 ghost use Rattle.model.specs.Store.{fresh};
 ghost use Rattle.model.specs.Layout.{readHeader, readSlot, pageOf, sizeOf, bit};
-ghost use Rattle.model.specs.Judged.{lengthOk, magicOk};
+ghost use Rattle.model.specs.Judged.{lengthOk, magicOk, editionOk};
 ghost use Rattle.model.specs.Lent.{freshLent};
 ghost use Rattle.store.specs.Slots.{SlotFits, slotParts};
 ghost use Rattle.store.specs.Header.{HeaderFits, putHeader};
@@ -54,6 +54,14 @@ pub fn named(s: &[u8]) -> bool
         i += 1;
     }
     true
+}
+
+// Whether the edition is that of the limits.
+pub fn of_edition(s: &[u8], l: Limits) -> bool
+    requires { ⌜ Edition l × (5 ≤ length (now s)) × (length (now s) ≤ 2 ^ 40) ⌝ }
+    ensures { λ r. ⌜ r ≡ editionOk (l .least) (now (s .entry)) ⌝ }
+{
+    bits::field(s, 32, 8) == model::edition_of(l)
 }
 
 // The header.

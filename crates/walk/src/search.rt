@@ -9,9 +9,9 @@ ghost use mathlib.Core.List.{[], _∷_};
 ghost use Rattle.model.specs.Entry.{pairOf, liveAt};
 ghost use Rattle.model.specs.Walk.{find, between};
 ghost use Rattle.model.specs.Calls.{lookedAt};
+ghost use Rattle.model.specs.Near.{startsBy};
 ghost use Rattle.walk.specs.Written.{written, Space, Gathers};
 ghost use Rattle.walk.specs.Live.{live};
-ghost use Rattle.walk.specs.Ends.{startsBy};
 ghost use Rattle.walk.specs.Scan.{Stands, from, Next, Owns};
 
 // The last router alive at or below a key: the page that it leads to, and the place at which the search for it ended.

@@ -1,7 +1,7 @@
 // The pages that a lookup visits, by their numbers. They are the pages that `lookup` reads: it finds the root by `root_at` and its
 // height by `height_of`, goes from page to page by `child`, and searches the leaf at which that ends. Here the same three
 // functions go the same way, and each page's number is noted before the step that reads it; at the last page `lookup` searches
-// instead of stepping on.
+// instead of stepping on. The offered lookup (crates/near) goes by `root_among`, which is the body of `root_at`, and by `child`.
 use crate::Counted;
 use model::Limits;
 ghost use mathlib.Core.Path.{_≡_};

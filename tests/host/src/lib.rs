@@ -225,19 +225,19 @@ impl Engine for Proved {
             }
             Call::Range(low, high, version, _) => {
                 let (number, count) = range(store, low, high, version, list);
-                Answer::counted((number, count as u32))
+                Answer::counted((number, count as u64))
             }
             Call::Life(key, _) => {
                 let (number, count) = life(store, key, list);
-                Answer::counted((number, count as u32))
+                Answer::counted((number, count as u64))
             }
             Call::Difference(old, new, _) => {
                 let (number, count) = difference(store, old, new, list);
-                Answer::counted((number, count as u32))
+                Answer::counted((number, count as u64))
             }
             Call::Visits(key, version, _) => {
                 let (number, count) = visits(store, key, version, list);
-                Answer::counted((number, count as u32))
+                Answer::counted((number, count as u64))
             }
         }
     }

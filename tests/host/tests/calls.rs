@@ -53,7 +53,8 @@ fn try_all(store: &[u8], rng: &mut Rng, tally: &mut BTreeMap<u32, u64>) {
         false => 0,
     };
     let (whole, _) = both(Call::Range(0, HIGHEST_KEY, last, 4096), store);
-    let mut calls = edge_calls(last, whole.count as usize);
+    // On damaged bytes a range may find any number.
+    let mut calls = edge_calls(last, whole.count.min(4096) as usize);
     for _ in 0..12 {
         let (low, high) = (rng.below(4000), rng.below(4000));
         let version = rng.below(last.min(5000) + 2);

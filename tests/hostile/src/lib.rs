@@ -11,6 +11,7 @@ pub mod judge;
 pub mod measure;
 pub mod notes;
 pub mod quick;
+pub mod ranges;
 pub mod reach;
 pub mod recipe;
 pub mod search;

@@ -1,10 +1,13 @@
 //! The calls, on any bytes and any numbers.
 //!
-//! Every call but making fresh judges the whole store before it trusts it,
-//! also where an argument would be refused anyway: of several numbers the
-//! smallest is given, and those of judging are the smallest.
+//! Every call but making fresh, lookup and range judges the whole store before
+//! it trusts it, also where an argument would be refused anyway: of several
+//! numbers the smallest is given, and those of judging are the smallest. Lookup
+//! and range judge the header and the slots first, and of the pages only those
+//! that they walk (2026-04).
 
-use crate::{check as judging, number, store, unjudged};
+use crate::layout::HIGHEST_KEY;
+use crate::{check as judging, number, reading, store, unjudged};
 
 /// Makes a fresh store over any bytes of a fitting length.
 pub fn fresh(bytes: &mut [u8]) -> u32 {
@@ -60,19 +63,47 @@ pub fn return_to(bytes: &mut [u8], version: u32) -> u32 {
 
 /// The number, whether the key was found, and its value.
 pub fn lookup(bytes: &[u8], key: u32, version: u32) -> (u32, bool, u32) {
-    match judged(bytes) {
-        Some(refusal) => (refusal, false, 0),
-        None => unjudged::lookup(bytes, key, version),
+    if let Some(refusal) = refused_before_walking(bytes, key > HIGHEST_KEY, version) {
+        return (refusal, false, 0);
+    }
+    match reading::lookup(bytes, key, version) {
+        Err(reading::Unsound) => (number::UNSOUND, false, 0),
+        Ok(Some(value)) => (number::DONE, true, value),
+        Ok(None) => (number::DONE, false, 0),
     }
 }
 
 /// The number and the count of settings found; their keys and values are
 /// written to the front of `list`.
-pub fn range(bytes: &[u8], low: u32, high: u32, version: u32, list: &mut [u32]) -> (u32, u32) {
-    match judged(bytes) {
-        Some(refusal) => (refusal, 0),
-        None => unjudged::range(bytes, low, high, version, list),
+pub fn range(bytes: &[u8], low: u32, high: u32, version: u32, list: &mut [u32]) -> (u32, u64) {
+    let wrong = low > HIGHEST_KEY || high > HIGHEST_KEY || low > high;
+    if let Some(refusal) = refused_before_walking(bytes, wrong, version) {
+        return (refusal, 0);
     }
+    // "All of its walk is judged before 14 and before anything is written."
+    let mut range = match reading::range(bytes, low, high, version) {
+        Err(reading::Unsound) => return (number::UNSOUND, 0),
+        Ok(range) => range,
+    };
+    if (list.len() as u64) < 2 * range.count {
+        return (number::LIST_TOO_SHORT, range.count);
+    }
+    for (place, (key, value)) in list.chunks_exact_mut(2).zip(range.settings()) {
+        place.copy_from_slice(&[key, value]);
+    }
+    (number::DONE, range.count)
+}
+
+/// The number by which a lookup or a range is refused for the header, a slot,
+/// its keys or its version, in this order.
+fn refused_before_walking(bytes: &[u8], wrong_key: bool, version: u32) -> Option<u32> {
+    if let Some(refusal) = judging::judge_front(bytes) {
+        return Some(refusal);
+    }
+    if wrong_key {
+        return Some(number::ARGUMENT);
+    }
+    (version > store::header(bytes).last()).then_some(number::VERSION)
 }
 
 /// The number and the count of pages that a lookup visits; their numbers, from

@@ -73,7 +73,7 @@ pub struct Answer {
     pub value: u32,
     /// Range: the count of settings found. Visits: of pages. Difference: of
     /// differences. Life: of stretches.
-    pub count: u32,
+    pub count: u64,
 }
 
 impl Answer {
@@ -85,9 +85,9 @@ impl Answer {
     }
 
     /// The answer of a call that gives a number and a count.
-    pub fn counted((number, count): (u32, u32)) -> Answer {
+    pub fn counted((number, count): (u32, impl Into<u64>)) -> Answer {
         Answer {
-            count,
+            count: count.into(),
             ..Answer::of(number)
         }
     }

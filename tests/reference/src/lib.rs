@@ -6,7 +6,8 @@
 //!
 //! - [`bits`], [`layout`], [`store`]: where each number stands in the bytes;
 //! - [`check`]: when a store is sound, a module for each rule;
-//! - [`walk`]: lookups and ranges; [`update`] over a [`draft`]: the page rules;
+//! - [`walk`]: lookups and ranges on a sound store; [`reading`]: the same on any
+//!   bytes, judged as they go; [`update`] over a [`draft`]: the page rules;
 //!   [`mod@abandon`]; [`mod@difference`]; [`mod@life`]; [`returning`];
 //! - [`unjudged`]: the calls on a store known to be sound, and [`calls`]: the
 //!   calls as the console has them, on any bytes;
@@ -20,6 +21,7 @@
 //! - [`history`], [`lines`]: calls and console input from a seed;
 //! - [`foreign`], [`tall`]: sound stores that no history makes;
 //! - [`damage`]: unsound stores, with the rule that each one breaks;
+//!   [`wild`]: stores that keep rules 1 and 2 alone;
 //! - [`samples`]: sound stores of all these shapes from a seed;
 //! - [`trace`]: a line for each call, to hold any program to any other.
 
@@ -43,6 +45,7 @@ pub mod life;
 pub mod lines;
 pub mod model;
 pub mod number;
+pub mod reading;
 pub mod returning;
 pub mod rng;
 pub mod samples;
@@ -52,3 +55,4 @@ pub mod trace;
 pub mod unjudged;
 pub mod update;
 pub mod walk;
+pub mod wild;

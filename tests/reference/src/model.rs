@@ -172,7 +172,7 @@ impl Model {
         let wanted = self.listed(low, high, version).len();
         let short = length < wanted;
         Answer {
-            count: wanted as u32 / 2,
+            count: wanted as u64 / 2,
             ..Answer::of(if short { number::LIST_TOO_SHORT } else { 0 })
         }
     }
@@ -189,7 +189,7 @@ impl Model {
         let wanted = self.differing(old, new).len();
         let short = length < wanted;
         Answer {
-            count: wanted as u32 / 4,
+            count: wanted as u64 / 4,
             ..Answer::of(if short { number::LIST_TOO_SHORT } else { 0 })
         }
     }
@@ -208,7 +208,7 @@ impl Model {
         let wanted = self.lived(key).len();
         let short = length < wanted;
         Answer {
-            count: wanted as u32 / 3,
+            count: wanted as u64 / 3,
             ..Answer::of(if short { number::LIST_TOO_SHORT } else { 0 })
         }
     }

@@ -57,7 +57,7 @@ fn a_faulty_program_is_caught() {
     }));
     // A range with an invented count.
     assert!(is_caught(
-        |_, _, _, answer| answer.count += u32::from(answer.count > 3)
+        |_, _, _, answer| answer.count += u64::from(answer.count > 3)
     ));
     // A number written behind a range's last one.
     assert!(is_caught(|call, _, list, answer| {

@@ -6,7 +6,7 @@ mod common;
 use std::collections::BTreeMap;
 use std::sync::OnceLock;
 
-use common::literal::verdict;
+use common::literal::{read, verdict};
 use common::*;
 use reference::calls;
 use reference::damage::tamper::{flip_bit, set_some_field};
@@ -29,8 +29,9 @@ fn judges_agree(bytes: &[u8], judged: (u32, u32)) {
     }
 }
 
-/// Every call on an unsound store gives the number of judging and changes
-/// nothing, whatever the arguments.
+/// Every call on an unsound store but lookup and range gives the number of
+/// judging, whatever the arguments; these two give what a second reader says.
+/// None changes anything.
 fn all_calls_refuse(bytes: &[u8], number: u32, rule: u32, rng: &mut Rng) {
     let mut lent = bytes.to_vec();
     let (one, two) = (rng.word(), rng.word() >> rng.below(32));
@@ -40,14 +41,25 @@ fn all_calls_refuse(bytes: &[u8], number: u32, rule: u32, rng: &mut Rng) {
         Call::Delete(two),
         Call::Commit,
         Call::Abandon,
-        Call::Lookup(two, one),
-        Call::Range(one, two, 0, 8),
-        Call::Range(0, two, 0, 8),
+        Call::Return(two),
+        Call::Visits(two, 0, 8),
+        Call::Difference(one, two, 8),
+        Call::Life(two, 8),
     ];
     for call in calls {
         let mut list = [3; 8];
-        assert_eq!(apply(call, &mut lent, &mut list), Answer::of(number));
-        assert_eq!(list, [3; 8]);
+        let list = &mut list[..call.list_length()];
+        assert_eq!(apply(call, &mut lent, list), Answer::of(number));
+        assert!(list.iter().all(|number| *number == 3));
+    }
+    for (low, high, version) in [(one, two, 0), (0, two, 0), (two, two, one)] {
+        if let Some((expected, _)) = read(bytes, (low, high), version, false) {
+            let (given, _) = calls::range(&lent, low, high, version, &mut [3; 8]);
+            assert!(given == expected || (given, expected) == (14, 0));
+        }
+        if let Some((expected, _)) = read(bytes, (low, low), version, true) {
+            assert_eq!(calls::lookup(&lent, low, version).0, expected);
+        }
     }
     let check = apply(Call::Check, &mut lent, &mut []);
     let expected = Answer {

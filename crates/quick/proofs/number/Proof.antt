@@ -11,7 +11,7 @@ use Rattle.quick.proofs.number.Statement.{statement}
 use Rattle.quick.proofs.number.Tie as tie
 use Rattle.quick.proofs.number.Reads as reads
 use Rattle.quick.proofs.number.Lts as lts
-use Rattle.quick.proofs.of_edition.Reads as of-edition-reads
+use Rattle.store.proofs.of_edition.Reads as of-edition-reads
 use Rattle.quick.proofs.rules_hold.Reads as rules-hold-reads
 use Rattle.store.proofs.named.Reads as named-reads
 use Rattle.store.proofs.size.Reads as size-reads

@@ -55,24 +55,24 @@ pub fn visits(bytes: &[u8], key: u32, version: u32, list: &mut [u32]) -> (u32, u
     let visits = Call::Visits(key, version, list.len());
     let answer = call(visits, &mut bytes.to_vec());
     reference::calls::visits(bytes, key, version, list);
-    (answer.number, answer.count)
+    (answer.number, answer.count as u32)
 }
 
 pub fn difference(bytes: &[u8], old: u32, new: u32, list: &mut [u32]) -> (u32, u32) {
     let difference = Call::Difference(old, new, list.len());
     let answer = call(difference, &mut bytes.to_vec());
     reference::calls::difference(bytes, old, new, list);
-    (answer.number, answer.count)
+    (answer.number, answer.count as u32)
 }
 
 pub fn life(bytes: &[u8], key: u32, list: &mut [u32]) -> (u32, u32) {
     let answer = call(Call::Life(key, list.len()), &mut bytes.to_vec());
     reference::calls::life(bytes, key, list);
-    (answer.number, answer.count)
+    (answer.number, answer.count as u32)
 }
 
 /// The list is lent to the reference once more, to be read by the case.
-pub fn range(bytes: &[u8], low: u32, high: u32, version: u32, list: &mut [u32]) -> (u32, u32) {
+pub fn range(bytes: &[u8], low: u32, high: u32, version: u32, list: &mut [u32]) -> (u32, u64) {
     let range = Call::Range(low, high, version, list.len());
     let answer = call(range, &mut bytes.to_vec());
     reference::calls::range(bytes, low, high, version, list);

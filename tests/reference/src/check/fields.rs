@@ -11,9 +11,12 @@ use crate::layout::{
 use crate::store;
 
 pub fn hold(bytes: &[u8]) -> bool {
-    header_holds(bytes)
-        && (0..SLOTS).all(|index| slot_holds(bytes, index))
-        && store::page_numbers(bytes).all(|number| page_holds(bytes, number))
+    front_holds(bytes) && store::page_numbers(bytes).all(|number| page_holds(bytes, number))
+}
+
+/// The header and the slots, used and unused.
+pub fn front_holds(bytes: &[u8]) -> bool {
+    header_holds(bytes) && (0..SLOTS).all(|index| slot_holds(bytes, index))
 }
 
 fn header_holds(bytes: &[u8]) -> bool {
@@ -36,7 +39,8 @@ fn slot_holds(bytes: &[u8], index: u32) -> bool {
     }
 }
 
-fn page_holds(bytes: &[u8], number: u32) -> bool {
+/// A page by itself, and the header's last version and page count.
+pub fn page_holds(bytes: &[u8], number: u32) -> bool {
     let header = store::header(bytes);
     let page = store::page_bytes(bytes, number);
     let level = at::LEVEL.get(page);

@@ -16,22 +16,18 @@ mod fill;
 mod reach;
 mod spans;
 
+pub use fields::page_holds;
+
 use crate::image::Image;
-use crate::layout::{at, EDITION, FOUR_BYTES};
+use crate::layout::{at, Slot, EDITION, FOUR_BYTES};
 use crate::number;
-use crate::store::length_fits;
+use crate::store::{self, length_fits};
 
 /// The number that judging gives for these bytes and, with 4, the lowest
 /// number of a broken rule (else 0).
 pub fn judge(store: &[u8]) -> (u32, u32) {
-    if !length_fits(store.len()) {
-        return (number::LENGTH, 0);
-    }
-    if store[..4] != FOUR_BYTES {
-        return (number::FOUR_BYTES, 0);
-    }
-    if at::EDITION.get(store) != EDITION {
-        return (number::EDITION, 0);
+    if let Some(refusal) = another_thing(store) {
+        return (refusal, 0);
     }
     match lowest_broken_rule(store) {
         None => (number::DONE, 0),
@@ -39,12 +35,39 @@ pub fn judge(store: &[u8]) -> (u32, u32) {
     }
 }
 
+/// 1, 2 or 3 for bytes that are no store of this edition.
+fn another_thing(store: &[u8]) -> Option<u32> {
+    if !length_fits(store.len()) {
+        return Some(number::LENGTH);
+    }
+    if store[..4] != FOUR_BYTES {
+        return Some(number::FOUR_BYTES);
+    }
+    (at::EDITION.get(store) != EDITION).then_some(number::EDITION)
+}
+
+/// The number by which a lookup or a range is refused before it looks at its
+/// arguments (2026-04): "with 5 or 6 only the header and the slots are judged
+/// first", all of them, by rules 1 and 2.
+pub fn judge_front(store: &[u8]) -> Option<u32> {
+    another_thing(store).or_else(|| (!front_holds(store)).then_some(number::UNSOUND))
+}
+
+fn front_holds(bytes: &[u8]) -> bool {
+    if !fields::front_holds(bytes) {
+        return false;
+    }
+    let header = store::header(bytes);
+    let slots: Vec<Slot> = (0..header.roots).map(|i| store::slot(bytes, i)).collect();
+    directory::holds(&slots, header.last())
+}
+
 fn lowest_broken_rule(store: &[u8]) -> Option<u32> {
     if !fields::hold(store) {
         return Some(1);
     }
     let image = Image::read(store);
-    if !directory::holds(&image) {
+    if !directory::holds(&image.slots, image.header.last()) {
         return Some(2);
     }
     if !spans::hold(&image) {

@@ -94,7 +94,7 @@ impl Follower {
             let wanted = pages_on_the_way(before, key, version).len();
             let short = length < wanted;
             expected.number = if short { number::LIST_TOO_SHORT } else { 0 };
-            expected.count = wanted as u32;
+            expected.count = wanted as u64;
         }
         let lacking = is_lack(answer.number);
         let update = matches!(call, Call::Insert(..) | Call::Delete(..) | Call::Return(_));

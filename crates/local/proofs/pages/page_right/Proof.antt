@@ -1,0 +1,59 @@
+-- `local::pages::page_right` meets its contract: each way out is a law of one page. Assumes nothing.
+use mathlib.Core.Path.{ap, sym, _∙_}
+use native.Mathlib.Omega.{arith}
+use borrow.Author.Tests.{not-true, not-false}
+use borrow.Author.Needs.{needs}
+use Rattle.page.specs.declared.Head.{Head}
+use Rattle.local.specs.Pages.{clean-count}
+use Rattle.local.specs.Sizes.{part-fits}
+use Rattle.local.specs.Right.{page-low, page-far, page-other, page-clean, page-rest}
+use Rattle.local.proofs.pages.page_right.Statement.{statement}
+use Rattle.local.proofs.pages.page_right.Tie as tie
+
+returns : tie.Need-returns
+returns c = let a = c .before .before .args in sym (page-low (a .l .least) (a .s .now) (a .size) (c .before .before .pre .1 .sized) (a .level) (a .n) (c .before .before .pre .2) (c .if1 .taken))
+
+returns-2 : tie.Need-returns-2
+returns-2 c = let a = c .before .before .before .args in sym (page-far (a .l .least) (a .s .now) (a .size) (c .before .before .before .pre .1 .sized) (a .level) (a .n) (c .before .before .before .pre .2) (c .if2 .taken))
+
+part-requires : tie.Need-part-requires
+part-requires c κs =
+    let a = c .before .before .before .args in
+    let z = c .before .before .before .pre .1 .sized in
+    (c .before .before .before .pre .0, part-fits (a .l .least) (c .before .before .before .pre .0 .four) (a .s .now) (a .n) (omega (arith, z .is, c .if2 .left)), omega (arith, z .long))
+
+head-of-requires : tie.Need-head-of-requires
+head-of-requires c κs = (c .before .before .before .before .pre .0, omega (arith, c .part .ensures .1, c .before .before .before .before .pre .0 .four), omega (arith, c .part .ensures .1, c .before .before .before .before .pre .0 .eight))
+
+returns-3 : tie.Need-returns-3
+returns-3 c =
+    let a = c .before .before .before .before .before .before .before .args in
+    let h = rw (c .before .before .before .part .ensures .0) at (ap (λ (x : Head). x .level) (c .before .before .head-of .ensures)) in
+    sym (page-other (a .l .least) (a .s .now) (a .size) (c .before .before .before .before .before .before .before .pre .1 .sized) (a .level) (a .n) (c .before .before .before .before .before .before .before .pre .2) (c .before .before .before .before .before .if1 .left) (c .before .before .before .before .if2 .left) (λ e. c .if3 .taken (h ∙ e)))
+
+clean-page-requires : tie.Need-clean-page-requires
+clean-page-requires c κs = search needs
+
+returns-4 : tie.Need-returns-4
+returns-4 c =
+    let a = c .before .before .before .before .before .before .before .before .before .args in
+    let k = rw (c .before .before .before .before .before .part .ensures .0) at (sym (c .before .clean-page .ensures) ∙ not-true (c .before .clean-page .result) (c .if4 .taken)) in
+    sym (page-clean (a .l .least) (a .s .now) (a .size) (c .before .before .before .before .before .before .before .before .before .pre .1 .sized) (a .level) (a .n) (c .before .before .before .before .before .before .before .before .before .pre .2) (c .before .before .before .before .before .before .before .if1 .left) (c .before .before .before .before .before .before .if2 .left) k)
+
+page-fine-requires : tie.Need-page-fine-requires
+page-fine-requires c κs =
+    let k = sym (c .before .clean-page .ensures) ∙ not-false (c .before .clean-page .result) (c .if4 .left) in
+    (c .before .before .before .before .before .before .before .before .before .pre .0, c .before .before .before .before .before .part .ensures .1, clean-count (c .before .before .before .before .before .before .before .before .before .args .l .least) _ k)
+
+returns-5 : tie.Need-returns-5
+returns-5 c =
+    let a = c .before .before .before .before .before .before .before .before .before .before .args in
+    let h = rw (c .before .before .before .before .before .before .part .ensures .0) at (ap (λ (x : Head). x .level) (c .before .before .before .before .before .head-of .ensures)) in
+    let k = rw (c .before .before .before .before .before .before .part .ensures .0) at (sym (c .before .before .clean-page .ensures) ∙ not-false (c .before .before .clean-page .result) (c .before .if4 .left)) in
+    rw (c .before .before .before .before .before .before .before .before .before .before .pre .1 .last, c .before .before .before .before .before .before .part .ensures .0) at (c .page-fine .ensures)
+    ∙ sym (page-rest (a .l .least) (a .s .now) (a .size) (c .before .before .before .before .before .before .before .before .before .before .pre .1 .sized) (a .level) (a .n) (c .before .before .before .before .before .before .before .before .before .before .pre .2) (c .before .before .before .before .before .before .before .before .if1 .left) (c .before .before .before .before .before .before .before .if2 .left) (sym h ∙ c .before .before .before .if3 .left) k)
+
+pub page-right-spec : {M : Type 1} → statement M
+page-right-spec =
+    tie.close
+    (tie.spec returns returns-2 part-requires head-of-requires returns-3 clean-page-requires returns-4 page-fine-requires returns-5)

@@ -1,0 +1,102 @@
+-- `bounded::listed_by` meets its contract. Assumes nothing.
+use Prim.Native.Nat.{ℕ, pred, _+_, _*_, _-_, _≤_}
+use native.Mathlib.Numerals.{sub-one}
+use native.Mathlib.Omega.{arith}
+use mathlib.Core.Path.{_≡_, ap, sym, _∙_, subst}
+use mathlib.Core.List.{List, _++_}
+use mathlib.Core.Bool.{true}
+use lib.ListN.{length, drop}
+use borrow.Author.Needs.{needs}
+use Rattle.model.specs.Near.{rangeRight}
+use Rattle.model.specs.Lent.{Listed}
+use Rattle.model.specs.Walk.{rangeBelow}
+use Rattle.model.specs.Layout.{decode}
+use Rattle.walk.specs.Counted.{counted-short, counted-all}
+use Rattle.walk.specs.Written.{numbers, written, Space, written-all}
+use Rattle.near.specs.Crossed.{answered-wrong, answered-right}
+use Rattle.near.specs.Most.{found-most}
+use Rattle.near.specs.Cells.{table-fewer}
+use Rattle.near.specs.Table.{found-some, found-zero}
+use Rattle.near.specs.Bound.{right-few}
+use Rattle.near.proofs.bounded.listed_by.Statement.{statement}
+use Rattle.near.proofs.bounded.listed_by.Tie as tie
+
+down-requires : tie.Need-down-requires
+down-requires c κs = (c .before .before .before .pre .0, c .before .before .before .pre .1, c .before .before .before .pre .2, c .before .before .before .pre .3, c .before .before .before .pre .4, c .before .before .before .pre .5)
+
+returns : tie.Need-returns
+returns c =
+    let a = c .before .before .before .before .before .args in
+    answered-wrong (a .list .now) (rangeRight (a .l .least) (a .s .now) (a .q .version) (pred (a .level)) (a .q .high) (a .q .low) (a .n)) (rangeBelow (pred (a .level)) (decode (a .l .least) (a .s .now) .pages) (a .q .version) (a .q .low) (a .q .high) (a .q .low) (a .n))
+    (found-zero (a .l .least) (a .s .now) (a .q .version) (a .q .low) (a .q .high) (pred (a .level)) (a .q .low) (a .n) (c .before .down .result) (c .before .down .ensures) (c .if1 .taken))
+
+sub-found : tie.Need-sub-found
+sub-found c = omega (arith, c .if1 .left)
+
+mul-if2 : tie.Need-mul-if2
+mul-if2 c =
+    let a = c .before .before .before .before .before .args in
+    omega (arith, c .before .down .ensures, found-most (a .l .least) (a .s .now) (c .before .before .before .before .before .pre .0 .eight) (a .q .version) (a .q .low) (a .q .high) (pred (a .level)) (a .q .low) (a .n))
+
+returns-2 : tie.Need-returns-2
+returns-2 c =
+    let a = c .before .before .before .before .before .before .args in
+    let ns = a .list .now in
+    let x = rangeRight (a .l .least) (a .s .now) (a .q .version) (pred (a .level)) (a .q .high) (a .q .low) (a .n) in
+    let xs = rangeBelow (pred (a .level)) (decode (a .l .least) (a .s .now) .pages) (a .q .version) (a .q .low) (a .q .high) (a .q .low) (a .n) in
+    let t = found-some (a .l .least) (a .s .now) (a .q .version) (a .q .low) (a .q .high) (pred (a .level)) (a .q .low) (a .n) (c .before .before .down .result) (c .before .before .down .ensures) (c .before .if1 .left) in
+    let e : c .before .before .down .result - 1 ≡ length xs = omega (arith, t .1) in
+    let f : ℕ → Listed = λ k. record { number = 14; count = k; list = ns } in
+    ap f e ∙ sym (counted-short ns xs (omega (arith, e, c .if2 .taken))) ∙ answered-right ns x xs (t .0)
+
+wide-requires : tie.Need-wide-requires
+wide-requires c κs = search needs
+
+sub-gather-by : tie.Need-sub-gather-by
+sub-gather-by c = omega (arith, c .wide .ensures, c .before .before .before .before .before .before .before .pre .3)
+
+gather-by-requires : tie.Need-gather-by-requires
+gather-by-requires c κs =
+    let a = c .before .before .before .before .before .before .before .before .args in
+    let ns = a .list .now in
+    let t = found-some (a .l .least) (a .s .now) (a .q .version) (a .q .low) (a .q .high) (pred (a .level)) (a .q .low) (a .n) (c .before .before .before .before .down .result) (c .before .before .before .before .down .ensures) (c .before .before .before .if1 .left) in
+    let u = sub-one (c .before .wide .result) ∙ ap pred (c .before .wide .ensures) in
+    let few = right-few (a .l .least) (a .s .now) (c .before .before .before .before .before .before .before .before .pre .0 .eight) (pred (a .level)) (a .q .version) (a .q .low) (a .q .high) (a .q .low) (a .n) (t .0) in (
+      record { edition = c .before .before .before .before .before .before .before .before .pre .0; sized = rw (c .before .before .before .before .before .before .before .before .pre .1 .sized .is) (c .before .before .before .before .before .before .before .before .pre .1 .sized); few = c .before .before .before .before .before .before .before .before .pre .2 },
+      subst (λ (m : ℕ). rangeRight (a .l .least) (a .s .now) (a .q .version) m (a .q .high) (a .q .low) (a .n) ≡ true) (sym u) (t .0),
+      subst (λ (m : ℕ). Space true ns 0 (rangeBelow m (decode (a .l .least) (a .s .now) .pages) (a .q .version) (a .q .low) (a .q .high) (a .q .low) (a .n))) (sym u)
+          (record { few = omega (arith, few); room = λ e. omega (arith, t .1, c .before .before .if2 .left) }),
+      table-fewer (a .l .least) (a .s .now) (a .q .size) (c .before .before .before .before .before .before .before .before .pre .1 .sized) (a .q .version) (a .q .low) (a .q .high) ((a .level + 1) * 4096) ((c .before .wide .result - 1 + 2) * 4096) (a .table .now) (omega (arith, c .before .wide .ensures, c .before .before .before .before .before .before .before .before .pre .3)) (c .before .before .before .before .before .before .before .before .pre .5),
+    )
+
+same-length : tie.Need-same-length
+same-length c = search needs
+
+returns-3 : tie.Need-returns-3
+returns-3 c =
+    let a = c .before .before .before .before .before .before .before .before .before .before .before .args in
+    let ns = a .list .now in
+    let x = rangeRight (a .l .least) (a .s .now) (a .q .version) (pred (a .level)) (a .q .high) (a .q .low) (a .n) in
+    let xs = rangeBelow (pred (a .level)) (decode (a .l .least) (a .s .now) .pages) (a .q .version) (a .q .low) (a .q .high) (a .q .low) (a .n) in
+    let t = found-some (a .l .least) (a .s .now) (a .q .version) (a .q .low) (a .q .high) (pred (a .level)) (a .q .low) (a .n) (c .before .before .before .before .before .before .before .down .result) (c .before .before .before .before .before .before .before .down .ensures) (c .before .before .before .before .before .before .if1 .left) in
+    let u = sub-one (c .before .before .before .before .wide .result) ∙ ap pred (c .before .before .before .before .wide .ensures) in
+    let e : c .before .before .before .before .before .before .before .down .result - 1 ≡ length xs = omega (arith, t .1) in
+    let room : 2 * length xs ≤ length ns = omega (arith, e, c .before .before .before .before .before .if2 .left) in
+    let g = c .before .before .gather-by .ensures .list ∙ ap (λ (m : ℕ). written true ns 0 (rangeBelow m (decode (a .l .least) (a .s .now) .pages) (a .q .version) (a .q .low) (a .q .high) (a .q .low) (a .n))) u ∙ written-all ns xs room in
+    let f : ℕ → List ℕ → Listed = λ k ys. record { number = 0; count = k; list = ys } in
+    ap (f (c .before .before .before .before .before .before .before .down .result - 1)) g ∙ ap (λ (k : ℕ). f k (numbers xs ++ drop (length (numbers xs)) ns)) e ∙ sym (counted-all ns xs room) ∙ answered-right ns x xs (t .0)
+
+pub listed-by-spec : {M : Type 1} → statement M
+listed-by-spec =
+    tie.close
+    (tie.spec
+    down-requires
+    returns
+    sub-found
+    mul-if2
+    returns-2
+    wide-requires
+    sub-gather-by
+    gather-by-requires
+    same-length
+    returns-3)

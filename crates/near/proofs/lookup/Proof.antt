@@ -1,0 +1,43 @@
+-- `lookup` meets its contract: its guard, then its walk. Assumes nothing.
+use native.Mathlib.Omega.{arith}
+use mathlib.Core.Path.{ap, sym, _∙_}
+use borrow.Author.Needs.{needs}
+use Rattle.model.specs.declared.Header.{Header}
+use Rattle.model.specs.Store.{lastOf}
+use Rattle.store.specs.Read.{current-lt}
+use Rattle.local.specs.First.{last-is}
+use Rattle.near.specs.Early.{lookup-refused, lookup-walked, guard-fronted, none-sized, none-fronted}
+use Rattle.near.proofs.lookup.Statement.{statement}
+use Rattle.near.proofs.lookup.Tie as tie
+
+guard-requires : tie.Need-guard-requires
+guard-requires c κs = search needs
+
+returns : tie.Need-returns
+returns c = let a = c .before .before .before .args in lookup-refused (a .l .least) (a .s .now) (a .key) (a .v) (c .before .guard .result) (c .before .guard .ensures) (c .if1 .taken)
+
+header-requires : tie.Need-header-requires
+header-requires c κs =
+    let z = none-sized (c .before .before .before .pre) (c .before .before .before .args .s .now) (guard-fronted (c .before .before .before .pre) (c .before .before .before .args .s .now) _ (c .before .before .before .args .v) (sym (c .before .guard .ensures) ∙ c .if1 .left)) in
+    (c .before .before .before .pre, omega (arith, z .front), omega (arith, z .long))
+
+last-requires : tie.Need-last-requires
+last-requires c κs = rw (c .header .ensures) (current-lt (c .before .before .before .before .args .l .least) (c .before .before .before .before .args .s .now))
+
+size-requires : tie.Need-size-requires
+size-requires c κs = search needs
+
+descend-requires : tie.Need-descend-requires
+descend-requires c κs =
+    let a = c .before .before .before .before .before .before .args in
+    let f = guard-fronted (c .before .before .before .before .before .before .pre) (a .s .now) _ (a .v) (sym (c .before .before .before .before .guard .ensures) ∙ c .before .before .before .if1 .left) in
+    let t = c .before .last .ensures ∙ ap (λ (x : Header). lastOf (x .opened) (x .current)) (c .before .before .header .ensures) ∙ sym (last-is (a .l .least) (a .s .now)) in
+    (c .before .before .before .before .before .before .pre, record { sized = rw (c .size .ensures) (none-sized (c .before .before .before .before .before .before .pre) (a .s .now) f); last = t }, none-fronted (c .before .before .before .before .before .before .pre) (a .s .now) f)
+
+returns-2 : tie.Need-returns-2
+returns-2 c = let a = c .before .before .before .before .before .before .before .args in c .descend .ensures ∙ lookup-walked (a .l .least) (a .s .now) (a .key) (a .v) (c .before .before .before .before .before .guard .result) (c .before .before .before .before .before .guard .ensures) (c .before .before .before .before .if1 .left)
+
+pub lookup-spec : {M : Type 1} → statement M
+lookup-spec =
+    tie.close
+    (tie.spec guard-requires returns header-requires last-requires size-requires descend-requires returns-2)
