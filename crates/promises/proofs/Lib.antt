@@ -7,6 +7,7 @@ pub mod Judges
 pub mod Agreed
 pub mod Answering
 pub mod Changed
+pub mod Leveled
 pub mod Projected
 pub mod Stays
 pub mod Differences
