@@ -25,6 +25,7 @@ pub mod Lent
 pub mod Ended
 pub mod Needs
 pub mod Plan
+pub mod Gathered
 pub mod Replay
 pub mod Table
 pub mod AlsoRun
