@@ -29,6 +29,7 @@ pub mod Gathered
 pub mod Replay
 pub mod Table
 pub mod AlsoRun
+pub mod Readings
 pub mod Bench
 pub mod Releases
 pub mod Vectors
