@@ -13,7 +13,7 @@ use Rattle.model.specs.Store.{Store}
 use Rattle.model.specs.Sound.{rule2, rule3, pagesPass}
 use Rattle.model.specs.Layout.{decode}
 use Rattle.model.specs.Clean.{clean}
-use Rattle.model.specs.Judged.{editionOk, judged, isSound}
+use Rattle.model.specs.Judged.{editionOk}
 use Rattle.model.specs.Quick.{apart, childrenFine, slotsFine, spansMet, quick, quickIn}
 
 -- ---- rules 4 to 6
@@ -50,7 +50,3 @@ module _ (least : ℕ) (b : List ℕ) where
   pub edition-by : editionOk least b ≡ eqb (field b 32 8) (editionOf least)
   unfolding editionOk
   edition-by = refl
-
-  pub sound-by : (n : ℕ) → n ≡ judged least b .number → eqb n 0 ≡ isSound least b
-  unfolding isSound
-  sound-by n e = rw e
