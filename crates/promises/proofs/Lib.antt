@@ -8,6 +8,7 @@ pub mod Agreed
 pub mod Answering
 pub mod Changed
 pub mod Leveled
+pub mod Roomy
 pub mod Projected
 pub mod Stays
 pub mod Differences

@@ -31,6 +31,7 @@ use Rattle.promises.specs.Beside.{along, fromFresh, fromLent}
 use Rattle.promises.specs.Demand1.{Unique, Refused, Blank, Judges, Untrusted, OneForm, FreshMade}
 use Rattle.promises.specs.Demand2.{EncodedSound, AcceptedSound, SoundStays, FreshSound, History, HistoryLent, Found, SettingsChange, AnswersStay, ViewsStay, ByTheRules, ReadsOnly, Balanced, Lacking}
 use Rattle.promises.specs.Levels.{Levels}
+use Rattle.promises.specs.Room.{NoRangeOutgrows}
 use Rattle.promises.specs.Demand3.{Abandoned}
 use Rattle.promises.specs.OldReadings.{PagesStay, VisitsTold, VisitsStay}
 use Rattle.promises.specs.Differences.{DifferenceGiven, DifferenceSays, DifferenceNone, DifferenceExchanged, DifferenceStays}
@@ -46,6 +47,7 @@ use Rattle.promises.proofs.Agreed.{many-turns, fresh-agreed, lent-agree
 use Rattle.promises.proofs.Answering.{answers}
 use Rattle.promises.proofs.Changed as changed
 use Rattle.promises.proofs.Leveled as leveled
+use Rattle.promises.proofs.Roomy as roomy
 use Rattle.promises.proofs.Stays as stays
 use Rattle.promises.proofs.Differences as differ
 use Rattle.promises.proofs.Lives as lives
@@ -154,6 +156,9 @@ balanced least four b ok v h =
 
 pub levels : Levels
 levels = leveled.levels
+
+pub no-range-outgrows : NoRangeOutgrows
+no-range-outgrows = roomy.no-range-outgrows
 
 pub lacking : Lacking
 lacking = lacks.lacking-lent

@@ -4,7 +4,6 @@
 -- Assumes nothing.
 use Prim.Native.Nat.{ℕ, _*_, _≤_}
 use mathlib.Core.Bool.{Bool, _&&_}
-use mathlib.Core.List.{List}
 use lib.Dec.{T, leb}
 use lib.ListN.{length, take, drop}
 use Rattle.model.specs.Basic.{all, pick, inOrder}
