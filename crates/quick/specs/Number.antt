@@ -11,7 +11,6 @@ use Rattle.model.specs.Store.{Store}
 use Rattle.model.specs.Sound.{rule2, rule3, pagesPass}
 use Rattle.model.specs.Layout.{decode}
 use Rattle.model.specs.Clean.{clean}
-use Rattle.model.specs.Judged.{judged, isSound}
 use Rattle.model.specs.Quick.{apart, childrenFine, slotsFine, spansMet, quick, quickIn}
 
 -- ---- rules 4 to 6
@@ -42,9 +41,3 @@ module _ (least : ℕ) (b : List ℕ) where
       pub in-rest : rule3 (decode least b) ≡ true → quickIn least b ≡ quick least (decode least b)
       unfolding quickIn
       in-rest z = rw (x, y, z)
-
-  -- ---- the number
-
-  pub sound-by : (n : ℕ) → n ≡ judged least b .number → eqb n 0 ≡ isSound least b
-  unfolding isSound
-  sound-by n e = rw e

@@ -19,7 +19,7 @@ ghost use Prim.Native.Nat.{_+_, _*_, _≤_};
 ghost use lib.ListN.{drop};
 ghost use Rattle.model.specs.Limits.{Edition};
 ghost use Rattle.model.specs.Layout.{decode};
-ghost use Rattle.model.specs.Judged.{judged, isSound};
+ghost use Rattle.model.specs.Judged.{judged};
 ghost use Rattle.model.specs.Quick.{spansMet, slotsFine, quick, quickIn};
 ghost use Rattle.local.specs.Local.{Sized};
 ghost use Rattle.notes.specs.Ready.{Ready};
@@ -106,12 +106,4 @@ pub fn number(s: &[u8], l: Limits) -> u32
         return 4;
     }
     0
-}
-
-// Whether any bytes that are lent are a sound store's.
-pub fn sound(s: &[u8], l: Limits) -> bool
-    requires { ⌜ Edition l ⌝ }
-    ensures { λ r. ⌜ r ≡ isSound (l .least) (now (s .entry)) ⌝ }
-{
-    number(s, l) == 0
 }
