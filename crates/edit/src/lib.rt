@@ -13,7 +13,7 @@ ghost use Prim.Native.Nat.{ℕ, _+_, _*_, _^_, _≤_, _<_};
 ghost use lib.ListN.{length, getD, take, drop};
 ghost use Rattle.model.specs.Limits.{Edition};
 ghost use Rattle.model.specs.Entry.{liveAt};
-ghost use Rattle.model.specs.Page.{filled, killed, gone, changed};
+ghost use Rattle.model.specs.Page.{filled, gone, changed};
 ghost use Rattle.model.specs.Calls.{back};
 ghost use Rattle.model.specs.Layout.{encodePage, decodePage};
 ghost use Rattle.page.specs.Exact.{Exact};
@@ -46,14 +46,6 @@ pub fn live(e: Entry, w: u32) -> bool
     ensures { λ r. ⌜ r ≡ liveAt w e ⌝ }
 {
     both(e.start <= w, w < e.end)
-}
-
-// Every live entry is ended, and the page too.
-pub fn kill(page: &mut [u8], l: Limits, w: u32)
-    requires { ⌜ Edition l × Exact (l .least) (now page) × (w < 2 ^ 20) ⌝ }
-    ensures { λ _. ⌜ now (page .exit) ≡ encodePage (l .least) (killed w (decodePage (l .least) (now (page .entry)))) ⌝ }
-{
-    sift::sift(page, l, sift::Rule::Kill, w);
 }
 
 // A page that goes: an active one is freed, another killed.

@@ -39,8 +39,10 @@ fn end_if(yes: bool, w: u32, e: Entry) -> Fate
     ensures { λ r. ⌜ r ≡ endIf yes w e ⌝ }
 {
     if yes {
+        // An entry made at w goes: its span would be empty.
+        let older = e.start != w;
         Fate {
-            kept: e.start != w,
+            kept: older,
             entry: Entry {
                 key: e.key,
                 start: e.start,

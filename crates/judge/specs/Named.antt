@@ -1,4 +1,4 @@
--- Rules 4, 5 and 6 as `check` names them: by the notes, by the reach walk at the last version, by the sums and the slots. Assumes nothing.
+-- Rules 4, 5 and 6 as `check` names them: none where `quick` says so, else by the notes, by the reach walk at the last version, by the sums and the slots. Assumes nothing.
 use Prim.Native.Nat.{ℕ, _+_, _≤_}
 use native.Mathlib.Omega.{arith}
 use mathlib.Core.Bool.{Bool, true, false, _&&_}
@@ -12,14 +12,25 @@ use Rattle.model.specs.Store.{lastOf}
 use Rattle.model.specs.Sound.{rule2, rule3, rule4, rule5, rule6}
 use Rattle.model.specs.Layout.{decode, readHeader}
 use Rattle.model.specs.Clean.{clean}
-use Rattle.model.specs.Quick.{spansMet, slotsFine}
+use Rattle.model.specs.Quick.{spansMet, slotsFine, quick}
 use Rattle.model.specs.Judged.{brokenIn}
 use Rattle.model.proofs.Members.{bool-cases, not-both, all-in, in-count}
+use Rattle.model.proofs.Lists.{both-true}
+use Rattle.model.proofs.Quick.{quick-rules}
 use Rattle.model.proofs.Judging.{clean-first, broken-four, broken-five, broken-six, broken-none}
 use Rattle.notes.specs.Pass.{told}
 use Rattle.notes.specs.Six.{six-by}
 use Rattle.judge.specs.Versions.{versionOk}
 use Rattle.judge.specs.Rules.{six-is}
+
+-- ---- none
+
+pub named-sound : (least : ℕ) (b : List ℕ) → 2 ≤ least → clean least b ≡ true → rule2 (decode least b) ≡ true → rule3 (decode least b) ≡ true → quick least (decode least b) ≡ true → 0 ≡ brokenIn least b
+named-sound least b two r1 r2 r3 h =
+    let s = decode least b in
+    let (r45, r6) = both-true (rule4 s && rule5 least s) (rule6 s) (sym (quick-rules least two s (clean-first least b r1) r2 r3) ∙ h) in
+    let (r4, r5) = both-true (rule4 s) (rule5 least s) r45 in
+    sym (broken-none least b r1 r2 r3 r4 r5 r6)
 
 -- ---- rules 4 and 5
 

@@ -1,7 +1,7 @@
 // Judges a store that is lent: `check`, for any bytes, and the same over the limits of an edition.
 //
-// `quick` gives the number; a store that is not sound is gone through again here, by rules 1 to 7, each "on its own, once all lower ones
-// hold", to tell the lowest broken one. What it costs is told in docs/CHECK-COST.md.
+// The rules are asked from 1 on, each "on its own, once all lower ones hold", to tell the lowest broken one; a store that `quick` surely
+// finds sound is asked for no more. What it costs is told in docs/CHECK-COST.md.
 mod changes;
 mod live;
 mod reach;
@@ -20,8 +20,8 @@ pub(crate) fn wide(x: u32) -> usize
     x as usize
 }
 
-// The lowest rule that the bytes break, or 0. Rules 4 and 5 are named by the notes. Rule 6 is first looked for at the last version, by the
-// reach walk, and then at every other by the sums and the slots. Rule 7 follows from rules 1 and 3 (model/proofs/Judging, `seventh-by`), so it is not tested.
+// The lowest rule that the bytes break, or 0. Where `quick` does not find rules 4 to 6 to hold, rules 4 and 5 are named by the notes, in one
+// pass. Rule 6 is first looked for at the last version, by the reach walk, and then at every other by the sums and the slots. Rule 7 follows from rules 1 and 3 (model/proofs/Judging, `seventh-by`), so it is not tested.
 fn broken(s: &[u8], l: Limits, size: usize) -> u32
     requires { ⌜ Edition l × Sized (l .least) (now s) size ⌝ }
     ensures { λ r. ⌜ r ≡ brokenIn (l .least) (now (s .entry)) ⌝ }
@@ -36,6 +36,10 @@ fn broken(s: &[u8], l: Limits, size: usize) -> u32
     if !local::third_rule(s, l, h) {
         return 3;
     }
+    let fit = quick::led(s, l);
+    if quick::surely(s, l, fit) {
+        return 0;
+    }
     let rule = notes::broken(s, l, h);
     if rule != 0 {
         return rule;
@@ -43,24 +47,26 @@ fn broken(s: &[u8], l: Limits, size: usize) -> u32
     if !reach::version_ok(s, l, h, h.last()) {
         return 6;
     }
-    if !quick::led(s, l) {
+    if !fit {
         return 6;
     }
     0
 }
 
-// The number for any bytes that are lent, and with 4 the lowest broken rule. The number is found quickly: only bytes that break a rule
-// are walked over, to tell which.
+// The number for any bytes that are lent, and with 4 the lowest broken rule.
 pub fn judge_in(s: &[u8], l: Limits) -> Verdict
     requires { ⌜ Edition l ⌝ }
     ensures { λ r. ⌜ r ≡ judged (l .least) (now (s .entry)) ⌝ }
 {
-    let n = quick::number(s, l);
-    if n != 4 {
+    let n = quick::refused(s, l);
+    if n != 0 {
         return Verdict { number: n, rule: 0 };
     }
     let size = store::size(s, l);
     let rule = broken(s, l, size);
+    if rule == 0 {
+        return Verdict { number: 0, rule: 0 };
+    }
     Verdict {
         number: 4,
         rule: rule,

@@ -95,7 +95,8 @@ module _ (least : ℕ) (two-or-more : 2 ≤ least) (w : ℕ) (lim : w < alive) w
     pub level : page ps parent .level ≡ suc (suc l)
     pub tidy : Tidy least w (page ps parent)
     pub standing : Standing least w up (suc l) (page ps parent)
-    pub enough : least ≤ length us
+    -- "a gathered page holds 7" at least
+    pub enough : 2 * least ≤ suc (length us)
     pub before : List Pair
     pub after : List Pair
     pub live : pairsAt w (page ps parent) ≡ before ++ (rs ++ after)
@@ -244,7 +245,7 @@ module _ (least : ℕ) (two-or-more : 2 ≤ least) (w : ℕ) (lim : w < alive) w
     own-in : (lo hi : ℕ) → lo ≤ p .lo → p .hi ≤ hi → within lo hi (a .own .key) ≡ true
     own-in lo hi x y = in-one lo hi (a .own) (omega (arith, s .key)) (omega (arith, s .key, s .room))
 
-    alone : Some least w want → least ≤ length want → Grouped ps r l up total (a .own ∷ []) want
+    alone : Some least w want → 2 * least ≤ suc (length want) → Grouped ps r l up total (a .own ∷ []) want
     alone some-want enough = record {
       lo = p .lo;
       hi = p .hi;
@@ -423,7 +424,7 @@ module _ (least : ℕ) (two-or-more : 2 ≤ least) (w : ℕ) (lim : w < alive) w
         handed (g .routers) (g .pairs) k _
         (raise-by least w lim T ps l (k .lo) (k .hi) level (g .routers) (k .gs) e (k .room) (k .low-key) (flat (k .lo) (k .hi))
         (moved-retire least w lim T ps l (λ m z. spare z) (g .routers) ps (k .members) (λ m. inl refl)) (length-retire least w lim T ps l (λ m z. spare z) (g .routers) ps) (k .shape)
-        two-or-more (leb (length (g .pairs)) (4 * least)) (g .pairs) _ (λ _. k .enough) refl (uses-usable least w lim T ps l (λ m z. spare z) (g .routers) (k .members))
+        two-or-more (leb (length (g .pairs)) (4 * least)) (g .pairs) _ (λ _. omega (arith, k .enough)) refl (uses-usable least w lim T ps l (λ m z. spare z) (g .routers) (k .members))
         (apart-usable least w lim T ps l (λ m z. spare z) (g .routers) (k .shape) (k .members) (k .unlike)) (k .some-us) (k .holds))
 
     work-by : (b : Bool) → (roomy least w c (page ps (p .n)) && leb least (length want)) ≡ b → (n : ℕ) → a .own .value ≡ n → n ≡ p .n → WorkedShows (Rules.workBy least b w ps a c (page ps (p .n)))

@@ -21,7 +21,7 @@ use Rattle.model.proofs.Tree.{Row, Holds, Tree, row-le}
 use Rattle.model.proofs.Shows.{Shows, RootFair, in-list}
 
 -- how many numbers below n pass
-abbrev tally : (ℕ → Bool) → ℕ → ℕ
+abbrev pub tally : (ℕ → Bool) → ℕ → ℕ
 tally f zero = 0
 tally f (suc n) = pick (f n) 1 0 + tally f n
 
@@ -78,10 +78,10 @@ eight-big : (l : ℕ) → 4096 ≤ pow 8 (suc (suc (suc (suc l))))
 eight-big l = omega (arith, eight-pos l)
 
 module _ (base least : ℕ) (at-least : base ≤ least) (w : ℕ) (ps : List Page) where
-  leafIn : ℕ → ℕ → ℕ → Bool
+  unfoldable pub leafIn : ℕ → ℕ → ℕ → Bool
   leafIn lo hi i = eqb (page ps i .level) 1 && firstIn lo hi (pairsAt w (page ps i))
 
-  leaves : ℕ → ℕ → ℕ
+  unfoldable pub leaves : ℕ → ℕ → ℕ
   leaves lo hi = tally (leafIn lo hi) (length ps)
 
   first-wide : (a b c d : ℕ) (us : List Pair) → c ≤ a → b ≤ d → firstIn a b us ≡ true → firstIn c d us ≡ true
@@ -94,7 +94,7 @@ module _ (base least : ℕ) (at-least : base ≤ least) (w : ℕ) (ps : List Pag
   first-apart a b c [] p q = not-both false p refl
   first-apart a b c (x ∷ us) p q = omega (arith, ltb-true (x .key) b (both-true (leb a (x .key)) (ltb (x .key) b) p .1), leb-true b (x .key) (both-true (leb b (x .key)) (ltb (x .key) c) q .0))
 
-  leaves-split : (lo mid hi : ℕ) → lo ≤ mid → mid ≤ hi → leaves lo mid + leaves mid hi ≤ leaves lo hi
+  pub leaves-split : (lo mid hi : ℕ) → lo ≤ mid → mid ≤ hi → leaves lo mid + leaves mid hi ≤ leaves lo hi
   unfolding leaves leafIn
   leaves-split lo mid hi p q = tally-split (leafIn lo mid) (leafIn mid hi) (leafIn lo hi) (λ i h. wide lo mid lo hi i (omega arith) q h) (λ i h. wide mid hi lo hi i p (omega arith) h)
       (λ i a b. first-apart lo mid hi (pairsAt w (page ps i)) (both-true (eqb (page ps i .level) 1) _ a .1) (both-true (eqb (page ps i .level) 1) _ b .1)) (length ps)
@@ -115,7 +115,7 @@ module _ (base least : ℕ) (at-least : base ≤ least) (w : ℕ) (ps : List Pag
   first-of : (lo hi : ℕ) (us : List Pair) (x : Pair) (xs : List Pair) → us ≡ x ∷ xs → lo ≤ x .key → x .key < hi → firstIn lo hi us ≡ true
   first-of lo hi us x xs e p q = subst (λ (vs : List Pair). firstIn lo hi vs ≡ true) (sym e) (both-intro _ _ (le-leb lo (x .key) p) (lt-ltb (x .key) hi q))
 
-  tree-count : (l lo hi n : ℕ) (xs : List Pair) → Tree least w l ps lo hi n xs → pow base l ≤ leaves lo hi
+  pub tree-count : (l lo hi n : ℕ) (xs : List Pair) → Tree least w l ps lo hi n xs → pow base l ≤ leaves lo hi
   unfolding leaves leafIn
   tree-count zero lo hi n xs t =
       tally-one (leafIn lo hi) n (length ps) (both-intro _ _ (eq-eqb (page ps n .level) 1 (t .level)) (first-of lo hi (pairsAt w (page ps n)) (t .first) (t .others) (t .shown) (t .first-low) (t .first-high))) (in-list ps n 0 (t .level))

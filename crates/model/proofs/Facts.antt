@@ -1,6 +1,6 @@
 -- What soundness gives to everyone above: page numbers in range, one router for each page, no end on what is alive at last, a
 -- neighbour for each router. Beside these: levels fall by one (Fits, `child-of`), what is alive is reached and the other way round
--- (Fits, `reached-of`, `lives-of`), each page is met once (Once, `numbers-once`), no root above level 7 (Theorems, `roots-low`).
+-- (Fits, `reached-of`, `lives-of`), each page is met once (Once, `numbers-once`), no root above level 7 (Count, `root-low`).
 -- Assumes nothing.
 use Prim.Native.Nat.{ℕ, suc, _≤_, _<_}
 use native.Mathlib.Omega.{arith}

@@ -176,7 +176,7 @@ module _ (least : ℕ) (two-or-more : 2 ≤ least) (w : ℕ) (lim : w < alive) (
         by i z (inr (inr e)) d t = absurd e
     in-near h none none g = in-alone (omega arith)
 
-    group-in : (b : Bool) → ltb (length wish) (2 * least) ≡ b → GroupOf least two-or-more w lim ps r l a up c total p (Rules.gatherBy b w ps a wish)
+    pub group-in : (b : Bool) → ltb (length wish) (2 * least) ≡ b → GroupOf least two-or-more w lim ps r l a up c total p (Rules.gatherBy b w ps a wish)
         → GroupIn (Rules.gatherBy b w ps a wish .routers) (Rules.gatherBy b w ps a wish .pairs)
     unfolding Rules.gatherBy
     group-in true e g = in-near (ltb-true (length wish) (2 * least) e) (a .left) (a .right) g
@@ -225,7 +225,7 @@ module _ (least : ℕ) (two-or-more : 2 ≤ least) (w : ℕ) (lim : w < alive) (
         handed rs (g .pairs) q i _
         (raise-by least w lim U ps l (q .lo) (q .hi) (suc l) rs (q .gs) refl (q .room) (q .low-key) (flat least two-or-more w lim ps r l a up c total p (q .lo) (q .hi))
         (moved-retire least w lim U ps l (λ m z. spare z) rs ps (q .members) (λ m. inl refl)) (length-retire least w lim U ps l (λ m z. spare z) rs ps) (q .shape)
-        two-or-more (leb (length (g .pairs)) (4 * least)) (g .pairs) (usable w ps rs) (λ _. q .enough) refl (uses-usable least w lim U ps l (λ m z. spare z) rs (q .members)) apart (q .some-us) (q .holds))
+        two-or-more (leb (length (g .pairs)) (4 * least)) (g .pairs) (usable w ps rs) (λ _. omega (arith, q .enough)) refl (uses-usable least w lim U ps l (λ m z. spare z) rs (q .members)) apart (q .some-us) (q .holds))
         (redone-by least two-or-more w N ps l rs (q .shape) (distinct-of U ps l (λ m z. spare z) rs (q .shape) (q .unlike)) (λ m j. both m j .1) numbers low-key
         (leb (length (g .pairs)) (4 * least)) (g .pairs) (usable w ps rs) refl (in-usable least two-or-more w N ps rs) apart (i .bound)
         (holds-order least w ps l (q .lo) (q .hi) (g .pairs) (q .gs) (q .holds)) (i .kinds))

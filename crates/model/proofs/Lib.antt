@@ -52,6 +52,8 @@ pub mod PlanSlots
 pub mod PlanSound
 pub mod PlanOnce
 pub mod PlanSizes
+pub mod Most
+pub mod Gathers
 pub mod Lacking
 pub mod Unique
 pub mod Steady

@@ -24,7 +24,7 @@ use Rattle.model.proofs.Edit.{length-enter}
 use Rattle.model.proofs.Given.{Sound}
 use Rattle.model.proofs.Fits.{root-used, root-level}
 
-few-those : {A : Type 0} (f : A → Bool) (xs : List A) → length (those f xs) ≤ length xs
+pub few-those : {A : Type 0} (f : A → Bool) (xs : List A) → length (those f xs) ≤ length xs
 few-those f [] = omega arith
 few-those f (x ∷ xs) = at (f x) (few-those f xs)
   where

@@ -196,10 +196,10 @@ module _ (least : ℕ) (four : 4 ≤ least) (s : Store) (d : Sound least s) (o :
       leaf = f .leaf;
     }
 
-    pend : Pending least two′ w lim′ ps r 0 (way s w k) c total
+    pub pend : Pending least two′ w lim′ ps r 0 (way s w k) c total
     pend = pending least s k c f′
 
-    keeps : Keeps least two′ w lim′ pos′ N ps r (pend .n) 0 c
+    pub keeps : Keeps least two′ w lim′ pos′ N ps r (pend .n) 0 c
     keeps = record { inv = start-inv (pend .n) (wanted w c (page ps (pend .n))) (pend .level); low = low-all; takes = takes; upper = upper (pend .n) (pend .level) }
 
     slotted : (b : Bool) (n : ℕ) (qs : List Page) → leb (length (Climb.putSlot w n (s .slots))) (64 * least) ≡ b → (SlotsOk least four s d o (Climb.putSlot w n (s .slots)) n → Follows (record { current = s .current; opened = s .opened; slots = Climb.putSlot w n (s .slots); pages = qs }))
@@ -250,12 +250,19 @@ module _ (least : ℕ) (four : 4 ≤ least) (s : Store) (d : Sound least s) (o :
   few-page : (n : ℕ) → page ps n .level ≡ 1 → length (pairsAt w (page ps n)) ≤ 5 * least
   few-page n e = omega (arith, few-shown (page ps n .entries), d .pages n (level-used (page ps n) 0 e) .few)
 
+  -- a leaf that has taken its change
+  pub insert-few : (k x n : ℕ) → page ps n .level ≡ 1 → length (wanted w (record { drop = []; take = pair k x ∷ [] }) (page ps n)) ≤ suc (5 * least)
+  insert-few k x n e = omega (arith, length-enter (pair k x) (those (λ (y : Pair). true) (pairsAt w (page ps n))), few-those (λ (y : Pair). true) (pairsAt w (page ps n)), few-page n e)
+
+  pub delete-few : (k n : ℕ) → page ps n .level ≡ 1 → length (wanted w (record { drop = k ∷ []; take = [] }) (page ps n)) ≤ suc (5 * least)
+  delete-few k n e = omega (arith, few-those (λ (y : Pair). not (has (y .key) (k ∷ []))) (pairsAt w (page ps n)), few-page n e)
+
   -- an insert behind its tests, bench keys too
   pub raw-keeps : (k x : ℕ) → k < keyLimit → lookup s k w ≡ none → x < 4294967296 → Sounds (rawInsert least s k x)
   raw-keeps k x low absent h =
       update-sound k (record { drop = []; take = pair k x ∷ [] }) low (fit-insert least two′ s d o k low x absent)
       (both-intro _ _ (both-intro _ _ (lt-ltb k keyLimit low) (lt-ltb x 4294967296 h)) refl)
-      (λ n e. omega (arith, length-enter (pair k x) (those (λ (y : Pair). true) (pairsAt w (page ps n))), few-those (λ (y : Pair). true) (pairsAt w (page ps n)), few-page n e))
+      (insert-few k x)
 
   pub insert-keeps : (k x : ℕ) → x < 4294967296 → Sounds (insert least s k x)
   insert-keeps k x h = insert-by Sounds least s k x (λ n. tt) (λ _ low absent. raw-keeps k x low absent h)
@@ -263,4 +270,4 @@ module _ (least : ℕ) (four : 4 ≤ least) (s : Store) (d : Sound least s) (o :
   pub delete-keeps : (k : ℕ) → Sounds (delete least s k)
   delete-keeps k = delete-by Sounds least s k (λ n. tt)
       (λ _ low present. update-sound k (record { drop = k ∷ []; take = [] }) low (fit-delete least two′ s d o k low) refl
-      (λ n e. omega (arith, few-those (λ (y : Pair). not (has (y .key) (k ∷ []))) (pairsAt w (page ps n)), few-page n e)))
+      (delete-few k))

@@ -1,16 +1,15 @@
--- Check's number for lent bytes, and sound or not, by quick judging.
+-- Check's number for lent bytes by quick judging.
 -- Assumes nothing.
 use Prim.Native.Nat.{ℕ, _≤_}
 use mathlib.Core.Bool.{Bool, true, false, _&&_}
 use mathlib.Core.Path.{_≡_, refl, ap, sym, _∙_}
 use mathlib.Core.List.{List}
-use lib.Dec.{eqb}
 use Rattle.model.specs.Basic.{pick}
 use Rattle.model.specs.Store.{Store}
 use Rattle.model.specs.Sound.{rule2, rule3, rule4, rule5, rule6}
 use Rattle.model.specs.Layout.{decode}
 use Rattle.model.specs.Clean.{clean}
-use Rattle.model.specs.Judged.{lengthOk, magicOk, editionOk, brokenIn, verdict, ruled, judged, isSound}
+use Rattle.model.specs.Judged.{lengthOk, magicOk, editionOk, brokenIn, verdict, ruled, judged}
 use Rattle.model.specs.Quick.{quick, quickIn}
 use Rattle.model.proofs.Judging.{clean-first, broken-one, broken-two, broken-three, broken-four, broken-five, broken-six, broken-none}
 use Rattle.model.proofs.Quick.{quick-rules}
@@ -46,15 +45,3 @@ module _ (least : ℕ) (two : 2 ≤ least) (b : List ℕ) where
       at true false z = refl
       at true true false = refl
       at true true true = ruled-quickly
-
-  -- "sound or not"
-  pub sound-quickly : isSound least b ≡ (lengthOk least b && magicOk b && editionOk least b && quickIn least b)
-  unfolding isSound
-  sound-quickly = ap (λ (n : ℕ). eqb n 0) number-quickly ∙ at (lengthOk least b) (magicOk b) (editionOk least b) (quickIn least b)
-    where
-      at : (x y z t : Bool) → eqb (pick x (pick y (pick z (pick t 0 4) 3) 2) 1) 0 ≡ (x && y && z && t)
-      at false y z t = refl
-      at true false z t = refl
-      at true true false t = refl
-      at true true true false = refl
-      at true true true true = refl

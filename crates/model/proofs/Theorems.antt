@@ -28,9 +28,8 @@ use Rattle.model.proofs.Edit.{lt, length-enter, keep-all, those-one}
 use Rattle.model.proofs.Given.{Sound, from-tests, to-tests}
 use Rattle.model.proofs.Main.{Changed, update-changes}
 use Rattle.model.proofs.Walks.{seen-reached}
-use Rattle.model.proofs.Fits.{insert-by, delete-by, raw-changes, fit-delete, shows-all, count-of}
+use Rattle.model.proofs.Fits.{insert-by, delete-by, raw-changes, fit-delete, count-of}
 use Rattle.model.proofs.Lookups.{lookup-is, settings-rise}
-use Rattle.model.proofs.Count.{root-low, root-lower}
 use Rattle.model.proofs.History.{one-call}
 use Rattle.model.proofs.Undone.{lent-agrees}
 
@@ -50,18 +49,6 @@ call-sound least four s sure c h =
 pub call-shows : (least : ℕ) → 4 ≤ least → (s : Store) → T (sound least s) → (c : Call) → T (fits c) → (v : ℕ) → v ≤ last (onward (lent s) c (callBy least s c) .store)
     → settings (onward (lent s) c (callBy least s c) .store) v ≡ onward (lent s) c (callBy least s c) .machine .shows v
 call-shows least four s sure c h v z = one-call least four (lent s) (lent-agrees least s sure) c (holds-true (fits c) h) .shows v z
-
--- "With 4,096 pages rule 5 keeps every root at level 7 or lower": from the tree alone, whatever rule 1 says of levels.
-pub roots-low : (least : ℕ) → 4 ≤ least → (s : Store) → T (sound least s) → (v : ℕ) → v ≤ last s → page (s .pages) (rootAt (s .slots) v) .level ≤ 7
-roots-low least four s sure v h =
-    let d = from-tests least s (holds-true (sound least s) sure) in
-    root-low least v (s .pages) (rootAt (s .slots) v) (settings s v) (shows-all least (omega arith) s d v h) (d .short) four
-
--- and, with limits twice as large, at level 5 or lower
-pub roots-lower : (least : ℕ) → 8 ≤ least → (s : Store) → T (sound least s) → (v : ℕ) → v ≤ last s → page (s .pages) (rootAt (s .slots) v) .level ≤ 5
-roots-lower least eight s sure v h =
-    let d = from-tests least s (holds-true (sound least s) sure) in
-    root-lower least v (s .pages) (rootAt (s .slots) v) (settings s v) (shows-all least (omega arith) s d v h) (d .short) eight
 
 -- "Every page that a version reaches, its root aside, holds at least four entries alive at that version."
 pub balanced : (least : ℕ) → 2 ≤ least → (s : Store) → T (sound least s) → (v : ℕ) → v ≤ last s → (x : Seen) → In x (seen s v) → x .number ≢ rootAt (s .slots) v → least ≤ length (pairsAt v (page (s .pages) (x .number)))

@@ -27,9 +27,11 @@ pub mod Lent
 pub mod Ended
 pub mod Needs
 pub mod Plan
+pub mod Gathered
 pub mod Replay
 pub mod Table
 pub mod AlsoRun
+pub mod Readings
 pub mod Bench
 pub mod Releases
 pub mod GoingBack

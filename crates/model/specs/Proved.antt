@@ -2,7 +2,7 @@
 -- Assumes nothing.
 use lib.Dec.{T}
 use mathlib.Core.Path.{_≡_, refl}
-use mathlib.Core.List.{map}
+use mathlib.Core.List.{map, _++_}
 use Rattle.model.specs.Basic.{all}
 use Rattle.model.specs.Store.{fresh}
 use Rattle.model.specs.Rules
@@ -19,6 +19,7 @@ use Rattle.model.specs.Layout.{encode, decode, entryBytes}
 use Rattle.model.specs.Replay.{History, holds, soundWay, readBack}
 use Rattle.model.specs.Table.{table}
 use Rattle.model.specs.AlsoRun.{alsoRun}
+use Rattle.model.specs.Readings.{readings, orders}
 use Rattle.model.specs.Bench.{benchRun}
 use Rattle.model.specs.Releases.{releases}
 use Rattle.model.specs.Return
@@ -77,6 +78,15 @@ also-run = tt
 pub also-sound : T (all (λ (h : History). sound 4 (h .store)) alsoRun)
 unfolding judging
 also-sound = tt
+
+-- what P1 to P12 leave open, and the order of numbers; every store on the way of a reading is sound
+pub readings-run : T (all holds (readings ++ orders))
+unfolding calling writing
+readings-run = tt
+
+pub readings-sound : T (all soundWay readings)
+unfolding calling judging
+readings-sound = tt
 
 -- 2026-06: where the bench keys begin, and a store shipped with them, sound on every way
 pub bench-run : T (all holds benchRun)

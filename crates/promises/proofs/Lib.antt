@@ -9,6 +9,8 @@ pub mod Near
 pub mod Agreed
 pub mod Answering
 pub mod Changed
+pub mod Leveled
+pub mod Roomy
 pub mod Projected
 pub mod Stays
 pub mod Differences

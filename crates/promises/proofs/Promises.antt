@@ -1,5 +1,5 @@
--- The promises, each under its name: what it says stands in specs/Demand1, Demand2, Demand3, in a file for each request of document 02
--- (OldReadings, Near, Bench, Differences, Lives, Releases, Returns), in Replayed and Fakes.
+-- The promises, each under its name: what it says stands in specs/Demand1, Demand2, Levels, Room, Demand3, in a file for each request of
+-- document 02 (OldReadings, Near, Bench, Differences, Lives, Releases, Returns), in Replayed and Fakes.
 -- Assumes nothing.
 use Prim.Native.Nat.{ℕ}
 use native.Mathlib.Omega.{arith}
@@ -30,7 +30,9 @@ use Rattle.promises.specs.Accepts.{Accepts}
 use Rattle.promises.specs.Runs.{changing, reading, kindOf}
 use Rattle.promises.specs.Beside.{along, fromFresh, fromLent}
 use Rattle.promises.specs.Demand1.{Unique, Refused, Blank, Judges, Untrusted, OneForm, FreshMade}
-use Rattle.promises.specs.Demand2.{EncodedSound, AcceptedSound, SoundStays, FreshSound, History, HistoryLent, Found, SettingsChange, AnswersStay, ViewsStay, ByTheRules, ReadsOnly, Balanced, Levels, Lacking}
+use Rattle.promises.specs.Demand2.{EncodedSound, AcceptedSound, SoundStays, FreshSound, History, HistoryLent, Found, SettingsChange, AnswersStay, ViewsStay, ByTheRules, ReadsOnly, Balanced, Lacking}
+use Rattle.promises.specs.Levels.{Levels}
+use Rattle.promises.specs.Room.{NoRangeOutgrows}
 use Rattle.promises.specs.Demand3.{Abandoned}
 use Rattle.promises.specs.OldReadings.{PagesStay, VisitsTold, VisitsStay}
 use Rattle.promises.specs.Near.{LookupJudges, RangeJudges, OffTheWalk, SoundSame}
@@ -47,6 +49,8 @@ use Rattle.promises.proofs.Lending.{kind-asks, by-kind, change-is, call
 use Rattle.promises.proofs.Agreed.{many-turns, fresh-agreed, lent-agreed}
 use Rattle.promises.proofs.Answering.{answers}
 use Rattle.promises.proofs.Changed as changed
+use Rattle.promises.proofs.Leveled as leveled
+use Rattle.promises.proofs.Roomy as roomy
 use Rattle.promises.proofs.Stays as stays
 use Rattle.promises.proofs.Near as near
 use Rattle.promises.proofs.OffWalk as off
@@ -160,10 +164,10 @@ balanced least four b ok v h =
         (le-leb least (live x) (stores.balanced least (omega arith) (decode least b) (sound-in least b ok) v h x i (eqb-false (x .number) (rootAt (decode least b .slots) v) e)))
 
 pub levels : Levels
-levels = record {
-  one = λ least four b ok v h. stores.roots-low least four (decode least b) (sound-in least b ok) v h;
-  two = λ least eight b ok v h. stores.roots-lower least eight (decode least b) (sound-in least b ok) v h;
-}
+levels = leveled.levels
+
+pub no-range-outgrows : NoRangeOutgrows
+no-range-outgrows = roomy.no-range-outgrows
 
 pub lacking : Lacking
 lacking = lacks.lacking-lent

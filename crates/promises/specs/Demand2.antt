@@ -97,14 +97,6 @@ abbrev pub Balanced : Type 0
 Balanced = (least : ℕ) → 4 ≤ least → (b : List ℕ) → Accepts least b → (v : ℕ) → v ≤ last (decode least b)
     → all (λ (x : Seen). eqb (x .number) (rootAt (decode least b .slots) v) || leb least (length (pairsAt v (page (decode least b .pages) (x .number))))) (seen (decode least b) v) ≡ true
 
--- "With 4,096 pages rule 5 keeps every root at level 7 or lower", and in edition 2 at level 5 or lower.
-abbrev pub rootLevel : ℕ → List ℕ → ℕ → ℕ
-rootLevel least b v = page (decode least b .pages) (rootAt (decode least b .slots) v) .level
-
-pub record Levels : Type 0 where
-  pub one : (least : ℕ) → 4 ≤ least → (b : List ℕ) → Accepts least b → (v : ℕ) → v ≤ last (decode least b) → rootLevel least b v ≤ 7
-  pub two : (least : ℕ) → 8 ≤ least → (b : List ℕ) → Accepts least b → (v : ℕ) → v ≤ last (decode least b) → rootLevel least b v ≤ 5
-
 -- ---- "An update is refused for lack of pages exactly when those rules need a page and none is free": 12, and 13 so for a slot, on any bytes
 
 abbrev pub Lacking : Type 0

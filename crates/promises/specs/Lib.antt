@@ -7,6 +7,8 @@ pub mod Near
 pub mod Lives
 pub mod Demand1
 pub mod Demand2
+pub mod Levels
+pub mod Room
 pub mod Demand3
 pub mod OldReadings
 pub mod Differences

@@ -1,18 +1,23 @@
 -- Quick judging, one test after the other. Assumes nothing.
-use Prim.Native.Nat.{ℕ}
+use Prim.Native.Nat.{ℕ, _≤_}
+use native.Mathlib.Omega.{arith}
 use mathlib.Core.Bool.{Bool, true, false, _&&_}
-use mathlib.Core.Path.{_≡_, ap}
+use mathlib.Core.Path.{_≡_, refl, ap, sym, _∙_}
 use mathlib.Core.List.{List}
-use lib.Dec.{eqb}
 use lib.ListN.{drop}
-use Rattle.model.specs.Basic.{inOrder}
+use Rattle.model.specs.Basic.{pick, inOrder}
 use Rattle.model.specs.Page.{Page}
 use Rattle.model.specs.Store.{Store}
 use Rattle.model.specs.Sound.{rule2, rule3, pagesPass}
 use Rattle.model.specs.Layout.{decode}
 use Rattle.model.specs.Clean.{clean}
-use Rattle.model.specs.Judged.{judged, isSound}
+use Rattle.model.specs.Judged.{lengthOk, magicOk, editionOk, judged}
+use Rattle.model.proofs.QuickLent.{number-quickly}
 use Rattle.model.specs.Quick.{apart, childrenFine, slotsFine, spansMet, quick, quickIn}
+
+-- numbers 1 to 3: the length, the name, the edition
+abbrev pub refusedBy : Bool → Bool → Bool → ℕ
+refusedBy x y z = pick x (pick y (pick z 0 3) 2) 1
 
 -- ---- rules 4 to 6
 
@@ -45,6 +50,24 @@ module _ (least : ℕ) (b : List ℕ) where
 
   -- ---- the number
 
-  pub sound-by : (n : ℕ) → n ≡ judged least b .number → eqb n 0 ≡ isSound least b
-  unfolding isSound
-  sound-by n e = rw e
+  module _ (n : ℕ) (q : n ≡ refusedBy (lengthOk least b) (magicOk b) (editionOk least b)) where
+    pub refused-number : 2 ≤ least → (n ≡ 0 → ⊥) → n ≡ judged least b .number
+    refused-number two u = at (lengthOk least b) (magicOk b) (editionOk least b) q ∙ sym (number-quickly least two b)
+      where
+        at : (x y z : Bool) → n ≡ refusedBy x y z → n ≡ pick x (pick y (pick z (pick (quickIn least b) 0 4) 3) 2) 1
+        at false y z e = e
+        at true false z e = e
+        at true true false e = e
+        at true true true e = absurd (u e)
+
+    pub not-refused : n ≡ 0 → (lengthOk least b ≡ true) × (magicOk b ≡ true) × (editionOk least b ≡ true)
+    not-refused u = at (lengthOk least b) (magicOk b) (editionOk least b) refl refl refl q
+      where
+        at : (x y z : Bool) → lengthOk least b ≡ x → magicOk b ≡ y → editionOk least b ≡ z → n ≡ refusedBy x y z → (lengthOk least b ≡ true) × (magicOk b ≡ true) × (editionOk least b ≡ true)
+        at false y z f g h e = absurd (omega arith)
+        at true false z f g h e = absurd (omega arith)
+        at true true false f g h e = absurd (omega arith)
+        at true true true f g h e = (f, g, h)
+
+    pub ruled-number : 2 ≤ least → n ≡ 0 → judged least b .number ≡ pick (quickIn least b) 0 4
+    ruled-number two u = let (f, g, h) = not-refused u in number-quickly least two b ∙ rw (f, g, h)

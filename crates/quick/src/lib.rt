@@ -13,18 +13,20 @@ mod within;
 
 use model::Header;
 use model::Limits;
+use within::Within;
 ghost use mathlib.Core.Path.{_≡_};
-ghost use mathlib.Core.Bool.{_&&_};
-ghost use Prim.Native.Nat.{_+_, _*_, _≤_};
+ghost use mathlib.Core.Bool.{true, _&&_};
+ghost use Prim.Native.Nat.{_+_, _*_, _≤_, _<_};
 ghost use lib.ListN.{drop};
 ghost use Rattle.model.specs.Limits.{Edition};
 ghost use Rattle.model.specs.Layout.{decode};
-ghost use Rattle.model.specs.Judged.{judged, isSound};
+ghost use Rattle.model.specs.Judged.{lengthOk, magicOk, editionOk, judged};
 ghost use Rattle.model.specs.Quick.{spansMet, slotsFine, quick, quickIn};
 ghost use Rattle.local.specs.Local.{Sized};
 ghost use Rattle.notes.specs.Ready.{Ready};
 ghost use Rattle.quick.specs.Good.{Good};
 ghost use Rattle.quick.specs.Noted.{Ruled};
+ghost use Rattle.quick.specs.Number.{refusedBy};
 ghost use Rattle.quick.specs.Slots.{GoodSlots};
 
 pub(crate) fn wide(x: u32) -> usize
@@ -52,6 +54,31 @@ fn budget(size: usize) -> u32
     (16 * size + 1024) as u32
 }
 
+// The pages, where the sums and the slots are right: what is found is rules 4 to 6, if something of the budget is left.
+fn pages_within(s: &[u8], l: Limits) -> Within
+    requires { ⌜ Edition l × Good (l .least) (now s) ⌝ }
+    ensures { λ r. ⌜ ((spansMet (decode (l .least) (now (s .entry))) 5 (drop 5 (decode (l .least) (now (s .entry)) .pages)) && slotsFine (l .least) (decode (l .least) (now (s .entry)) .pages) (decode (l .least) (now (s .entry)) .slots)) ≡ true → 0 < r .left → r .fine ≡ quick (l .least) (decode (l .least) (now (s .entry)))) ⌝ }
+{
+    let size = store::size(s, l);
+    pages::pages_fine(s, l, budget(size))
+}
+
+// Whether rules 4 to 6 are found to hold within the budget; `fit` is what `led` gave. Only `true` tells: `false` stands too where the
+// budget is used up. For check, which asks the notes in either case, and so asks them once.
+pub fn surely(s: &[u8], l: Limits, fit: bool) -> bool
+    requires { ⌜ Edition l × Good (l .least) (now s) × (fit ≡ (spansMet (decode (l .least) (now s)) 5 (drop 5 (decode (l .least) (now s) .pages)) && slotsFine (l .least) (decode (l .least) (now s) .pages) (decode (l .least) (now s) .slots))) ⌝ }
+    ensures { λ r. ⌜ (r ≡ true → quick (l .least) (decode (l .least) (now (s .entry))) ≡ true) ⌝ }
+{
+    if !fit {
+        return false;
+    }
+    let w = pages_within(s, l);
+    if w.left == 0 {
+        return false;
+    }
+    w.fine
+}
+
 // Rules 4 to 6, where rules 1 to 3 hold. Both ways are exact: the pages within the budget, which is quick on what a history leaves, and,
 // where that is used up, the notes, which no bytes can keep busy.
 fn quick(s: &[u8], l: Limits, h: Header) -> bool
@@ -61,8 +88,7 @@ fn quick(s: &[u8], l: Limits, h: Header) -> bool
     if !led(s, l) {
         return false;
     }
-    let size = store::size(s, l);
-    let w = pages::pages_fine(s, l, budget(size));
+    let w = pages_within(s, l);
     if 0 < w.left {
         return w.fine;
     }
@@ -87,10 +113,10 @@ fn rules_hold(s: &[u8], l: Limits, size: usize) -> bool
     quick(s, l, h)
 }
 
-// The number of check for any bytes that are lent, without the rule that 4 comes with.
-pub fn number(s: &[u8], l: Limits) -> u32
+// The numbers 1 to 3, or 0.
+pub fn refused(s: &[u8], l: Limits) -> u32
     requires { ⌜ Edition l ⌝ }
-    ensures { λ r. ⌜ r ≡ judged (l .least) (now (s .entry)) .number ⌝ }
+    ensures { λ r. ⌜ r ≡ refusedBy (lengthOk (l .least) (now (s .entry))) (magicOk (now (s .entry))) (editionOk (l .least) (now (s .entry))) ⌝ }
 {
     if !store::whole(s, l) {
         return 1;
@@ -101,17 +127,21 @@ pub fn number(s: &[u8], l: Limits) -> u32
     if !store::of_edition(s, l) {
         return 3;
     }
+    0
+}
+
+// The number of check for any bytes that are lent, without the rule that 4 comes with.
+pub fn number(s: &[u8], l: Limits) -> u32
+    requires { ⌜ Edition l ⌝ }
+    ensures { λ r. ⌜ r ≡ judged (l .least) (now (s .entry)) .number ⌝ }
+{
+    let n = refused(s, l);
+    if n != 0 {
+        return n;
+    }
     let size = store::size(s, l);
     if !rules_hold(s, l, size) {
         return 4;
     }
     0
-}
-
-// Whether any bytes that are lent are a sound store's.
-pub fn sound(s: &[u8], l: Limits) -> bool
-    requires { ⌜ Edition l ⌝ }
-    ensures { λ r. ⌜ r ≡ isSound (l .least) (now (s .entry)) ⌝ }
-{
-    number(s, l) == 0
 }

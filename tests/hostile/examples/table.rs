@@ -11,9 +11,9 @@ use std::process::{Command, Stdio};
 use std::time::Duration;
 
 use hostile::bound::Bound;
-use hostile::judge::check;
+use hostile::judge::{check, judged};
 use hostile::measure::{in_turn, once, told};
-use hostile::quick::budget;
+use hostile::quick::{budget, read::Loads};
 use hostile::recipe::{family, ROWS};
 use reference::layout::PAGE_BYTES;
 
@@ -30,7 +30,7 @@ fn main() {
     programs.extend(arguments.get(1).cloned());
     let columns = |word: &str| format!(" {word} |").repeat(programs.len());
     println!(
-        "| | pages | broken rule | judging: `under`, notes, looks | check: notes, looks besides | 7 C + 2 P + S |{}{}",
+        "| | pages | broken rule | judging: `under`, notes, looks | check: notes, looks | 7 C + 2 P + S |{}{}",
         columns("judging"),
         columns("check")
     );
@@ -46,9 +46,10 @@ fn main() {
 fn line(name: &str, store: &[u8], programs: &[String]) {
     let pages = store.len() / PAGE_BYTES;
     let (number, rule, taken) = check(store, budget(pages));
+    let (_, judging) = judged::<Loads>(store, budget(pages));
     let bound = Bound::of(store);
-    assert!(taken.under <= budget(pages));
-    assert!(bound.holds(taken.judging) && bound.holds(taken.naming));
+    assert!(taken.under <= budget(pages) && judging.under <= budget(pages));
+    assert!(bound.holds(judging.judging) && bound.holds(taken.naming));
     let file = std::env::temp_dir().join(format!("hostile-{}.store", std::process::id()));
     std::fs::write(&file, store).expect("a file for the store");
     let times: String = ["commit", "check"]
@@ -57,7 +58,7 @@ fn line(name: &str, store: &[u8], programs: &[String]) {
         .map(|(call, program)| format!(" {} |", asked(program, call, &file, (number, rule))))
         .collect();
     std::fs::remove_file(&file).expect("the file for the store");
-    let (judging, naming) = (taken.judging, taken.naming);
+    let (notes, naming) = (judging.judging, taken.naming);
     println!(
         "| {name} | {pages} | {} | {}, {}, {} | {}, {} | {} |{times}",
         if rule == 0 {
@@ -65,9 +66,9 @@ fn line(name: &str, store: &[u8], programs: &[String]) {
         } else {
             rule.to_string()
         },
-        taken.under,
-        judging.notes,
-        judging.looks,
+        judging.under,
+        notes.notes,
+        notes.looks,
         naming.notes,
         naming.looks,
         bound.where_reached()

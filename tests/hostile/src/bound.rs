@@ -12,7 +12,7 @@ pub struct Bound {
     pub slots: u64,
     pub changes: u64,
     /// Of any store: a note ends only by a start or an end at or below its page, and
-    /// each of these versions ends it once.
+    /// each of these versions ends it once; a root is visited once more for its slot.
     pub any: u64,
 }
 
@@ -51,7 +51,7 @@ impl Bound {
             pages,
             slots,
             changes,
-            any: pages + ends.iter().sum::<u64>(),
+            any: pages + slots + ends.iter().sum::<u64>(),
         }
     }
 
@@ -64,6 +64,6 @@ impl Bound {
     pub fn holds(self, work: Work) -> bool {
         work.steps <= self.changes + self.slots + 1
             && work.notes <= self.any
-            && work.looks <= 20 * work.notes + work.steps
+            && work.looks <= 20 * work.notes
     }
 }

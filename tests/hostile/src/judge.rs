@@ -5,12 +5,11 @@ use reference::number;
 
 use crate::notes::{self, Work};
 use crate::quick::read::{Loads, Reading};
-use crate::quick::{budget, led, quick, rules};
+use crate::quick::{budget, led, quick, rules, surely};
 use crate::reach;
 
-/// What judging took: pages that `under` read, the notes where these were too many,
-/// and what check took besides: the notes that name a rule, the walk at the last
-/// version.
+/// What a call took: pages that `under` read; the notes where these were too many, in
+/// judging; the notes that name a rule and the walk at the last version, in check.
 #[derive(Clone, Copy, Debug, Default, PartialEq, Eq)]
 pub struct Taken {
     pub under: u32,
@@ -68,24 +67,35 @@ pub fn judged<R: Reading>(store: &[u8], budget: u32) -> (u32, Taken) {
     (number, taken)
 }
 
-/// Check: the number and, with 4, the lowest rule that is broken.
+/// Check: the number and, with 4, the lowest rule that is broken. Where the pages do
+/// not tell that the store is sound the notes are asked, once.
 pub fn check(store: &[u8], budget: u32) -> (u32, u32, Taken) {
-    let (number, mut taken) = judged::<Loads>(store, budget);
-    if number != number::UNSOUND {
+    let mut taken = Taken::default();
+    if let Some(number) = refused(store) {
         return (number, 0, taken);
     }
     let local = rules::broken::<Loads>(store);
     if local != 0 {
-        return (number, local, taken);
+        return (number::UNSOUND, local, taken);
+    }
+    let fit = led::<Loads>(store);
+    let mut left = budget;
+    let sure = surely::<Loads>(store, fit, &mut left);
+    taken.under = budget - left;
+    if sure {
+        return (number::DONE, 0, taken);
     }
     let (rule, work) = notes::broken(store);
     taken.naming = work;
     if rule != 0 {
-        return (number, rule, taken);
+        return (number::UNSOUND, rule, taken);
     }
     let (reached, pages) = reach::at_last(store);
     taken.reached = pages;
     // what the walk finds the sums and the slots find too
-    assert!(!led::<Loads>(store) && (reached || pages > 0));
-    (number, 6, taken)
+    assert!(reached || !fit);
+    match fit {
+        true => (number::DONE, 0, taken),
+        false => (number::UNSOUND, 6, taken),
+    }
 }

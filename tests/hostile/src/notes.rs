@@ -35,7 +35,7 @@ pub struct Work {
     pub steps: u64,
     /// Notes made.
     pub notes: u64,
-    /// Times that a note was asked for and held.
+    /// Times that the note of a page below was asked for and held.
     pub looks: u64,
 }
 
@@ -114,30 +114,39 @@ impl Walk<'_> {
         Some(full)
     }
 
-    /// The note of a page; none where rule 4 is broken at or below it.
+    /// The note of a page, made anew; none where rule 4 is broken at or below it.
     fn visit(&mut self, number: usize, level: u32, version: u32) -> Option<Note> {
-        let known = self.notes[number];
-        if version < known.until {
-            self.work.looks += 1;
-            return Some(known);
-        }
         self.work.notes += 1;
         let page = part(self.store, number);
         let mut note = NOTHING;
         for place in 0..Loads::head(page).count {
             let entry = Loads::entry(page, place);
-            if version < entry.start {
-                note.until = note.until.min(entry.start);
-            } else if version < entry.end {
-                let below = match level {
-                    LEAF => NOTHING,
-                    _ => self.visit(entry.value as usize, level - 1, version)?,
-                };
-                note = joined(level, note, entry, below)?;
-            }
+            note = self.next(note, level, version, entry)?;
         }
         self.notes[number] = note;
         Some(note)
+    }
+
+    /// One more entry. The page under a live one is visited where its note has ended.
+    fn next(&mut self, note: Note, level: u32, version: u32, entry: Entry) -> Option<Note> {
+        if version < entry.start {
+            let until = note.until.min(entry.start);
+            return Some(Note { until, ..note });
+        }
+        if entry.end <= version {
+            return Some(note);
+        }
+        if level == LEAF {
+            return joined(level, note, entry, NOTHING);
+        }
+        let number = entry.value as usize;
+        let known = self.notes[number];
+        if version < known.until {
+            self.work.looks += 1;
+            return joined(level, note, entry, known);
+        }
+        let made = self.visit(number, level - 1, version)?;
+        joined(level, note, entry, made)
     }
 }
 

@@ -25,6 +25,12 @@ pub fn quick<R: Reading>(store: &[u8], left: &mut u32) -> Option<bool> {
     (*left > 0).then_some(fine)
 }
 
+/// Whether rules 4 to 6 are found to hold with something of `left` left, given what
+/// `led` says.
+pub fn surely<R: Reading>(store: &[u8], fit: bool, left: &mut u32) -> bool {
+    fit && routers::pages_fine::<R>(store, left) && *left > 0
+}
+
 /// What leads to each page: the sums, and the slots.
 pub fn led<R: Reading>(store: &[u8]) -> bool {
     sums::spans_met::<R>(store) && sums::slots_fine::<R>(store)

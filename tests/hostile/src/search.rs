@@ -4,17 +4,26 @@
 use reference::layout::PAGE_BYTES;
 use reference::rng::Rng;
 
-use crate::judge::{check, Taken};
+use crate::judge::{check, judged, Taken};
 use crate::quick::budget;
+use crate::quick::read::Loads;
 use crate::recipe::{Family, Number};
 
-/// A store that was tried.
+/// A store that was tried, and what judging and check took.
 pub struct Tried {
     pub numbers: Vec<u32>,
     pub store: Vec<u8>,
     pub number: u32,
     pub rule: u32,
-    pub taken: Taken,
+    pub judging: Taken,
+    pub check: Taken,
+}
+
+impl Tried {
+    /// Pages read by both.
+    pub fn visits(&self) -> u64 {
+        self.judging.visits() + self.check.visits()
+    }
 }
 
 /// The store of these numbers, checked, if it has at most so many pages.
@@ -25,13 +34,16 @@ pub fn tried(family: &Family, numbers: &[u32], most: usize) -> Option<Tried> {
         return None;
     }
     let (number, rule, taken) = check(&store, budget(pages));
+    let (judged, judging) = judged::<Loads>(&store, budget(pages));
+    assert_eq!(judged, number, "judging and check");
     let numbers = numbers.to_vec();
     Some(Tried {
         numbers,
         store,
         number,
         rule,
-        taken,
+        judging,
+        check: taken,
     })
 }
 
@@ -61,7 +73,7 @@ pub fn climb(
         seen(&tried);
         if best
             .as_ref()
-            .is_none_or(|best| best.taken.visits() <= tried.taken.visits())
+            .is_none_or(|best| best.visits() <= tried.visits())
         {
             best = Some(tried);
         }

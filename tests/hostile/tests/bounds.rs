@@ -13,10 +13,11 @@ fn bounded(tried: &Tried, name: &str) {
     let numbers = &tried.numbers;
     let pages = tried.store.len() / PAGE_BYTES;
     let bound = Bound::of(&tried.store);
-    let taken = tried.taken;
-    assert!(taken.under <= budget(pages), "{name} {numbers:?}");
-    assert!(taken.reached <= bound.pages, "{name} {numbers:?}");
-    for work in [taken.judging, taken.naming] {
+    for taken in [tried.judging, tried.check] {
+        assert!(taken.under <= budget(pages), "{name} {numbers:?}");
+        assert!(taken.reached <= bound.pages, "{name} {numbers:?}");
+    }
+    for work in [tried.judging.judging, tried.check.naming] {
         assert!(bound.holds(work), "{name} {numbers:?}: {work:?}");
         assert!(
             work.notes <= NOTES_A_PAGE * pages as u64,
@@ -55,7 +56,7 @@ fn hill_climbing() {
                 assert_eq!(host::check(&tried.store), verdict, "{:?}", tried.numbers);
             });
             if let Some(best) = best {
-                let visits = best.taken.visits();
+                let visits = best.visits();
                 println!("{} {:?}: {visits} visits", family.name, best.numbers);
             }
         }

@@ -5,7 +5,7 @@ use native.Mathlib.Omega.{arith}
 use borrow.Author.Tests.{not-true, not-false}
 use Rattle.local.specs.Linked.{held}
 use Rattle.notes.specs.Given.{ready}
-use Rattle.judge.specs.Named.{named-some, six-last, six-led, six-none}
+use Rattle.judge.specs.Named.{named-sound, named-some, six-last, six-led, six-none}
 use Rattle.quick.specs.Given.{good}
 use Rattle.quick.specs.Slots.{good-slots}
 use Rattle.store.specs.Read.{current-lt}
@@ -57,29 +57,58 @@ third-rule-requires c κs = (c .before .before .before .before .before .before .
 returns-3 : tie.Need-returns-3
 returns-3 c = let a = c .before .before .before .before .before .before .before .before .args in sym (broken-three (a .l .least) (a .s .now) (one ((c .before .before .before .before .before))) (two ((c .before .before))) (sym (c .before .third-rule .ensures) ∙ not-true (c .before .third-rule .result) (c .if3 .taken)))
 
-broken-requires : tie.Need-broken-requires
-broken-requires c κs = let a = c .before .before .before .before .before .before .before .before .args in (c .before .before .before .before .before .before .before .before .pre .0, is-ready ((c)))
+led-requires : tie.Need-led-requires
+led-requires c κs =
+    let e = c .before .before .before .before .before .before .before .before in
+    let a = e .args in
+    (e .pre .0, good (a .l .least) (a .s .now) (a .size) (e .pre .1) (one (c .before .before .before .before .before)) (three c), good-slots (a .l .least) (a .s .now) (a .size) (e .pre .1) (one (c .before .before .before .before .before)))
+
+surely-requires : tie.Need-surely-requires
+surely-requires c κs =
+    let e = c .before .before .before .before .before .before .before .before .before in
+    let a = e .args in
+    (e .pre .0, good (a .l .least) (a .s .now) (a .size) (e .pre .1) (one (c .before .before .before .before .before .before)) (three (c .before)), c .led .ensures)
 
 returns-4 : tie.Need-returns-4
-returns-4 c = let a = c .before .before .before .before .before .before .before .before .before .before .args in named-some (a .l .least) (a .s .now) (one (c .before .before .before .before .before .before .before)) (two (c .before .before .before .before)) (three (c .before .before)) (c .before .broken .result) (c .before .broken .ensures) (c .if4 .taken)
+returns-4 c =
+    let at = c .before .before .before in
+    let e = at .before .before .before .before .before .before .before .before in
+    named-sound (e .args .l .least) (e .args .s .now) (omega (arith, e .pre .0 .four)) (one (at .before .before .before .before .before)) (two (at .before .before)) (three at) (c .before .surely .ensures (c .if4 .taken))
 
-last-requires : tie.Need-last-requires
-last-requires c κs = rw (c .before .before .before .before .before .before .header .ensures) (current-lt (c .before .before .before .before .before .before .before .before .before .before .args .l .least) (c .before .before .before .before .before .before .before .before .before .before .args .s .now))
-
-version-ok-requires : tie.Need-version-ok-requires
-version-ok-requires c κs = let a = c .before .before .before .before .before .before .before .before .before .before .before .args in let y = is-ready (c .before .before .before) in (c .before .before .before .before .before .before .before .before .before .before .before .pre .0, y, omega (arith, c .last .ensures, y .last))
+broken-requires : tie.Need-broken-requires
+broken-requires c κs = (c .before .before .before .before .before .before .before .before .before .before .before .pre .0, is-ready (c .before .before .before))
 
 returns-5 : tie.Need-returns-5
-returns-5 c = let a = c .before .before .before .before .before .before .before .before .before .before .before .before .before .args in six-last (a .l .least) (a .s .now) (one (c .before .before .before .before .before .before .before .before .before .before)) (two (c .before .before .before .before .before .before .before)) (three (c .before .before .before .before .before)) (c .before .before .before .before .broken .result) (c .before .before .before .before .broken .ensures) (c .before .before .before .if4 .left) (c .before .before .before .before .before .before .before .before .before .header .result) (c .before .before .last .result) (c .before .before .before .before .before .before .before .before .before .header .ensures) (c .before .before .last .ensures) (sym (c .before .version-ok .ensures) ∙ not-true (c .before .version-ok .result) (c .if5 .taken))
+returns-5 c =
+    let at = c .before .before .before .before .before in
+    let a = c .before .before .before .before .before .before .before .before .before .before .before .before .before .args in
+    named-some (a .l .least) (a .s .now) (one (at .before .before .before .before .before)) (two (at .before .before)) (three at) (c .before .broken .result) (c .before .broken .ensures) (c .if5 .taken)
 
-led-requires : tie.Need-led-requires
-led-requires c κs = let a = c .before .before .before .before .before .before .before .before .before .before .before .before .before .args in (c .before .before .before .before .before .before .before .before .before .before .before .before .before .pre .0, good (a .l .least) (a .s .now) (a .size) (c .before .before .before .before .before .before .before .before .before .before .before .before .before .pre .1) (one (c .before .before .before .before .before .before .before .before .before .before)) (three (c .before .before .before .before .before)), good-slots (a .l .least) (a .s .now) (a .size) (c .before .before .before .before .before .before .before .before .before .before .before .before .before .pre .1) (one (c .before .before .before .before .before .before .before .before .before .before)))
+last-requires : tie.Need-last-requires
+last-requires c κs = rw (c .before .before .before .before .before .before .before .before .before .header .ensures) (current-lt (c .before .before .before .before .before .before .before .before .before .before .before .before .before .args .l .least) (c .before .before .before .before .before .before .before .before .before .before .before .before .before .args .s .now))
+
+version-ok-requires : tie.Need-version-ok-requires
+version-ok-requires c κs = let y = is-ready (c .before .before .before .before .before .before) in (c .before .before .before .before .before .before .before .before .before .before .before .before .before .before .pre .0, y, omega (arith, c .last .ensures, y .last))
 
 returns-6 : tie.Need-returns-6
-returns-6 c = let a = c .before .before .before .before .before .before .before .before .before .before .before .before .before .before .before .args in six-led (a .l .least) (a .s .now) (one (c .before .before .before .before .before .before .before .before .before .before .before .before)) (two (c .before .before .before .before .before .before .before .before .before)) (three (c .before .before .before .before .before .before .before)) (c .before .before .before .before .before .before .broken .result) (c .before .before .before .before .before .before .broken .ensures) (c .before .before .before .before .before .if4 .left) (omega (arith, c .before .before .before .before .before .before .before .before .before .before .before .before .before .before .before .pre .0 .four)) (c .before .led .result) (c .before .led .ensures) (not-true (c .before .led .result) (c .if6 .taken))
+returns-6 c =
+    let at = c .before .before .before .before .before .before .before .before in
+    let a = c .before .before .before .before .before .before .before .before .before .before .before .before .before .before .before .before .args in
+    six-last (a .l .least) (a .s .now) (one (at .before .before .before .before .before)) (two (at .before .before)) (three at) (c .before .before .before .before .broken .result) (c .before .before .before .before .broken .ensures) (c .before .before .before .if5 .left) (c .before .before .before .before .before .before .before .before .before .before .before .before .header .result) (c .before .before .last .result) (c .before .before .before .before .before .before .before .before .before .before .before .before .header .ensures) (c .before .before .last .ensures) (sym (c .before .version-ok .ensures) ∙ not-true (c .before .version-ok .result) (c .if6 .taken))
 
 returns-7 : tie.Need-returns-7
-returns-7 c = let a = c .before .before .before .before .before .before .before .before .before .before .before .before .before .before .before .args in six-none (a .l .least) (a .s .now) (one (c .before .before .before .before .before .before .before .before .before .before .before .before)) (two (c .before .before .before .before .before .before .before .before .before)) (three (c .before .before .before .before .before .before .before)) (c .before .before .before .before .before .before .broken .result) (c .before .before .before .before .before .before .broken .ensures) (c .before .before .before .before .before .if4 .left) (omega (arith, c .before .before .before .before .before .before .before .before .before .before .before .before .before .before .before .pre .0 .four)) (c .before .led .result) (c .before .led .ensures) (not-false (c .before .led .result) (c .if6 .left))
+returns-7 c =
+    let at = c .before .before .before .before .before .before .before .before .before in
+    let e = c .before .before .before .before .before .before .before .before .before .before .before .before .before .before .before .before .before in
+    let a = e .args in
+    six-led (a .l .least) (a .s .now) (one (at .before .before .before .before .before)) (two (at .before .before)) (three at) (c .before .before .before .before .before .broken .result) (c .before .before .before .before .before .broken .ensures) (c .before .before .before .before .if5 .left) (omega (arith, e .pre .0 .four)) (c .before .before .before .before .before .before .before .before .led .result) (c .before .before .before .before .before .before .before .before .led .ensures) (not-true (c .before .before .before .before .before .before .before .before .led .result) (c .if7 .taken))
+
+returns-8 : tie.Need-returns-8
+returns-8 c =
+    let at = c .before .before .before .before .before .before .before .before .before in
+    let e = c .before .before .before .before .before .before .before .before .before .before .before .before .before .before .before .before .before in
+    let a = e .args in
+    six-none (a .l .least) (a .s .now) (one (at .before .before .before .before .before)) (two (at .before .before)) (three at) (c .before .before .before .before .before .broken .result) (c .before .before .before .before .before .broken .ensures) (c .before .before .before .before .if5 .left) (omega (arith, e .pre .0 .four)) (c .before .before .before .before .before .before .before .before .led .result) (c .before .before .before .before .before .before .before .before .led .ensures) (not-false (c .before .before .before .before .before .before .before .before .led .result) (c .if7 .left))
 
 pub broken-spec : {M : Type 1} → statement M
 broken-spec =
@@ -92,11 +121,13 @@ broken-spec =
     returns-2
     third-rule-requires
     returns-3
-    broken-requires
+    led-requires
+    surely-requires
     returns-4
+    broken-requires
+    returns-5
     last-requires
     version-ok-requires
-    returns-5
-    led-requires
     returns-6
-    returns-7)
+    returns-7
+    returns-8)

@@ -1,39 +1,37 @@
--- `judge::judge_in` meets its contract: the number is quick judging's, and with 4 the walk tells the rule. Assumes nothing.
-use Rattle.judge.specs.Judge.{judged-else, judged-four}
+-- `judge::judge_in` meets its contract: numbers 1 to 3, or the rule that is broken. Assumes nothing.
+use Rattle.judge.specs.Judge.{ruled-none, ruled-some, judged-refused, judged-ruled}
+use Rattle.quick.specs.Number.{not-refused}
 use Rattle.local.specs.Sizes.{sized}
-use Rattle.model.specs.Judged.{verdict}
+use Rattle.model.specs.Judged.{ruled}
 use mathlib.Core.Path.{sym, ap, _∙_}
 use borrow.Author.Needs.{needs}
 use Rattle.judge.proofs.judge_in.Statement.{statement}
 use Rattle.judge.proofs.judge_in.Tie as tie
-use Rattle.judge.proofs.judge_in.Reads as reads
-use Rattle.judge.proofs.judge_in.Lts as lts
-use Rattle.judge.proofs.broken.Reads as broken-reads
-use Rattle.quick.proofs.number.Reads as number-reads
-use Rattle.store.proofs.size.Reads as size-reads
 
--- src/lib.rt:55:9
-number-requires : tie.Need-number-requires
-number-requires c κs = search needs
+refused-requires : tie.Need-refused-requires
+refused-requires c κs = search needs
 
--- src/lib.rt:57:9
 returns : tie.Need-returns
-returns c = let a = c .before .before .before .args in sym (judged-else (a .l .least) (a .s .now) (c .before .number .result) (c .before .number .ensures) (c .if1 .taken))
+returns c = let a = c .before .before .before .args in sym (judged-refused (a .l .least) (a .s .now) (c .before .refused .result) (c .before .refused .ensures) (c .if1 .taken))
 
--- src/lib.rt:59:9
 size-requires : tie.Need-size-requires
 size-requires c κs = search needs
 
--- src/lib.rt:60:9
 broken-requires : tie.Need-broken-requires
 broken-requires c κs =
     let a = c .before .before .before .before .args in
-    (c .before .before .before .before .pre, rw (c .size .ensures) (sized (a .l .least) (c .before .before .before .before .pre .four) (a .s .now) (c .before .before .before .before .pre .eight) (judged-four (a .l .least) (a .s .now) (c .before .before .number .result) (c .before .before .number .ensures) (c .before .if1 .left) .0)))
+    let d = c .before .before .before .before .pre in
+    (d, rw (c .size .ensures) (sized (a .l .least) (d .four) (a .s .now) (d .eight) (not-refused (a .l .least) (a .s .now) (c .before .before .refused .result) (c .before .before .refused .ensures) (c .before .if1 .left) .0)))
 
--- src/lib.rt:51:1
 returns-2 : tie.Need-returns-2
-returns-2 c = let a = c .before .before .before .before .before .args in sym (judged-four (a .l .least) (a .s .now) (c .before .before .before .number .result) (c .before .before .before .number .ensures) (c .before .before .if1 .left) .1 ∙ ap (verdict 4) (sym (c .broken .ensures)))
+returns-2 c =
+    let a = c .before .before .before .before .before .before .args in
+    sym (judged-ruled (a .l .least) (a .s .now) (c .before .before .before .before .refused .result) (c .before .before .before .before .refused .ensures) (c .before .before .before .if1 .left) ∙ ap ruled (sym (c .before .broken .ensures)) ∙ ruled-none (c .before .broken .result) (c .if2 .taken))
+
+returns-3 : tie.Need-returns-3
+returns-3 c =
+    let a = c .before .before .before .before .before .before .args in
+    sym (judged-ruled (a .l .least) (a .s .now) (c .before .before .before .before .refused .result) (c .before .before .before .before .refused .ensures) (c .before .before .before .if1 .left) ∙ ap ruled (sym (c .before .broken .ensures)) ∙ ruled-some (c .before .broken .result) (c .if2 .left))
 
 pub judge-in-spec : {M : Type 1} → statement M
-judge-in-spec =
-    tie.close (tie.spec number-requires returns size-requires broken-requires returns-2)
+judge-in-spec = tie.close (tie.spec refused-requires returns size-requires broken-requires returns-2 returns-3)

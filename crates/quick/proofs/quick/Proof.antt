@@ -1,10 +1,7 @@
 -- `quick::quick` meets its contract: what the pages say within the budget, or the notes. Assumes nothing.
 use mathlib.Core.Path.{sym, _∙_}
-use native.Mathlib.Omega.{arith}
 use borrow.Author.Tests.{not-true, not-false}
-use borrow.Author.Needs.{needs}
 use Rattle.model.specs.Layout.{decode}
-use Rattle.quick.specs.Number.{quick-pages}
 use Rattle.quick.specs.Noted.{not-led, noted}
 use Rattle.quick.proofs.quick.Statement.{statement}
 use Rattle.quick.proofs.quick.Tie as tie
@@ -15,28 +12,22 @@ led-requires c κs = let r = c .before .pre in (r .0, r .1, r .2)
 returns : tie.Need-returns
 returns c = let a = c .before .before .before .args in not-led (a .l .least) (decode (a .l .least) (a .s .now)) (c .before .before .before .pre .4) (sym (c .before .led .ensures) ∙ not-true (c .before .led .result) (c .if1 .taken))
 
-size-requires : tie.Need-size-requires
-size-requires c κs = c .before .before .before .pre .0
-
-budget-requires : tie.Need-budget-requires
-budget-requires c κs = omega (arith, c .size .ensures, c .before .before .before .before .pre .1 .linked .most)
-
-pages-fine-requires : tie.Need-pages-fine-requires
-pages-fine-requires c κs = (c .before .before .before .before .before .pre .0, c .before .before .before .before .before .pre .1)
+pages-within-requires : tie.Need-pages-within-requires
+pages-within-requires c κs = let r = c .before .before .before .pre in (r .0, r .1)
 
 returns-2 : tie.Need-returns-2
-returns-2 c = let a = c .before .before .before .before .before .before .before .before .args in c .before .before .pages-fine .ensures .right (c .if2 .taken) ∙ sym (quick-pages (a .l .least) (decode (a .l .least) (a .s .now)) (sym (c .before .before .before .before .before .before .led .ensures) ∙ not-false (c .before .before .before .before .before .before .led .result) (c .before .before .before .before .before .if1 .left)))
+returns-2 c = c .before .before .pages-within .ensures (sym (c .before .before .before .before .led .ensures) ∙ not-false (c .before .before .before .before .led .result) (c .before .before .before .if1 .left)) (c .if2 .taken)
 
 both-hold-requires : tie.Need-both-hold-requires
-both-hold-requires c κs = let r = c .before .before .before .before .before .before .before .before .pre in (r .0, r .3)
+both-hold-requires c κs = let r = c .before .before .before .before .before .before .pre in (r .0, r .3)
 
 returns-3 : tie.Need-returns-3
 returns-3 c =
-    let at-if = c .before .before .before .before .before .before in
+    let at-if = c .before .before .before .before in
     let at-led = at-if .before in
     let e = at-led .before .before in
     let a = e .args in
     noted (a .l .least) (decode (a .l .least) (a .s .now)) (e .pre .4) (c .both-hold .result) (c .both-hold .ensures) (sym (at-led .led .ensures) ∙ not-false (at-led .led .result) (at-if .if1 .left))
 
 pub quick-spec : {M : Type 1} → statement M
-quick-spec = tie.close (tie.spec led-requires returns size-requires budget-requires pages-fine-requires returns-2 both-hold-requires returns-3)
+quick-spec = tie.close (tie.spec led-requires returns pages-within-requires returns-2 both-hold-requires returns-3)

@@ -5,7 +5,7 @@ use std::collections::BTreeMap;
 use super::may_write;
 use host::Proved;
 use reference::beside::{compare, Tally};
-use reference::engine::{Call, Reference};
+use reference::engine::{Answer, Call, Reference};
 use reference::history::History;
 use reference::layout::ALIVE;
 use reference::{store, walk};
@@ -33,23 +33,29 @@ impl Met {
     /// Runs `count` calls of `history` from `bytes` on; the store at the end.
     pub fn run(&mut self, history: &mut History, bytes: Vec<u8>, count: usize) -> Vec<u8> {
         let (mut left, mut right) = (bytes.clone(), bytes);
-        for at in 0..count {
+        for _ in 0..count {
             let call = history.next_call();
-            let before = left.clone();
-            let answer = compare(&mut Reference, &mut Proved, call, &mut left, &mut right)
-                .unwrap_or_else(|difference| panic!("call {at}: {difference:?}"));
+            let answer = self.call(call, &mut left, &mut right);
             history.observe(call, &answer);
-            *self.numbers.entry(answer.number).or_default() += 1;
-            let untouched = !may_write(call, answer.number);
-            assert!(!untouched || left == before, "call {at}: {call:?}");
-            if let Call::Return(_) = call {
-                *self.returns.entry(answer.number).or_default() += 1;
-            }
-            if answer.number == 0 && matches!(call, Call::Insert(..) | Call::Delete(_)) {
-                self.observe(&before, &left);
-            }
         }
         left
+    }
+
+    /// One call, on a store of each program.
+    pub fn call(&mut self, call: Call, left: &mut [u8], right: &mut [u8]) -> Answer {
+        let before = left.to_vec();
+        let answer = compare(&mut Reference, &mut Proved, call, left, right)
+            .unwrap_or_else(|difference| panic!("{call:?}: {difference:?}"));
+        *self.numbers.entry(answer.number).or_default() += 1;
+        let untouched = !may_write(call, answer.number);
+        assert!(!untouched || left == before, "{call:?}");
+        if let Call::Return(_) = call {
+            *self.returns.entry(answer.number).or_default() += 1;
+        }
+        if answer.number == 0 && matches!(call, Call::Insert(..) | Call::Delete(_)) {
+            self.observe(&before, left);
+        }
+        answer
     }
 
     fn observe(&mut self, before: &[u8], after: &[u8]) {
@@ -64,19 +70,27 @@ impl Met {
             _ => "root stays",
         };
         *self.works.entry(root).or_default() += 1;
-        // For each level, how many pages were freed, killed and taken.
-        let mut levels: BTreeMap<u32, [u32; 3]> = BTreeMap::new();
+        // For each level, how many pages were freed, killed and taken, and of
+        // those how many with 8 entries.
+        let mut levels: BTreeMap<u32, [u32; 4]> = BTreeMap::new();
         for number in store::page_numbers(before) {
             let (one, other) = (store::page(before, number), store::page(after, number));
             let freed = !one.is_free() && other.is_free();
             let killed = one.span.end == ALIVE && !one.is_free() && other.span.end == version;
             let taken = one.is_free() && !other.is_free();
+            if !one.is_free() && other.level > one.level {
+                *self.works.entry("freed and taken above").or_default() += 1;
+            }
             let level = levels.entry(one.level.max(other.level)).or_default();
-            for (count, met) in level.iter_mut().zip([freed, killed, taken]) {
+            let eight = taken && number != new && other.entries.len() == 8;
+            for (count, met) in level.iter_mut().zip([freed, killed, taken, eight]) {
                 *count += u32::from(met);
             }
         }
-        for [freed, killed, taken] in levels.into_values() {
+        for [freed, killed, taken, eight] in levels.into_values() {
+            if (freed + killed, taken, eight) == (1, 1, 1) {
+                *self.works.entry("8 alone").or_default() += 1;
+            }
             for (name, count) in [("freed", freed), ("killed", killed), ("taken", taken)] {
                 *self.works.entry(name).or_default() += u64::from(count);
             }

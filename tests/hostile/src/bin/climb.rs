@@ -24,13 +24,14 @@ fn main() {
             .map(|((name, ..), own)| format!("{name} {own}"))
             .collect();
         println!(
-            "{}: {} pages, {} visits, rule {}: {}\n  {:?}",
+            "{}: {} pages, {} visits, rule {}: {}\n  {:?}\n  {:?}",
             family.name,
             best.store.len() / PAGE_BYTES,
-            best.taken.visits(),
+            best.visits(),
             best.rule,
             named.join(", "),
-            best.taken
+            best.judging,
+            best.check
         );
     }
 }
