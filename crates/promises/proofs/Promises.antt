@@ -1,4 +1,4 @@
--- The promises, each under its name: what it says stands in specs/Demand1, Demand2, Levels, Demand3, in a file for each request of document 02
+-- The promises, each under its name: what it says stands in specs/Demand1, Demand2, Demand3, in a file for each request of document 02
 -- (OldReadings, Bench, Differences, Lives, Releases), in Replayed and Fakes.
 -- Assumes nothing.
 use Prim.Native.Nat.{ℕ}
@@ -154,6 +154,7 @@ balanced least four b ok v h =
         either-right (isRoot x) (enough x)
         (le-leb least (live x) (stores.balanced least (omega arith) (decode least b) (sound-in least b ok) v h x i (eqb-false (x .number) (rootAt (decode least b .slots) v) e)))
 
+-- (specs/Levels, specs/Room)
 pub levels : Levels
 levels = leveled.levels
 
