@@ -163,6 +163,7 @@ balanced least four b ok v h =
         either-right (isRoot x) (enough x)
         (le-leb least (live x) (stores.balanced least (omega arith) (decode least b) (sound-in least b ok) v h x i (eqb-false (x .number) (rootAt (decode least b .slots) v) e)))
 
+-- (specs/Levels, specs/Room)
 pub levels : Levels
 levels = leveled.levels
 
