@@ -70,7 +70,7 @@ fn from_tall_stores() {
 #[test]
 fn from_foreign_stores() {
     let mut met = Met::default();
-    for seed in 0..rounds(120) {
+    for seed in 0..rounds(240) {
         let mut rng = Rng::new(seed);
         let mut bytes = sound_store(seed);
         for _ in 0..3 {
