@@ -6,7 +6,8 @@ mod common;
 use std::collections::BTreeMap;
 use std::sync::OnceLock;
 
-use common::literal::{read, verdict};
+use common::literal::verdict;
+use common::reader::read;
 use common::*;
 use reference::calls;
 use reference::damage::tamper::{flip_bit, set_some_field};

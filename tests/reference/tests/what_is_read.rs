@@ -9,7 +9,7 @@ mod what_is_read;
 
 use std::collections::{BTreeMap, BTreeSet};
 
-use common::{literal, rounds};
+use common::{reader, rounds};
 use reference::calls;
 use reference::damage::{kinds, tamper};
 use reference::layout::{FIRST_PAGE, HIGHEST_KEY, PAGE_BYTES};
@@ -53,7 +53,7 @@ fn read_alike(bytes: &[u8], rng: &mut Rng, tally: &mut Tally) -> bool {
             *rng.pick(&keys).unwrap_or(&0),
         );
         let (number, found, value) = calls::lookup(bytes, low, version);
-        if let Some((expected, pair)) = literal::read(bytes, (low, low), version, true) {
+        if let Some((expected, pair)) = reader::read(bytes, (low, low), version, true) {
             let answer = (
                 expected,
                 !pair.is_empty(),
@@ -63,7 +63,7 @@ fn read_alike(bytes: &[u8], rng: &mut Rng, tally: &mut Tally) -> bool {
             *tally.entry(("lookup", number)).or_default() += 1;
         }
         let high = if rng.once_in(8) { high } else { low.max(high) };
-        match literal::read(bytes, (low, high), version, false) {
+        match reader::read(bytes, (low, high), version, false) {
             Some((expected, listed)) => {
                 let number = range_alike(bytes, (low, high), version, expected, &listed, rng);
                 *tally.entry(("range", number)).or_default() += 1;

@@ -8,14 +8,14 @@
 type Span = (u64, u64);
 
 #[derive(Clone)]
-struct Entry {
-    key: u64,
+pub struct Entry {
+    pub key: u64,
     span: Span,
-    value: u64,
+    pub value: u64,
 }
 
-struct Page {
-    level: u64,
+pub struct Page {
+    pub level: u64,
     span: Span,
     entries: Vec<Entry>,
 }
@@ -54,7 +54,7 @@ pub fn verdict(bytes: &[u8]) -> (u32, u32) {
 }
 
 /// 1, 2 or 3, or 0 for what may be a store.
-fn no_store(bytes: &[u8]) -> u32 {
+pub fn no_store(bytes: &[u8]) -> u32 {
     if !bytes.len().is_multiple_of(256) || bytes.len() < 6 * 256 || bytes.len() > 4096 * 256 {
         1
     } else if bits(bytes, 0, 32) != 0x5243_5354 {
@@ -78,7 +78,7 @@ fn rule_1(bytes: &[u8]) -> Option<Store> {
 }
 
 /// The last version and the slots, if rule 1 holds of the header and of them.
-fn front(bytes: &[u8]) -> Option<(u64, Vec<(u64, usize)>)> {
+pub fn front(bytes: &[u8]) -> Option<(u64, Vec<(u64, usize)>)> {
     let count = bytes.len() / 256;
     let (current, open, roots) = (bits(bytes, 53, 20), bits(bytes, 73, 1), bits(bytes, 74, 9));
     let last = current + open;
@@ -115,7 +115,7 @@ fn span_fits(span: Span, last: u64) -> bool {
     span.0 <= last && (span.1 <= last || span.1 == ALIVE) && span.0 < span.1
 }
 
-fn page(bytes: &[u8], last: u64, count: usize) -> Option<Page> {
+pub fn page(bytes: &[u8], last: u64, count: usize) -> Option<Page> {
     let level = bits(bytes, 0, 4);
     if level == 0 {
         return zero(bytes, 0, 2048).then(free);
@@ -167,7 +167,7 @@ fn rule_2(store: &Store) -> bool {
     directory(&store.slots, store.last)
 }
 
-fn directory(slots: &[(u64, usize)], last: u64) -> bool {
+pub fn directory(slots: &[(u64, usize)], last: u64) -> bool {
     let mut expected_above = None;
     for (index, (version, _)) in slots.iter().enumerate() {
         if (index == 0) != (*version == 0) || *version > last {
@@ -207,7 +207,7 @@ fn root(store: &Store, version: u64) -> usize {
     upto.next_back().unwrap().1
 }
 
-fn alive(page: &Page, version: u64) -> Vec<&Entry> {
+pub fn alive(page: &Page, version: u64) -> Vec<&Entry> {
     let entries = page.entries.iter();
     entries
         .filter(|entry| entry.span.0 <= version && version < entry.span.1)
@@ -280,99 +280,4 @@ fn rule_6(store: &Store) -> bool {
             reached[number] == (page.level > 0 && in_span)
         })
     })
-}
-
-/// A lookup or a range of 2026-04, read off word by word: nothing that was met
-/// once is remembered.
-pub struct Reader<'a> {
-    bytes: &'a [u8],
-    last: u64,
-    low: u64,
-    high: u64,
-    version: u64,
-    /// How many more pages it may meet.
-    left: u32,
-    found: Vec<u32>,
-}
-
-enum Stopped {
-    Unsound,
-    TooLong,
-}
-
-/// The number and what is to be written, or nothing where the walk is longer
-/// than a test can wait for. A lookup is the range whose ends are its key, but
-/// for the routers behind the one that it follows.
-pub fn read(bytes: &[u8], keys: (u32, u32), version: u32, lookup: bool) -> Option<(u32, Vec<u32>)> {
-    let number = no_store(bytes);
-    if number != 0 {
-        return Some((number, Vec::new()));
-    }
-    let Some((last, slots)) = front(bytes).filter(|(last, slots)| directory(slots, *last)) else {
-        return Some((4, Vec::new()));
-    };
-    let (low, high, version) = (u64::from(keys.0), u64::from(keys.1), u64::from(version));
-    if low > high || high >= 1 << 24 {
-        return Some((5, Vec::new()));
-    }
-    if version > last {
-        return Some((6, Vec::new()));
-    }
-    let root = slots.iter().rev().find(|slot| slot.0 <= version)?.1;
-    let mut reader = Reader {
-        bytes,
-        last,
-        low,
-        high,
-        version,
-        left: 4000,
-        found: Vec::new(),
-    };
-    match reader.walk(root, None, low, lookup) {
-        Ok(()) => Some((0, reader.found)),
-        Err(Stopped::Unsound) => Some((4, Vec::new())),
-        Err(Stopped::TooLong) => None,
-    }
-}
-
-impl Reader<'_> {
-    /// Walks from a page that must have this level, if one is due, and cover
-    /// this key.
-    fn walk(
-        &mut self,
-        number: usize,
-        due: Option<u64>,
-        key: u64,
-        lookup: bool,
-    ) -> Result<(), Stopped> {
-        self.left = self.left.checked_sub(1).ok_or(Stopped::TooLong)?;
-        let count = self.bytes.len() / 256;
-        let bytes = &self.bytes[256 * number..256 * number + 256];
-        let page = page(bytes, self.last, count).ok_or(Stopped::Unsound)?;
-        if page.level == 0 || due.is_some_and(|due| page.level != due) {
-            return Err(Stopped::Unsound);
-        }
-        let live = alive(&page, self.version);
-        if page.level == 1 {
-            for entry in live {
-                let full = lookup && !self.found.is_empty();
-                if entry.key >= self.low && entry.key <= self.high && !full {
-                    self.found.extend([entry.key as u32, entry.value as u32]);
-                }
-            }
-            return Ok(());
-        }
-        let below = live.iter().filter(|router| router.key <= key).count();
-        if below == 0 {
-            return Err(Stopped::Unsound);
-        }
-        let due = Some(page.level - 1);
-        self.walk(live[below - 1].value as usize, due, key, lookup)?;
-        for router in &live[below..] {
-            if !lookup && router.key <= self.high {
-                self.walk(router.value as usize, due, router.key, false)?;
-            }
-        }
-        Ok(())
-    }
 }

@@ -5,6 +5,7 @@
 pub mod build;
 pub mod follow;
 pub mod literal;
+pub mod reader;
 
 use crate::calls;
 use reference::image::Image;
