@@ -37,9 +37,9 @@
  * During a call nobody else touches its list and results, and nobody writes the
  * store. So the calls that take the store as const may run side by side on one
  * store, each with a list and results of its own; a call that writes it (fresh,
- * open, insert, delete, return, commit, abandon) runs alone on it, with no other
- * reader or writer. The library has no state of its own: calls on different stores
- * never meet.
+ * open, insert, delete, return, commit, abandon, and insert and delete by name)
+ * runs alone on it, with no other reader or writer. The library has no state of its
+ * own: calls on different stores never meet.
  *
  * A call takes at most RCST_STACK_BYTES of the stack of the thread that makes it;
  * the default of some systems for a thread is less. That is measured and rounded
@@ -280,9 +280,9 @@ uint32_t rcst_named_insert(uint8_t *store, size_t length, const uint32_t *table,
 uint32_t rcst_named_delete(uint8_t *store, size_t length, const uint32_t *table, size_t numbers, uint32_t key);
 
 /*
- * The viewer: a reader of a store at one version. Open it once: 0, or 1 to 4 or 6.
- * Then ask by key; the library keeps nothing, so store, version and table are
- * handed on at each call.
+ * The viewer: a reader of a store at one version. Open it once: 0, or 1 to 4, by
+ * the header and the slots as a lookup judges them first, or 6. Then ask by key; the
+ * library keeps nothing, so store, version and table are handed on at each call.
  */
 uint32_t rcst_view_open(const uint8_t *store, size_t length, uint32_t version);
 
@@ -308,9 +308,10 @@ uint32_t rcst_view_level(const uint8_t *store, size_t length, uint32_t version, 
                          uint32_t *found, uint32_t *bits, float *level);
 
 /*
- * The settings from low to high that the viewer shows, as rcst_range gives them.
- * Gives 0, 1 to 6, 17 or 14: with 17 one of them has an unknown key, nothing is
- * written and *count is 0. So no setting is skipped: all are shown, or none.
+ * The settings from low to high that the viewer shows, as rcst_range gives them,
+ * but of a store that is sound: it judges all of it first, as check does. Gives 0, 1
+ * to 6, 17 or 14: with 17 one of them has an unknown key, nothing is written and
+ * *count is 0. So no setting is skipped: all are shown, or none.
  */
 uint32_t rcst_view_range(const uint8_t *store, size_t length, uint32_t version, const uint32_t *table, size_t numbers, uint32_t low,
                          uint32_t high, uint32_t *list, size_t room, size_t *count);

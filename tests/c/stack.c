@@ -161,7 +161,7 @@ int main(int count, char **files) {
         memcpy(store, kept, length);
     }
     busy();
-    measure(8, RCST_HIGHEST_KEY);
+    measure(9, RCST_HIGHEST_KEY);
     for (i = 1; i < count; i++) {
         FILE *file = fopen(files[i], "rb");
 

@@ -190,7 +190,7 @@ fn readings(
     let (mut ours, mut theirs) = (vec![0xEEEE_EEEE; room], vec![0xEEEE_EEEE; room]);
     let (number, found) = viewer.range(low, high, &mut ours);
     assert_eq!(
-        (number, found as u32),
+        (number, found as u64),
         named::range(store, table, low, high, version, &mut theirs)
     );
     assert_eq!(ours, theirs);

@@ -121,7 +121,8 @@ pub fn lookup_kind(
     }
 }
 
-/// "never skipped": a range that meets an unknown key is refused as a whole.
+/// "never skipped": a range that meets an unknown key is refused as a whole. It
+/// asks for its keys on a store that is sound, and so judges all of it first.
 pub fn range(
     store: &[u8],
     table: &[u32],
@@ -129,7 +130,11 @@ pub fn range(
     high: u32,
     version: u32,
     list: &mut [u32],
-) -> (u32, u32) {
+) -> (u32, u64) {
+    let judged = calls::check(store).0;
+    if judged != 0 {
+        return (judged, 0);
+    }
     let (number, count) = calls::range(store, low, high, version, &mut []);
     if number != 0 && number != 14 {
         return (number, 0);
