@@ -14,12 +14,12 @@ use Rattle.model.specs.declared.Header.{Header}
 use Rattle.model.specs.declared.Limits.{Limits}
 use Rattle.model.specs.Limits.{Edition}
 use Rattle.model.specs.Calls.{Rule, rule, firstOf}
-use Rattle.model.specs.Lent.{Outcome, leftBy, returnLent}
+use Rattle.model.specs.Lent.{Outcome, leaving, leftBy, returnLent}
 use Rattle.model.specs.Differ.{differ}
 use Rattle.model.specs.Return.{Came, carried, orAbandoned, returnTests, unless, returned}
 use Rattle.back.specs.Going.{Going}
 use Rattle.calls.specs.Guard.{guarded, chain-number, by-guard, guard-sound, guard-chain}
-use Rattle.calls.specs.Turning.{ended, Goes, refused-so, done-so, current-in, flag, version}
+use Rattle.calls.specs.Turning.{Goes, refused-so, done-so, current-in, flag, version}
 
 abbrev pub returning : ℕ → Store → List Rule
 returning v s = returnTests (s .current) (s .opened) v
@@ -35,17 +35,17 @@ module _ (least : ℕ) (b : List ℕ) (v : ℕ) where
 
   return-guard : Goes least b (returnLent least b v) (returning v) (leftBy least b came)
   unfolding returnLent returned
-  return-guard = by-guard least b (returning v) {A = Outcome} (λ n. ended n b) (λ (k : ℕ). leftBy least b (unless k came)) (λ n. refl)
+  return-guard = by-guard least b (returning v) {A = Outcome} (λ n. leaving n b) (λ (k : ℕ). leftBy least b (unless k came)) (λ n. refl)
 
   module _ (n : ℕ) (e : n ≡ guarded least b (returning v)) where
-    pub return-refused : (n ≡ 0 → ⊥) → ended n b ≡ returnLent least b v
+    pub return-refused : (n ≡ 0 → ⊥) → leaving n b ≡ returnLent least b v
     return-refused z = refused-so least b (returnLent least b v) (returning v) (leftBy least b came) return-guard n e z
 
     pub return-done : n ≡ 0 → (w : ℕ) → w ≡ next (decode least b) → (r : ℕ) (b′ : List ℕ)
         → r ≡ leftBy least b (orAbandoned (carried least (differ (settings (decode least b) w) (settings (decode least b) v)) (decode least b))) .number
-        → b′ ≡ leftBy least b (orAbandoned (carried least (differ (settings (decode least b) w) (settings (decode least b) v)) (decode least b))) .store → ended r b′ ≡ returnLent least b v
+        → b′ ≡ leftBy least b (orAbandoned (carried least (differ (settings (decode least b) w) (settings (decode least b) v)) (decode least b))) .store → leaving r b′ ≡ returnLent least b v
     return-done z w q r b′ x y =
-        ap₂ ended x y
+        ap₂ leaving x y
         ∙ ap (λ (u : ℕ). leftBy least b (orAbandoned (carried least (differ (settings (decode least b) u) (settings (decode least b) v)) (decode least b)))) q
         ∙ done-so least b (returnLent least b v) (returning v) (leftBy least b came) return-guard n e z
 

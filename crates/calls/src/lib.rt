@@ -18,11 +18,11 @@ pub use visiting::visits;
 use walk::Counted;
 ghost use mathlib.Core.Path.{_≡_};
 ghost use Rattle.model.specs.Limits.{Edition};
-ghost use Rattle.model.specs.Lent.{openLent, commitLent, abandonLent, lookupLent, rangeLent};
+ghost use Rattle.model.specs.Lent.{leaving, openLent, commitLent, abandonLent, lookupLent, rangeLent};
 ghost use Rattle.walk.specs.Counted.{withList};
 ghost use Rattle.calls.specs.Guard.{guarded};
 ghost use Rattle.calls.specs.Reading.{reading};
-ghost use Rattle.calls.specs.Turning.{opening, closing, committing, ended};
+ghost use Rattle.calls.specs.Turning.{opening, closing, committing};
 
 // "Versions are 0 to 1,048,574."
 const LAST: u32 = 1048574;
@@ -100,7 +100,7 @@ fn guard_committing(s: &[u8], l: Limits) -> u32
 
 // Opens an update.
 pub fn open(s: &mut [u8]) -> u32
-    ensures { λ r. ⌜ ended r (now (s .exit)) ≡ openLent 4 (now (s .entry)) ⌝ }
+    ensures { λ r. ⌜ leaving r (now (s .exit)) ≡ openLent 4 (now (s .entry)) ⌝ }
 {
     let l = model::edition_one();
     let n = guard_opening(s, l);
@@ -113,7 +113,7 @@ pub fn open(s: &mut [u8]) -> u32
 
 // Commits the open update, unless its settings are the current version's.
 pub fn commit(s: &mut [u8]) -> u32
-    ensures { λ r. ⌜ ended r (now (s .exit)) ≡ commitLent 4 (now (s .entry)) ⌝ }
+    ensures { λ r. ⌜ leaving r (now (s .exit)) ≡ commitLent 4 (now (s .entry)) ⌝ }
 {
     let l = model::edition_one();
     let n = guard_committing(s, l);
@@ -126,7 +126,7 @@ pub fn commit(s: &mut [u8]) -> u32
 
 // Abandons the open update.
 pub fn abandon(s: &mut [u8]) -> u32
-    ensures { λ r. ⌜ ended r (now (s .exit)) ≡ abandonLent 4 (now (s .entry)) ⌝ }
+    ensures { λ r. ⌜ leaving r (now (s .exit)) ≡ abandonLent 4 (now (s .entry)) ⌝ }
 {
     let l = model::edition_one();
     let n = guard_closing(s, l);

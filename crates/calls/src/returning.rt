@@ -2,9 +2,8 @@
 use model::Limits;
 ghost use mathlib.Core.Path.{_≡_};
 ghost use Rattle.model.specs.Limits.{Edition};
-ghost use Rattle.model.specs.Lent.{returnLent};
+ghost use Rattle.model.specs.Lent.{leaving, returnLent};
 ghost use Rattle.calls.specs.Guard.{guarded};
-ghost use Rattle.calls.specs.Turning.{ended};
 ghost use Rattle.calls.specs.Returning.{returning};
 
 // The guard of a return: judging, then 6 and 7. "The call gives 6 for a version above the current one": the open one is above it.
@@ -28,7 +27,7 @@ fn guard_returning(s: &[u8], l: Limits, v: u32) -> u32
 
 // Returns to version v in the open update: its settings become those of that version; with 12 or 13 the update is abandoned.
 pub fn return_to(s: &mut [u8], v: u32) -> u32
-    ensures { λ r. ⌜ ended r (now (s .exit)) ≡ returnLent 4 (now (s .entry)) v ⌝ }
+    ensures { λ r. ⌜ leaving r (now (s .exit)) ≡ returnLent 4 (now (s .entry)) v ⌝ }
 {
     let l = model::edition_one();
     let n = guard_returning(s, l, v);

@@ -7,10 +7,9 @@ ghost use Rattle.model.specs.Limits.{Edition};
 ghost use Rattle.model.specs.Walk.{keyLimit, lookup};
 ghost use Rattle.model.specs.Layout.{decode};
 ghost use Rattle.model.specs.Calls.{isSome};
-ghost use Rattle.model.specs.Lent.{insertLent, deleteLent};
+ghost use Rattle.model.specs.Lent.{leaving, insertLent, deleteLent};
 ghost use Rattle.walk.specs.Sure.{Readable};
 ghost use Rattle.calls.specs.Guard.{guarded};
-ghost use Rattle.calls.specs.Turning.{ended};
 ghost use Rattle.calls.specs.Updating.{updating, limitOf, against};
 
 // "Keys 16,776,960 and above belong to our test bench. Insert refuses them with 5."
@@ -75,7 +74,7 @@ fn guard_updating(s: &[u8], l: Limits, key: u32, insert: bool) -> u32
 
 // Inserts a setting in the open update.
 pub fn insert(s: &mut [u8], key: u32, value: u32) -> u32
-    ensures { λ r. ⌜ ended r (now (s .exit)) ≡ insertLent 4 (now (s .entry)) key value ⌝ }
+    ensures { λ r. ⌜ leaving r (now (s .exit)) ≡ insertLent 4 (now (s .entry)) key value ⌝ }
 {
     let l = model::edition_one();
     let n = guard_updating(s, l, key, true);
@@ -87,7 +86,7 @@ pub fn insert(s: &mut [u8], key: u32, value: u32) -> u32
 
 // Deletes a setting in the open update.
 pub fn delete(s: &mut [u8], key: u32) -> u32
-    ensures { λ r. ⌜ ended r (now (s .exit)) ≡ deleteLent 4 (now (s .entry)) key ⌝ }
+    ensures { λ r. ⌜ leaving r (now (s .exit)) ≡ deleteLent 4 (now (s .entry)) key ⌝ }
 {
     let l = model::edition_one();
     let n = guard_updating(s, l, key, false);

@@ -11,12 +11,11 @@ use borrow.Author.Tests.{le-leb, lt-leb}
 use Rattle.model.specs.Store.{fresh}
 use Rattle.model.specs.Layout.{sizeOf, encode}
 use Rattle.model.specs.Judged.{lengthOk}
-use Rattle.model.specs.Lent.{Outcome, freshLent}
+use Rattle.model.specs.Lent.{Outcome, leaving, freshLent}
 use Rattle.store.specs.Answers.{length-rest, done-store}
 use Rattle.lines.specs.declared.Answer.{Answer}
 use Rattle.lines.specs.declared.Answer.the-variants.{Done, Refused}
 use Rattle.lines.specs.Session.{Said, answered, outcome, stored, settings}
-use Rattle.calls.specs.Turning.{ended}
 use Rattle.console.specs.declared.Reply.{Reply}
 use Rattle.console.specs.Obeys.{storeIn, Single, Replies}
 
@@ -29,7 +28,7 @@ pub back : (q z : List ℕ) (pages : ℕ) → pages * 256 ≡ length q → store
 back q z pages e = take-at q z (pages * 256) (sym e)
 
 -- a call that changes the store
-pub updated : (o : Outcome) (n pages : ℕ) (q z : List ℕ) (a : Answer) → ended n q ≡ o → a ≡ answered n → pages * 256 ≡ length q → pages ≤ 256
+pub updated : (o : Outcome) (n pages : ℕ) (q z : List ℕ) (a : Answer) → leaving n q ≡ o → a ≡ answered n → pages * 256 ≡ length q → pages ≤ 256
     → Single (outcome o) (q ++ z) (record { pages = pages; answer = a; count = 0 })
 updated o n pages q z a e f g h =
     subst

@@ -16,9 +16,9 @@ use Rattle.model.specs.Store.{page}
 use Rattle.model.specs.Walk.{between, settings, keyLimit}
 use Rattle.model.specs.Layout.{pageOf, decode}
 use Rattle.model.specs.Differ.{differ}
+use Rattle.model.specs.Inner.{rising}
 use Rattle.model.proofs.Lists.{both-true}
 use Rattle.model.proofs.Tree.{widen}
-use Rattle.model.proofs.Lookups.{rising}
 use Rattle.model.proofs.Edit.{all-those, rising-those}
 use Rattle.model.proofs.Differs.{none-differs}
 use Rattle.page.specs.declared.Head.{Head}

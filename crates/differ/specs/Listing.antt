@@ -12,14 +12,15 @@ use Rattle.model.specs.declared.Pair.{Pair}
 use Rattle.model.specs.declared.Limits.{Limits}
 use Rattle.model.specs.Walk.{settings, keyLimit}
 use Rattle.model.specs.Layout.{decode}
-use Rattle.model.proofs.Lookups.{rising, settings-rise, settings-low}
+use Rattle.model.proofs.Lookups.{settings-rise, settings-low}
 use Rattle.model.proofs.Local.{inRange}
-use Rattle.model.proofs.Telling.{Shape}
 use Rattle.store.specs.Sure.{sure}
 use Rattle.walk.specs.Sure.{Readable}
 use Rattle.cursor.specs.First.{atOrAbove, leads}
 use Rattle.model.specs.declared.Delta.{Delta}
 use Rattle.model.specs.Differ.{differ, deltaNumbers}
+use Rattle.model.specs.Inner.{rising}
+use Rattle.model.specs.Telling.{Shape}
 use Rattle.differ.specs.Append.{few-differ}
 use Rattle.differ.specs.Merge.{compared, told, left, Onward, left-start, left-end, left-on, left-step}
 

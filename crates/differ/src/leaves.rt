@@ -8,8 +8,6 @@ ghost use mathlib.Core.Bool.{true, _&&_};
 ghost use mathlib.Core.List.{[]};
 ghost use Prim.Native.Nat.{_+_, _≤_};
 ghost use lib.Dec.{eqb};
-ghost use Rattle.model.proofs.Lookups.{rising};
-ghost use Rattle.model.proofs.Telling.{Space, Gathers};
 ghost use Rattle.walk.specs.Scan.{Stands, from};
 ghost use Rattle.walk.specs.Sure.{Readable};
 ghost use Rattle.cursor.specs.First.{atOrAbove};
@@ -18,6 +16,8 @@ ghost use Rattle.differ.specs.Listing.{deltas};
 ghost use Rattle.differ.specs.Side.{rest, At, Ordered};
 ghost use Rattle.differ.specs.Quiet.{moves, quiet};
 ghost use Rattle.differ.specs.Leaves.{asked, inLeaves};
+ghost use Rattle.model.specs.Inner.{rising};
+ghost use Rattle.model.specs.Telling.{Space, Gathers};
 
 // "Keys are 0 to 16,777,215".
 const KEYS: u32 = 16777216;

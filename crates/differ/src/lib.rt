@@ -16,7 +16,7 @@ ghost use Rattle.model.specs.Walk.{keyLimit};
 ghost use Rattle.model.specs.Told.{toldBy};
 ghost use Rattle.model.specs.Differ.{deltaNumbers};
 ghost use Rattle.model.specs.Lent.{listed};
-ghost use Rattle.model.proofs.Telling.{Space, Gathers};
+ghost use Rattle.model.specs.Telling.{Space, Gathers};
 ghost use Rattle.walk.specs.Counted.{withList};
 ghost use Rattle.walk.specs.Sure.{Readable};
 ghost use Rattle.differ.specs.Merge.{Onward};

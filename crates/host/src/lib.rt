@@ -4,8 +4,7 @@ ghost use mathlib.Core.Path.{_≡_};
 ghost use Rattle.model.specs.Layout.{bit};
 ghost use Rattle.model.specs.Judged.{judged};
 ghost use Rattle.model.specs.Calls.{lookedNumber, lookedFound, lookedValue};
-ghost use Rattle.model.specs.Lent.{freshLent, openLent, insertLent, deleteLent, commitLent, abandonLent, returnLent, lookupLent, rangeLent, lifeLent, differenceLent, visitsLent};
-ghost use Rattle.calls.specs.Turning.{ended};
+ghost use Rattle.model.specs.Lent.{leaving, freshLent, openLent, insertLent, deleteLent, commitLent, abandonLent, returnLent, lookupLent, rangeLent, lifeLent, differenceLent, visitsLent};
 
 // Makes a fresh store.
 #[no_mangle]
@@ -30,7 +29,7 @@ pub extern "C" fn rcst_check(store: &[u8], rule: &mut u32) -> u32
 // Opens an update.
 #[no_mangle]
 pub extern "C" fn rcst_open(store: &mut [u8]) -> u32
-    ensures { λ r. ⌜ ended r (now (store .exit)) ≡ openLent 4 (now (store .entry)) ⌝ }
+    ensures { λ r. ⌜ leaving r (now (store .exit)) ≡ openLent 4 (now (store .entry)) ⌝ }
 {
     calls::open(store)
 }
@@ -38,7 +37,7 @@ pub extern "C" fn rcst_open(store: &mut [u8]) -> u32
 // Inserts a setting in the open update.
 #[no_mangle]
 pub extern "C" fn rcst_insert(store: &mut [u8], key: u32, value: u32) -> u32
-    ensures { λ r. ⌜ ended r (now (store .exit)) ≡ insertLent 4 (now (store .entry)) key value ⌝ }
+    ensures { λ r. ⌜ leaving r (now (store .exit)) ≡ insertLent 4 (now (store .entry)) key value ⌝ }
 {
     calls::insert(store, key, value)
 }
@@ -46,7 +45,7 @@ pub extern "C" fn rcst_insert(store: &mut [u8], key: u32, value: u32) -> u32
 // Deletes a setting in the open update.
 #[no_mangle]
 pub extern "C" fn rcst_delete(store: &mut [u8], key: u32) -> u32
-    ensures { λ r. ⌜ ended r (now (store .exit)) ≡ deleteLent 4 (now (store .entry)) key ⌝ }
+    ensures { λ r. ⌜ leaving r (now (store .exit)) ≡ deleteLent 4 (now (store .entry)) key ⌝ }
 {
     calls::delete(store, key)
 }
@@ -54,7 +53,7 @@ pub extern "C" fn rcst_delete(store: &mut [u8], key: u32) -> u32
 // Commits the open update.
 #[no_mangle]
 pub extern "C" fn rcst_commit(store: &mut [u8]) -> u32
-    ensures { λ r. ⌜ ended r (now (store .exit)) ≡ commitLent 4 (now (store .entry)) ⌝ }
+    ensures { λ r. ⌜ leaving r (now (store .exit)) ≡ commitLent 4 (now (store .entry)) ⌝ }
 {
     calls::commit(store)
 }
@@ -62,7 +61,7 @@ pub extern "C" fn rcst_commit(store: &mut [u8]) -> u32
 // Abandons the open update.
 #[no_mangle]
 pub extern "C" fn rcst_abandon(store: &mut [u8]) -> u32
-    ensures { λ r. ⌜ ended r (now (store .exit)) ≡ abandonLent 4 (now (store .entry)) ⌝ }
+    ensures { λ r. ⌜ leaving r (now (store .exit)) ≡ abandonLent 4 (now (store .entry)) ⌝ }
 {
     calls::abandon(store)
 }
@@ -70,7 +69,7 @@ pub extern "C" fn rcst_abandon(store: &mut [u8]) -> u32
 // Returns to a committed version in the open update.
 #[no_mangle]
 pub extern "C" fn rcst_return(store: &mut [u8], version: u32) -> u32
-    ensures { λ r. ⌜ ended r (now (store .exit)) ≡ returnLent 4 (now (store .entry)) version ⌝ }
+    ensures { λ r. ⌜ leaving r (now (store .exit)) ≡ returnLent 4 (now (store .entry)) version ⌝ }
 {
     calls::return_to(store, version)
 }

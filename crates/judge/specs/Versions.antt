@@ -10,8 +10,8 @@ use Rattle.model.specs.Page.{Page, isFree}
 use Rattle.model.specs.Walk.{seen}
 use Rattle.model.specs.Sound.{same, reachedWell}
 use Rattle.model.specs.Layout.{readEntry, decode}
+use Rattle.model.specs.Inner.{Out}
 use Rattle.model.proofs.Given.{numbers}
-use Rattle.model.proofs.Quiet.{Out}
 use Rattle.page.specs.Head.{readHead}
 use Rattle.judge.specs.Pending.{passes}
 

@@ -21,8 +21,9 @@ use Rattle.model.specs.Layout.{readHeader, decode}
 use Rattle.model.specs.Judged.{isSound}
 use Rattle.model.specs.Calls.{lookedAt}
 use Rattle.model.specs.Life.{stretchNumbers, lifeOf}
-use Rattle.model.proofs.Lives.{stretch, toldOf, Lasts, rest, rest-step, life-length}
-use Rattle.model.proofs.Telling.{Shape}
+use Rattle.model.specs.Inner.{Lasts}
+use Rattle.model.specs.Telling.{Shape}
+use Rattle.model.proofs.Lives.{stretch, toldOf, rest, rest-step, life-length}
 use Rattle.store.specs.Read.{current-of}
 use Rattle.store.specs.Sure.{sure}
 use Rattle.walk.specs.Sure.{Readable}

@@ -10,8 +10,9 @@ use Rattle.model.specs.declared.Slot.{Slot}
 use Rattle.model.specs.Basic.{all, inOrder}
 use Rattle.model.specs.Sound.{isPage, firstVersion}
 use Rattle.model.specs.Layout.{readSlot, readSlots}
+use Rattle.model.specs.Inner.{firstOk, sooner}
 use Rattle.model.proofs.Lists.{both-true}
-use Rattle.model.proofs.Rising.{firstOk, in-order-step, sooner, sooner-carries}
+use Rattle.model.proofs.Rising.{in-order-step, sooner-carries}
 use Rattle.store.specs.Read.{slots-step, slots-end}
 use Rattle.local.specs.Local.{slotsOk}
 use Rattle.local.specs.First.{rooted}

@@ -15,7 +15,7 @@ use Rattle.model.specs.Store.{Store, page, lastOf}
 use Rattle.model.specs.Sound.{entryOk, pageFine, inside, leadsWell}
 use Rattle.model.specs.Layout.{readEntry, pageOf, readPages, readSlot, readHeader, sizeOf}
 use Rattle.model.specs.Clean.{cleanPages}
-use Rattle.model.proofs.Rising.{sooner}
+use Rattle.model.specs.Inner.{sooner}
 use Rattle.page.specs.declared.Head.{Head}
 use Rattle.page.specs.Head.{readHead}
 

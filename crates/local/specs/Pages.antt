@@ -18,8 +18,9 @@ use Rattle.model.specs.Sound.{spanOk, entryOk, pageFine, isPage}
 use Rattle.model.specs.Field.{field}
 use Rattle.model.specs.Layout.{pageOf, readEntry, readEntries, decodePage, readPages}
 use Rattle.model.specs.Clean.{zeroFrom, cleanPage, cleanPages}
+use Rattle.model.specs.Inner.{firstOk}
 use Rattle.model.proofs.Lists.{both-true}
-use Rattle.model.proofs.Rising.{firstOk, in-order-step, before-carries}
+use Rattle.model.proofs.Rising.{in-order-step, before-carries}
 use Rattle.page.specs.Head.{readHead}
 use Rattle.page.specs.Read.{Sized as SizedEntry, level-of, start-of, end-of, count-of, entries-of, length-entries, entries-step, entries-end}
 use Rattle.local.specs.Local.{entriesOk, pagesFine}

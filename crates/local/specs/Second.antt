@@ -11,9 +11,10 @@ use Rattle.model.specs.Basic.{all, inOrder}
 use Rattle.model.specs.Store.{last}
 use Rattle.model.specs.Sound.{rule2, firstVersion}
 use Rattle.model.specs.Layout.{readHeader, readSlot, readSlots, decode}
+use Rattle.model.specs.Inner.{firstOk, sooner}
 use Rattle.model.proofs.Lists.{both-true}
 use Rattle.model.proofs.Members.{not-both}
-use Rattle.model.proofs.Rising.{firstOk, in-order-step, sooner, sooner-carries}
+use Rattle.model.proofs.Rising.{in-order-step, sooner-carries}
 use Rattle.store.specs.Read.{slots-step, slots-end, slots-of}
 use Rattle.local.specs.Local.{slotAt, slotsOk}
 use Rattle.local.specs.Loops.{and-assoc, and-four}

@@ -8,10 +8,10 @@ ghost use Rattle.model.specs.Limits.{Edition};
 ghost use Rattle.model.specs.Sound.{pageFine};
 ghost use Rattle.model.specs.Layout.{readEntry, readEntries, decodePage};
 ghost use Rattle.model.specs.Clean.{zeroFrom, cleanPage};
-ghost use Rattle.model.proofs.Rising.{firstOk};
 ghost use Rattle.page.specs.Head.{readHead};
 ghost use Rattle.local.specs.Local.{Sized, entriesOk, pagesFine};
 ghost use Rattle.model.specs.Near.{pageRight};
+ghost use Rattle.model.specs.Inner.{firstOk};
 ghost use Rattle.local.specs.Right.{Known};
 
 // Whether the bits from bit a up to, not including, bit b are zero.

@@ -7,7 +7,7 @@ ghost use lib.ListN.{length};
 ghost use Rattle.model.specs.Limits.{Edition};
 ghost use Rattle.model.specs.Sound.{rule2};
 ghost use Rattle.model.specs.Layout.{readSlots, decode};
-ghost use Rattle.model.proofs.Rising.{firstOk, sooner};
+ghost use Rattle.model.specs.Inner.{firstOk, sooner};
 ghost use Rattle.local.specs.Local.{Held, slotAt};
 
 // The slot behind place i, if there is one, has a higher version.

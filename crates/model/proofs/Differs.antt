@@ -14,8 +14,8 @@ use Rattle.model.specs.declared.Delta.{Delta}
 use Rattle.model.specs.Entry.{pair, enterPair}
 use Rattle.model.specs.Walk.{find}
 use Rattle.model.specs.Differ.{added, removed, changed, against, differ, of, names, saysOf, appliedOne, apply, exchanged}
+use Rattle.model.specs.Inner.{rising}
 use Rattle.model.proofs.Lists.{both-true, both-intro, all-cons}
-use Rattle.model.proofs.Lookups.{rising}
 use Rattle.model.proofs.Merging.{above, find-above, old-first, new-first, both-first, by-merge}
 
 -- ---- a test of every difference, from a test of every key

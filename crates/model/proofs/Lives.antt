@@ -14,6 +14,7 @@ use borrow.Author.Tests.{eq-eqb, ne-eqb}
 use Rattle.model.specs.Basic.{pick, flatMap, count}
 use Rattle.model.specs.declared.Stretch.{Stretch}
 use Rattle.model.specs.Life.{alone, touch, join, joined, shownTo, lifeOf}
+use Rattle.model.specs.Inner.{Lasts}
 
 abbrev pub stretch : ℕ → ℕ → ℕ → Stretch
 stretch v r x = record { start = v; end = r; value = x }
@@ -141,13 +142,6 @@ module _ (f : ℕ → Option ℕ) where
           (λ z. ap (λ (t : Bool). eqb (a .end) v && t) (ne-eqb (a .value) x (λ i. h (omega arith) (q ∙ ap some (sym i)))) ∙ no (eqb (a .end) v))
 
 -- ---- the life from version v on
-
--- the answer of v holds up to r, and no longer: r is the first version behind v with another, or the first that is not committed
-pub record Lasts (c : ℕ) (f : ℕ → Option ℕ) (v r : ℕ) : Type 0 where
-  pub above : v < r
-  pub below : r ≤ suc c
-  pub same : (w : ℕ) → v ≤ w → w < r → f w ≡ f v
-  pub other : r ≤ c → f r ≢ f v
 
 -- what is told of the versions from v up to r, where the answer is o
 abbrev pub toldOf : ℕ → ℕ → ℕ → Option ℕ → List Stretch

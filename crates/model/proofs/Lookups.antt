@@ -16,6 +16,7 @@ use Rattle.model.specs.Page.{Page, pairsAt}
 use Rattle.model.specs.Store.{Store, page, last}
 use Rattle.model.specs.Walk.{Around, around, find, lookup, settings, rootAt, heightOf, wayDown, leafOf, keyLimit}
 use Rattle.model.specs.Sound.{sound}
+use Rattle.model.specs.Inner.{rising}
 use Rattle.model.proofs.Lists.{both-true, all-cons}
 use Rattle.model.proofs.Members.{holds-true}
 use Rattle.model.proofs.Tree.{Row, Holds, Tree}
@@ -60,9 +61,6 @@ module _ (least v k : ℕ) (ps : List Page) (r : ℕ) where
       ∙ sym (ap (find k) (f .all-of)
       ∙ find-right k (f .befores) (f .mine ++ f .afters) (find-none k lo (f .low) (f .befores) (row-range least v ps l (holds-range least v ps l) (f .low) (f .before) lo (f .befores) (f .lefts)) (inl (f .from)))
       ∙ find-left k (f .mine) (f .afters) (find-none k (f .mid) hi (f .afters) (row-range least v ps l (holds-range least v ps l) hi (f .after) (f .mid) (f .afters) (f .rights)) (inr (f .upto))))
-
-abbrev pub rising : List Pair → Bool
-rising us = inOrder (λ (x y : Pair). ltb (x .key) (y .key)) us
 
 module _ (least v : ℕ) (ps : List Page) where
   rising-row : (l : ℕ) → ((lo hi : ℕ) (us zs : List Pair) → Holds least v l ps lo hi us zs → rising zs ≡ true) → (hi : ℕ) (rs : List Pair) (lo : ℕ) (zs : List Pair) → Row (Tree least v l ps) hi rs lo zs → rising zs ≡ true

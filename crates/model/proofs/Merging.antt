@@ -13,8 +13,8 @@ use Rattle.model.specs.declared.Pair.{Pair}
 use Rattle.model.specs.declared.Delta.{Delta}
 use Rattle.model.specs.Walk.{find}
 use Rattle.model.specs.Differ.{added, removed, against, differ}
+use Rattle.model.specs.Inner.{rising}
 use Rattle.model.proofs.Lists.{both-true, both-intro, all-cons}
-use Rattle.model.proofs.Lookups.{rising}
 
 -- each key is above k
 abbrev pub above : ℕ → List Pair → Bool

@@ -18,10 +18,11 @@ use Rattle.model.specs.Store.{Store, page, last}
 use Rattle.model.specs.Walk.{Seen, seen}
 use Rattle.model.specs.Sound.{pagesPass, versions, keysOk, reachedWell, sound, rule1, rule2, rule3, rule4, rule5, rule6, rule7}
 use Rattle.model.specs.Quick.{apart, childrenFine, slotsFine, ledTo, spansMet, quick, quickSound}
+use Rattle.model.specs.Inner.{Out}
 use Rattle.model.proofs.Lists.{both-true, both-intro}
 use Rattle.model.proofs.Members.{bool-cases, In, all-in, all-by, all-implies, count-in}
 use Rattle.model.proofs.Given.{Front, front-of, span-of, numbers, livesAt, enough, used-in, high-used, passes-at, at-passes, reached-at, at-reached, version-in}
-use Rattle.model.proofs.Quiet.{Out, QuietPage, Quiet, seen-still, reached-still}
+use Rattle.model.proofs.Quiet.{QuietPage, Quiet, seen-still, reached-still}
 use Rattle.model.proofs.Judging.{seventh-by}
 use Rattle.model.proofs.Bridge.{passesAt}
 use Rattle.model.proofs.Walks.{reach-self}

@@ -19,6 +19,7 @@ use Rattle.model.specs.Store.{Store, page, last}
 use Rattle.model.specs.Walk.{Seen, seen, seenAs, seenUnder, rootAt, rootFrom, keyLimit, settings}
 use Rattle.model.specs.Sound.{keysOk, fewest, firstVersion}
 use Rattle.model.specs.Quick.{apart, keyOver, fineOver, under, routersFine, childrenFine, upto, slotFine, slotsFine, ledTo}
+use Rattle.model.specs.Inner.{sooner}
 use Rattle.model.proofs.Lists.{both-true, both-intro, all-cons}
 use Rattle.model.proofs.Members.{either-left, either-right, In, all-in}
 use Rattle.model.proofs.Given.{Front, livesAt, used-in, high-used}
@@ -26,7 +27,6 @@ use Rattle.model.proofs.Tree.{Row, Holds, Tree, row-keys, row-le}
 use Rattle.model.proofs.Local.{inRange, holds-keys}
 use Rattle.model.proofs.Nodes.{Node, reach-node}
 use Rattle.model.proofs.Keeps.{holds-order}
-use Rattle.model.proofs.Rising.{sooner}
 use Rattle.model.proofs.Bridge.{passesAt}
 use Rattle.model.proofs.Fits.{used-level, level-used, within-of}
 use Rattle.model.proofs.QuickSpans.{Alive, of-shows, apart-less, rises-apart, at-low, at-key, at-many}

@@ -13,9 +13,10 @@ use Rattle.model.specs.Basic.{all, those, keep, inOrder}
 use Rattle.model.specs.declared.Entry.{Entry}
 use Rattle.model.specs.Entry.{before, liveAt}
 use Rattle.model.specs.Quick.{apart, liveCount, manyOver}
+use Rattle.model.specs.Inner.{firstOk, throughout}
 use Rattle.model.proofs.Lists.{both-true, both-intro}
 use Rattle.model.proofs.Members.{not-both, either-true, all-by}
-use Rattle.model.proofs.Rising.{Carries, firstOk, rising, in-order-rising, before-carries}
+use Rattle.model.proofs.Rising.{Carries, rising, in-order-rising, before-carries}
 
 -- of entries in order neighbours are enough
 abbrev beforeApart : Entry → Entry → Bool
@@ -82,10 +83,6 @@ module _ {A : Type 0} (f g : A → A → Bool) where
 
 pub apart-neighbours : (es : List Entry) → inOrder before es ≡ true → inOrder apart es ≡ rising apart es
 apart-neighbours es o = given-first before apart es o ∙ in-order-rising beforeApart both-carry es ∙ rising-first before apart es o
-
--- entries alive throughout the stretch are alive at each version of it: where they suffice no end needs a look
-abbrev pub throughout : ℕ → ℕ → Entry → Bool
-throughout a b e = leb (e .start) a && leb b (e .end)
 
 through-live : (a b v : ℕ) → a ≤ v → v < b → (e : Entry) → throughout a b e ≡ true → liveAt v e ≡ true
 through-live a b v p q e h =

@@ -19,6 +19,7 @@ use Rattle.model.specs.Store.{Store, page}
 use Rattle.model.specs.Walk.{seen, rootAt, rootFrom, keyLimit, settings}
 use Rattle.model.specs.Sound.{firstVersion}
 use Rattle.model.specs.Quick.{upto}
+use Rattle.model.specs.Inner.{sooner}
 use Rattle.model.proofs.Lists.{both-true}
 use Rattle.model.proofs.Members.{bool-cases, In}
 use Rattle.model.proofs.Given.{Front, livesAt}
@@ -26,7 +27,6 @@ use Rattle.model.proofs.Walks.{Reach, Self, Above, reach-on, last-step}
 use Rattle.model.proofs.Nodes.{reach-node}
 use Rattle.model.proofs.Keeps.{holds-order}
 use Rattle.model.proofs.Parents.{above-one, reach-height}
-use Rattle.model.proofs.Rising.{sooner}
 use Rattle.model.proofs.Bridge.{passesAt}
 use Rattle.model.proofs.Fits.{level-used, of-within}
 use Rattle.model.proofs.QuickSpans.{rising, shows-of}

@@ -19,11 +19,11 @@ use Rattle.model.specs.Store.{Store, page}
 use Rattle.model.specs.Walk.{Seen, seen, seenAs, seenUnder, seenBelow, spread, rootAt, rootFrom, keyLimit}
 use Rattle.model.specs.Sound.{startsAt, fewest, firstVersion}
 use Rattle.model.specs.Quick.{lowOver, keyOver, manyOver, fineOver, under, nexts, routersFine, childrenFine, upto, slotFine, slotsFine, apart}
+use Rattle.model.specs.Inner.{sooner}
 use Rattle.model.proofs.Lists.{both-true, both-intro}
 use Rattle.model.proofs.Members.{either-true, either-left, either-right, In, all-in, all-by}
 use Rattle.model.proofs.Given.{Front}
 use Rattle.model.proofs.Local.{all-append}
-use Rattle.model.proofs.Rising.{sooner}
 use Rattle.model.proofs.Bridge.{passesAt}
 use Rattle.model.proofs.Fits.{level-used, of-within}
 use Rattle.model.proofs.QuickSpans.{livePairs, rising, Alive, alive-of, shows-of, apart-rises, low-at, key-at, many-at}

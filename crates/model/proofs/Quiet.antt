@@ -19,12 +19,9 @@ use Rattle.model.specs.Page.{Page, free, isFree, pairsAt}
 use Rattle.model.specs.Store.{Store, page}
 use Rattle.model.specs.Walk.{Seen, seen, seenAs, seenUnder, seenBelow, spread, rootAt, rootFrom, heightOf, keyLimit}
 use Rattle.model.specs.Sound.{same, reachedWell}
+use Rattle.model.specs.Inner.{Out}
 use Rattle.model.proofs.Members.{In, bool-cases}
 use Rattle.model.proofs.Given.{numbers}
-
--- x is no version behind v and before r
-abbrev pub Out : ℕ → ℕ → ℕ → Type 0
-Out v r x = (x ≤ v) ⊎ (r ≤ x)
 
 -- nothing starts or ends there: in a page, in the store
 pub record QuietPage (v r : ℕ) (p : Page) : Type 0 where

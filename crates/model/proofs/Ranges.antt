@@ -15,6 +15,7 @@ use Rattle.model.specs.Page.{Page, pairsAt}
 use Rattle.model.specs.Store.{Store, page, last}
 use Rattle.model.specs.Walk.{between, followFrom, followed, rangeBelow, rangeOf, settings, rootAt, heightOf, keyLimit}
 use Rattle.model.specs.Sound.{sound}
+use Rattle.model.specs.Inner.{rising}
 use Rattle.model.proofs.Lists.{both-true, all-cons}
 use Rattle.model.proofs.Members.{holds-true}
 use Rattle.model.proofs.Tree.{Row, Holds, Tree}
@@ -23,7 +24,7 @@ use Rattle.model.proofs.Main.{holds-range}
 use Rattle.model.proofs.Given.{Sound, from-tests}
 use Rattle.model.proofs.Fits.{holds-all}
 use Rattle.model.proofs.Edit.{rising-those}
-use Rattle.model.proofs.Lookups.{rising, settings-rise}
+use Rattle.model.proofs.Lookups.{settings-rise}
 
 -- what stands outside a range adds nothing to it
 range-outside : (lo hi a b : ℕ) (zs : List Pair) → inRange a b zs ≡ true → (b ≤ lo) ⊎ (hi < a) → those (λ (x : Pair). leb lo (x .key) && leb (x .key) hi) zs ≡ []

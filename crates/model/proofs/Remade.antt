@@ -18,9 +18,9 @@ use Rattle.model.specs.Walk.{find}
 use Rattle.model.specs.Calls.{isSome}
 use Rattle.model.specs.Differ.{changed, differ}
 use Rattle.model.specs.Return.{goes, comes}
+use Rattle.model.specs.Inner.{rising}
 use Rattle.model.proofs.Lists.{both-true, both-intro, all-cons}
 use Rattle.model.proofs.Members.{all-in, all-by, in-those}
-use Rattle.model.proofs.Lookups.{rising}
 use Rattle.model.proofs.Merging.{above, find-above, old-first, new-first, both-first, by-merge}
 use Rattle.model.proofs.Differs.{keys-so, without, in-front}
 

@@ -12,15 +12,11 @@ use Rattle.model.specs.Basic.{all, inOrder}
 use Rattle.model.specs.declared.Pair.{Pair}
 use Rattle.model.specs.declared.Slot.{Slot}
 use Rattle.model.specs.Entry.{before}
+use Rattle.model.specs.Inner.{firstOk, sooner}
 use Rattle.model.proofs.Lists.{both-true, both-intro}
 use Rattle.model.proofs.Members.{either-true, either-left, either-right, all-implies}
 
 module _ {A : Type 0} where
-  -- the first of a list stands so to x
-  abbrev pub firstOk : (A → A → Bool) → A → List A → Bool
-  firstOk f x [] = true
-  firstOk f x (y ∷ ys) = f x y
-
   abbrev pub rising : (A → A → Bool) → List A → Bool
   rising f [] = true
   rising f (x ∷ xs) = firstOk f x xs && rising f xs
@@ -57,9 +53,6 @@ module _ {A : Type 0} where
 
 less-carries : (a b c : ℕ) → ltb a b ≡ true → ltb b c ≡ true → ltb a c ≡ true
 less-carries a b c p q = lt-ltb a c (omega (arith, ltb-true a b p, ltb-true b c q))
-
-abbrev pub sooner : Slot → Slot → Bool
-sooner x y = ltb (x .version) (y .version)
 
 pub sooner-carries : Carries sooner
 sooner-carries x y z p q = less-carries (x .version) (y .version) (z .version) p q

@@ -16,10 +16,10 @@ use Rattle.model.specs.Entry.{pair, placed, enterPair}
 use Rattle.model.specs.Walk.{find}
 use Rattle.model.specs.Same.{samePairs}
 use Rattle.model.specs.Differ.{changed, differ}
+use Rattle.model.specs.Inner.{rising}
 use Rattle.model.proofs.Lists.{both-true, all-cons}
 use Rattle.model.proofs.Members.{not-both}
 use Rattle.model.proofs.Edit.{missing}
-use Rattle.model.proofs.Lookups.{rising}
 use Rattle.model.proofs.Merging.{above, find-above, by-merge, old-first, new-first, both-first}
 
 -- ---- the test says that they are equal

@@ -21,6 +21,10 @@ pub record Outcome : Type 0 where
   pub number : ℕ
   pub store : List ℕ
 
+-- that of a call which gave n and left the bytes b
+abbrev pub leaving : ℕ → List ℕ → Outcome
+leaving n b = record { number = n; store = b }
+
 -- "Every number but 0 leaves store and list untouched."
 abbrev pub left : ℕ → List ℕ → Result → Outcome
 left least b (done t) = record { number = 0; store = encode least t }

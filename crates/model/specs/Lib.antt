@@ -11,6 +11,7 @@ pub mod Rules
 pub mod Climb
 pub mod Calls
 pub mod Told
+pub mod Telling
 pub mod Visited
 pub mod Differ
 pub mod Return
@@ -21,6 +22,7 @@ pub mod Field
 pub mod Layout
 pub mod Clean
 pub mod Quick
+pub mod Inner
 pub mod Judged
 pub mod Near
 pub mod Lent

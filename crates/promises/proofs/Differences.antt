@@ -23,11 +23,12 @@ use Rattle.model.specs.Differ.{differ, saysOf, deltaNumbers, difference}
 use Rattle.model.specs.Lent
 use Rattle.model.specs.Lent.{judgedFirst, Listed, listed, differenceLent}
 use Rattle.model.specs.Ended.{ofListed}
+use Rattle.model.specs.Inner.{rising}
 use Rattle.model.proofs.Given.{Sound, from-tests}
 use Rattle.model.proofs.Members.{holds-true}
 use Rattle.model.proofs.Lists.{both-true, both-intro, all-cons}
 use Rattle.model.proofs.Local.{inRange}
-use Rattle.model.proofs.Lookups.{rising, lookup-is, settings-rise, settings-low}
+use Rattle.model.proofs.Lookups.{lookup-is, settings-rise, settings-low}
 use Rattle.model.proofs.Alike.{alike-settings}
 use Rattle.model.proofs.Differs as lists
 use Rattle.promises.specs.Accepts.{Accepts}

@@ -31,13 +31,14 @@ use Rattle.model.specs.Settings.{Both, lent, onward, together}
 use Rattle.model.specs.Lent
 use Rattle.model.specs.Lent.{judgedFirst, Listed, listed, lookupLent, lifeLent}
 use Rattle.model.specs.Ended.{toCommit, toLife, ofListed, ended}
+use Rattle.model.specs.Telling.{Shape}
 use Rattle.model.proofs.Lists.{all-cons, both-intro}
 use Rattle.model.proofs.Judging.{accepted as judged-zero, accepted-sound}
 use Rattle.model.proofs.Alike.{alike-lookup}
 use Rattle.model.proofs.History.{many-calls}
 use Rattle.model.proofs.Undone.{lent-agrees}
 use Rattle.model.proofs.Lives.{life-ext}
-use Rattle.model.proofs.Telling.{Shape, length-numbers}
+use Rattle.model.proofs.Telling.{length-numbers}
 use Rattle.promises.specs.Accepts.{Accepts}
 use Rattle.promises.specs.Runs.{Turn, runBytes, Kind, making, changing, reading, kindOf, notMaking, uncommitting, each}
 use Rattle.promises.specs.Views.{SaysSame}

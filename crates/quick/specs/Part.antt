@@ -13,8 +13,8 @@ use Rattle.model.specs.declared.Entry.{Entry}
 use Rattle.model.specs.Basic.{all, those, keep, pick}
 use Rattle.model.specs.Layout.{readEntry, readEntries, decodePage}
 use Rattle.model.specs.Quick.{meets, past, pastAll, apart, lowOver, keyOver, liveCount, manyOver, fineOver}
-use Rattle.model.proofs.Rising.{firstOk, rising}
-use Rattle.model.proofs.QuickLaws.{throughout}
+use Rattle.model.specs.Inner.{firstOk, throughout}
+use Rattle.model.proofs.Rising.{rising}
 use Rattle.page.specs.declared.Head.{Head}
 use Rattle.page.specs.Head.{readHead}
 use Rattle.page.specs.Read.{level-of, entries-of, entries-step, entries-end}

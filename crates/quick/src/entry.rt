@@ -7,7 +7,7 @@ ghost use lib.Dec.{leb, ltb, eqb};
 ghost use Rattle.model.specs.Basic.{pick};
 ghost use Rattle.model.specs.Entry.{liveAt};
 ghost use Rattle.model.specs.Quick.{meets, past, apart};
-ghost use Rattle.model.proofs.QuickLaws.{throughout};
+ghost use Rattle.model.specs.Inner.{throughout};
 
 pub(crate) fn larger(a: u32, b: u32) -> u32
     ensures { λ r. ⌜ r ≡ max a b ⌝ }

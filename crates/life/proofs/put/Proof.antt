@@ -5,11 +5,12 @@ use mathlib.Core.Bool.{Bool}
 use mathlib.Core.Path.{_≡_, ap, sym, _∙_}
 use mathlib.Core.List.{[], _∷_}
 use lib.ListN.{length-set}
-use Rattle.model.proofs.Telling.{written, write-one, write-not}
+use Rattle.model.proofs.Telling.{write-one, write-not}
 use Rattle.life.specs.Lived.{stretches}
 use borrow.Author.Needs.{needs}
 use Rattle.life.proofs.put.Statement.{statement}
 use Rattle.life.proofs.put.Tie as tie
+use Rattle.model.specs.Telling.{written}
 
 mul-list : tie.Need-mul-list
 mul-list c = search needs

@@ -1,11 +1,12 @@
 -- `tell` meets its contract. Assumes nothing.
 use native.Mathlib.Omega.{arith}
 use mathlib.Core.Path.{refl, ap, sym, subst}
-use Rattle.model.proofs.Telling.{written-none, Space}
+use Rattle.model.proofs.Telling.{written-none}
 use Rattle.life.specs.Lived.{stretches, shown}
 use borrow.Author.Needs.{needs}
 use Rattle.life.proofs.tell.Statement.{statement}
 use Rattle.life.proofs.tell.Tie as tie
+use Rattle.model.specs.Telling.{Space}
 
 enum-known-answer : tie.Need-enum-known-answer
 enum-known-answer c = search needs

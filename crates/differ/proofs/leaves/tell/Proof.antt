@@ -1,7 +1,7 @@
 -- `leaves::tell` meets its contract. Assumes nothing.
 use Rattle.differ.specs.Leaves.{leaf-stands, rest-ordered, same-none, both-asked}
 use Rattle.differ.specs.Listing.{deltas}
-use Rattle.model.proofs.Telling.{written-none, Space, Gathers}
+use Rattle.model.proofs.Telling.{written-none}
 use native.Mathlib.Omega.{arith}
 use Rattle.walk.specs.Sure.{covers-inside}
 use Rattle.cursor.specs.Leaf.{below-covers}
@@ -10,6 +10,7 @@ use mathlib.Core.Path.{sym, _∙_, subst}
 use borrow.Author.Needs.{needs}
 use Rattle.differ.proofs.leaves.tell.Statement.{statement}
 use Rattle.differ.proofs.leaves.tell.Tie as tie
+use Rattle.model.specs.Telling.{Space, Gathers}
 
 part-requires : tie.Need-part-requires
 part-requires c κs =

@@ -1,8 +1,9 @@
 -- `put` meets its contract. Assumes nothing.
 use borrow.Author.Tests.{not-true, not-false}
 use Rattle.differ.specs.Listing.{deltas, told-same, told-one}
-use Rattle.model.proofs.Telling.{written, written-none, write-not}
+use Rattle.model.proofs.Telling.{written-none, write-not}
 use Rattle.model.specs.declared.Delta.{Delta}
+use Rattle.model.specs.Telling.{written}
 use lib.ListN.{length}
 use mathlib.Core.Bool.{Bool}
 use mathlib.Core.List.{List, [], _∷_}
