@@ -19,8 +19,9 @@
  * bench keys can be read and cleaned. A return lets them through.
  *
  * Every call gives a number, of several that apply the smallest; but lookup and
- * range give 5 or 6 before they look at a page of their walk. enum rcst_number has
- * the numbers' names, rcst_words their words.
+ * range give 5 or 6 before they look at a page of their walk, and 16 and 17 come
+ * before the store's (see "Named settings"). enum rcst_number has the numbers'
+ * names, rcst_words their words.
  *
  * Every number but 0 leaves store and list untouched, byte for byte, with one
  * exception: a return that gives 12 or 13 has abandoned the update. After an insert's
@@ -36,9 +37,9 @@
  * During a call nobody else touches its list and results, and nobody writes the
  * store. So the calls that take the store as const may run side by side on one
  * store, each with a list and results of its own; a call that writes it (fresh,
- * open, insert, delete, return, commit, abandon) runs alone on it, with no other
- * reader or writer. The library has no state of its own: calls on different stores
- * never meet.
+ * open, insert, delete, return, commit, abandon, and insert and delete by name)
+ * runs alone on it, with no other reader or writer. The library has no state of its
+ * own: calls on different stores never meet.
  *
  * A call takes at most RCST_STACK_BYTES of the stack of the thread that makes it;
  * the default of some systems for a thread is less. That is measured and rounded
@@ -103,7 +104,9 @@ enum rcst_number {
     RCST_NO_PAGE_FREE = 12,
     RCST_NO_SLOT_FREE = 13,
     RCST_LIST_TOO_SHORT = 14,
-    RCST_NOTHING_CHANGED = 15
+    RCST_NOTHING_CHANGED = 15,
+    RCST_VALUE_NOT_ADMITTED = 16,
+    RCST_KEY_UNKNOWN = 17
 };
 
 /* A number's words: when it is given. Never null. */
@@ -126,6 +129,8 @@ static inline const char *rcst_words(uint32_t number) {
         ("caller's list holds fewer numbers than two for each setting found (range), three for each stretch (life), "
          "four for each difference (difference), one for each page visited (visits)"),
         "the open version's settings equal the current version's, key for key (commit)",
+        "value not of the key's kind or outside its limits (named insert), or key of another kind (viewer)",
+        "key unknown to the table of kinds, or met in a range (named settings, viewer)",
     };
     return number < sizeof words / sizeof words[0] ? words[number] : "not a number of this library";
 }
@@ -232,6 +237,84 @@ uint32_t rcst_difference(const uint8_t *store, size_t length, uint32_t old_versi
  * and with 14, else 0.
  */
 uint32_t rcst_life(const uint8_t *store, size_t length, uint32_t key, uint32_t *list, size_t room, size_t *count);
+
+/*
+ * Named settings: a layer above the store that knows each key's kind. The kinds
+ * are lent as a table, four numbers a row: the key; 0 for a whole number, 1 for a
+ * switch, 2 for a level; the lowest value and the highest, both included. A level's
+ * are the bits of two floats, a switch's say nothing. Where a key has several rows
+ * the first counts; a row with another kind says nothing of its key, and numbers
+ * behind the last whole row say nothing.
+ *
+ * A value is an unsigned number, 0 or 1, or the bits of a float. Floats are
+ * compared as floats: -0.0 is 0.0, an infinity lies beside the other numbers, and a
+ * NaN is admitted nowhere; limits of which one is a NaN, or the lowest above the
+ * highest, admit nothing.
+ *
+ * A key that the table does not have is unknown: 17, on reading and on writing. 17
+ * and 16 come before every number of the store, 17 before 16.
+ *
+ * `table` points to `numbers` numbers, and overlaps neither store nor list. It is
+ * searched from the front, a step a row, once by each call; by rcst_view_range once
+ * for each setting found.
+ */
+enum rcst_kind { RCST_WHOLE = 0, RCST_SWITCH = 1, RCST_LEVEL = 2 };
+
+/* How many numbers a row of a table has. */
+#define RCST_KIND_NUMBERS 4u
+
+/*
+ * Judges a table: 0 if keys rise and are keys, kinds are known and no lowest is
+ * above its highest or a NaN; else the first wrong row, counted from 1. The other
+ * calls take any table: ask this once, where the table is made.
+ */
+size_t rcst_kinds_check(const uint32_t *table, size_t numbers);
+
+/*
+ * Inserts a setting of a known key, if its value is of the kind and inside the
+ * limits. Gives 17, 16, or what rcst_insert gives.
+ */
+uint32_t rcst_named_insert(uint8_t *store, size_t length, const uint32_t *table, size_t numbers, uint32_t key, uint32_t value);
+
+/* Deletes a setting of a known key. Gives 17, or what rcst_delete gives. */
+uint32_t rcst_named_delete(uint8_t *store, size_t length, const uint32_t *table, size_t numbers, uint32_t key);
+
+/*
+ * The viewer: a reader of a store at one version. Open it once: 0, or 1 to 4, by
+ * the header and the slots as a lookup judges them first, or 6. Then ask by key; the
+ * library keeps nothing, so store, version and table are handed on at each call.
+ */
+uint32_t rcst_view_open(const uint8_t *store, size_t length, uint32_t version);
+
+/*
+ * What the viewer shows of a key. Gives 17, or what rcst_lookup gives, with *found
+ * and *value as there. The value is shown as it is, also one that was inserted
+ * without the layer and lies outside the limits.
+ */
+uint32_t rcst_view_value(const uint8_t *store, size_t length, uint32_t version, const uint32_t *table, size_t numbers, uint32_t key,
+                         uint32_t *found, uint32_t *value);
+
+/* The same of a key that is a whole number, or a switch: 16 for a key of another kind. */
+uint32_t rcst_view_whole(const uint8_t *store, size_t length, uint32_t version, const uint32_t *table, size_t numbers, uint32_t key,
+                         uint32_t *found, uint32_t *value);
+uint32_t rcst_view_switch(const uint8_t *store, size_t length, uint32_t version, const uint32_t *table, size_t numbers, uint32_t key,
+                          uint32_t *found, uint32_t *value);
+
+/*
+ * The same of a key that is a level: *bits are the float's bits and *level the
+ * float, 0 and 0.0 where there is none.
+ */
+uint32_t rcst_view_level(const uint8_t *store, size_t length, uint32_t version, const uint32_t *table, size_t numbers, uint32_t key,
+                         uint32_t *found, uint32_t *bits, float *level);
+
+/*
+ * The settings from low to high that the viewer shows, as rcst_range gives them,
+ * but of a store that is sound: it judges all of it first, as check does. Gives 0, 1
+ * to 6, 17 or 14: with 17 one of them has an unknown key, nothing is written and
+ * *count is 0. So no setting is skipped: all are shown, or none.
+ */
+uint32_t rcst_view_range(const uint8_t *store, size_t length, uint32_t version, const uint32_t *table, size_t numbers, uint32_t low,
+                         uint32_t high, uint32_t *list, size_t room, size_t *count);
 
 #ifdef __cplusplus
 }

@@ -23,7 +23,7 @@ static size_t most[CALLS];
 static uint8_t stack[STACK] __attribute__((aligned(4096)));
 static uint8_t store[RCST_MOST_PAGES * RCST_PAGE_BYTES], kept[RCST_MOST_PAGES * RCST_PAGE_BYTES];
 static size_t length;
-static uint32_t list[64];
+static uint32_t list[64], kinds[4] = {0, RCST_WHOLE, 0, 9};
 
 /* The call to make, its key, and where its frame begins. */
 static int call;
@@ -50,6 +50,11 @@ static void *made(void *none) {
     default:
         rcst_difference(store, length, 0, 1, list, 64, &count);
         rcst_life(store, length, key, list, 64, &count);
+        kinds[0] = key;
+        rcst_view_value(store, length, 1, kinds, 4, key, &a, &b);
+        rcst_view_range(store, length, 1, kinds, 4, 0, key, list, 64, &count);
+        rcst_named_delete(store, length, kinds, 4, key);
+        rcst_named_insert(store, length, kinds, 4, key, 1);
     }
     return none;
 }
@@ -156,7 +161,7 @@ int main(int count, char **files) {
         memcpy(store, kept, length);
     }
     busy();
-    measure(8, RCST_HIGHEST_KEY);
+    measure(9, RCST_HIGHEST_KEY);
     for (i = 1; i < count; i++) {
         FILE *file = fopen(files[i], "rb");
 

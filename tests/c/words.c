@@ -6,7 +6,7 @@
 int main(void) {
     uint32_t number;
 
-    for (number = RCST_DONE; number <= RCST_NOTHING_CHANGED; number++) {
+    for (number = RCST_DONE; number <= RCST_KEY_UNKNOWN; number++) {
         printf("| %u | %s |\n", (unsigned)number, rcst_words(number));
     }
     return 0;

@@ -1,4 +1,6 @@
 // The calls for programs in other languages: numbers and byte slices, any of them. include/rcst.h says the same to a C programmer.
+mod naming;
+
 use model::Looked;
 ghost use mathlib.Core.Path.{_≡_};
 ghost use Rattle.model.specs.Layout.{bit};

@@ -27,6 +27,8 @@ pub mod Judged
 pub mod Near
 pub mod Lent
 pub mod Ended
+pub mod Kinds
+pub mod Named
 pub mod Needs
 pub mod Plan
 pub mod Gathered

@@ -62,6 +62,19 @@ pub enum Looked {
     Refused(u32),
 }
 
+// What a setting may be: "a whole number with its limits, a switch, or a level with its lowest and highest float".
+pub enum Kind {
+    Whole(u32, u32),
+    Switch,
+    Level(f32, f32),
+}
+
+// What a table of kinds says of a key.
+pub enum Known {
+    Is(Kind),
+    Nothing,
+}
+
 // The limits of an edition: no other place in the code has them as numbers.
 pub struct Limits {
     // live entries that a reached page has at the least

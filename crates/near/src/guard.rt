@@ -29,7 +29,7 @@ fn front(s: &[u8], l: Limits) -> u32
 }
 
 // "With 5 or 6 only the header and the slots are judged first."
-pub(crate) fn guard(s: &[u8], l: Limits, bad: bool, v: u32) -> u32
+pub fn guard(s: &[u8], l: Limits, bad: bool, v: u32) -> u32
     requires { ⌜ Edition l ⌝ }
     ensures { λ r. ⌜ r ≡ guarded (l .least) (now (s .entry)) bad v ⌝ }
 {
@@ -48,7 +48,7 @@ pub(crate) fn guard(s: &[u8], l: Limits, bad: bool, v: u32) -> u32
 }
 
 // Whether a range's keys are wrong: "key too large, or range low above high".
-pub(crate) fn bad_range(low: u32, high: u32) -> bool
+pub fn bad_range(low: u32, high: u32) -> bool
     ensures { λ r. ⌜ r ≡ badRange low high ⌝ }
 {
     if KEYS <= low {

@@ -1,7 +1,7 @@
 // Lookups that judge only what they read (request 2026-04): the header and the slots, and then each page of their own walk.
 mod bounded;
 mod down;
-mod guard;
+pub mod guard;
 mod table;
 mod within;
 mod write;

@@ -18,6 +18,8 @@ pub mod Stretches
 pub mod Lives
 pub mod Restored
 pub mod KeptOut
+pub mod NamedSettings
+pub mod Tables
 pub mod Replaying
 pub mod Fakes
 pub mod Releasing

@@ -1,5 +1,5 @@
 -- The promises, each under its name: what it says stands in specs/Demand1, Demand2, Levels, Room, Demand3, in a file for each request of
--- document 02 (OldReadings, Near, Bench, Differences, Lives, Releases, Returns), in Replayed and Fakes.
+-- document 02 (OldReadings, Near, Bench, Differences, Lives, Releases, Returns, NamedSettings), in Replayed and Fakes.
 -- Assumes nothing.
 use Prim.Native.Nat.{ℕ}
 use native.Mathlib.Omega.{arith}
@@ -42,6 +42,7 @@ use Rattle.promises.specs.Replayed.{TableLent}
 use Rattle.promises.specs.Bench.{KeptOut}
 use Rattle.promises.specs.Releases.{EmptyReleases}
 use Rattle.promises.specs.Returns.{Returns}
+use Rattle.promises.specs.NamedSettings.{NamedRefused, AdmittedOnly, NoNan, NeverSkipped, NeverSofter, RightTable}
 use Rattle.promises.specs.Fakes.{FakesStopped}
 use Rattle.promises.proofs.Encoded as encoded
 use Rattle.promises.proofs.Judges as judging
@@ -59,6 +60,8 @@ use Rattle.promises.proofs.Differences as differ
 use Rattle.promises.proofs.Lives as lives
 use Rattle.promises.proofs.Restored as restored
 use Rattle.promises.proofs.KeptOut as bench
+use Rattle.promises.proofs.NamedSettings as named
+use Rattle.promises.proofs.Tables as tables
 use Rattle.promises.proofs.Replaying as replaying
 use Rattle.promises.proofs.Releasing as releasing
 use Rattle.promises.proofs.Returning as returning
@@ -256,6 +259,26 @@ returns = record {
   stopped = returning.when-stopped;
   abandons = returning.is-abandon;
 }
+
+-- ---- 2026-14, named settings
+
+pub named-refused : NamedRefused
+named-refused = named.named-refused
+
+pub admitted-only : AdmittedOnly
+admitted-only = named.admitted-only
+
+pub no-nans : NoNan
+no-nans = named.no-nans
+
+pub never-skipped : NeverSkipped
+never-skipped = named.never-skipped
+
+pub never-softer : NeverSofter
+never-softer = named.never-softer
+
+pub right-table : RightTable
+right-table = tables.right-table
 
 -- ---- fakes
 

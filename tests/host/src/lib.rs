@@ -7,6 +7,9 @@
 
 use reference::engine::{Answer, Call, Engine};
 
+pub mod naming;
+pub mod settings;
+
 mod c {
     extern "C" {
         pub fn rcst_fresh(store: *mut u8, length: usize) -> u32;

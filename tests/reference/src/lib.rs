@@ -10,7 +10,8 @@
 //!   bytes, judged as they go; [`update`] over a [`draft`]: the page rules;
 //!   [`mod@abandon`]; [`mod@difference`]; [`mod@life`]; [`returning`];
 //! - [`unjudged`]: the calls on a store known to be sound, and [`calls`]: the
-//!   calls as the console has them, on any bytes;
+//!   calls as the console has them, on any bytes; [`named`]: named settings and
+//!   the viewer above them;
 //! - [`console`]: the line language.
 //!
 //! The rest makes and judges work for two programs run side by side:
@@ -44,6 +45,7 @@ pub mod layout;
 pub mod life;
 pub mod lines;
 pub mod model;
+pub mod named;
 pub mod number;
 pub mod reading;
 pub mod returning;

@@ -1,0 +1,11 @@
+use mathlib.Core.Path.{sym}
+use lib.Ieee.{binary32}
+use lib.Ieee.Bits.{nanBits-above}
+use Rattle.kinds.proofs.is_nan.Statement.{statement}
+use Rattle.kinds.proofs.is_nan.Tie as tie
+
+returns : tie.Need-returns
+returns c = sym (nanBits-above binary32 (c .args .bits))
+
+pub is-nan-spec : {M : Type 1} → statement M
+is-nan-spec = tie.close (tie.spec returns)

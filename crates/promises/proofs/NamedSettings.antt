@@ -1,0 +1,418 @@
+-- What is promised of named settings: a history of calls by name is one of the store's calls, of which the layer let through only inserts that
+-- it admits.
+-- Assumes nothing.
+use Prim.Native.Nat.{ℕ, zero, suc, _*_, _≤_, _<_}
+use native.Mathlib.Omega.{arith}
+use mathlib.Core.Bool.{Bool, true, false, _&&_, _||_, not}
+use mathlib.Core.Path.{_≡_, refl, ap, ap₂, sym, _∙_, subst}
+use mathlib.Core.Logic.{_≢_, _⊎_, inl, inr}
+use mathlib.Core.Option.{Option, none, some}
+use mathlib.Core.List.{List, [], _∷_, _++_}
+use lib.Dec.{leb, ltb, eqb}
+use lib.ListN.{length, drop}
+use lib.Ieee.{binary32, nanBits}
+use borrow.Author.Tests.{le-leb, lt-leb, le-ltb, ltb-false, leb-false, eqb-true, eq-eqb, ne-eqb}
+use Rattle.model.specs.Basic.{all, keep, pick, those, flatMap}
+use Rattle.model.specs.declared.Pair.{Pair}
+use Rattle.model.specs.declared.Looked.the-variants.{Refused}
+use Rattle.model.specs.declared.Known.{Known}
+use Rattle.model.specs.declared.Known.the-variants.{Is}
+use Rattle.model.specs.declared.Kind.{Kind}
+use Rattle.model.specs.declared.Kind.the-variants.{Level}
+use Rattle.model.specs.Entry.{pair, enterPair}
+use Rattle.model.specs.Store.{last, fresh}
+use Rattle.model.specs.Walk.{settings, between, find, rangeOf, keyLimit}
+use Rattle.model.specs.Layout.{encode, decode}
+use Rattle.model.specs.Judged.{judged}
+use Rattle.model.specs.Calls.{rule, firstOf, pairNumbers, rangedIn, rangedBy, range}
+use Rattle.model.specs.Lent.{Outcome, Listed, judgedFirst, listed, insertLent, deleteLent, lookupLent, rangeLent}
+use Rattle.model.specs.Settings.{Machine, step, put}
+use Rattle.model.specs.Histories.{begins, commits, abandons, inserts, deletes}
+use Rattle.model.specs.Ended.{Asked, toFresh, toCheck, toOpen, toCommit, toAbandon, toInsert, toDelete, toReturn, toLookup, toRange, toVisits, toDifference, toLife, ended, Untouched, ofOutcome, ofLooked, ofListed}
+use Rattle.model.specs.Kinds.{admits, knownIn, allowed, unknown}
+use Rattle.model.specs.Named.{before, insertNamed, deleteNamed, lookupNamed, allKnown, barred, rangeNamed, ByName, byOpen, byCommit, byAbandon, byInsert, byDelete, byLookup, byRange, endedNamed}
+use Rattle.model.proofs.Lists.{all-cons, both-intro}
+use Rattle.model.proofs.Members.{bool-cases, not-both, In, all-in, all-by, in-those, those-in}
+use Rattle.model.proofs.Fitted.{entered-in}
+use Rattle.model.proofs.Judging.{accepted, accepted-sound}
+use Rattle.model.proofs.Ranges.{range-is}
+use Rattle.model.proofs.Unique as one
+use Rattle.kinds.specs.Floats.{no-nan}
+use Rattle.promises.specs.Accepts.{Accepts}
+use Rattle.promises.specs.Runs.{Turn, turned, runBytes, kindOf, fitting, each}
+use Rattle.promises.specs.Beside.{Beside, whenDone, onward, along, fromFresh}
+use Rattle.promises.specs.NamedSettings.{NamedTurn, runNamed, fits, eachFits, EachWithin, NamedRefused, admitted, shown, AdmittedOnly, NoNan, NeverSkipped, NeverSofter}
+use Rattle.promises.proofs.Agreed.{Agreed, many-turns, fresh-agreed}
+use Rattle.promises.proofs.Sounding.{range-lent}
+use Rattle.promises.proofs.Restored.{along-bytes}
+
+-- ---- by the layer's number
+
+kept-store : (n : ℕ) (b : List ℕ) (out : Outcome) → (out .number ≢ 0 → out .store ≡ b) → before n b out .number ≢ 0 → before n b out .store ≡ b
+kept-store zero b out f z = f z
+kept-store (suc n) b out f z = refl
+
+through : (n : ℕ) (b : List ℕ) (out : Outcome) → before n b out .store ≡ pick (eqb n 0) (out .store) b
+through zero b out = refl
+through (suc n) b out = sym (ap (λ (q : Bool). pick q (out .store) b) (ne-eqb (suc n) 0 (λ e. omega arith)))
+
+-- ---- refused calls
+
+kept-list : (n : ℕ) (ns : List ℕ) (r : Listed) → (r .number ≢ 0 → r .list ≡ ns) → judgedFirst n (λ m. record { number = m; count = 0; list = ns }) r .number ≢ 0
+    → judgedFirst n (λ m. record { number = m; count = 0; list = ns }) r .list ≡ ns
+kept-list zero ns r f z = f z
+kept-list (suc n) ns r f z = refl
+
+-- the one call that may be refused and yet change the store is none of the layer's
+abbrev returning : Asked → ℕ
+returning toFresh = 0
+returning toCheck = 0
+returning toOpen = 0
+returning toCommit = 0
+returning toAbandon = 0
+returning (toInsert k x) = 0
+returning (toDelete k) = 0
+returning (toReturn v) = 1
+returning (toLookup k v) = 0
+returning (toRange lo hi v) = 0
+returning (toVisits k v) = 0
+returning (toDifference u v) = 0
+returning (toLife k) = 0
+
+untouched : (least : ℕ) (c : Asked) (b ns : List ℕ) → returning c ≡ 0 → ended least c b ns .number ≢ 0 → Untouched b ns (ended least c b ns)
+untouched least c b ns e z = one.refused least c b ns (ended least c b ns) refl z (λ x. omega (arith, e, ap returning (x .0 .1)))
+
+pub named-refused : NamedRefused
+unfolding insertNamed deleteNamed rangeNamed
+named-refused least table byOpen b ns z = untouched least toOpen b ns refl z
+named-refused least table byCommit b ns z = untouched least toCommit b ns refl z
+named-refused least table byAbandon b ns z = untouched least toAbandon b ns refl z
+named-refused least table (byInsert k x) b ns z = record {
+  store = kept-store (allowed (knownIn table k) x) b (insertLent least b k x) (λ y. untouched least (toInsert k x) b ns refl y .store) z;
+  list = refl;
+}
+named-refused least table (byDelete k) b ns z = record {
+  store = kept-store (unknown (knownIn table k)) b (deleteLent least b k) (λ y. untouched least (toDelete k) b ns refl y .store) z;
+  list = refl;
+}
+named-refused least table (byLookup k v) b ns z = record { store = refl; list = refl }
+named-refused least table (byRange lo hi v) b ns z = record {
+  store = refl;
+  list = kept-list (barred least b lo hi v) ns (pick (allKnown table (rangeOf (decode least b) lo hi v)) (rangeLent least b lo hi v ns) (record { number = 17; count = 0; list = ns }))
+      (at (allKnown table (rangeOf (decode least b) lo hi v))) z;
+}
+  where
+    at : (q : Bool) → pick q (rangeLent least b lo hi v ns) (record { number = 17; count = 0; list = ns }) .number ≢ 0 → pick q (rangeLent least b lo hi v ns) (record { number = 17; count = 0; list = ns }) .list ≡ ns
+    at true y = untouched least (toRange lo hi v) b ns refl y .list
+    at false y = refl
+
+-- ---- the calls that the layer lets through
+
+abbrev asks : ByName → Asked
+asks byOpen = toOpen
+asks byCommit = toCommit
+asks byAbandon = toAbandon
+asks (byInsert k x) = toInsert k x
+asks (byDelete k) = toDelete k
+asks (byLookup k v) = toLookup k v
+asks (byRange lo hi v) = toRange lo hi v
+
+abbrev passes : List ℕ → ByName → Bool
+passes table byOpen = true
+passes table byCommit = true
+passes table byAbandon = true
+passes table (byInsert k x) = eqb (allowed (knownIn table k) x) 0
+passes table (byDelete k) = eqb (unknown (knownIn table k)) 0
+passes table (byLookup k v) = true
+passes table (byRange lo hi v) = true
+
+abbrev asked : NamedTurn → Turn
+asked t = record { call = asks (t .call); list = t .list }
+
+abbrev plain : List NamedTurn → List Turn
+plain [] = []
+plain (t ∷ ts) = keep (passes (t .table) (t .call)) (asked t) (plain ts)
+
+-- each leaves what the store's call leaves, or nothing was done
+one-same : (least : ℕ) (b : List ℕ) (table : List ℕ) (c : ByName) (ns : List ℕ) → endedNamed least table c b ns .store ≡ pick (passes table c) (ended least (asks c) b ns .store) b
+unfolding insertNamed deleteNamed
+one-same least b table byOpen ns = refl
+one-same least b table byCommit ns = refl
+one-same least b table byAbandon ns = refl
+one-same least b table (byInsert k x) ns = through (allowed (knownIn table k) x) b (insertLent least b k x)
+one-same least b table (byDelete k) ns = through (unknown (knownIn table k)) b (deleteLent least b k)
+one-same least b table (byLookup k v) ns = refl
+one-same least b table (byRange lo hi v) ns = refl
+
+many-same : (least : ℕ) (ts : List NamedTurn) (b : List ℕ) → runNamed least b ts ≡ runBytes least b (plain ts)
+many-same least [] b = refl
+many-same least (t ∷ ts) b =
+    ap (λ (q : List ℕ). runNamed least q ts) (one-same least b (t .table) (t .call) (t .list)) ∙ at (passes (t .table) (t .call)) (many-same least ts)
+  where
+    at : (p : Bool) → ((q : List ℕ) → runNamed least q ts ≡ runBytes least q (plain ts)) → runNamed least (pick p (turned least b (asked t) .store) b) ts ≡ runBytes least b (keep p (asked t) (plain ts))
+    at true ih = ih (turned least b (asked t) .store)
+    at false ih = ih b
+
+-- ---- the machine beside them holds settings that pass a test alone, if every insert does
+
+module _ (f : Pair → Bool) where
+  abbrev Only : Machine → Type 0
+  Only m = (v : ℕ) → all f (m .shows v) ≡ true
+
+  put-only : (m : Machine) (us : List Pair) → all f us ≡ true → Only m → (v : ℕ) → all f (put (suc (m .current)) us (m .shows) v) ≡ true
+  put-only m us a o v = at (eqb v (suc (m .current)))
+    where
+      at : (b : Bool) → all f (pick b us (m .shows v)) ≡ true
+      at true = a
+      at false = o v
+
+  entered-only : (k x : ℕ) (us : List Pair) → f (pair k x) ≡ true → all f us ≡ true → all f (enterPair (pair k x) us) ≡ true
+  entered-only k x us h a = all-by f (enterPair (pair k x) us) (λ y i. at y (entered-in (pair k x) y us i))
+    where
+      at : (y : Pair) → (y ≡ pair k x) ⊎ In y us → f y ≡ true
+      at y (inl e) = ap f e ∙ h
+      at y (inr i) = all-in f y us a i
+
+  those-only : (g : Pair → Bool) (us : List Pair) → all f us ≡ true → all f (those g us) ≡ true
+  those-only g us a = all-by f (those g us) (λ y i. all-in f y us a (in-those g y us i .1))
+
+  when : (n : ℕ) (m m′ : Machine) → Only m′ → Only m → Only (whenDone n m′ m)
+  when zero m m′ a b = a
+  when (suc n) m m′ a b = b
+
+  -- an insert by name brings what the test lets in
+  abbrev Lets : List ℕ → Type 0
+  Lets table = (k x : ℕ) → allowed (knownIn table k) x ≡ 0 → f (pair k x) ≡ true
+
+  abbrev EachLets : List NamedTurn → Type 0
+  EachLets [] = Unit {0}
+  EachLets (t ∷ ts) = Lets (t .table) × EachLets ts
+
+  module _ (least : ℕ) where
+    one-only : (x : Beside) (t : NamedTurn) → passes (t .table) (t .call) ≡ true → Lets (t .table) → Only (x .machine) → Only (onward least x (asked t) .machine)
+    one-only x t p l o = at (t .call) p
+      where
+        number : ByName → ℕ
+        number c = ended least (asks c) (x .bytes) (t .list) .number
+
+        at : (c : ByName) → passes (t .table) c ≡ true → Only (onward least x (record { call = asks c; list = t .list }) .machine)
+        at byOpen p = when (number byOpen) (x .machine) (step (x .machine) begins) (put-only (x .machine) (x .machine .shows (x .machine .current)) (o (x .machine .current)) o) o
+        at byCommit p = when (number byCommit) (x .machine) (step (x .machine) commits) o o
+        at byAbandon p = when (number byAbandon) (x .machine) (step (x .machine) abandons) o o
+        at (byInsert k y) p =
+            when (number (byInsert k y)) (x .machine) (step (x .machine) (inserts k y))
+            (put-only (x .machine) (enterPair (pair k y) (x .machine .shows (suc (x .machine .current))))
+            (entered-only k y (x .machine .shows (suc (x .machine .current))) (l k y (eqb-true (allowed (knownIn (t .table) k) y) 0 p)) (o (suc (x .machine .current)))) o) o
+        at (byDelete k) p =
+            when (number (byDelete k)) (x .machine) (step (x .machine) (deletes k))
+            (put-only (x .machine) (those (λ (y : Pair). not (eqb (y .key) k)) (x .machine .shows (suc (x .machine .current))))
+            (those-only (λ (y : Pair). not (eqb (y .key) k)) (x .machine .shows (suc (x .machine .current))) (o (suc (x .machine .current)))) o) o
+        at (byLookup k v) p = when (number (byLookup k v)) (x .machine) (x .machine) o o
+        at (byRange lo hi v) p = when (number (byRange lo hi v)) (x .machine) (x .machine) o o
+
+    many-only : (ts : List NamedTurn) → EachLets ts → (x : Beside) → Only (x .machine) → Only (along least x (plain ts) .machine)
+    many-only [] ls x o = o
+    many-only (t ∷ ts) ls x o = at (passes (t .table) (t .call)) refl (many-only ts (ls .1))
+      where
+        at : (p : Bool) → passes (t .table) (t .call) ≡ p → ((y : Beside) → Only (y .machine) → Only (along least y (plain ts) .machine)) → Only (along least x (keep p (asked t) (plain ts)) .machine)
+        at true e ih = ih (onward least x (asked t)) (one-only x t e (ls .0) o)
+        at false e ih = ih x o
+
+-- ---- from a fresh store on
+
+one-fits : (c : ByName) → fits c ≡ true → fitting (kindOf (asks c)) ≡ true
+one-fits byOpen h = refl
+one-fits byCommit h = refl
+one-fits byAbandon h = refl
+one-fits (byInsert k x) h = h
+one-fits (byDelete k) h = refl
+one-fits (byLookup k v) h = refl
+one-fits (byRange lo hi v) h = refl
+
+plain-fits : (ts : List NamedTurn) → eachFits ts ≡ true → each fitting (plain ts) ≡ true
+plain-fits [] h = refl
+plain-fits (t ∷ ts) h =
+    let (here, rest) = all-cons (λ (u : NamedTurn). fits (u .call)) t ts h in
+    at (passes (t .table) (t .call)) here (plain-fits ts rest)
+  where
+    at : (p : Bool) → fits (t .call) ≡ true → each fitting (plain ts) ≡ true → each fitting (keep p (asked t) (plain ts)) ≡ true
+    at true f g = both-intro (fitting (kindOf (asks (t .call)))) (each fitting (plain ts)) (one-fits (t .call) f) g
+    at false f g = g
+
+within-lets : (table : List ℕ) (ts : List NamedTurn) → EachWithin table ts → EachLets (admitted table) ts
+within-lets table [] w = tt
+within-lets table (t ∷ ts) w = (λ k x e. eq-eqb (allowed (knownIn table k) x) 0 (w .0 k x e), within-lets table ts (w .1))
+
+pub admitted-only : AdmittedOnly
+admitted-only least n table ts h v g =
+    let x : Beside = fromFresh least n in
+    let f = plain-fits ts (h .values) in
+    let a : Agreed least (along least x (plain ts)) = many-turns least (h .four) (h .eight) (plain ts) f x (fresh-agreed least (h .four) (h .eight) n (h .six) (h .most)) in
+    let e : runNamed least (encode least (fresh n)) ts ≡ along least x (plain ts) .bytes = many-same least ts (encode least (fresh n)) ∙ sym (along-bytes least (plain ts) x) in
+    let o : (w : ℕ) → all (admitted table) (along least x (plain ts) .machine .shows w) ≡ true = many-only (admitted table) least ts (within-lets table ts (h .tables)) x (λ w. refl) in
+    ap (λ (b : List ℕ). all (admitted table) (settings (decode least b) v)) e
+    ∙ ap (all (admitted table)) (a .agrees .shows v (subst (λ (b : List ℕ). v ≤ last (decode least b)) e g))
+    ∙ o v
+
+-- ---- a NaN
+
+option-same : (x y : ℕ) → some x ≡ some y → x ≡ y
+option-same x y e = ap of e
+  where
+    of : Option ℕ → ℕ
+    of none = 0
+    of (some z) = z
+
+found-in : (k x : ℕ) (us : List Pair) → find k us ≡ some x → In (pair k x) us
+found-in k x [] e = absurd (no e)
+  where
+    no : none ≡ some x → ⊥
+    no e = let z : _≡_ {A = ℕ} 0 1 = ap flag e in omega arith
+      where
+        flag : Option ℕ → ℕ
+        flag none = 0
+        flag (some z) = 1
+found-in k x (u ∷ us) e = at (eqb (u .key) k) refl (found-in k x us) e
+  where
+    at : (b : Bool) → eqb (u .key) k ≡ b → (find k us ≡ some x → In (pair k x) us) → pick b (some (u .value)) (find k us) ≡ some x → In (pair k x) (u ∷ us)
+    at true f ih g = inl (ap₂ pair (sym (eqb-true (u .key) k f)) (sym (option-same (u .value) x g)))
+    at false f ih g = inr (ih g)
+
+allowed-admits : (kind : Kind) (x : ℕ) → eqb (allowed (Is kind) x) 0 ≡ true → admits kind x ≡ true
+allowed-admits kind x e = at (admits kind x) e
+  where
+    at : (b : Bool) → eqb (pick b 0 16) 0 ≡ true → b ≡ true
+    at true e = refl
+    at false e = e
+
+pub no-nans : NoNan
+no-nans least n table ts h v g k x low high known found =
+    let in-it = found-in k x (shown least n ts v) found in
+    let ok : admitted table (pair k x) ≡ true = all-in (admitted table) (pair k x) (shown least n ts v) (admitted-only least n table ts h v g) in-it in
+    let yes : admits (Level low high) x ≡ true = allowed-admits (Level low high) x (subst (λ (q : Known). eqb (allowed q x) 0 ≡ true) known ok) in
+    at (nanBits binary32 x) refl yes
+  where
+    at : (b : Bool) → nanBits binary32 x ≡ b → admits (Level low high) x ≡ true → nanBits binary32 x ≡ false
+    at true e y = absurd (not-both (admits (Level low high) x) y (no-nan low high x e))
+    at false e y = e
+
+-- ---- what a range has met
+
+first-zero : (m k : ℕ) → judgedFirst m (λ n. n) k ≡ 0 → (m ≡ 0) × (k ≡ 0)
+first-zero zero k e = (refl, e)
+first-zero (suc m) k e = absurd (omega arith)
+
+none-holds : (p q : Bool) → firstOf (rule 5 p ∷ rule 6 q ∷ []) ≡ 0 → (p ≡ false) × (q ≡ false)
+none-holds true q e = absurd (omega arith)
+none-holds false true e = absurd (omega arith)
+none-holds false false e = (refl, refl)
+
+module _ (least : ℕ) (b : List ℕ) (lo hi v : ℕ) where
+  abbrev wrong : Bool
+  wrong = leb keyLimit lo || leb keyLimit hi || ltb hi lo
+
+  record Met : Type 0 where
+    accepts : Accepts least b
+    keys : wrong ≡ false
+    low : lo < keyLimit
+    readable : v ≤ last (decode least b)
+
+  met : barred least b lo hi v ≡ 0 → Met
+  unfolding barred
+  met e =
+      let (a, c) = first-zero (judged least b .number) (firstOf (rule 5 wrong ∷ rule 6 (ltb (last (decode least b)) v) ∷ [])) e in
+      let (p, q) = none-holds wrong (ltb (last (decode least b)) v) c in
+      record { accepts = a; keys = p; low = leb-false keyLimit lo (at (leb keyLimit lo) (leb keyLimit hi) (ltb hi lo) p); readable = ltb-false (last (decode least b)) v q }
+    where
+      at : (x y z : Bool) → (x || y || z) ≡ false → x ≡ false
+      at true y z e = e
+      at false y z e = refl
+
+  meets : Met → barred least b lo hi v ≡ 0
+  unfolding barred
+  meets m = rw (m .accepts, m .keys, le-ltb (last (decode least b)) v (m .readable))
+
+  range-met : 4 ≤ least → Met → rangeOf (decode least b) lo hi v ≡ between lo hi (settings (decode least b) v)
+  range-met four m = range-is least (omega arith) (decode least b) (accepted-sound least b (accepted least b (m .accepts))) lo hi v (m .low) (m .readable)
+
+  lent-met : 4 ≤ least → least ≤ 8 → (ns : List ℕ) → Met → rangeLent least b lo hi v ns ≡ listed ns (rangedBy 0 (length ns) (rangeOf (decode least b) lo hi v))
+  lent-met four eight ns m = range-lent least four eight b (m .accepts) lo hi v ns ∙ (unfold range in rw (m .keys, le-ltb (last (decode least b)) v (m .readable)))
+
+-- a list that had room
+room-written : (ns : List ℕ) (xs : List Pair) → listed ns (rangedBy 0 (length ns) xs) .number ≡ 0
+    → listed ns (rangedBy 0 (length ns) xs) ≡ record { number = 0; count = length xs; list = flatMap pairNumbers xs ++ drop (length (flatMap pairNumbers xs)) ns }
+unfolding rangedBy rangedIn
+room-written ns xs = at (ltb (length ns) (2 * length xs))
+  where
+    at : (q : Bool) → listed ns (rangedIn (firstOf (rule 14 q ∷ [])) xs) .number ≡ 0
+        → listed ns (rangedIn (firstOf (rule 14 q ∷ [])) xs) ≡ record { number = 0; count = length xs; list = flatMap pairNumbers xs ++ drop (length (flatMap pairNumbers xs)) ns }
+    at true e = absurd (omega arith)
+    at false e = refl
+
+module _ (least : ℕ) (table b : List ℕ) (lo hi v : ℕ) (ns : List ℕ) where
+  abbrev seventeenth : Listed
+  seventeenth = record { number = 17; count = 0; list = ns }
+
+  -- a range by name that is done has met only known keys, and is the store's
+  done-is : rangeNamed least table b lo hi v ns .number ≡ 0
+      → (barred least b lo hi v ≡ 0) × (allKnown table (rangeOf (decode least b) lo hi v) ≡ true) × (rangeNamed least table b lo hi v ns ≡ rangeLent least b lo hi v ns)
+  unfolding rangeNamed
+  done-is = at (barred least b lo hi v) (allKnown table (rangeOf (decode least b) lo hi v))
+    where
+      gives : ℕ → Bool → Listed
+      gives n q = judgedFirst n (λ m. record { number = m; count = 0; list = ns }) (pick q (rangeLent least b lo hi v ns) seventeenth)
+
+      at : (n : ℕ) (q : Bool) → gives n q .number ≡ 0 → (n ≡ 0) × (q ≡ true) × (gives n q ≡ rangeLent least b lo hi v ns)
+      at zero true e = (refl, refl, refl)
+      at zero false e = absurd (omega arith)
+      at (suc n) q e = absurd (omega arith)
+
+  -- one that meets an unknown key is refused
+  unknown-is : barred least b lo hi v ≡ 0 → allKnown table (rangeOf (decode least b) lo hi v) ≡ false → rangeNamed least table b lo hi v ns ≡ seventeenth
+  unfolding rangeNamed
+  unknown-is e f = rw (e, f)
+
+pub never-skipped : NeverSkipped
+never-skipped least four eight table b lo hi v ns e =
+    let (z, q, same) = done-is least table b lo hi v ns e in
+    let m : Met least b lo hi v = met least b lo hi v z in
+    let f : rangeOf (decode least b) lo hi v ≡ between lo hi (settings (decode least b) v) = range-met least b lo hi v four m in
+    let is : rangeNamed least table b lo hi v ns ≡ listed ns (rangedBy 0 (length ns) (between lo hi (settings (decode least b) v))) =
+    same ∙ lent-met least b lo hi v four eight ns m ∙ ap (λ (us : List Pair). listed ns (rangedBy 0 (length ns) us)) f in
+    let all-of = is ∙ room-written ns (between lo hi (settings (decode least b) v)) (sym (ap (λ (r : Listed). r .number) is) ∙ e) in
+    record {
+      accepted = m .accepts;
+      readable = m .readable;
+      known = sym (ap (allKnown table) f) ∙ q;
+      count = ap (λ (r : Listed). r .count ∷ []) all-of;
+      list = ap (λ (r : Listed). r .list) all-of;
+    }
+
+-- ---- a key that the program does not know
+
+pub never-softer : NeverSofter
+unfolding lookupNamed insertNamed deleteNamed
+never-softer least four eight old b ok k x v h found none-of = record {
+  lookup = λ ns. ap (λ (q : Known). ofLooked b ns (judgedFirst (unknown q) (λ n. Refused n) (lookupLent least b k v))) none-of;
+  range = λ lo hi ns p q t. ap (ofListed b) (unknown-is least old b lo hi v ns (meets least b lo hi v (around lo hi p q t)) (not-all lo hi p q t));
+  insert = λ y ns. ap (λ (q : Known). ofOutcome ns (before (allowed q y) b (insertLent least b k y))) none-of;
+  delete = λ ns. ap (λ (q : Known). ofOutcome ns (before (unknown q) b (deleteLent least b k))) none-of;
+}
+  where
+    around : (lo hi : ℕ) → lo ≤ k → k ≤ hi → hi < keyLimit → Met least b lo hi v
+    around lo hi p q t =
+        let low : lo < keyLimit = omega arith in
+        record { accepts = ok; keys = rw (lt-leb keyLimit lo low, lt-leb keyLimit hi t, le-ltb hi lo (omega arith)); low = low; readable = h }
+
+    not-all : (lo hi : ℕ) → lo ≤ k → k ≤ hi → hi < keyLimit → allKnown old (rangeOf (decode least b) lo hi v) ≡ false
+    not-all lo hi p q t = at (bool-cases (allKnown old (rangeOf (decode least b) lo hi v)))
+      where
+        i : In (pair k x) (between lo hi (settings (decode least b) v))
+        i = those-in (λ (y : Pair). leb lo (y .key) && leb (y .key) hi) (pair k x) (settings (decode least b) v) (both-intro (leb lo k) (leb k hi) (le-leb lo k p) (le-leb k hi q)) (found-in k x (settings (decode least b) v) found)
+
+        at : (allKnown old (rangeOf (decode least b) lo hi v) ≡ true) ⊎ (allKnown old (rangeOf (decode least b) lo hi v) ≡ false) → allKnown old (rangeOf (decode least b) lo hi v) ≡ false
+        at (inr e) = e
+        at (inl e) =
+            let known : allKnown old (between lo hi (settings (decode least b) v)) ≡ true = sym (ap (allKnown old) (range-met least b lo hi v four (around lo hi p q t))) ∙ e in
+            let one-known = all-in (λ (y : Pair). eqb (unknown (knownIn old (y .key))) 0) (pair k x) (between lo hi (settings (decode least b) v)) known i in
+            absurd (not-both (eqb (unknown (knownIn old k)) 0) one-known (ap (λ (g : Known). eqb (unknown g) 0) none-of))
