@@ -7,7 +7,7 @@ ghost use Rattle.model.specs.Layout.{bit};
 ghost use Rattle.model.specs.Calls.{lookedNumber, lookedFound, lookedValue};
 ghost use Rattle.model.specs.Kinds.{wrongRow};
 ghost use Rattle.model.specs.Named.{insertNamed, deleteNamed, lookupNamed, kindNamed, rangeNamed, viewed};
-ghost use Rattle.calls.specs.Turning.{ended};
+ghost use Rattle.model.specs.Lent.{leaving};
 
 // The numbers of the kinds in a table.
 const WHOLE: u32 = 0;
@@ -27,7 +27,7 @@ pub extern "C" fn rcst_kinds_check(table: &[u32]) -> usize
 // Inserts a setting by its kind: 17, 16, or what the store gives.
 #[no_mangle]
 pub extern "C" fn rcst_named_insert(store: &mut [u8], table: &[u32], key: u32, value: u32) -> u32
-    ensures { λ r. ⌜ ended r (now (store .exit)) ≡ insertNamed 4 (now (table .entry)) (now (store .entry)) key value ⌝ }
+    ensures { λ r. ⌜ leaving r (now (store .exit)) ≡ insertNamed 4 (now (table .entry)) (now (store .entry)) key value ⌝ }
 {
     named::insert(store, table, key, value)
 }
@@ -35,7 +35,7 @@ pub extern "C" fn rcst_named_insert(store: &mut [u8], table: &[u32], key: u32, v
 // Deletes a setting with a known key: 17, or what the store gives.
 #[no_mangle]
 pub extern "C" fn rcst_named_delete(store: &mut [u8], table: &[u32], key: u32) -> u32
-    ensures { λ r. ⌜ ended r (now (store .exit)) ≡ deleteNamed 4 (now (table .entry)) (now (store .entry)) key ⌝ }
+    ensures { λ r. ⌜ leaving r (now (store .exit)) ≡ deleteNamed 4 (now (table .entry)) (now (store .entry)) key ⌝ }
 {
     named::delete(store, table, key)
 }

@@ -6,11 +6,11 @@ use model::Looked;
 pub use ranging::range;
 ghost use mathlib.Core.Path.{_≡_};
 ghost use Rattle.model.specs.Named.{insertNamed, deleteNamed, lookupNamed, kindNamed};
-ghost use Rattle.calls.specs.Turning.{ended};
+ghost use Rattle.model.specs.Lent.{leaving};
 
 // Inserts a setting in the open update, if its key is known and its value of the kind.
 pub fn insert(s: &mut [u8], table: &[u32], key: u32, value: u32) -> u32
-    ensures { λ r. ⌜ ended r (now (s .exit)) ≡ insertNamed 4 (now (table .entry)) (now (s .entry)) key value ⌝ }
+    ensures { λ r. ⌜ leaving r (now (s .exit)) ≡ insertNamed 4 (now (table .entry)) (now (s .entry)) key value ⌝ }
 {
     let n = kinds::allowed(kinds::kind_of(table, key), value);
     if n != 0 {
@@ -21,7 +21,7 @@ pub fn insert(s: &mut [u8], table: &[u32], key: u32, value: u32) -> u32
 
 // Deletes a setting in the open update, if its key is known.
 pub fn delete(s: &mut [u8], table: &[u32], key: u32) -> u32
-    ensures { λ r. ⌜ ended r (now (s .exit)) ≡ deleteNamed 4 (now (table .entry)) (now (s .entry)) key ⌝ }
+    ensures { λ r. ⌜ leaving r (now (s .exit)) ≡ deleteNamed 4 (now (table .entry)) (now (s .entry)) key ⌝ }
 {
     let n = kinds::unknown(kinds::kind_of(table, key));
     if n != 0 {
