@@ -1,0 +1,96 @@
+-- The functions that host offers do what is promised: from their statements, a line each.
+-- Assumes nothing.
+use Prim.Native.Nat.{ℕ}
+use mathlib.Core.Path.{_≡_, ap, ap₂, sym, subst}
+use mathlib.Core.List.{List, [], _∷_}
+use lib.Dec.{lit≤}
+use Rattle.model.specs.Ended.{Asked, Ended, ofOutcome, Meets}
+use Rattle.host.proofs.rcst_fresh as rcst-fresh
+use Rattle.host.proofs.rcst_fresh.Symbol as rcst-fresh-code
+use Rattle.host.proofs.rcst_fresh.Met as rcst-fresh-met
+use Rattle.host.proofs.rcst_check as rcst-check
+use Rattle.host.proofs.rcst_check.Symbol as rcst-check-code
+use Rattle.host.proofs.rcst_check.Met as rcst-check-met
+use Rattle.host.proofs.rcst_open as rcst-open
+use Rattle.host.proofs.rcst_open.Symbol as rcst-open-code
+use Rattle.host.proofs.rcst_open.Met as rcst-open-met
+use Rattle.host.proofs.rcst_insert as rcst-insert
+use Rattle.host.proofs.rcst_insert.Symbol as rcst-insert-code
+use Rattle.host.proofs.rcst_insert.Met as rcst-insert-met
+use Rattle.host.proofs.rcst_delete as rcst-delete
+use Rattle.host.proofs.rcst_delete.Symbol as rcst-delete-code
+use Rattle.host.proofs.rcst_delete.Met as rcst-delete-met
+use Rattle.host.proofs.rcst_commit as rcst-commit
+use Rattle.host.proofs.rcst_commit.Symbol as rcst-commit-code
+use Rattle.host.proofs.rcst_commit.Met as rcst-commit-met
+use Rattle.host.proofs.rcst_abandon as rcst-abandon
+use Rattle.host.proofs.rcst_abandon.Symbol as rcst-abandon-code
+use Rattle.host.proofs.rcst_abandon.Met as rcst-abandon-met
+use Rattle.host.proofs.rcst_return as rcst-return
+use Rattle.host.proofs.rcst_return.Symbol as rcst-return-code
+use Rattle.host.proofs.rcst_return.Met as rcst-return-met
+use Rattle.host.proofs.rcst_lookup as rcst-lookup
+use Rattle.host.proofs.rcst_lookup.Symbol as rcst-lookup-code
+use Rattle.host.proofs.rcst_lookup.Met as rcst-lookup-met
+use Rattle.host.proofs.rcst_range as rcst-range
+use Rattle.host.proofs.rcst_range.Symbol as rcst-range-code
+use Rattle.host.proofs.rcst_range.Met as rcst-range-met
+use Rattle.host.proofs.rcst_visits as rcst-visits
+use Rattle.host.proofs.rcst_visits.Symbol as rcst-visits-code
+use Rattle.host.proofs.rcst_visits.Met as rcst-visits-met
+use Rattle.host.proofs.rcst_difference as rcst-difference
+use Rattle.host.proofs.rcst_difference.Symbol as rcst-difference-code
+use Rattle.host.proofs.rcst_difference.Met as rcst-difference-met
+use Rattle.host.proofs.rcst_life as rcst-life
+use Rattle.host.proofs.rcst_life.Symbol as rcst-life-code
+use Rattle.host.proofs.rcst_life.Met as rcst-life-met
+use Rattle.promises.specs.Accepts.{Accepts}
+use Rattle.promises.specs.Demand1.{TurnedAway}
+use Rattle.promises.proofs.Promises as promises
+use Rattle.offered.specs.Promised.{Promised, gave}
+use Rattle.offered.specs.Offered.{Fresh, Check, Open, Insert, Delete, Commit, Abandon, Return, Lookup, Range, Visits, Difference, Life, AllOffered}
+use Rattle.offered.proofs.Passing.{by-one, by-two, by-three}
+
+-- what meets a call's contract has all that is promised of the call
+promised : (c : Asked) (b ns : List ℕ) (e : Ended) → Meets 4 c b ns e → Promised c b ns e
+promised c b ns e m = record {
+  meets = m;
+  only = λ f p. promises.unique 4 c b ns f e p m;
+  refused = promises.refused 4 c b ns e m;
+  blank = promises.blank 4 c b ns e m;
+  untrusted = λ j no. subst (λ (x : Ended). TurnedAway b ns x) (sym m) (promises.untrusted 4 c b ns j no);
+  stays = λ ok f. subst (λ (x : Ended). Accepts 4 (x .store)) (sym m) (promises.sound-stays 4 (lit≤ tt) (lit≤ tt) b ok (record { call = c; list = ns }) f);
+}
+
+-- ---- the parts of an outcome, put together
+
+moved : {n m : ℕ} {q b : List ℕ} (ns : List ℕ) → n ≡ m → q ≡ b → gave n [] q ns ≡ gave m [] b ns
+moved ns x y = ap₂ (λ (i : ℕ) (z : List ℕ). gave i [] z ns) x y
+
+one-told : {n m c k : ℕ} (b ns : List ℕ) → n ≡ m → c ≡ k → gave n (c ∷ []) b ns ≡ gave m (k ∷ []) b ns
+one-told b ns x y = ap₂ (λ (i j : ℕ). gave i (j ∷ []) b ns) x y
+
+two-told : {n m c k d l : ℕ} (b ns : List ℕ) → n ≡ m → c ≡ k → d ≡ l → gave n (c ∷ d ∷ []) b ns ≡ gave m (k ∷ l ∷ []) b ns
+two-told b ns x y z = λ i. gave (x i) (y i ∷ z i ∷ []) b ns
+
+list-told : {n m c k : ℕ} {ns ms : List ℕ} (b : List ℕ) → n ≡ m → c ≡ k → ns ≡ ms → gave n (c ∷ []) b ns ≡ gave m (k ∷ []) b ms
+list-told b x y z = λ i. gave (x i) (y i ∷ []) b (z i)
+
+-- ---- each function
+
+pub all-offered : {M : Type 1} → AllOffered M
+all-offered = record {
+  fresh = by-two rcst-fresh.ended rcst-fresh-code.routine Fresh _ _ rcst-fresh-met.met (λ κs a r e x y ns. promised _ _ ns _ (moved ns x y));
+  check = by-two rcst-check.ended rcst-check-code.routine Check _ _ rcst-check-met.met (λ κs a r e x y ns. promised _ _ ns _ (one-told _ ns x y));
+  opens = by-one rcst-open.ended rcst-open-code.routine Open _ rcst-open-met.met (λ κs a r e x ns. promised _ _ ns _ (ap (ofOutcome ns) x));
+  insert = by-one rcst-insert.ended rcst-insert-code.routine Insert _ rcst-insert-met.met (λ κs a r e x ns. promised _ _ ns _ (ap (ofOutcome ns) x));
+  delete = by-one rcst-delete.ended rcst-delete-code.routine Delete _ rcst-delete-met.met (λ κs a r e x ns. promised _ _ ns _ (ap (ofOutcome ns) x));
+  commit = by-one rcst-commit.ended rcst-commit-code.routine Commit _ rcst-commit-met.met (λ κs a r e x ns. promised _ _ ns _ (ap (ofOutcome ns) x));
+  abandon = by-one rcst-abandon.ended rcst-abandon-code.routine Abandon _ rcst-abandon-met.met (λ κs a r e x ns. promised _ _ ns _ (ap (ofOutcome ns) x));
+  return = by-one rcst-return.ended rcst-return-code.routine Return _ rcst-return-met.met (λ κs a r e x ns. promised _ _ ns _ (ap (ofOutcome ns) x));
+  lookup = by-three rcst-lookup.ended rcst-lookup-code.routine Lookup _ _ _ rcst-lookup-met.met (λ κs a r e x y z ns. promised _ _ ns _ (two-told _ ns x y z));
+  range = by-three rcst-range.ended rcst-range-code.routine Range _ _ _ rcst-range-met.met (λ κs a r e x y z. promised _ _ _ _ (list-told _ x y z));
+  visits = by-three rcst-visits.ended rcst-visits-code.routine Visits _ _ _ rcst-visits-met.met (λ κs a r e x y z. promised _ _ _ _ (list-told _ x y z));
+  difference = by-three rcst-difference.ended rcst-difference-code.routine Difference _ _ _ rcst-difference-met.met (λ κs a r e x y z. promised _ _ _ _ (list-told _ x y z));
+  life = by-three rcst-life.ended rcst-life-code.routine Life _ _ _ rcst-life-met.met (λ κs a r e x y z. promised _ _ _ _ (list-told _ x y z));
+}
