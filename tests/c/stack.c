@@ -15,12 +15,14 @@
 #include <stdlib.h>
 #include <string.h>
 
-enum { STACK = 1 << 20, PAGES = 40, CALLS = 12, PAINT = 0xA5 };
+enum { STACK = 1 << 20, PAGES = 40, CALLS = 13 };
 
-static const char *const names[CALLS] = {"fresh",   "check",  "open",   "insert", "delete", "commit",
-                                         "abandon", "return", "lookup", "range",  "visits", "difference and life"};
+#define PAINT 0xA5A5A5A5A5A5A5A5u
+
+static const char *const names[CALLS] = {"fresh",  "check",  "open",  "insert", "delete",              "commit", "abandon",
+                                         "return", "lookup", "range", "visits", "difference and life", "by name"};
 static size_t most[CALLS];
-static uint8_t stack[STACK] __attribute__((aligned(4096)));
+static uint64_t stack[STACK / 8] __attribute__((aligned(4096)));
 static uint8_t store[RCST_MOST_PAGES * RCST_PAGE_BYTES], kept[RCST_MOST_PAGES * RCST_PAGE_BYTES];
 static size_t length;
 static uint32_t list[64], kinds[4] = {0, RCST_WHOLE, 0, 9};
@@ -47,12 +49,14 @@ static void *made(void *none) {
     case 8: rcst_lookup(store, length, key, 1, &a, &b); break;
     case 9: rcst_range(store, length, 0, key, 1, list, 64, &count); break;
     case 10: rcst_visits(store, length, key, 1, list, 64, &count); break;
-    default:
+    case 11:
         rcst_difference(store, length, 0, 1, list, 64, &count);
         rcst_life(store, length, key, list, 64, &count);
+        break;
+    default:
         kinds[0] = key;
         rcst_view_value(store, length, 1, kinds, 4, key, &a, &b);
-        rcst_view_range(store, length, 1, kinds, 4, 0, key, list, 64, &count);
+        rcst_view_range(store, length, 1, kinds, 4, key, key, list, 64, &count);
         rcst_named_delete(store, length, kinds, 4, key);
         rcst_named_insert(store, length, kinds, 4, key, 1);
     }
@@ -63,11 +67,11 @@ static void *made(void *none) {
 static void measure(int which, uint32_t with) {
     pthread_attr_t attributes;
     pthread_t thread;
-    uint8_t *deepest = stack;
+    uint64_t *deepest = stack;
 
     call = which;
     key = with;
-    memset(stack, PAINT, sizeof stack);
+    memset(stack, (int)(PAINT & 0xFF), sizeof stack);
     if (pthread_attr_init(&attributes) != 0 || pthread_attr_setstack(&attributes, stack, sizeof stack) != 0 ||
         pthread_create(&thread, &attributes, made, NULL) != 0 || pthread_join(thread, NULL) != 0) {
         printf("stack.c: no thread\n");
@@ -77,8 +81,8 @@ static void measure(int which, uint32_t with) {
     while (*deepest == PAINT) {
         deepest++;
     }
-    if ((size_t)(begin - deepest) > most[which]) {
-        most[which] = (size_t)(begin - deepest);
+    if ((size_t)(begin - (uint8_t *)deepest) > most[which]) {
+        most[which] = (size_t)(begin - (uint8_t *)deepest);
     }
 }
 
