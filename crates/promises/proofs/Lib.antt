@@ -8,6 +8,7 @@ pub mod Clauses
 pub mod Near
 pub mod Agreed
 pub mod Answering
+pub mod Way
 pub mod Changed
 pub mod Leveled
 pub mod Roomy

@@ -3,16 +3,9 @@
 -- Assumes nothing.
 use Prim.Native.Nat.{ℕ}
 use native.Mathlib.Omega.{arith}
-use mathlib.Core.Bool.{Bool, true, false, _||_}
+use mathlib.Core.Bool.{Bool, true, false}
 use mathlib.Core.Path.{_≡_, refl, ap, sym, _∙_}
-use mathlib.Core.Logic.{_⊎_, inl, inr}
 use mathlib.Core.List.{List, []}
-use lib.Dec.{T, leb, eqb}
-use lib.ListN.{length}
-use borrow.Author.Tests.{le-leb, eqb-false}
-use Rattle.model.specs.Page.{pairsAt}
-use Rattle.model.specs.Store.{page}
-use Rattle.model.specs.Walk.{Seen, seen, rootAt}
 use Rattle.model.specs.Sound.{sound}
 use Rattle.model.specs.Layout.{encode, decode}
 use Rattle.model.specs.Judged.{lengthOk}
@@ -21,14 +14,13 @@ use Rattle.model.specs.Return.{Came, gave, gaveUp}
 use Rattle.model.specs.Histories.{callBy, after}
 use Rattle.model.specs.Lent.{leftBy}
 use Rattle.model.specs.Ended.{Asked, toFresh, Ended, ended}
-use Rattle.model.proofs.Members.{true-holds, either-left, either-right, bool-cases, In, all-by}
+use Rattle.model.proofs.Members.{true-holds}
 use Rattle.model.proofs.Judging.{accepted as judged-zero}
 use Rattle.model.proofs.Unique as one
 use Rattle.model.proofs.Lacking as lacks
 use Rattle.model.proofs.Theorems as stores
 use Rattle.promises.specs.Accepts.{Accepts}
 use Rattle.promises.specs.Runs.{changing, reading, kindOf}
-use Rattle.promises.specs.Beside.{along, fromFresh, fromLent}
 use Rattle.promises.specs.Demand1.{Unique, Refused, Blank, Judges, Untrusted, OneForm, FreshMade}
 use Rattle.promises.specs.Demand2.{EncodedSound, AcceptedSound, SoundStays, FreshSound, History, HistoryLent, Found, SettingsChange, AnswersStay, ViewsStay, ByTheRules, ReadsOnly, Balanced, Lacking}
 use Rattle.promises.specs.Levels.{Levels}
@@ -47,8 +39,7 @@ use Rattle.promises.specs.Fakes.{FakesStopped}
 use Rattle.promises.proofs.Encoded as encoded
 use Rattle.promises.proofs.Judges as judging
 use Rattle.promises.proofs.Lending.{kind-asks, by-kind, change-is, call-accepts, fresh-leaves}
-use Rattle.promises.proofs.Agreed.{many-turns, fresh-agreed, lent-agreed}
-use Rattle.promises.proofs.Answering.{answers}
+use Rattle.promises.proofs.Way as way
 use Rattle.promises.proofs.Changed as changed
 use Rattle.promises.proofs.Leveled as leveled
 use Rattle.promises.proofs.Roomy as roomy
@@ -110,14 +101,13 @@ fresh-sound least four eight b ns given = at (lengthOk least b) refl
     at false e = let n = ap (λ (x : Ended). x .number) (judging.fresh-made least b ns .wrong e) in absurd (omega arith)
 
 pub history : History
-history least four eight n six most ts f =
-    answers least four eight (along least (fromFresh least n) ts) (many-turns least four eight ts f (fromFresh least n) (fresh-agreed least four eight n six most))
+history least four eight n six most ts f = way.fresh-way least four eight n six most ts f
 
 pub history-lent : HistoryLent
-history-lent least four eight b ok ts f = answers least four eight (along least (fromLent least b) ts) (many-turns least four eight ts f (fromLent least b) (lent-agreed least four eight b ok))
+history-lent least four eight b ok ts f = way.lent-way least four eight b ok ts f
 
 pub found : Found
-found least four eight b ok = history-lent least four eight b ok [] refl
+found least four eight b ok = history-lent least four eight b ok [] refl .answers
 
 pub settings-change : SettingsChange
 settings-change = changed.settings-change
@@ -144,27 +134,8 @@ reads-only least c b ns =
     by-kind least (λ (a : Asked). kindOf a ≡ reading → ended least a b ns .store ≡ b) (λ e. let z : _≡_ {A = ℕ} 0 1 = cc in absurd (omega arith))
     (λ d e. let f : changing d ≡ reading = sym (kind-asks d) ∙ e in let z : _≡_ {A = ℕ} 0 1 = cc in absurd (omega arith)) (λ a e same i. same b ns) c
 
-sound-in : (least : ℕ) (b : List ℕ) → Accepts least b → T (sound least (decode least b))
-sound-in least b ok = true-holds (sound least (decode least b)) (judged-zero least b ok .is-sound)
-
 pub balanced : Balanced
-balanced least four b ok v h =
-    all-by (λ (x : Seen). isRoot x || enough x) (seen (decode least b) v) (λ x i. at x i (bool-cases (isRoot x)))
-  where
-    isRoot : Seen → Bool
-    isRoot x = eqb (x .number) (rootAt (decode least b .slots) v)
-
-    live : Seen → ℕ
-    live x = length (pairsAt v (page (decode least b .pages) (x .number)))
-
-    enough : Seen → Bool
-    enough x = leb least (live x)
-
-    at : (x : Seen) → In x (seen (decode least b) v) → (isRoot x ≡ true) ⊎ (isRoot x ≡ false) → (isRoot x || enough x) ≡ true
-    at x i (inl e) = either-left (isRoot x) (enough x) e
-    at x i (inr e) =
-        either-right (isRoot x) (enough x)
-        (le-leb least (live x) (stores.balanced least (omega arith) (decode least b) (sound-in least b ok) v h x i (eqb-false (x .number) (rootAt (decode least b .slots) v) e)))
+balanced least four b ok = way.balanced-in least four (decode least b) (true-holds (sound least (decode least b)) (judged-zero least b ok .is-sound))
 
 -- (specs/Levels, specs/Room)
 pub levels : Levels

@@ -6,18 +6,16 @@
 -- `least` is 4 in edition 1; each of these holds for 4 to 8, and so for edition 2, where it is 8.
 -- Assumes nothing.
 use Prim.Native.Nat.{ℕ, _≤_, _<_}
-use mathlib.Core.Bool.{true, _||_, not}
+use mathlib.Core.Bool.{true, not}
 use mathlib.Core.Path.{_≡_}
 use mathlib.Core.List.{List}
-use lib.Dec.{T, leb, eqb}
-use lib.ListN.{length}
-use Rattle.model.specs.Basic.{all, those}
+use lib.Dec.{T, eqb}
+use Rattle.model.specs.Basic.{those}
 use Rattle.model.specs.declared.Pair.{Pair}
 use Rattle.model.specs.Entry.{pair, enterPair}
 use Rattle.model.specs.Field.{Bytes}
-use Rattle.model.specs.Page.{pairsAt}
-use Rattle.model.specs.Store.{Store, page, next, last}
-use Rattle.model.specs.Walk.{Seen, seen, rootAt, settings}
+use Rattle.model.specs.Store.{Store, fresh, next}
+use Rattle.model.specs.Walk.{settings}
 use Rattle.model.specs.Sound.{sound}
 use Rattle.model.specs.Layout.{encode, decode}
 use Rattle.model.specs.Histories.{Call, callBy, after}
@@ -25,8 +23,9 @@ use Rattle.model.specs.Needs.{LacksLent}
 use Rattle.model.specs.Ended.{Asked, toFresh, toInsert, toDelete, ended}
 use Rattle.promises.specs.Accepts.{Accepts, Written, Exact}
 use Rattle.promises.specs.Runs.{Turn, turned, runBytes, reading, kindOf, asks, notMaking, fitting, each}
-use Rattle.promises.specs.Beside.{along, fromFresh, fromLent}
+use Rattle.promises.specs.Beside.{fromFresh, fromLent}
 use Rattle.promises.specs.Answers.{Answers}
+use Rattle.promises.specs.Way.{EachState, BalancedIn, LentState, FreshState}
 use Rattle.promises.specs.Views.{SameView, SameAnswers}
 
 -- ---- accepted bytes and sound stores are the same thing
@@ -46,14 +45,18 @@ SoundStays = (least : ℕ) → 4 ≤ least → least ≤ 8 → (b : List ℕ) �
 abbrev pub FreshSound : Type 0
 FreshSound = (least : ℕ) → 4 ≤ least → least ≤ 8 → (b ns : List ℕ) → ended least toFresh b ns .number ≡ 0 → Accepts least (ended least toFresh b ns .store)
 
--- ---- "From a fresh store on, a lookup or range at a version gives exactly the settings alive then": after any calls (`Answers`)
+-- ---- "From a fresh store on, a lookup or range at a version gives exactly the settings alive then": in every state on the way of any
+-- calls (`Answers`); and there the bytes are those of the store that the page rules make of the calls so far, every page but the root has
+-- its live entries, and version 0 is empty
 
 abbrev pub History : Type 0
-History = (least : ℕ) → 4 ≤ least → least ≤ 8 → (n : ℕ) → 6 ≤ n → n ≤ 4096 → (ts : List Turn) → each fitting ts ≡ true → Answers least (along least (fromFresh least n) ts)
+History = (least : ℕ) → 4 ≤ least → least ≤ 8 → (n : ℕ) → 6 ≤ n → n ≤ 4096 → (ts : List Turn) → each fitting ts ≡ true
+    → EachState least (FreshState least) (fromFresh least n) (fresh n) ts
 
 -- "For a sound store lent from elsewhere, the settings its walks show stand for the history so far."
 abbrev pub HistoryLent : Type 0
-HistoryLent = (least : ℕ) → 4 ≤ least → least ≤ 8 → (b : List ℕ) → Accepts least b → (ts : List Turn) → each fitting ts ≡ true → Answers least (along least (fromLent least b) ts)
+HistoryLent = (least : ℕ) → 4 ≤ least → least ≤ 8 → (b : List ℕ) → Accepts least b → (ts : List Turn) → each fitting ts ≡ true
+    → EachState least (LentState least b) (fromLent least b) (decode least b) ts
 
 -- and at once: lookups and ranges find what the walks of the store that the bytes hold show
 abbrev pub Found : Type 0
@@ -94,8 +97,7 @@ ReadsOnly = (least : ℕ) (c : Asked) (b ns : List ℕ) → kindOf c ≡ reading
 -- ---- "Every page that a version reaches, its root aside, holds at least four entries alive at that version."
 
 abbrev pub Balanced : Type 0
-Balanced = (least : ℕ) → 4 ≤ least → (b : List ℕ) → Accepts least b → (v : ℕ) → v ≤ last (decode least b)
-    → all (λ (x : Seen). eqb (x .number) (rootAt (decode least b .slots) v) || leb least (length (pairsAt v (page (decode least b .pages) (x .number))))) (seen (decode least b) v) ≡ true
+Balanced = (least : ℕ) → 4 ≤ least → (b : List ℕ) → Accepts least b → BalancedIn least (decode least b)
 
 -- ---- "An update is refused for lack of pages exactly when those rules need a page and none is free": 12, and 13 so for a slot, on any bytes
 

@@ -5,6 +5,7 @@ pub mod Answers
 pub mod Views
 pub mod Near
 pub mod Lives
+pub mod Way
 pub mod Demand1
 pub mod Demand2
 pub mod Levels
