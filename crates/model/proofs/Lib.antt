@@ -56,6 +56,7 @@ pub mod Most
 pub mod Gathers
 pub mod Lacking
 pub mod Unique
+pub mod Editions
 pub mod Steady
 pub mod Lives
 pub mod Telling
