@@ -197,3 +197,30 @@ accepts-any b = at (lentNumber b) refl
     at (suc n) z e =
         let q = subst (λ (v : Verdict). v .number ≡ 0) (refuses b (λ (n : ℕ). verdict n 0) (λ (l : ℕ). judged l b) (λ y. absurd (omega arith))) e in
         absurd (omega arith)
+
+-- bytes of an edition have the name, and the edition's number
+pub lends-names : (least : ℕ) (b : List ℕ) → Lends least b → magicOk b ≡ true
+unfolding byEdition
+lends-names least b l = at (ltb (length b) 5) (magicOk b) (editionOk 4 b) (editionOk 8 b) (l .number)
+  where
+    at : (p q r s : Bool) → _≡_ {A = ℕ} (pick p 1 (pick q (pick r 0 (pick s 0 3)) 2)) 0 → q ≡ true
+    at true q r s e = absurd (omega arith)
+    at false true r s e = refl
+    at false false r s e = absurd (omega arith)
+
+pub lends-edition : (least : ℕ) (b : List ℕ) → Lends least b → editionOk least b ≡ true
+unfolding byEdition
+lends-edition least b l = subst (λ (n : ℕ). editionOk n b ≡ true) (l .is) (at (ltb (length b) 5) (magicOk b) (editionOk 4 b) refl (editionOk 8 b) refl (l .number))
+  where
+    at : (p q r : Bool) → editionOk 4 b ≡ r → (s : Bool) → editionOk 8 b ≡ s → _≡_ {A = ℕ} (pick p 1 (pick q (pick r 0 (pick s 0 3)) 2)) 0
+        → editionOk (pick p 4 (pick q (pick r 4 (pick s 8 4)) 4)) b ≡ true
+    at true q r f s g e = absurd (omega arith)
+    at false false r f s g e = absurd (omega arith)
+    at false true true f s g e = f
+    at false true false f true g e = g
+    at false true false f false g e = absurd (omega arith)
+
+-- no bytes are of both
+pub lends-second : (b : List ℕ) → Lends 8 b → editionOk 4 b ≡ false
+unfolding editionOk
+lends-second b l = ne-eqb (field b 32 8) 1 (λ q. absurd (omega (arith, eqb-true (field b 32 8) 2 (lends-edition 8 b l))))
