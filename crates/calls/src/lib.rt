@@ -21,6 +21,8 @@ pub use any::return_to;
 pub use any::visits;
 use model::Limits;
 pub(crate) use near::KEYS;
+pub use updating::delete_in;
+pub use updating::insert_in;
 ghost use mathlib.Core.Path.{_≡_};
 ghost use Rattle.model.specs.Limits.{Edition};
 ghost use Rattle.model.specs.Lent.{openLent, commitLent, abandonLent};
@@ -103,7 +105,7 @@ fn guard_committing(s: &[u8], l: Limits) -> u32
 }
 
 // Opens an update.
-pub(crate) fn open_in(s: &mut [u8], l: Limits) -> u32
+pub fn open_in(s: &mut [u8], l: Limits) -> u32
     requires { ⌜ Edition l ⌝ }
     ensures { λ r. ⌜ ended r (now (s .exit)) ≡ openLent (l .least) (now (s .entry)) ⌝ }
 {
@@ -116,7 +118,7 @@ pub(crate) fn open_in(s: &mut [u8], l: Limits) -> u32
 }
 
 // Commits the open update, unless its settings are the current version's.
-pub(crate) fn commit_in(s: &mut [u8], l: Limits) -> u32
+pub fn commit_in(s: &mut [u8], l: Limits) -> u32
     requires { ⌜ Edition l ⌝ }
     ensures { λ r. ⌜ ended r (now (s .exit)) ≡ commitLent (l .least) (now (s .entry)) ⌝ }
 {
@@ -129,7 +131,7 @@ pub(crate) fn commit_in(s: &mut [u8], l: Limits) -> u32
 }
 
 // Abandons the open update.
-pub(crate) fn abandon_in(s: &mut [u8], l: Limits) -> u32
+pub fn abandon_in(s: &mut [u8], l: Limits) -> u32
     requires { ⌜ Edition l ⌝ }
     ensures { λ r. ⌜ ended r (now (s .exit)) ≡ abandonLent (l .least) (now (s .entry)) ⌝ }
 {

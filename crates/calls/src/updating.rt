@@ -74,7 +74,7 @@ fn guard_updating(s: &[u8], l: Limits, key: u32, insert: bool) -> u32
 }
 
 // Inserts a setting in the open update.
-pub(crate) fn insert_in(s: &mut [u8], l: Limits, key: u32, value: u32) -> u32
+pub fn insert_in(s: &mut [u8], l: Limits, key: u32, value: u32) -> u32
     requires { ⌜ Edition l ⌝ }
     ensures { λ r. ⌜ ended r (now (s .exit)) ≡ insertLent (l .least) (now (s .entry)) key value ⌝ }
 {
@@ -86,7 +86,7 @@ pub(crate) fn insert_in(s: &mut [u8], l: Limits, key: u32, value: u32) -> u32
 }
 
 // Deletes a setting in the open update.
-pub(crate) fn delete_in(s: &mut [u8], l: Limits, key: u32) -> u32
+pub fn delete_in(s: &mut [u8], l: Limits, key: u32) -> u32
     requires { ⌜ Edition l ⌝ }
     ensures { λ r. ⌜ ended r (now (s .exit)) ≡ deleteLent (l .least) (now (s .entry)) key ⌝ }
 {
