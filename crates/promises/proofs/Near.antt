@@ -48,6 +48,52 @@ chain-low true true true true false true w = omega arith
 chain-low true true true true false false true = omega arith
 chain-low true true true true false false false = omega arith
 
+-- ---- the early numbers, by the test that each is given for
+
+module _ (front bad late walk : Type 0) where
+  abbrev Numbers : Bool → Bool → Bool → Bool → ℕ → Type 0
+  Numbers enough m e a n = ReadingNumbers enough m e a front bad late walk n
+
+  pub short-one : (m e a : Bool) → Numbers false m e a 1
+  short-one m e a = record {
+    one = (λ q. inl refl, λ c. refl);
+    two = (λ q. absurd (omega arith), λ c. clash (sym (c .0)));
+    three = (λ q. absurd (omega arith), λ c. clash (sym (c .0)));
+    four = (λ q. absurd (omega arith), λ c. clash (sym (c .0)));
+    five = (λ q. absurd (omega arith), λ c. clash (sym (c .0)));
+    six = (λ q. absurd (omega arith), λ c. clash (sym (c .0)));
+  }
+
+  pub magic-two : (e a : Bool) → Numbers true false e a 2
+  magic-two e a = record {
+    one = (λ q. absurd (omega arith), none);
+    two = (λ q. (refl, refl), λ c. refl);
+    three = (λ q. absurd (omega arith), λ c. clash (sym (c .1 .0)));
+    four = (λ q. absurd (omega arith), λ c. clash (sym (c .1 .0)));
+    five = (λ q. absurd (omega arith), λ c. clash (sym (c .1 .0)));
+    six = (λ q. absurd (omega arith), λ c. clash (sym (c .1 .0)));
+  }
+    where
+      none : {A : Type 0} → (true ≡ false) ⊎ ((true ≡ true) × ((false ≡ true) × ((e ≡ true) × (a ≡ false)))) → A
+      none (inl q) = clash q
+      none (inr q) = clash (sym (q .1 .0))
+
+  pub other-three : (a : Bool) → Numbers true true false a 3
+  other-three a = record {
+    one = (λ q. absurd (omega arith), none);
+    two = (λ q. absurd (omega arith), λ c. clash (c .1));
+    three = (λ q. (refl, (refl, refl)), λ c. refl);
+    four = (λ q. absurd (omega arith), λ c. clash (sym (c .1 .1 .0)));
+    five = (λ q. absurd (omega arith), λ c. clash (sym (c .1 .1 .0)));
+    six = (λ q. absurd (omega arith), λ c. clash (sym (c .1 .1 .0)));
+  }
+    where
+      none : {A : Type 0} → (true ≡ false) ⊎ ((true ≡ true) × ((true ≡ true) × ((false ≡ true) × (a ≡ false)))) → A
+      none (inl q) = clash q
+      none (inr q) = clash (sym (q .1 .1 .0))
+
+-- ---- the rest
+
 module _ (front bad late walk : Type 0) (f g h w : Bool) (ff : (f ≡ false) ↔ front) (gg : (g ≡ true) ↔ bad) (hh : (h ≡ true) ↔ late) (ww : (w ≡ false) ↔ walk) where
   -- what stands behind the first three, by the four tests
   abbrev Four : Type 0
@@ -116,10 +162,7 @@ module _ (front bad late walk : Type 0) (f g h w : Bool) (ff : (f ≡ false) ↔
         six = (λ e. absurd (omega arith), λ c. absurd (early (c .1 .1)));
       }
 
-  abbrev Numbers : Bool → Bool → Bool → Bool → ℕ → Type 0
-  Numbers five m e a n = ReadingNumbers five m e a front bad late walk n
-
-  behind : (n : ℕ) → Rest n → Numbers true true true true n
+  behind : (n : ℕ) → Rest n → Numbers front bad late walk true true true true n
   behind n r = record {
     one = (λ e. absurd (omega (arith, r .low (omega arith))), none);
     two = (λ e. absurd (omega (arith, r .low (omega arith))), λ c. clash (c .1));
@@ -134,7 +177,7 @@ module _ (front bad late walk : Type 0) (f g h w : Bool) (ff : (f ≡ false) ↔
       none (inr q) = clash (q .1 .1 .1)
 
   -- where the edition is known: 1 by its page size, then the rest
-  pub numbers-are : (a : Bool) → Numbers true true true a (chain a true true f g h w)
+  pub numbers-are : (a : Bool) → Numbers front bad late walk true true true a (chain a true true f g h w)
   numbers-are false = record {
     one = (λ q. inr (refl, (refl, (refl, refl))), λ c. refl);
     two = (λ q. absurd (omega arith), λ c. clash (c .1));
@@ -145,47 +188,8 @@ module _ (front bad late walk : Type 0) (f g h w : Bool) (ff : (f ≡ false) ↔
   }
   numbers-are true = behind (rest f g h w) (rest-is f g h w refl refl refl refl)
 
-  -- the early numbers
-  pub short-one : (m e a : Bool) → Numbers false m e a 1
-  short-one m e a = record {
-    one = (λ q. inl refl, λ c. refl);
-    two = (λ q. absurd (omega arith), λ c. clash (sym (c .0)));
-    three = (λ q. absurd (omega arith), λ c. clash (sym (c .0)));
-    four = (λ q. absurd (omega arith), λ c. clash (sym (c .0)));
-    five = (λ q. absurd (omega arith), λ c. clash (sym (c .0)));
-    six = (λ q. absurd (omega arith), λ c. clash (sym (c .0)));
-  }
-
-  pub magic-two : (e a : Bool) → Numbers true false e a 2
-  magic-two e a = record {
-    one = (λ q. absurd (omega arith), none);
-    two = (λ q. (refl, refl), λ c. refl);
-    three = (λ q. absurd (omega arith), λ c. clash (sym (c .1 .0)));
-    four = (λ q. absurd (omega arith), λ c. clash (sym (c .1 .0)));
-    five = (λ q. absurd (omega arith), λ c. clash (sym (c .1 .0)));
-    six = (λ q. absurd (omega arith), λ c. clash (sym (c .1 .0)));
-  }
-    where
-      none : {A : Type 0} → (true ≡ false) ⊎ ((true ≡ true) × ((false ≡ true) × ((e ≡ true) × (a ≡ false)))) → A
-      none (inl q) = clash q
-      none (inr q) = clash (sym (q .1 .0))
-
-  pub other-three : (a : Bool) → Numbers true true false a 3
-  other-three a = record {
-    one = (λ q. absurd (omega arith), none);
-    two = (λ q. absurd (omega arith), λ c. clash (c .1));
-    three = (λ q. (refl, (refl, refl)), λ c. refl);
-    four = (λ q. absurd (omega arith), λ c. clash (sym (c .1 .1 .0)));
-    five = (λ q. absurd (omega arith), λ c. clash (sym (c .1 .1 .0)));
-    six = (λ q. absurd (omega arith), λ c. clash (sym (c .1 .1 .0)));
-  }
-    where
-      none : {A : Type 0} → (true ≡ false) ⊎ ((true ≡ true) × ((true ≡ true) × ((false ≡ true) × (a ≡ false)))) → A
-      none (inl q) = clash q
-      none (inr q) = clash (sym (q .1 .1 .0))
-
   -- a number that is 14 in the place of 0 says the same of 1 to 6
-  pub carried : (x m e a : Bool) (c n : ℕ) → (c ≡ n) ⊎ ((c ≡ 0) × (n ≡ 14)) → Numbers x m e a c → Numbers x m e a n
+  pub carried : (x m e a : Bool) (c n : ℕ) → (c ≡ n) ⊎ ((c ≡ 0) × (n ≡ 14)) → Numbers front bad late walk x m e a c → Numbers front bad late walk x m e a n
   carried x m e a c n t r = record {
     one = joined (same 1 (omega arith) (omega arith)) (r .one);
     two = joined (same 2 (omega arith) (omega arith)) (r .two);
@@ -251,9 +255,9 @@ module _ (b : List ℕ) (k v : ℕ) where
   looks =
       subst (λ (n : ℕ). Looks (leastOf b) b k v (leb 5 (length b)) (magicOk b) (editionKnown b) n) (sym lookup-number)
       (by-tests b (λ x m e l n. Looks l b k v x m e n) (λ (l : ℕ). lookedNumber (lookupLent l b k v))
-      (λ m e l. short-one _ _ _ _ (frontRight l b) (leb keyLimit k) (ltb (last (decode l b)) v) (right-way l b k v) (front-clauses l b) (leb-true keyLimit k, le-leb keyLimit k) (ltb-true (last (decode l b)) v, lt-ltb (last (decode l b)) v) (lookup-clauses l b v k) m e (lengthOk l b))
-      (λ e l. magic-two _ _ _ _ (frontRight l b) (leb keyLimit k) (ltb (last (decode l b)) v) (right-way l b k v) (front-clauses l b) (leb-true keyLimit k, le-leb keyLimit k) (ltb-true (last (decode l b)) v, lt-ltb (last (decode l b)) v) (lookup-clauses l b v k) e (lengthOk l b))
-      (λ l. other-three _ _ _ _ (frontRight l b) (leb keyLimit k) (ltb (last (decode l b)) v) (right-way l b k v) (front-clauses l b) (leb-true keyLimit k, le-leb keyLimit k) (ltb-true (last (decode l b)) v, lt-ltb (last (decode l b)) v) (lookup-clauses l b v k) (lengthOk l b))
+      (λ m e l. short-one _ _ _ _ m e (lengthOk l b))
+      (λ e l. magic-two _ _ _ _ e (lengthOk l b))
+      (λ l. other-three _ _ _ _ (lengthOk l b))
       (λ l m e. looks-by l b k v m e))
 
   looked-so : (ns : List ℕ) → ended (toLookup k v) b ns .number ≡ 0 → ended (toLookup k v) b ns ≡ ofLooked b ns (lookedAt (lookup (storeOf b) k v))
@@ -362,9 +366,9 @@ module _ (b : List ℕ) (lo hi v : ℕ) (ns : List ℕ) where
   ranges =
       subst (λ (n : ℕ). Ranges (leastOf b) b lo hi v (leb 5 (length b)) (magicOk b) (editionKnown b) n) (sym range-number)
       (by-tests b (λ x m e l n. Ranges l b lo hi v x m e n) (λ (l : ℕ). rangeLent l b lo hi v ns .number)
-      (λ m e l. short-one _ _ _ _ (frontRight l b) (wrong l b lo hi v) (ltb (top l b lo hi v) v) (right l b lo hi v) (front-clauses l b) (bad-is lo hi) (ltb-true (last (decode l b)) v, lt-ltb (last (decode l b)) v) (range-clauses l b v lo hi) m e (lengthOk l b))
-      (λ e l. magic-two _ _ _ _ (frontRight l b) (wrong l b lo hi v) (ltb (top l b lo hi v) v) (right l b lo hi v) (front-clauses l b) (bad-is lo hi) (ltb-true (last (decode l b)) v, lt-ltb (last (decode l b)) v) (range-clauses l b v lo hi) e (lengthOk l b))
-      (λ l. other-three _ _ _ _ (frontRight l b) (wrong l b lo hi v) (ltb (top l b lo hi v) v) (right l b lo hi v) (front-clauses l b) (bad-is lo hi) (ltb-true (last (decode l b)) v, lt-ltb (last (decode l b)) v) (range-clauses l b v lo hi) (lengthOk l b))
+      (λ m e l. short-one _ _ _ _ m e (lengthOk l b))
+      (λ e l. magic-two _ _ _ _ e (lengthOk l b))
+      (λ l. other-three _ _ _ _ (lengthOk l b))
       (λ l m e. ranges-by l b lo hi v ns m e))
 
   -- by the limits of the edition, where the number is 0 or 14
