@@ -16,7 +16,7 @@ use Rattle.model.specs.Walk.{keyLimit, find, lookup, settings, between, rangeOf
 use Rattle.model.specs.Editions.{leastOf}
 use Rattle.model.specs.Calls
 use Rattle.model.specs.Same.{samePairs}
-use Rattle.model.specs.Calls.{unchanged, isSome, rule, benchLimit, insertTests, deleteTests, firstOf, lookedBy, Ranged, rangedBy, get, range}
+use Rattle.model.specs.Calls.{unchanged, isSome, rule, benchLimit, insertTests, deleteTests, firstOf, lookedBy, rangedBy, get, range}
 use Rattle.model.specs.Told
 use Rattle.model.specs.Told.{toldBy}
 use Rattle.model.specs.Differ

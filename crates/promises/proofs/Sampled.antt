@@ -29,7 +29,9 @@ use Rattle.promises.specs.Runs.{Turn, turned, changing, notMaking, fitti
 use Rattle.promises.specs.Beside.{whenDone, onward, fromFresh}
 use Rattle.promises.specs.Answers.{commitTests, unchangedIn}
 use Rattle.promises.specs.Demand3.{opening}
+use Rattle.promises.specs.Apart.{Names}
 use Rattle.promises.specs.Fakes.{Honest}
+use Rattle.promises.proofs.Known.{known}
 use Rattle.promises.proofs.Agreed.{Agreed, many-turns, fresh-agreed}
 use Rattle.promises.proofs.Answering.{answers}
 use Rattle.promises.proofs.Lending.{call-bytes}
@@ -52,6 +54,9 @@ pub record Met : Type 0 where
   pub open-update : Written 4 twoLevels
   pub from-elsewhere : Written 4 fromElsewhere
   pub edition-two : Written 8 (fresh 6)
+  -- bytes that name each edition
+  pub first : Names 4 (encode 4 (fresh 6))
+  pub second : Names 8 (encode 8 (fresh 6))
   -- a version that they have committed
   pub committed : 1 ≤ storeOf (encode 4 twoLevels) .current
   -- bytes that are not accepted
@@ -60,8 +65,9 @@ pub record Met : Type 0 where
   pub fit : each fitting calls ≡ true
   pub stay : inside (encode 4 (fresh 6)) (opening ∷ calls) ≡ true
   pub not-fresh : each notMaking calls ≡ true
-  -- bytes on which an open is done
+  -- bytes on which an open is done, of each edition
   pub opens : Bytes (encode 4 (fresh 6)) × (turned (encode 4 (fresh 6)) opening .number ≡ 0)
+  pub opens-second : Bytes (encode 8 (fresh 6)) × (turned (encode 8 (fresh 6)) opening .number ≡ 0)
   -- an implementation that meets every contract
   pub honest : Honest ended
 
@@ -69,6 +75,9 @@ fresh-written : (least : ℕ) → OfEdition least → Written least (fresh 6)
 fresh-written least e =
     let low : 4 ≤ least = edition-four least e in
     encoded-sound least e (fresh 6) (true-holds (sound least (fresh 6)) (to-tests least (fresh 6) (fresh-sound least (omega arith) 6 (lit≤ tt) (lit≤ tt))))
+
+named : (least : ℕ) → OfEdition least → Names least (encode least (fresh 6))
+named least e = let w : Written least (fresh 6) = fresh-written least e in record { early = known (encode least (fresh 6)) (w .accepted); edition = w .edition }
 
 none : Accepts [] → ⊥
 unfolding Any.judgedAny Editions.byEdition
@@ -108,6 +117,8 @@ met =
       open-update = two;
       from-elsewhere = encoded-sound 4 (inl refl) fromElsewhere from-elsewhere-sound;
       edition-two = fresh-written 8 (inr refl);
+      first = named 4 (inl refl);
+      second = named 8 (inr refl);
       committed = omega (arith, ap (λ (s : Store). s .current) (two .held));
       no-store = none;
       fit = refl;
@@ -116,5 +127,6 @@ met =
           (ap (λ (e : Ended). ended toCommit (e .store) [] .number) returned ∙ empty);
       not-fresh = refl;
       opens = (fresh-written 4 (inl refl) .bytes, opened);
+      opens-second = (fresh-written 8 (inr refl) .bytes, answers (fromFresh 8 6) (fresh-agreed 8 (inr refl) 6 (lit≤ tt) (lit≤ tt)) .opens []);
       honest = λ c b ns. refl;
     }

@@ -44,6 +44,7 @@ pub record FirstNumbers (enough magic edition length rules : Bool) (n : ℕ) : T
   pub three : n ≡ 3 ↔ ((enough ≡ true) × ((magic ≡ true) × (edition ≡ false)))
   pub four : n ≡ 4 ↔ ((enough ≡ true) × ((magic ≡ true) × ((edition ≡ true) × ((length ≡ true) × (rules ≡ false)))))
 
+-- the edition is 1 or 2
 abbrev pub editionKnown : List ℕ → Bool
 editionKnown b = editionOk 4 b || editionOk 8 b
 

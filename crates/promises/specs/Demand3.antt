@@ -2,7 +2,7 @@
 -- refused calls inside it, with any splits and merges these cause, and abandon it. Every byte of the store is then what it was before the
 -- opening, so each later call answers as if the update had never been."
 -- Assumes nothing.
-use Prim.Native.Nat.{ℕ, _≤_}
+use Prim.Native.Nat.{ℕ}
 use mathlib.Core.Bool.{true}
 use mathlib.Core.Path.{_≡_}
 use mathlib.Core.List.{List, [], _∷_, _++_}

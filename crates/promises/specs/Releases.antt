@@ -1,7 +1,7 @@
 -- 2026-05, an empty release is no release: "Commit shall give 15, change nothing and stay open, exactly when the open version's settings
 -- equal the current version's, key for key. An insert undone by a delete counts as no change even if pages were split."
 -- Assumes nothing.
-use Prim.Native.Nat.{ℕ, _≤_, _<_}
+use Prim.Native.Nat.{ℕ, _<_}
 use mathlib.Core.Bool.{true}
 use mathlib.Core.Path.{_≡_}
 use mathlib.Core.Logic.{_↔_}
