@@ -1,3 +1,5 @@
+pub mod Known
+pub mod Early
 pub mod Encoded
 pub mod High
 pub mod Lending

@@ -3,11 +3,11 @@ pub mod Runs
 pub mod Beside
 pub mod Answers
 pub mod Views
+pub mod Demand1
 pub mod Near
 pub mod Lives
-pub mod Way
-pub mod Demand1
 pub mod Demand2
+pub mod Apart
 pub mod Levels
 pub mod Room
 pub mod Demand3
