@@ -24,6 +24,7 @@ pub mod Quick
 pub mod Judged
 pub mod Near
 pub mod Lent
+pub mod Convert
 pub mod Ended
 pub mod Needs
 pub mod Plan
