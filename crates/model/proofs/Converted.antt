@@ -40,19 +40,19 @@ current-last s = at (s .opened)
     at true = omega arith
     at false = omega arith
 
+-- the target when version v of the source is replayed
+pub record Upto (least : ℕ) (s : Store) (v : ℕ) (t : Store) : Type 0 where
+  pub is-sound : Sound least t
+  pub closed : t .opened ≡ false
+  pub current : t .current ≡ v
+  pub same : (u : ℕ) → u ≤ v → settings t u ≡ settings s u
+
+-- what a replay up to v comes to
+abbrev pub Replays : ℕ → Store → ℕ → Ran → Type 0
+Replays least s v (reached t) = Upto least s v t
+Replays least s v (stopped n t) = lacking n ≡ true
+
 module _ (of : ℕ) (first : 4 ≤ of) (s : Store) (d : Sound of s) (least : ℕ) (four : 4 ≤ least) where
-  -- the target when version v of the source is replayed
-  pub record Upto (v : ℕ) (t : Store) : Type 0 where
-    pub is-sound : Sound least t
-    pub closed : t .opened ≡ false
-    pub current : t .current ≡ v
-    pub same : (u : ℕ) → u ≤ v → settings t u ≡ settings s u
-
-  -- what a replay up to v comes to
-  abbrev pub Replays : ℕ → Ran → Type 0
-  Replays v (reached t) = Upto v t
-  Replays v (stopped n t) = lacking n ≡ true
-
   two : 2 ≤ of
   two = omega arith
 
@@ -65,7 +65,7 @@ module _ (of : ℕ) (first : 4 ≤ of) (s : Store) (d : Sound of s) (least : ℕ
         the-way small (settings s v) (settings s (suc v)) (settings-small of two s d v (omega (arith, l))) (settings-small of two s d (suc v) (omega (arith, l)))
         (settings-rise of two s d v (omega (arith, l))) (settings-rise of two s d (suc v) (omega (arith, l)))
 
-    module _ (t : Store) (p : Upto v t) where
+    module _ (t : Store) (p : Upto least s v t) where
       room : t .current < 1048574
       room = omega (arith, p .current, d .last-low, current-last s)
 
@@ -85,7 +85,7 @@ module _ (of : ℕ) (first : 4 ≤ of) (s : Store) (d : Sound of s) (least : ℕ
       pub runs : Runs least (begun t) (settings s (suc v)) (carried least (differ (settings s v) (settings s (suc v))) (begun t))
       runs = way-runs least four (begun t) begun-sound refl (settings s v) (settings s (suc v)) (differ (settings s v) (settings s (suc v))) begun-shows way
 
-      pub one-more : (w : Store) → Stepped least (begun t) w (settings s (suc v)) → Upto (suc v) (committed w)
+      pub one-more : (w : Store) → Stepped least (begun t) w (settings s (suc v)) → Upto least s (suc v) (committed w)
       one-more w g = record {
         is-sound = commit-sound least (w .current) (w .slots) (w .pages) (subst (λ (b : Bool). Sound least (store (w .current) b (w .slots) (w .pages))) (g .opened) (g .is-sound));
         closed = refl;
@@ -107,29 +107,29 @@ module _ (of : ℕ) (first : 4 ≤ of) (s : Store) (d : Sound of s) (least : ℕ
       unfolding replayed
       replayed-is = ap (orStopped (λ (u : Store). andOn (λ (w : Store). reached (committed w)) (carried least (differ (settings s v) (settings s (suc v))) u)) t) begin-is
 
-      pub replayed-so : Replays (suc v) (replayed least (differ (settings s v) (settings s (suc v))) t)
-      replayed-so = subst (Replays (suc v)) (sym replayed-is) (at (carried least (differ (settings s v) (settings s (suc v))) (begun t)) runs)
+      pub replayed-so : Replays least s (suc v) (replayed least (differ (settings s v) (settings s (suc v))) t)
+      replayed-so = subst (Replays least s (suc v)) (sym replayed-is) (at (carried least (differ (settings s v) (settings s (suc v))) (begun t)) runs)
         where
-          at : (q : Ran) → Runs least (begun t) (settings s (suc v)) q → Replays (suc v) (andOn (λ (w : Store). reached (committed w)) q)
+          at : (q : Ran) → Runs least (begun t) (settings s (suc v)) q → Replays least s (suc v) (andOn (λ (w : Store). reached (committed w)) q)
           at (reached w) r = one-more w r
           at (stopped n w) r = r .0
 
   -- ---- version after version
 
-  pub replay-so : (k v : ℕ) (t : Store) → v + k ≤ s .current → Upto v t → Replays (v + k) (replay least s v k t)
+  pub replay-so : (k v : ℕ) (t : Store) → v + k ≤ s .current → Upto least s v t → Replays least s (v + k) (replay least s v k t)
   unfolding replay
-  replay-so zero v t h p = subst (λ (x : ℕ). Upto x t) (let e : v ≡ v + 0 = omega arith in e) p
+  replay-so zero v t h p = subst (λ (x : ℕ). Upto least s x t) (let e : v ≡ v + 0 = omega arith in e) p
   replay-so (suc k) v t h p =
       at (replayed least (differ (settings s v) (settings s (suc v))) t) (replayed-so v (omega (arith, h)) t p)
-      (λ u q. subst (λ (x : ℕ). Replays x (replay least s (suc v) k u)) (let e : suc v + k ≡ v + suc k = omega arith in e) (replay-so k (suc v) u (omega (arith, h)) q))
+      (λ u q. subst (λ (x : ℕ). Replays least s x (replay least s (suc v) k u)) (let e : suc v + k ≡ v + suc k = omega arith in e) (replay-so k (suc v) u (omega (arith, h)) q))
     where
-      at : (q : Ran) → Replays (suc v) q → ((u : Store) → Upto (suc v) u → Replays (v + suc k) (replay least s (suc v) k u)) → Replays (v + suc k) (andOn (replay least s (suc v) k) q)
+      at : (q : Ran) → Replays least s (suc v) q → ((u : Store) → Upto least s (suc v) u → Replays least s (v + suc k) (replay least s (suc v) k u)) → Replays least s (v + suc k) (andOn (replay least s (suc v) k) q)
       at (stopped n u) r go = r
       at (reached u) r go = go u r
 
   -- ---- from a fresh store: "Version 0 is empty."
 
-  pub fresh-upto : (n : ℕ) → 6 ≤ n → n ≤ 4096 → Upto 0 (fresh n)
+  pub fresh-upto : (n : ℕ) → 6 ≤ n → n ≤ 4096 → Upto least s 0 (fresh n)
   fresh-upto n six most = record {
     is-sound = fresh-sound least (omega arith) n six most;
     closed = refl;
@@ -141,11 +141,11 @@ module _ (of : ℕ) (first : 4 ≤ of) (s : Store) (d : Sound of s) (least : ℕ
 
   -- What a conversion comes to: the whole store, or a fresh one.
   pub converted-by : (P : Came → Type 0) → (n : ℕ) → 6 ≤ n → n ≤ 4096
-      → ((t : Store) → Upto (s .current) t → replay least s 0 (s .current) (fresh n) ≡ reached t → P (gave (done t)))
+      → ((t : Store) → Upto least s (s .current) t → replay least s 0 (s .current) (fresh n) ≡ reached t → P (gave (done t)))
       → ((m : ℕ) (t : Store) → lacking m ≡ true → replay least s 0 (s .current) (fresh n) ≡ stopped m t → P (gaveUp m (fresh n))) → P (converted least s n)
   unfolding converted
   converted-by P n six most whole up = at (replay least s 0 (s .current) (fresh n)) refl (replay-so (s .current) 0 (fresh n) (omega arith) (fresh-upto n six most))
     where
-      at : (q : Ran) → replay least s 0 (s .current) (fresh n) ≡ q → Replays (0 + s .current) q → P (orFresh n q)
-      at (reached t) e r = whole t (subst (λ (x : ℕ). Upto x t) (let z : 0 + s .current ≡ s .current = omega arith in z) r) e
+      at : (q : Ran) → replay least s 0 (s .current) (fresh n) ≡ q → Replays least s (0 + s .current) q → P (orFresh n q)
+      at (reached t) e r = whole t (subst (λ (x : ℕ). Upto least s x t) (let z : 0 + s .current ≡ s .current = omega arith in z) r) e
       at (stopped m t) e r = subst (λ (b : Bool). P (pick b (gaveUp m (fresh n)) (gave (refused m)))) (sym r) (up m t r e)
