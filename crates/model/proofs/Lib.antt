@@ -43,6 +43,7 @@ pub mod Turns
 pub mod Abandon
 pub mod Stops
 pub mod Returned
+pub mod Converted
 pub mod History
 pub mod Undone
 pub mod Theorems

@@ -28,6 +28,7 @@ pub mod Near
 pub mod Lent
 pub mod Editions
 pub mod Any
+pub mod Convert
 pub mod Ended
 pub mod Kinds
 pub mod Named

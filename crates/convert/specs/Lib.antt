@@ -1,0 +1,4 @@
+pub mod Ready
+pub mod Due
+pub mod Pass
+pub mod Version
