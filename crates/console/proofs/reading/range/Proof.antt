@@ -33,8 +33,8 @@ returns c =
     let four : l .result .least ≡ 4 = ap (λ (x : Limits). x .least) (l .ensures) in
     range-refused (a .bytes .now) (a .pages) (a .low) (a .high) (a .v) (a .list .now) (r .last .1 .1 .1 .1 .1 .0) (r .result) (omega arith) (omega arith) (rw four at (r .ensures)) (c .if1 .taken)
 
-cast-t15 : tie.Need-cast-t15
-cast-t15 c =
+cast-t16 : tie.Need-cast-t16
+cast-t16 c =
     let a = c .before .before .before .before .before .before .before .before .before .before .before .args in
     let r = c .before .before .before .before .before .range in
     let l = c .before .before .before .before .before .before .before .before .edition-one in
@@ -63,6 +63,6 @@ range-spec =
     range-requires
     same-length
     returns
-    cast-t15
+    cast-t16
     same-length-2
     returns-2)
