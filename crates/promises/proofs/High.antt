@@ -14,7 +14,7 @@ use Rattle.model.specs.Store.{Store, next}
 use Rattle.model.specs.Walk.{lookup, settings}
 use Rattle.model.specs.Climb.{Result, done, refused, update}
 use Rattle.model.specs.Calls
-use Rattle.model.specs.Calls.{Rule, numbered, firstOf, isSome, insertTests, deleteTests, insert, delete, begin, committed, unchanged, commit, abandon, abandoned}
+use Rattle.model.specs.Calls.{Rule, rule, numbered, firstOf, isSome, insertTests, deleteTests, insert, delete, begin, committed, unchanged, commit, abandon, abandoned}
 use Rattle.model.specs.Needs.{inserting, deleting}
 use Rattle.model.specs.Differ.{differ}
 use Rattle.model.specs.Return
@@ -124,7 +124,7 @@ module _ (least : ℕ) (s : Store) where
   pub call-high : (c : Call) → HighBy (callBy least s c)
   unfolding Calls.insert Calls.delete Calls.begin Calls.commit Calls.abandon Return.returned
   call-high begins = chain-high (openTests (s .opened) (s .current)) _ (omega arith, (omega arith, tt)) tt
-  call-high commits = chain-high (commitTests (s .opened) (unchanged s)) _ (omega arith, (omega arith, tt)) tt
+  call-high commits = chain-high (rule 7 (not (s .opened)) ∷ rule 15 (unchanged s) ∷ []) _ (omega arith, (omega arith, tt)) tt
   call-high abandons = chain-high (endTests (s .opened)) _ (omega arith, tt) tt
   call-high (inserts k x) =
       chain-high (insertTests k (s .opened) (alive k)) (update least s k (inserting k x)) (omega arith, (omega arith, (omega arith, tt)))
@@ -206,7 +206,13 @@ module _ (least : ℕ) (s : Store) where
 
   pub commit-number : numberOf (commit s) ≡ firstOf (commitTests (s .opened) (unchanged s))
   unfolding Calls.commit
-  commit-number = chain-first (commitTests (s .opened) (unchanged s)) (committed s)
+  commit-number = at (s .opened) (unchanged s)
+    where
+      at : (o u : Bool) → numberOf (numbered (rule 7 (not o) ∷ rule 15 u ∷ []) (done (committed s))) ≡ firstOf (commitTests o u)
+      at true true = refl
+      at true false = refl
+      at false true = refl
+      at false false = refl
 
   pub abandon-number : numberOf (abandon s) ≡ firstOf (endTests (s .opened))
   unfolding Calls.abandon
