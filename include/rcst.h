@@ -46,9 +46,10 @@
  *
  * A call takes at most RCST_STACK_BYTES of the stack of the thread that makes it;
  * the default of some systems for a thread is less. That is measured and rounded
- * up, not proved (tests/c/stack.c, x86-64): rcst_range took 692 kB on bytes made to
- * keep it busy, and on no sound store; rcst_check 203 kB, every other call up to
- * 116 kB, on stores made to keep them busy too.
+ * up, not proved (tests/c/stack.c, x86-64): rcst_range and rcst_view_range took 692
+ * kB, on any store, since the compiler puts into their frame what they need on bytes
+ * made to keep them busy; rcst_check 203 kB, every other call up to 116 kB, on stores
+ * made to keep them busy too.
  *
  * A program that ends between two calls of an update leaves it open, and the next
  * commit would publish the half of it. On start check the store, and abandon: 0

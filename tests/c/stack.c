@@ -155,10 +155,10 @@ int main(int count, char **files) {
     int i, failed = 0;
 
     history();
-    for (i = 0; i < 40; i++) {
-        measure_all((uint32_t)(5 * i));
+    for (i = 0; i < 20; i++) {
+        measure_all((uint32_t)(10 * i + i % 2));
     }
-    for (at = 0; at < length; at += 37) {
+    for (at = 0; at < length; at += 67) {
         store[at] ^= 0x10;
         measure(1, 0);
         measure(5, 0);
