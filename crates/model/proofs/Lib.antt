@@ -57,6 +57,8 @@ pub mod Most
 pub mod Gathers
 pub mod Lacking
 pub mod Unique
+pub mod Editions
+pub mod OldPrograms
 pub mod Steady
 pub mod Lives
 pub mod Telling

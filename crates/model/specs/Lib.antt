@@ -24,6 +24,8 @@ pub mod Quick
 pub mod Judged
 pub mod Near
 pub mod Lent
+pub mod Editions
+pub mod Any
 pub mod Convert
 pub mod Ended
 pub mod Needs

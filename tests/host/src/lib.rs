@@ -10,6 +10,7 @@ use reference::engine::{Answer, Call, Engine};
 mod c {
     extern "C" {
         pub fn rcst_fresh(store: *mut u8, length: usize) -> u32;
+        pub fn rcst_fresh_second(store: *mut u8, length: usize) -> u32;
         pub fn rcst_check(store: *const u8, length: usize, rule: *mut u32) -> u32;
         pub fn rcst_open(store: *mut u8, length: usize) -> u32;
         pub fn rcst_insert(store: *mut u8, length: usize, key: u32, value: u32) -> u32;
@@ -64,9 +65,14 @@ mod c {
     }
 }
 
-/// Makes a fresh store over any bytes of a fitting length.
+/// Makes a fresh store of edition 1 over any bytes of a fitting length.
 pub fn fresh(store: &mut [u8]) -> u32 {
     unsafe { c::rcst_fresh(store.as_mut_ptr(), store.len()) }
+}
+
+/// Makes a fresh store of edition 2 over any bytes of a fitting length.
+pub fn fresh_second(store: &mut [u8]) -> u32 {
+    unsafe { c::rcst_fresh_second(store.as_mut_ptr(), store.len()) }
 }
 
 /// The number and, with 4, the lowest number of a broken rule.
