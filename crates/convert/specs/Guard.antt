@@ -1,17 +1,17 @@
--- The converter's refusals before the replay, as the code comes to them, and what is known where there is none.
+-- The converter's refusals before the replay, as the code comes to them.
 -- Assumes nothing.
 use Prim.Native.Nat.{ℕ, zero, suc, _<_, _≤_}
 use native.Mathlib.Omega.{arith}
 use mathlib.Core.Bool.{Bool, true, false, _||_, not}
 use mathlib.Core.Logic.{_≢_}
 use mathlib.Core.Path.{_≡_, refl, ap, _∙_}
-use mathlib.Core.List.{List, [], _∷_}
+use mathlib.Core.List.{List}
 use lib.Dec.{eqb, ltb}
 use lib.ListN.{length, getD}
 use borrow.Author.Tests.{lt-ltb, le-ltb, eq-eqb, ne-eqb}
 use Rattle.model.specs.Layout.{decode}
 use Rattle.model.specs.Judged.{lengthOk, magicOk, editionOk, isSound, brokenIn, judged}
-use Rattle.model.specs.Calls.{rule, firstOf}
+use Rattle.model.specs.Calls.{firstOf}
 use Rattle.model.specs.Convert.{convertTests}
 use Rattle.bits.specs.Laws.{field-byte}
 
@@ -78,24 +78,3 @@ module _ (b t : List ℕ) where
 pub judged-sound : (least : ℕ) (b : List ℕ) → judged least b .number ≡ 0 → isSound least b ≡ true
 unfolding isSound
 judged-sound least b j = eq-eqb (judged least b .number) 0 j
-
--- ---- none holds
-
-pub record Passed (b t : List ℕ) : Type 0 where
-  pub sound : isSound 4 b ≡ true
-  pub shut : decode 4 b .opened ≡ false
-  pub long : lengthOk 8 t ≡ true
-
-pub passes : (b t : List ℕ) → firstOf (convertTests b t) ≡ 0 → Passed b t
-passes b t e = at (ltb (length b) 5) (magicOk b) (editionOk 4 b) (lengthOk 4 b) (lengthOk 8 t) refl (isSound 4 b) refl (decode 4 b .opened) refl e
-  where
-    at : (x1 x2 x3 x4 x5 : Bool) → lengthOk 8 t ≡ x5 → (x6 : Bool) → isSound 4 b ≡ x6 → (x7 : Bool) → decode 4 b .opened ≡ x7
-        → firstOf (rule 1 x1 ∷ rule 2 (not x2) ∷ rule 3 (not x3) ∷ rule 1 (not x4 || not x5) ∷ rule 4 (not x6) ∷ rule 8 x7 ∷ []) ≡ 0 → Passed b t
-    at true x2 x3 x4 x5 p x6 q x7 r z = absurd (omega (arith, z))
-    at false false x3 x4 x5 p x6 q x7 r z = absurd (omega (arith, z))
-    at false true false x4 x5 p x6 q x7 r z = absurd (omega (arith, z))
-    at false true true false x5 p x6 q x7 r z = absurd (omega (arith, z))
-    at false true true true false p x6 q x7 r z = absurd (omega (arith, z))
-    at false true true true true p false q x7 r z = absurd (omega (arith, z))
-    at false true true true true p true q true r z = absurd (omega (arith, z))
-    at false true true true true p true q false r z = record { sound = q; shut = r; long = p }
