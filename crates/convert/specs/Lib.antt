@@ -2,3 +2,5 @@ pub mod Ready
 pub mod Due
 pub mod Pass
 pub mod Version
+pub mod Guard
+pub mod Whole

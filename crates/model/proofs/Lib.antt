@@ -61,10 +61,12 @@ pub mod Editions
 pub mod OldPrograms
 pub mod Steady
 pub mod Lives
+pub mod Readings
 pub mod Telling
 pub mod Sampled
 pub mod Rising
 pub mod Judging
+pub mod Converting
 pub mod Quiet
 pub mod Parents
 pub mod Once

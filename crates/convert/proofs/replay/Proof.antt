@@ -78,7 +78,7 @@ loop-again c =
     let less : i .v < decode (a .k .least) (a .s .now) .current = omega (arith, c .before .before .before .before .before .if1 .taken, same, current-of (a .k .least) (a .s .now)) in
     let q = c .before .before .before .one-version .ensures in
     let z = c .if2 .left in
-    (omega (arith, less), on-more (i .inv .1) less _ _ q z, i .inv .2 ∙ on-goes (i .inv .1) less _ _ q z, c .before .before .before .one-version .kept .0 ∙ i .inv .3)
+    (omega (arith, less), on-more (i .inv .1) less _ _ q z, i .inv .2 ∙ on-goes (i .inv .1) less _ _ q z, c .before .before .before .one-version .kept .1 .1 .0 ∙ i .inv .3)
 
 same-length-2 : tie.Need-same-length-2 Inv-loop μ-loop
 same-length-2 c = search needs
