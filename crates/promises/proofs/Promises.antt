@@ -29,7 +29,7 @@ use Rattle.model.proofs.Lacking as lacks
 use Rattle.model.proofs.Theorems as stores
 use Rattle.promises.specs.Accepts.{Accepts, storeOf}
 use Rattle.promises.specs.Runs.{making, changing, reading, kindOf}
-use Rattle.promises.specs.Beside.{along, fromFresh, fromLent}
+use Rattle.promises.specs.Way.{ruledOf}
 use Rattle.promises.specs.Demand1.{Unique, Refused, Blank, Judges, Untrusted, OneForm, FreshMade}
 use Rattle.promises.specs.Demand2.{EncodedSound, AcceptedSound, SoundStays, FreshSound, History, HistoryLent, Found, SettingsChange, AnswersStay, ViewsStay, EditionStays, ByTheRules, ReadsOnly, Balanced, Lacking}
 use Rattle.promises.specs.Apart.{EditionsApart}
@@ -51,8 +51,7 @@ use Rattle.promises.proofs.Early.{lifted}
 use Rattle.promises.proofs.Encoded as encoded
 use Rattle.promises.proofs.Judges as judging
 use Rattle.promises.proofs.Lending.{kind-asks, Makes, by-kind, change-is, made-wrong, held-sound, call-accepts, fresh-leaves}
-use Rattle.promises.proofs.Agreed.{many-turns, fresh-agreed, lent-agreed}
-use Rattle.promises.proofs.Answering.{answers}
+use Rattle.promises.proofs.Way as way
 use Rattle.promises.proofs.Changed as changed
 use Rattle.promises.proofs.Leveled as leveled
 use Rattle.promises.proofs.Roomy as roomy
@@ -123,13 +122,13 @@ fresh-sound =
             absurd (omega arith)
 
 pub history : History
-history least e n six most ts f = answers (along (fromFresh least n) ts) (many-turns ts f (fromFresh least n) (fresh-agreed least e n six most))
+history = way.fresh-way
 
 pub history-lent : HistoryLent
-history-lent b ok ts f = answers (along (fromLent b) ts) (many-turns ts f (fromLent b) (lent-agreed b ok))
+history-lent = way.lent-way
 
 pub found : Found
-found b ok = history-lent b ok [] refl
+found b ok = history-lent b ok [] refl .answers
 
 pub settings-change : SettingsChange
 settings-change = changed.settings-change
@@ -160,23 +159,7 @@ reads-only c b ns =
     (λ d e. let f : changing d ≡ reading = sym (kind-asks d) ∙ e in let z : _≡_ {A = ℕ} 0 1 = cc in absurd (omega arith)) (λ a e same i. same b ns) c
 
 pub balanced : Balanced
-balanced b ok v h =
-    all-by (λ (x : Seen). isRoot x || enough x) (seen (storeOf b) v) (λ x i. at x i (bool-cases (isRoot x)))
-  where
-    isRoot : Seen → Bool
-    isRoot x = eqb (x .number) (rootAt (storeOf b .slots) v)
-
-    live : Seen → ℕ
-    live x = length (pairsAt v (page (storeOf b .pages) (x .number)))
-
-    enough : Seen → Bool
-    enough x = leb (leastOf b) (live x)
-
-    at : (x : Seen) → In x (seen (storeOf b) v) → (isRoot x ≡ true) ⊎ (isRoot x ≡ false) → (isRoot x || enough x) ≡ true
-    at x i (inl e) = either-left (isRoot x) (enough x) e
-    at x i (inr e) =
-        either-right (isRoot x) (enough x)
-        (le-leb (leastOf b) (live x) (stores.balanced (leastOf b) (omega (arith, four b)) (storeOf b) (held-sound b ok) v h x i (eqb-false (x .number) (rootAt (storeOf b .slots) v) e)))
+balanced b ok = way.balanced-in (ruledOf b) (four b) (held-sound b ok)
 
 -- (specs/Levels, specs/Room)
 pub levels : Levels

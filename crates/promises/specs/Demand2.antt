@@ -25,9 +25,9 @@ use Rattle.model.specs.Needs.{NeedsPage, NeedsSlot, inserting, deleting, Insert
 use Rattle.model.specs.Ended.{Asked, toInsert, toDelete, ended}
 use Rattle.promises.specs.Accepts.{Accepts, storeOf, OfEdition, Written, Exact}
 use Rattle.promises.specs.Runs.{Turn, turned, runBytes, making, reading, kindOf, asks, notMaking, fitting, each}
-use Rattle.promises.specs.Beside.{along, fromFresh, fromLent}
+use Rattle.promises.specs.Beside.{fromFresh, fromLent}
 use Rattle.promises.specs.Answers.{Answers}
-use Rattle.promises.specs.Way.{EachState, BalancedIn, LentState, FreshState}
+use Rattle.promises.specs.Way.{ruledOf, EachState, BalancedIn, LentState, FreshState}
 use Rattle.promises.specs.Views.{SameView, SameAnswers}
 
 -- ---- accepted bytes and sound stores are the same thing
@@ -52,11 +52,12 @@ FreshSound = (c : Asked) → kindOf c ≡ making → (b ns : List ℕ) → ended
 -- its live entries, and version 0 is empty
 
 abbrev pub History : Type 0
-History = (least : ℕ) → OfEdition least → (n : ℕ) → 6 ≤ n → n ≤ 4096 → (ts : List Turn) → each fitting ts ≡ true → Answers (along (fromFresh least n) ts)
+History = (least : ℕ) → OfEdition least → (n : ℕ) → 6 ≤ n → n ≤ 4096 → (ts : List Turn) → each fitting ts ≡ true
+    → EachState FreshState (fromFresh least n) (record { least = least; store = fresh n }) ts
 
 -- "For a sound store lent from elsewhere, the settings its walks show stand for the history so far."
 abbrev pub HistoryLent : Type 0
-HistoryLent = (b : List ℕ) → Accepts b → (ts : List Turn) → each fitting ts ≡ true → Answers (along (fromLent b) ts)
+HistoryLent = (b : List ℕ) → Accepts b → (ts : List Turn) → each fitting ts ≡ true → EachState (LentState b) (fromLent b) (ruledOf b) ts
 
 -- and at once: lookups and ranges find what the walks of the store that the bytes hold show
 abbrev pub Found : Type 0
@@ -100,8 +101,7 @@ ReadsOnly = (c : Asked) (b ns : List ℕ) → kindOf c ≡ reading → ended c b
 -- ---- "Every page that a version reaches, its root aside, holds at least four entries alive at that version."
 
 abbrev pub Balanced : Type 0
-Balanced = (b : List ℕ) → Accepts b → (v : ℕ) → v ≤ last (storeOf b)
-    → all (λ (x : Seen). eqb (x .number) (rootAt (storeOf b .slots) v) || leb (leastOf b) (length (pairsAt v (page (storeOf b .pages) (x .number))))) (seen (storeOf b) v) ≡ true
+Balanced = (b : List ℕ) → Accepts b → BalancedIn (ruledOf b)
 
 -- ---- "An update is refused for lack of pages exactly when those rules need a page and none is free": 12, and 13 so for a slot, on any bytes
 

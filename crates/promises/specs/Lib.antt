@@ -6,6 +6,7 @@ pub mod Views
 pub mod Demand1
 pub mod Near
 pub mod Lives
+pub mod Way
 pub mod Demand2
 pub mod Apart
 pub mod Levels
