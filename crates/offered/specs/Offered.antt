@@ -4,9 +4,11 @@
 use Prim.Native.Nat.{ℕ}
 use mathlib.Core.List.{List, [], _∷_}
 use denote.Ref.{now}
-use Rattle.model.specs.Ended.{toFresh, toCheck, toOpen, toCommit, toAbandon, toInsert, toDelete, toReturn, toLookup, toRange, toVisits, toDifference, toLife}
+use Rattle.model.specs.Ended.{toFresh, toFreshSecond, toCheck, toOpen, toCommit, toAbandon, toInsert, toDelete, toReturn, toLookup, toRange, toVisits, toDifference, toLife}
 use Rattle.host.proofs.rcst_fresh as rcst-fresh
 use Rattle.host.proofs.rcst_fresh.Symbol as rcst-fresh-code
+use Rattle.host.proofs.rcst_fresh_second as rcst-fresh-second
+use Rattle.host.proofs.rcst_fresh_second.Symbol as rcst-fresh-second-code
 use Rattle.host.proofs.rcst_check as rcst-check
 use Rattle.host.proofs.rcst_check.Symbol as rcst-check-code
 use Rattle.host.proofs.rcst_open as rcst-open
@@ -36,6 +38,9 @@ use Rattle.offered.specs.Promised.{Promised, gave}
 
 abbrev pub Fresh : Says rcst-fresh.ended
 Fresh κs a r e = (ns : List ℕ) → Promised toFresh (now (a .0)) ns (gave r [] (now (e .0)) ns)
+
+abbrev pub FreshSecond : Says rcst-fresh-second.ended
+FreshSecond κs a r e = (ns : List ℕ) → Promised toFreshSecond (now (a .0)) ns (gave r [] (now (e .0)) ns)
 
 abbrev pub Check : Says rcst-check.ended
 Check κs a r e = (ns : List ℕ) → Promised toCheck (now (a .0)) ns (gave r (now (e .1 .0) ∷ []) (now (a .0)) ns)
@@ -76,6 +81,7 @@ Life κs a r e = Promised (toLife (a .1 .0)) (now (a .0)) (now (a .1 .1 .0)) (ga
 -- what all of them do
 pub record AllOffered (M : Type 1) : Type 2 where
   pub fresh : Does rcst-fresh.ended rcst-fresh-code.routine Fresh M
+  pub fresh-second : Does rcst-fresh-second.ended rcst-fresh-second-code.routine FreshSecond M
   pub check : Does rcst-check.ended rcst-check-code.routine Check M
   pub opens : Does rcst-open.ended rcst-open-code.routine Open M
   pub insert : Does rcst-insert.ended rcst-insert-code.routine Insert M
