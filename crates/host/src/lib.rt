@@ -5,6 +5,7 @@ ghost use Rattle.model.specs.Layout.{bit};
 ghost use Rattle.model.specs.Calls.{lookedNumber, lookedFound, lookedValue};
 ghost use Rattle.model.specs.Lent.{freshLent};
 ghost use Rattle.model.specs.Any.{judgedAny, openAny, insertAny, deleteAny, commitAny, abandonAny, returnAny, lookupAny, rangeAny, lifeAny, differenceAny, visitsAny};
+ghost use Rattle.model.specs.Convert.{convertLent};
 ghost use Rattle.calls.specs.Turning.{ended};
 
 // Makes a fresh store of edition 1.
@@ -82,6 +83,14 @@ pub extern "C" fn rcst_return(store: &mut [u8], version: u32) -> u32
     ensures { λ r. ⌜ ended r (now (store .exit)) ≡ returnAny (now (store .entry)) version ⌝ }
 {
     calls::return_to(store, version)
+}
+
+// Converts a store of edition 1 into one of edition 2.
+#[no_mangle]
+pub extern "C" fn rcst_convert(source: &[u8], target: &mut [u8]) -> u32
+    ensures { λ r. ⌜ ended r (now (target .exit)) ≡ convertLent (now (source .entry)) (now (target .entry)) ⌝ }
+{
+    convert::convert(source, target)
 }
 
 fn number_of(r: Looked) -> u32
