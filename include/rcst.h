@@ -197,6 +197,18 @@ uint32_t rcst_abandon(uint8_t *store, size_t length);
 uint32_t rcst_return(uint8_t *store, size_t length, uint32_t version);
 
 /*
+ * Converts a store of edition 1, `source`, into `target`, which may hold any bytes and
+ * becomes a store of edition 2: it is made fresh, and each version's differences are
+ * replayed into it, deletes before inserts, bench keys let through, so that every
+ * committed version reads the same; an empty version stays one. The source is only read;
+ * the two may not overlap. Gives 0, 1 (also for a target that is not 6 to 4,096 pages of
+ * 512 bytes), 2, 3 (for any source that is not of edition 1), 4, 8 (the source has an
+ * update open), 12 or 13. With 12 or 13 the target is a fresh store of edition 2; every
+ * other number but 0 leaves it untouched.
+ */
+uint32_t rcst_convert(const uint8_t *source, size_t source_length, uint8_t *target, size_t target_length);
+
+/*
  * Looks a key up at a version. Gives 0 or 1 to 6. With 0, *found is 1 and *value
  * the key's value, or both are 0: an absent key is an answer. With any other
  * number both are 0.

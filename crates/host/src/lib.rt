@@ -7,6 +7,7 @@ ghost use Rattle.model.specs.Layout.{bit};
 ghost use Rattle.model.specs.Calls.{lookedNumber, lookedFound, lookedValue};
 ghost use Rattle.model.specs.Lent.{leaving, freshLent};
 ghost use Rattle.model.specs.Any.{judgedAny, openAny, insertAny, deleteAny, commitAny, abandonAny, returnAny, lookupAny, rangeAny, lifeAny, differenceAny, visitsAny};
+ghost use Rattle.model.specs.Convert.{convertLent};
 
 // Makes a fresh store of edition 1.
 #[no_mangle]
@@ -83,6 +84,14 @@ pub extern "C" fn rcst_return(store: &mut [u8], version: u32) -> u32
     ensures { λ r. ⌜ leaving r (now (store .exit)) ≡ returnAny (now (store .entry)) version ⌝ }
 {
     calls::return_to(store, version)
+}
+
+// Converts a store of edition 1 into one of edition 2.
+#[no_mangle]
+pub extern "C" fn rcst_convert(source: &[u8], target: &mut [u8]) -> u32
+    ensures { λ r. ⌜ leaving r (now (target .exit)) ≡ convertLent (now (source .entry)) (now (target .entry)) ⌝ }
+{
+    convert::convert(source, target)
 }
 
 fn number_of(r: Looked) -> u32
