@@ -12,7 +12,7 @@ use Rattle.model.specs.Field.{Bytes}
 use Rattle.model.specs.Store.{Store, fresh}
 use Rattle.model.specs.Layout.{sizeOf, decode, encode}
 use Rattle.model.specs.Judged.{lengthOk, isSound}
-use Rattle.model.specs.Lent.{Outcome, judgedFirst, leftBy, freshLent}
+use Rattle.model.specs.Lent.{Outcome, judgedFirst, leftBy, freshLent, leaving}
 use Rattle.model.specs.Calls.{firstOf}
 use Rattle.model.specs.Return.{Ran, reached, stopped, lacking}
 use Rattle.model.specs.Convert.{replay, orFresh, converted, convertTests, convertLent}
@@ -23,9 +23,6 @@ use Rattle.store.specs.Sure.{sure, same-bytes}
 use Rattle.store.specs.Tested.{Whole, whole-length}
 use Rattle.convert.specs.Ready.{is-sound, is-held}
 use Rattle.convert.specs.Version.{Replaying, Replayed}
-
-abbrev pub ended : ℕ → List ℕ → Outcome
-ended n b = record { number = n; store = b }
 
 -- what a call of the core asks, and what it comes to
 abbrev pub convertedTo : List ℕ → List ℕ → Outcome
@@ -91,10 +88,10 @@ module _ (a b : List ℕ) (h : isSound 4 a ≡ true) (w : lengthOk 8 b ≡ true)
       ran : replay 8 (decode 4 a) 0 (decode 4 a .current) (fresh (sizeOf 8 b)) ≡ replay (l .least) (decode (k .least) a) 0 (decode (k .least) a .current) (decode (l .least) b₁)
       ran = rw (held, k4, l8)
 
-      pub all-done : n ≡ 0 → Bytes b₂ → ended 0 b₂ ≡ convertedTo a b
+      pub all-done : n ≡ 0 → Bytes b₂ → leaving 0 b₂ ≡ convertedTo a b
       unfolding converted
       all-done z bytes =
-          rw (ran ∙ q .goes z) (ap (ended 0) (sym (same-bytes two b₂ (q .sound) bytes) ∙ ap (λ (m : ℕ). encode m (decode (l .least) b₂)) l8))
+          rw (ran ∙ q .goes z) (ap (leaving 0) (sym (same-bytes two b₂ (q .sound) bytes) ∙ ap (λ (m : ℕ). encode m (decode (l .least) b₂)) l8))
 
       lacks : (n ≡ 0 → ⊥) → lacking n ≡ true
       lacks z =
@@ -102,20 +99,20 @@ module _ (a b : List ℕ) (h : isSound 4 a ≡ true) (w : lengthOk 8 b ≡ true)
           (replay-so (k .least) (one .four) (decode (k .least) a) source (l .least) (two .four) (decode (k .least) a .current) 0 (decode (l .least) b₁) (omega arith)
           (subst (Upto (l .least) (decode (k .least) a) 0) (sym held) start))
 
-      pub one-stops : (n ≡ 0 → ⊥) → (b₃ : List ℕ) → b₃ ≡ encode 8 (fresh (sizeOf 8 b)) → ended n b₃ ≡ convertedTo a b
+      pub one-stops : (n ≡ 0 → ⊥) → (b₃ : List ℕ) → b₃ ≡ encode 8 (fresh (sizeOf 8 b)) → leaving n b₃ ≡ convertedTo a b
       unfolding converted
-      one-stops z b₃ f = rw (ran ∙ q .stops z, lacks z) (ap (ended n) f)
+      one-stops z b₃ f = rw (ran ∙ q .stops z, lacks z) (ap (leaving n) f)
 
 -- ---- the call
 
-pub refused-so : (a b : List ℕ) (n : ℕ) → n ≡ firstOf (convertTests a b) → (n ≡ 0 → ⊥) → ended n b ≡ convertLent a b
+pub refused-so : (a b : List ℕ) (n : ℕ) → n ≡ firstOf (convertTests a b) → (n ≡ 0 → ⊥) → leaving n b ≡ convertLent a b
 unfolding convertLent
 refused-so a b n e z = at (firstOf (convertTests a b)) e
   where
-    at : (m : ℕ) → n ≡ m → ended n b ≡ judgedFirst m (λ k. ended k b) (convertedTo a b)
+    at : (m : ℕ) → n ≡ m → leaving n b ≡ judgedFirst m (λ k. leaving k b) (convertedTo a b)
     at zero f = absurd (z f)
-    at (suc m) f = ap (λ (k : ℕ). ended k b) f
+    at (suc m) f = ap (λ (k : ℕ). leaving k b) f
 
 pub done-so : (a b : List ℕ) → firstOf (convertTests a b) ≡ 0 → (o : Outcome) → o ≡ convertedTo a b → o ≡ convertLent a b
 unfolding convertLent
-done-so a b e o f = f ∙ sym (ap (λ (m : ℕ). judgedFirst m (λ k. ended k b) (convertedTo a b)) e)
+done-so a b e o f = f ∙ sym (ap (λ (m : ℕ). judgedFirst m (λ k. leaving k b) (convertedTo a b)) e)
