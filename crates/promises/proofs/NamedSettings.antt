@@ -365,6 +365,15 @@ module _ (least : ℕ) (b : List ℕ) (lo hi v : ℕ) where
   range-met : 4 ≤ least → Met → rangeOf (decode least b) lo hi v ≡ between lo hi (settings (decode least b) v)
   range-met four m = range-is least (omega arith) (decode least b) (accepted-sound least b (accepted least b (m .accepts))) lo hi v (m .low) (m .readable)
 
+  plain-met : (ns : List ℕ) → Met → listed ns (range (decode least b) lo hi v (length ns)) ≡ listed ns (rangedBy 0 (length ns) (rangeOf (decode least b) lo hi v))
+  unfolding range
+  plain-met ns m = rw (m .keys, le-ltb (last (decode least b)) v (m .readable))
+
+-- the store's range, by the edition that the bytes name
+any-goes : (b : List ℕ) (lo hi v : ℕ) (ns : List ℕ) → lentNumber b ≡ 0 → rangeAny b lo hi v ns ≡ rangeLent (leastOf b) b lo hi v ns
+unfolding Any.rangeAny
+any-goes b lo hi v ns z = goes {A = Listed} b (λ (n : ℕ). record { number = n; count = 0; list = ns }) (λ (least : ℕ). rangeLent least b lo hi v ns) z
+
 -- a list that had room
 room-written : (ns : List ℕ) (xs : List Pair) → listed ns (rangedBy 0 (length ns) xs) .number ≡ 0
     → listed ns (rangedBy 0 (length ns) xs) ≡ record { number = 0; count = length xs; list = flatMap pairNumbers xs ++ drop (length (flatMap pairNumbers xs)) ns }
@@ -413,9 +422,7 @@ never-skipped table b lo hi v ns e = by (lentNumber b) refl
         let m : Met (leastOf b) b lo hi v = met (leastOf b) b lo hi v w in
         let ok : Accepts b = accepts-by b z (m .accepts) in
         let f : rangeOf (storeOf b) lo hi v ≡ us = range-met (leastOf b) b lo hi v (four b) m in
-        let any : rangeAny b lo hi v ns ≡ rangeLent (leastOf b) b lo hi v ns = unfold Any.rangeAny in goes {A = Listed} b (λ (n : ℕ). record { number = n; count = 0; list = ns }) (λ (least : ℕ). rangeLent least b lo hi v ns) z in
-        let plainly : listed ns (range (storeOf b) lo hi v (length ns)) ≡ listed ns (rangedBy 0 (length ns) (rangeOf (storeOf b) lo hi v)) = unfold range in rw (m .keys, le-ltb (last (storeOf b)) v (m .readable)) in
-        let is : rangeNamed table b lo hi v ns ≡ listed ns (rangedBy 0 (length ns) us) = go ∙ same ∙ sym any ∙ range-lent b ok lo hi v ns ∙ plainly ∙ ap (λ (xs : List Pair). listed ns (rangedBy 0 (length ns) xs)) f in
+        let is : rangeNamed table b lo hi v ns ≡ listed ns (rangedBy 0 (length ns) us) = go ∙ same ∙ sym (any-goes b lo hi v ns z) ∙ range-lent b ok lo hi v ns ∙ plain-met (leastOf b) b lo hi v ns m ∙ ap (λ (xs : List Pair). listed ns (rangedBy 0 (length ns) xs)) f in
         let all-of = is ∙ room-written ns us (sym (ap (λ (r : Listed). r .number) is) ∙ e) in
         record {
           accepted = ok;

@@ -3,16 +3,9 @@
 -- Assumes nothing.
 use Prim.Native.Nat.{ℕ}
 use native.Mathlib.Omega.{arith}
-use mathlib.Core.Bool.{Bool, true, false, _||_}
+use mathlib.Core.Bool.{Bool, true, false}
 use mathlib.Core.Path.{_≡_, refl, ap, sym, _∙_, subst}
-use mathlib.Core.Logic.{_⊎_, inl, inr}
 use mathlib.Core.List.{List, []}
-use lib.Dec.{leb, eqb}
-use lib.ListN.{length}
-use borrow.Author.Tests.{le-leb, eqb-false}
-use Rattle.model.specs.Page.{pairsAt}
-use Rattle.model.specs.Store.{page}
-use Rattle.model.specs.Walk.{Seen, seen, rootAt}
 use Rattle.model.specs.Layout.{encode}
 use Rattle.model.specs.Judged.{lengthOk}
 use Rattle.model.specs.Editions.{leastOf}
@@ -21,12 +14,10 @@ use Rattle.model.specs.Return.{Came, gave, gaveUp}
 use Rattle.model.specs.Histories.{callBy, after}
 use Rattle.model.specs.Lent.{Outcome, leftBy, freshLent}
 use Rattle.model.specs.Ended.{Asked, toInsert, toDelete, Ended, ended}
-use Rattle.model.proofs.Members.{either-left, either-right, bool-cases, In, all-by}
 use Rattle.model.proofs.Editions.{ended-at}
 use Rattle.model.proofs.OldPrograms as old
 use Rattle.model.proofs.Unique as one
 use Rattle.model.proofs.Lacking as lacks
-use Rattle.model.proofs.Theorems as stores
 use Rattle.promises.specs.Accepts.{Accepts, storeOf}
 use Rattle.promises.specs.Runs.{making, changing, reading, kindOf}
 use Rattle.promises.specs.Way.{ruledOf}

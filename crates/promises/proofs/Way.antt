@@ -35,7 +35,7 @@ use Rattle.promises.specs.Beside.{Beside, whenDone, stepped, undone, onw
 use Rattle.promises.specs.Way.{Ruled, ruledOf, changedBy, remadeBy, ruledBy, EachState, BalancedIn, LentState, FreshState}
 use Rattle.promises.proofs.Known.{four}
 use Rattle.promises.proofs.Encoded.{encoded-sound, accepted}
-use Rattle.promises.proofs.Lending.{Leaves, kind-asks, change-leaves, fresh-leaves, made-wrong, call-bytes, held-sound}
+use Rattle.promises.proofs.Lending.{kind-asks, change-leaves, fresh-leaves, made-wrong, call-bytes, held-sound}
 use Rattle.promises.proofs.Agreed.{Agreed, fresh-agreed, lent-agreed, one-turn}
 use Rattle.promises.proofs.Answering.{answers}
 
