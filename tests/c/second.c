@@ -130,9 +130,32 @@ static void order(void) {
     expect(rcst_check(store, n, &rule) == 0 && rule == 0, "as it was it is");
 }
 
+/* What a program from before edition 2 asks first, in document 01's order; 0 where it would read on. */
+static uint32_t first_numbers(const uint8_t *store, size_t length) {
+    if (length % RCST_PAGE_BYTES != 0 || length < 6 * RCST_PAGE_BYTES || length > 4096 * RCST_PAGE_BYTES) {
+        return RCST_WRONG_LENGTH;
+    }
+    if (memcmp(store, "RCST", 4) != 0) {
+        return RCST_WRONG_FIRST_BYTES;
+    }
+    return store[4] == RCST_FORMAT_EDITION ? 0 : RCST_WRONG_EDITION;
+}
+
+/* It gives 1 or 3 on a store of edition 2 of any size, and never an answer. */
+static void old_programs(void) {
+    static uint8_t store[RCST_MOST_PAGES * PAGE];
+    size_t n;
+
+    for (n = RCST_FEWEST_PAGES; n <= RCST_MOST_PAGES; n += n < 16 ? 1 : 85) {
+        expect(rcst_fresh_second(store, n * PAGE) == 0, "a fresh store");
+        expect(first_numbers(store, n * PAGE) == (n <= 2048 ? RCST_WRONG_EDITION : RCST_WRONG_LENGTH), "is refused by old programs");
+    }
+}
+
 int main(void) {
     fresh();
     pages();
     order();
+    old_programs();
     return failures != 0;
 }
