@@ -2,6 +2,7 @@
 use Prim.Native.Nat.{ℕ, _+_, _-_, _<_, _≤_}
 use native.Mathlib.Nat.{min-le-right}
 use native.Mathlib.Omega.{arith}
+use mathlib.Core.Bool.{Bool}
 use mathlib.Core.Path.{_≡_, refl, ap, sym, subst, _∙_}
 use mathlib.Core.List.{List, []}
 use lib.ListN.{length, take, drop, length-take, length-drop, drop-of-length-le}
@@ -55,10 +56,10 @@ go-on {h₀} {h} {b} {piece} {bytes} {bytes'} {out} {pages} {at} {f} g u =
       pages = u .pages;
     }
 
-pub arrive : {h₀ h : Held} {b piece bytes : List ℕ} {pages at : ℕ} → Going h₀ b piece bytes h pages at → length piece ≤ at
-    → Passed h₀ b piece bytes (record { held = h; pages = pages })
+pub arrive : {h₀ h : Held} {b piece bytes : List ℕ} {pages at : ℕ} (went : Bool) → Going h₀ b piece bytes h pages at → length piece ≤ at
+    → Passed h₀ b piece bytes (record { held = h; pages = pages; went = went })
 unfolding after told readOn
-arrive {h₀} {h} {b} {piece} {bytes} {pages} {at} g l =
+arrive {h₀} {h} {b} {piece} {bytes} {pages} {at} went g l =
     let e : drop at piece ≡ [] = drop-of-length-le piece l in
     record {
       store = sym (g .store ∙ ap (λ (c : List ℕ). after 4 (storeIn bytes pages) (told (reading h) c)) e);

@@ -34,10 +34,11 @@ struct Filled {
     len: usize,
 }
 
-// Between pieces: the line that is being read, and the store's pages.
+// Between pieces: the line that is being read, the store's pages, and whether all that was to be written went out.
 struct Kept {
     held: Held,
     pages: usize,
+    went: bool,
 }
 
 // "in a store of up to 256 pages and with a list of 10,040 numbers"; a piece of the input, and a buffer for answers.

@@ -7,7 +7,7 @@ use std::path::PathBuf;
 use std::process::{Child, ChildStdin, Command, Stdio};
 use std::thread;
 
-fn program() -> PathBuf {
+pub fn program() -> PathBuf {
     match std::env::var_os("RCST_CONSOLE") {
         Some(path) => path.into(),
         None => concat!(env!("CARGO_MANIFEST_DIR"), "/../../target/bin/console").into(),

@@ -12,14 +12,14 @@ use Rattle.console.proofs.serving.pass.Tie as tie
 use Rattle.console.proofs.serving.pass.Reads as reads
 use Rattle.console.proofs.serving.pass.Lts as lts
 use Rattle.console.proofs.filling.fill.Reads as fill-reads
-use Rattle.io.proofs.write_all.Reads as write-all-reads
+use Rattle.console.proofs.serving.put.Reads as put-reads
 
 abbrev Inv-loop : tie.InvT-loop
-Inv-loop pages bytes₀ list₀ piece out₀ h₀ p₀ at₀ bytes list out h p at =
+Inv-loop pages bytes₀ list₀ piece out₀ h₀ p₀ at₀ went₀ bytes list out h p at went =
     (length bytes ≡ length bytes₀) × (length list ≡ length list₀) × (length out ≡ length out₀) × Going h₀ (storeIn bytes₀ p₀) piece bytes h p at
 
 abbrev μ-loop : tie.MeasureT-loop
-μ-loop pages bytes₀ list₀ piece out₀ h₀ p₀ at₀ bytes list out h p at = length piece - at
+μ-loop pages bytes₀ list₀ piece out₀ h₀ p₀ at₀ went₀ bytes list out h p at went = length piece - at
 
 -- src/serving.rt:33:5
 loop-holds : tie.Need-loop-holds Inv-loop μ-loop
@@ -52,16 +52,16 @@ fill-requires c κs =
     ((g .pages, l .inv .0 ∙ q .0 .1, l .inv .1 ∙ q .0 .2), ((g .room, few), room))
 
 -- src/serving.rt:36:38
-slice-reshare-prefix-write-all : tie.Need-slice-reshare-prefix-write-all Inv-loop μ-loop
-slice-reshare-prefix-write-all c = c .before .before .before .before .before .before .fill .ensures .0 .len
+slice-reshare-prefix-put : tie.Need-slice-reshare-prefix-put Inv-loop μ-loop
+slice-reshare-prefix-put c = c .before .before .before .before .before .before .fill .ensures .0 .len
 
 -- src/serving.rt:36:38
-slice-aggregate-write-all : tie.Need-slice-aggregate-write-all Inv-loop μ-loop
-slice-aggregate-write-all c = sym (length-take-le (c .before .before .before .before .before .before .before .fill .result .len) (c .before .before .before .before .before .before .before .fill .last .1 .1 .1 .1 .1 .0) (c .before .before .before .before .before .before .before .fill .ensures .0 .len))
+slice-aggregate-put : tie.Need-slice-aggregate-put Inv-loop μ-loop
+slice-aggregate-put c = sym (length-take-le (c .before .before .before .before .before .before .before .fill .result .len) (c .before .before .before .before .before .before .before .fill .last .1 .1 .1 .1 .1 .0) (c .before .before .before .before .before .before .before .fill .ensures .0 .len))
 
 -- src/serving.rt:36:9
-write-all-requires : tie.Need-write-all-requires Inv-loop μ-loop
-write-all-requires c κs = search needs
+put-requires : tie.Need-put-requires Inv-loop μ-loop
+put-requires c κs = search needs
 
 -- src/serving.rt:39:9
 add-at : tie.Need-add-at Inv-loop μ-loop
@@ -106,7 +106,7 @@ same-length-3 c = c .before .loop .inv .2
 
 -- src/serving.rt:17:1
 returns : tie.Need-returns Inv-loop μ-loop
-returns c = arrive (c .before .loop .inv .3) (omega arith)
+returns c = arrive (c .before .loop .went) (c .before .loop .inv .3) (omega arith)
 
 pub pass-spec : {M : Type 1} → statement M
 pass-spec =
@@ -119,9 +119,9 @@ pass-spec =
     part-fill-start
     part-fill-end
     fill-requires
-    slice-reshare-prefix-write-all
-    slice-aggregate-write-all
-    write-all-requires
+    slice-reshare-prefix-put
+    slice-aggregate-put
+    put-requires
     add-at
     loop-less
     loop-again

@@ -1,10 +1,9 @@
 -- Every piece has the lengths that `pass` asks, and there are no more lines than bytes. Assumes nothing.
 use Prim.Native.Nat.{ℕ, _+_, _*_, _-_, _<_, _≤_}
-use mathlib.Core.Path.{_≡_, refl, ap, sym, _∙_}
+use mathlib.Core.Path.{_≡_, refl, ap, _∙_}
 use mathlib.Core.List.{List}
 use mathlib.Core.Logic.{⊎-elim}
 use lib.ListN.{length, take}
-use lib.Seq.{length-take-le}
 use Rattle.lines.specs.Reading.{Reading}
 use Rattle.console.proofs.Passing.{part-most}
 use native.Mathlib.Omega.{arith}
@@ -13,19 +12,19 @@ use Rattle.console.proofs.serving.serve.Statement.{statement}
 use Rattle.console.proofs.serving.serve.Tie as tie
 use Rattle.console.proofs.serving.serve.Reads as reads
 use Rattle.console.proofs.serving.serve.Lts as lts
-use Rattle.console.proofs.filling.end.Reads as end-reads
+use Rattle.console.proofs.serving.close.Reads as close-reads
+use Rattle.console.proofs.serving.further.Reads as further-reads
 use Rattle.console.proofs.serving.pass.Reads as pass-reads
 use Rattle.io.proofs.count.Reads as count-reads
-use Rattle.io.proofs.write_all.Reads as write-all-reads
 use Rattle.libc.proofs.read.Reads as read-reads
 use Rattle.lines.proofs.start.Reads as start-reads
 
 abbrev Inv-loop : tie.InvT-loop
-Inv-loop bytes₀ list₀ piece₀ out₀ h₀ p₀ reads₀ bytes list piece out h p reads =
+Inv-loop bytes₀ list₀ piece₀ out₀ h₀ p₀ reads₀ well₀ bytes list piece out h p reads well =
     (length bytes ≡ length bytes₀) × (length list ≡ length list₀) × (length piece ≡ length piece₀) × (length out ≡ length out₀) × (h .len ≤ 81) × (h .before ≤ 65536 * reads) × (p ≤ 256) × (reads ≤ 1099511627776)
 
 abbrev μ-loop : tie.MeasureT-loop
-μ-loop bytes₀ list₀ piece₀ out₀ h₀ p₀ reads₀ bytes list piece out h p reads = 1099511627776 - reads
+μ-loop bytes₀ list₀ piece₀ out₀ h₀ p₀ reads₀ well₀ bytes list piece out h p reads well = 1099511627776 - reads
 
 -- src/serving.rt:48:9
 start-requires : tie.Need-start-requires Inv-loop μ-loop
@@ -64,68 +63,56 @@ pass-requires c κs =
     ((l .inv .6, l .inv .0 ∙ q .0, l .inv .1 ∙ q .1), ((l .inv .4, few), room))
 
 -- src/serving.rt:59:9
-add-reads : tie.Need-add-reads Inv-loop μ-loop
-add-reads c =
-    let small : c .before .before .before .before .before .before .before .before .before .before .before .before .before .before .before .before .before .before .before .before .loop .reads + 1 < 18446744073709551616 = omega (arith, c .before .before .before .before .before .before .before .before .before .before .before .before .before .before .before .before .before .before .before .before .loop .inv .7) in
-    record { fits = small }
+further-requires : tie.Need-further-requires Inv-loop μ-loop
+further-requires c κs =
+    let test : c .before .before .before .before .before .before .before .before .before .before .before .before .before .before .before .before .before .before .before .before .loop .reads < 1099511627776 = omega arith in
+    test
 
 -- src/serving.rt:51:5
 loop-less : tie.Need-loop-less Inv-loop μ-loop
 loop-less c =
-    let test : c .before .before .before .before .before .before .before .before .before .before .before .before .before .before .before .before .before .before .before .before .loop .reads < 1099511627776 = omega arith in
-    omega (arith, test)
+    let test : c .before .before .before .before .before .before .before .before .before .before .before .before .before .before .before .before .before .before .before .before .before .loop .reads < 1099511627776 = omega arith in
+    omega (arith, test, c .further .ensures .0)
 
 -- src/serving.rt:51:5
 loop-again : tie.Need-loop-again Inv-loop μ-loop
 loop-again c =
-    let l = c .before .before .before .before .before .before .before .before .before .before .before .before .before .before .before .before .before .before .before .before .loop in
-    let k = c .before .before .before .before .before .before .before .pass .ensures in
+    let l = c .before .before .before .before .before .before .before .before .before .before .before .before .before .before .before .before .before .before .before .before .before .loop in
+    let k = c .before .before .before .before .before .before .before .before .pass .ensures in
     let test : l .reads < 1099511627776 = omega arith in
-    let piece : length (c .before .before .before .before .before .before .before .before .before .before .before .before .before .before .before .before .before .read .last .1 .0) ≡ 65536 = c .before .before .before .before .before .before .before .before .before .before .before .before .before .before .before .before .piece .given ∙ l .inv .2 ∙ c .before .before .before .before .before .before .before .before .before .before .before .before .before .before .before .before .before .before .before .before .before .before .before .before .before .before .pre .2 in
-    let part = part-most (c .before .before .before .before .before .before .before .before .before .before .before .before .before .count .result) (c .before .before .before .before .before .before .before .before .before .before .before .before .before .before .before .before .before .read .last .1 .0) in
-    (c .before .before .before .before .before .before .bytes .given ∙ l .inv .0, c .before .before .before .before .list .given ∙ l .inv .1, c .before .before .before .before .before .before .before .before .before .before .before .before .before .before .before .before .piece .given ∙ l .inv .2, c .before .before .out .given ∙ l .inv .3, k .room, omega (arith, k .few, part, piece, l .inv .5), k .pages, omega (arith, test))
+    let piece : length (c .before .before .before .before .before .before .before .before .before .before .before .before .before .before .before .before .before .before .read .last .1 .0) ≡ 65536 = c .before .before .before .before .before .before .before .before .before .before .before .before .before .before .before .before .before .piece .given ∙ l .inv .2 ∙ c .before .before .before .before .before .before .before .before .before .before .before .before .before .before .before .before .before .before .before .before .before .before .before .before .before .before .before .pre .2 in
+    let part = part-most (c .before .before .before .before .before .before .before .before .before .before .before .before .before .before .count .result) (c .before .before .before .before .before .before .before .before .before .before .before .before .before .before .before .before .before .before .read .last .1 .0) in
+    (c .before .before .before .before .before .before .before .bytes .given ∙ l .inv .0, c .before .before .before .before .before .list .given ∙ l .inv .1, c .before .before .before .before .before .before .before .before .before .before .before .before .before .before .before .before .before .piece .given ∙ l .inv .2, c .before .before .before .out .given ∙ l .inv .3, k .room, omega (arith, k .few, part, piece, l .inv .5, c .further .ensures .0), k .pages, c .further .ensures .1)
 
 -- src/serving.rt:61:9
-end-requires : tie.Need-end-requires Inv-loop μ-loop
-end-requires c κs =
+close-requires : tie.Need-close-requires Inv-loop μ-loop
+close-requires c κs =
     let q = c .before .before .before .before .before .before .before .before .before .before .pre in
     let l = c .before .before .before .before .loop in
     let few : l .h .before + 1 < 18446744073709551616 = omega (arith, l .inv .5, l .inv .7) in
     let room : 110462 ≤ length (l .out) = omega (arith, l .inv .3, q .3) in
     ((l .inv .6, l .inv .0 ∙ q .0, l .inv .1 ∙ q .1), ((l .inv .4, few), room))
 
--- src/serving.rt:62:34
-slice-reshare-prefix-write-all : tie.Need-slice-reshare-prefix-write-all Inv-loop μ-loop
-slice-reshare-prefix-write-all c = c .before .before .before .before .before .before .end .ensures .room
-
--- src/serving.rt:62:34
-slice-aggregate-write-all : tie.Need-slice-aggregate-write-all Inv-loop μ-loop
-slice-aggregate-write-all c = sym (length-take-le (c .before .before .before .before .before .before .before .end .result) (c .before .before .before .before .before .before .before .end .last .1 .1 .1 .1 .0) (c .before .before .before .before .before .before .before .end .ensures .room))
-
--- src/serving.rt:62:5
-write-all-requires : tie.Need-write-all-requires Inv-loop μ-loop
-write-all-requires c κs = search needs
-
 -- src/serving.rt:45:1
 same-length : tie.Need-same-length Inv-loop μ-loop
-same-length c = c .before .before .before .before .before .before .before .bytes2 .given ∙ c .before .before .before .before .before .before .before .before .before .before .before .before .before .loop .inv .0
+same-length c = c .before .before .before .before .before .bytes2 .given ∙ c .before .before .before .before .before .before .before .before .before .before .before .loop .inv .0
 
 -- src/serving.rt:45:1
 same-length-2 : tie.Need-same-length-2 Inv-loop μ-loop
-same-length-2 c = c .before .before .before .before .before .list2 .given ∙ c .before .before .before .before .before .before .before .before .before .before .before .before .before .loop .inv .1
+same-length-2 c = c .before .before .before .list2 .given ∙ c .before .before .before .before .before .before .before .before .before .before .before .loop .inv .1
 
 -- src/serving.rt:45:1
 same-length-3 : tie.Need-same-length-3 Inv-loop μ-loop
 same-length-3 c =
-    let l = c .before .before .before .before .before .before .before .before .before .before .before .before .before .loop in
+    let l = c .before .before .before .before .before .before .before .before .before .before .before .loop in
     ⊎-elim
     (λ w. ap (λ (x : List ℕ). length x) (w .1) ∙ l .inv .2)
     (λ w. ap (λ (x : List ℕ). length x) (w .8) ∙ w .3 .given ∙ l .inv .2)
-    (c .before .before .before .before .before .before .before .before .before .before .before .before .loop-test .came)
+    (c .before .before .before .before .before .before .before .before .before .before .loop-test .came)
 
 -- src/serving.rt:45:1
 same-length-4 : tie.Need-same-length-4 Inv-loop μ-loop
-same-length-4 c = c .before .before .before .out2 .given ∙ c .before .before .before .before .before .before .before .before .before .before .before .before .before .loop .inv .3
+same-length-4 c = c .before .out2 .given ∙ c .before .before .before .before .before .before .before .before .before .before .before .loop .inv .3
 
 -- src/serving.rt:45:1
 returns : tie.Need-returns Inv-loop μ-loop
@@ -144,13 +131,10 @@ serve-spec =
     slice-reshare-prefix-pass
     slice-aggregate-pass
     pass-requires
-    add-reads
+    further-requires
     loop-less
     loop-again
-    end-requires
-    slice-reshare-prefix-write-all
-    slice-aggregate-write-all
-    write-all-requires
+    close-requires
     same-length
     same-length-2
     same-length-3
