@@ -2,7 +2,10 @@
 -- Assumes nothing.
 use Prim.Native.Nat.{ℕ}
 use mathlib.Core.Path.{_≡_, ap, ap₂, sym, subst}
+use mathlib.Core.Logic.{_≢_}
 use mathlib.Core.List.{List, [], _∷_}
+use Rattle.model.specs.Lent.{Outcome, leaving}
+use Rattle.model.specs.Convert.{convertLent}
 use Rattle.model.specs.Ended.{Asked, Ended, ofOutcome, Meets}
 use Rattle.host.proofs.rcst_fresh as rcst-fresh
 use Rattle.host.proofs.rcst_fresh.Symbol as rcst-fresh-code
@@ -43,14 +46,18 @@ use Rattle.host.proofs.rcst_visits.Met as rcst-visits-met
 use Rattle.host.proofs.rcst_difference as rcst-difference
 use Rattle.host.proofs.rcst_difference.Symbol as rcst-difference-code
 use Rattle.host.proofs.rcst_difference.Met as rcst-difference-met
+use Rattle.host.proofs.rcst_convert as rcst-convert
+use Rattle.host.proofs.rcst_convert.Symbol as rcst-convert-code
+use Rattle.host.proofs.rcst_convert.Met as rcst-convert-met
 use Rattle.host.proofs.rcst_life as rcst-life
 use Rattle.host.proofs.rcst_life.Symbol as rcst-life-code
 use Rattle.host.proofs.rcst_life.Met as rcst-life-met
 use Rattle.promises.specs.Accepts.{Accepts}
 use Rattle.promises.specs.Demand1.{TurnedAway}
+use Rattle.promises.specs.Converts.{Converted, Emptied, Lacks}
 use Rattle.promises.proofs.Promises as promises
-use Rattle.offered.specs.Promised.{Promised, gave}
-use Rattle.offered.specs.Offered.{Fresh, FreshSecond, Check, Open, Insert, Delete, Commit, Abandon, Return, Lookup, Range, Visits, Difference, Life, AllOffered}
+use Rattle.offered.specs.Promised.{Promised, gave, Conversion}
+use Rattle.offered.specs.Offered.{Fresh, FreshSecond, Check, Open, Insert, Delete, Commit, Abandon, Return, Lookup, Range, Visits, Difference, Life, Convert, AllOffered}
 use Rattle.offered.proofs.Passing.{by-one, by-two, by-three}
 
 -- what meets a call's contract has all that is promised of the call
@@ -62,6 +69,15 @@ promised c b ns e m = record {
   blank = promises.blank c b ns e m;
   untrusted = λ j no. subst (λ (x : Ended). TurnedAway b ns x) (sym m) (promises.untrusted c b ns j no);
   stays = λ ok f. subst (λ (x : Ended). Accepts (x .store)) (sym m) (promises.sound-stays b ok (record { call = c; list = ns }) f);
+}
+
+-- and of the converter
+conversion : (b t : List ℕ) (n : ℕ) (t′ : List ℕ) → leaving n t′ ≡ convertLent b t → Conversion b t n t′
+conversion b t n t′ x = record {
+  meets = x;
+  done = subst (λ (o : Outcome). o .number ≡ 0 → Converted b (o .store)) (sym x) (promises.converts .done b t);
+  lacking = subst (λ (o : Outcome). Lacks (o .number) → Emptied t (o .store)) (sym x) (promises.converts .lacking b t);
+  untouched = subst (λ (o : Outcome). o .number ≢ 0 → (Lacks (o .number) → ⊥) → o .store ≡ t) (sym x) (promises.converts .untouched b t);
 }
 
 -- ---- the parts of an outcome, put together
@@ -95,5 +111,6 @@ all-offered = record {
   range = by-three rcst-range.ended rcst-range-code.routine Range _ _ _ rcst-range-met.met (λ κs a r e x y z. promised _ _ _ _ (list-told _ x y z));
   visits = by-three rcst-visits.ended rcst-visits-code.routine Visits _ _ _ rcst-visits-met.met (λ κs a r e x y z. promised _ _ _ _ (list-told _ x y z));
   difference = by-three rcst-difference.ended rcst-difference-code.routine Difference _ _ _ rcst-difference-met.met (λ κs a r e x y z. promised _ _ _ _ (list-told _ x y z));
+  convert = by-one rcst-convert.ended rcst-convert-code.routine Convert _ rcst-convert-met.met (λ κs a r e x. conversion _ _ _ _ x);
   life = by-three rcst-life.ended rcst-life-code.routine Life _ _ _ rcst-life-met.met (λ κs a r e x y z. promised _ _ _ _ (list-told _ x y z));
 }

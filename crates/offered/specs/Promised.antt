@@ -6,9 +6,12 @@ use mathlib.Core.Path.{_≡_}
 use mathlib.Core.Logic.{_≢_}
 use mathlib.Core.List.{List}
 use Rattle.model.specs.Ended.{Asked, Ended, Meets, Untouched, Excepted, Named, Zeros}
+use Rattle.model.specs.Lent.{leaving}
+use Rattle.model.specs.Convert.{convertLent}
 use Rattle.promises.specs.Accepts.{Accepts}
 use Rattle.promises.specs.Runs.{kindOf, fitting}
 use Rattle.promises.specs.Demand1.{judgesAll, TurnedAway}
+use Rattle.promises.specs.Converts.{Converted, Emptied, Lacks}
 
 pub record Promised (c : Asked) (b ns : List ℕ) (e : Ended) : Type 0 where
   -- It is what the definitions say of the call, so that all that is promised of `ended` is promised of it; and nothing else is.
@@ -25,3 +28,11 @@ pub record Promised (c : Asked) (b ns : List ℕ) (e : Ended) : Type 0 where
 -- a call's number, results, store and list
 abbrev pub gave : ℕ → List ℕ → List ℕ → List ℕ → Ended
 gave n rs q ms = record { number = n; results = rs; store = q; list = ms }
+
+-- What is promised of the converter: of the source b and the target t that were lent, the number n, and the target after it. The source is only
+-- read.
+pub record Conversion (b t : List ℕ) (n : ℕ) (t′ : List ℕ) : Type 0 where
+  pub meets : leaving n t′ ≡ convertLent b t
+  pub done : n ≡ 0 → Converted b t′
+  pub lacking : Lacks n → Emptied t t′
+  pub untouched : n ≢ 0 → (Lacks n → ⊥) → t′ ≡ t

@@ -21,6 +21,7 @@ pub mod Stretches
 pub mod Lives
 pub mod Restored
 pub mod KeptOut
+pub mod Converting
 pub mod NamedSettings
 pub mod Tables
 pub mod Replaying

@@ -1,5 +1,5 @@
 -- The promises, each under its name: what it says stands in specs/Demand1, Demand2, Levels, Room, Demand3, in a file for each request of
--- document 02 (OldReadings, Near, Bench, Differences, Lives, Releases, Returns, Apart, NamedSettings), in Replayed and Fakes.
+-- document 02 (OldReadings, Near, Bench, Differences, Lives, Releases, Returns, Apart, Converts, NamedSettings), in Replayed and Fakes.
 -- Assumes nothing.
 use Prim.Native.Nat.{ℕ}
 use native.Mathlib.Omega.{arith}
@@ -35,6 +35,7 @@ use Rattle.promises.specs.Replayed.{TableLent}
 use Rattle.promises.specs.Bench.{KeptOut}
 use Rattle.promises.specs.Releases.{EmptyReleases}
 use Rattle.promises.specs.Returns.{Returns}
+use Rattle.promises.specs.Converts.{Converts}
 use Rattle.promises.specs.NamedSettings.{NamedRefused, AdmittedOnly, NoNan, NeverSkipped, NeverSofter, RightTable}
 use Rattle.promises.specs.Fakes.{FakesStopped}
 use Rattle.promises.proofs.Known.{four}
@@ -54,6 +55,7 @@ use Rattle.promises.proofs.Differences as differ
 use Rattle.promises.proofs.Lives as lives
 use Rattle.promises.proofs.Restored as restored
 use Rattle.promises.proofs.KeptOut as bench
+use Rattle.promises.proofs.Converting as converting
 use Rattle.promises.proofs.NamedSettings as named
 use Rattle.promises.proofs.Tables as tables
 use Rattle.promises.proofs.Replaying as replaying
@@ -260,6 +262,11 @@ returns = record {
   stopped = returning.when-stopped;
   abandons = returning.is-abandon;
 }
+
+-- ---- 2026-08, the converter
+
+pub converts : Converts
+converts = converting.converts
 
 -- ---- 2026-14, named settings
 

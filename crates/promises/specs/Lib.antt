@@ -18,5 +18,6 @@ pub mod Releases
 pub mod Replayed
 pub mod Bench
 pub mod Returns
+pub mod Converts
 pub mod NamedSettings
 pub mod Fakes
