@@ -14,8 +14,8 @@ use Rattle.model.specs.Walk.{settings, between, rangeOf, keyLimit}
 use Rattle.model.specs.Layout.{decode}
 use Rattle.model.specs.Kinds.{knownIn, unknown}
 use Rattle.model.specs.Named.{allKnown}
+use Rattle.model.specs.Inner.{rising}
 use Rattle.model.proofs.Lists.{all-cons, both-true}
-use Rattle.model.proofs.Lookups.{rising}
 use Rattle.model.proofs.Ranges.{range-is}
 use Rattle.store.specs.Sure.{sure}
 use Rattle.walk.specs.Sure.{Readable}

@@ -15,15 +15,15 @@ guard-reading-requires c κs = search needs
 
 returns : tie.Need-returns
 returns c =
-    let a = c .before .before .before .before .before .args in
+    let a = c .before .before .before .before .before .before .args in
     let n = c .before .guard-reading .result in
     let e = rw (c .before .before .bad-range .ensures) at (c .before .guard-reading .ensures) in
     named-refused (a .l .least) (a .table .now) (a .s .now) (a .low) (a .high) (a .v) n (a .list .now) e (c .if1 .taken)
 
 all-known-requires : tie.Need-all-known-requires
 all-known-requires c κs =
-    let a = c .before .before .before .before .before .args in
-    let d = c .before .before .before .before .before .pre in
+    let a = c .before .before .before .before .before .before .args in
+    let d = c .before .before .before .before .before .before .pre in
     let z = sym (c .before .guard-reading .ensures) ∙ c .if1 .left in
     let right = sym (c .before .before .bad-range .ensures) ∙ keys-right d (a .s .now) _ (a .v) z in
     let (low, high) = keys-low (a .low) (a .high) right in
@@ -31,7 +31,7 @@ all-known-requires c κs =
 
 returns-2 : tie.Need-returns-2
 returns-2 c =
-    let a = c .before .before .before .before .before .before .before .args in
+    let a = c .before .before .before .before .before .before .before .before .args in
     let n = c .before .before .before .guard-reading .result in
     let e = rw (c .before .before .before .before .bad-range .ensures) at (c .before .before .before .guard-reading .ensures) in
     let k = c .before .all-known .ensures in
@@ -45,7 +45,7 @@ same-length c = search needs
 
 returns-3 : tie.Need-returns-3
 returns-3 c =
-    let a = c .before .before .before .before .before .before .before .before .before .before .before .args in
+    let a = c .before .before .before .before .before .before .before .before .before .before .before .before .args in
     let n = c .before .before .before .before .before .before .before .guard-reading .result in
     let e = rw (c .before .before .before .before .before .before .before .before .bad-range .ensures) at (c .before .before .before .before .before .before .before .guard-reading .ensures) in
     let k = c .before .before .before .before .before .all-known .ensures in
