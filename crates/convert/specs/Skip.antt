@@ -84,19 +84,21 @@ module _ (of : ℕ) (first : 4 ≤ of) (s : Store) (d : Sound of s) (least : ℕ
   unfolding replay
   skips zero v t p h same =
       let z : v ≡ v + 0 = omega arith in
-      let q : t ≡ moved (v + 0) t = still-moved v t p ∙ ap (λ (n : ℕ). moved n t) z in
-      (subst (λ (n : ℕ). Upto least s n (moved (v + 0) t)) z (subst (Upto least s v) q p),
-      λ m. let y : 0 + m ≡ m = omega arith in ap (λ (n : ℕ). replay least s v n t) y ∙ ap₂ (λ (n : ℕ) (x : Store). replay least s n m x) z q)
+      let q : t ≡ moved (v + 0) t = still-moved v t p ∙ ap (λ (n : ℕ). moved n t) z in (
+        subst (λ (n : ℕ). Upto least s n (moved (v + 0) t)) z (subst (Upto least s v) q p),
+        λ m. let y : 0 + m ≡ m = omega arith in ap (λ (n : ℕ). replay least s v n t) y ∙ ap₂ (λ (n : ℕ) (x : Store). replay least s n m x) z q,
+      )
   skips (suc k) v t p h same =
       let low : v < s .current = omega (arith, h) in
       let e : settings s (suc v) ≡ settings s v = same (suc v) (omega arith) (omega arith) in
       let t₁ : Store = committed (begun t) in
       let up : suc v + k ≡ v + suc k = omega arith in
-      let (a, b) = skips k (suc v) t₁ (one-upto v low t p e) (omega (arith, h)) (λ u x y. same u (omega (arith, x)) (omega (arith, y)) ∙ sym e) in
-      (subst (λ (n : ℕ). Upto least s n (moved n t)) up a,
-      λ m.
-      let y : suc k + m ≡ suc (k + m) = omega arith in
-      ap (λ (n : ℕ). replay least s v n t) y ∙ ap (andOn (replay least s (suc v) (k + m))) (one-empty v low t p e) ∙ b m ∙ ap (λ (n : ℕ). replay least s n m (moved n t)) up)
+      let (a, b) = skips k (suc v) t₁ (one-upto v low t p e) (omega (arith, h)) (λ u x y. same u (omega (arith, x)) (omega (arith, y)) ∙ sym e) in (
+        subst (λ (n : ℕ). Upto least s n (moved n t)) up a,
+        λ m.
+            let y : suc k + m ≡ suc (k + m) = omega arith in
+            ap (λ (n : ℕ). replay least s v n t) y ∙ ap (andOn (replay least s (suc v) (k + m))) (one-empty v low t p e) ∙ b m ∙ ap (λ (n : ℕ). replay least s n m (moved n t)) up,
+      )
 
 -- ---- what the bytes say
 

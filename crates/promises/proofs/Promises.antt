@@ -1,5 +1,5 @@
 -- The promises, each under its name: what it says stands in specs/Demand1, Demand2, Levels, Room, Demand3, in a file for each request of
--- document 02 (OldReadings, Near, Bench, Differences, Lives, Releases, Returns), in Replayed and Fakes.
+-- document 02 (OldReadings, Near, Bench, Differences, Lives, Releases, Returns, Converts), in Replayed and Fakes.
 -- Assumes nothing.
 use Prim.Native.Nat.{ℕ}
 use native.Mathlib.Omega.{arith}
@@ -42,6 +42,7 @@ use Rattle.promises.specs.Replayed.{TableLent}
 use Rattle.promises.specs.Bench.{KeptOut}
 use Rattle.promises.specs.Releases.{EmptyReleases}
 use Rattle.promises.specs.Returns.{Returns}
+use Rattle.promises.specs.Converts.{Converts}
 use Rattle.promises.specs.Fakes.{FakesStopped}
 use Rattle.promises.proofs.Encoded as encoded
 use Rattle.promises.proofs.Judges as judging
@@ -64,6 +65,7 @@ use Rattle.promises.proofs.Releasing as releasing
 use Rattle.promises.proofs.Returning as returning
 use Rattle.promises.proofs.Singly as singly
 use Rattle.promises.proofs.Fakes as fakes
+use Rattle.promises.proofs.Converting as converting
 
 -- ---- demand 1
 
@@ -256,6 +258,9 @@ returns = record {
   stopped = returning.when-stopped;
   abandons = returning.is-abandon;
 }
+
+pub converts : Converts
+converts = converting.converts
 
 -- ---- fakes
 

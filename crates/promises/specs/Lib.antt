@@ -16,4 +16,5 @@ pub mod Releases
 pub mod Replayed
 pub mod Bench
 pub mod Returns
+pub mod Converts
 pub mod Fakes

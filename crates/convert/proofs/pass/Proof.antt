@@ -103,8 +103,7 @@ loop-again c =
     let q = subst (Due (a .insert) (shown (a .l) (i .t))) e (i .inv .2) in
     let n = pass-on (p .0) (p .1) (a .l) (i .t) (a .insert) (i .inv .1) (o .result .key) (o .ensures .0 .high) (d .result) (d .ensures) in
     let t = c .before .before .before .before .act .ensures in
-    let z = c .before .if1 .left in
-    (
+    let z = c .before .if1 .left in (
       omega (arith, n .high),
       t .ready,
       pass-due (p .0) (p .1) (a .l) (i .t) (a .insert) (i .inv .1) (o .result .key) (o .ensures .0 .high) (d .result) (d .ensures) q _ _ t z,

@@ -101,8 +101,7 @@ loop-again c =
     let same = ap (λ (y : Header). y .current) (c .before .before .before .before .before .before .before .before .before .before .before .before .before .before .header .ensures) ∙ sym (current-of (a .k .least) (a .s .now)) in
     let less : c .before .before .before .before .before .before .before .before .before .skip .result < decode (a .k .least) (a .s .now) .current = omega (arith, c .before .before .before .before .before .if2 .left, x .high, same) in
     let q = c .before .before .before .one-version .ensures in
-    let z = c .if3 .left in
-    (
+    let z = c .if3 .left in (
       omega (arith, less),
       on-more (x .now-at) less _ _ q z,
       i .inv .2 ∙ x .same ∙ on-goes (x .now-at) less _ _ q z,

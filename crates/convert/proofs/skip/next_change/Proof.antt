@@ -73,8 +73,7 @@ loop-again : tie.Need-loop-again Inv-loop μ-loop
 loop-again c =
     let a = c .before .before .before .before .before .before .before .before .args in
     let i = c .before .before .before .loop in
-    let x = c .page-change .ensures in
-    (
+    let x = c .page-change .ensures in (
       omega (arith, i .inv .0),
       omega (arith, c .before .before .loop-test .taken),
       record { below = omega (arith, x .0 .below, i .inv .2 .below); above = x .0 .above },
