@@ -7,6 +7,7 @@ mod live;
 mod reach;
 mod walk;
 
+pub use changes::page_change;
 use model::Limits;
 use model::Verdict;
 ghost use mathlib.Core.Path.{_≡_};

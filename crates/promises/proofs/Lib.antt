@@ -29,5 +29,6 @@ pub mod Fakes
 pub mod Releasing
 pub mod Returning
 pub mod Singly
+pub mod Converting
 pub mod Promises
 pub mod Sampled
