@@ -30,7 +30,8 @@ use Rattle.model.proofs.Given.{Sound}
 use Rattle.model.proofs.Lookups.{settings-rise}
 use Rattle.model.proofs.Differs.{none-differs}
 use Rattle.model.proofs.Alike.{Alike, alike-settings}
-use Rattle.model.proofs.Quiet.{Out, root-still}
+use Rattle.model.specs.Inner.{Out}
+use Rattle.model.proofs.Quiet.{root-still}
 use Rattle.model.proofs.Returned.{Runs}
 use Rattle.model.proofs.Converted.{begun, current-last, Upto, runs, one-more, replayed-is}
 use Rattle.page.specs.Head.{readHead}

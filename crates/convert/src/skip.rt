@@ -11,7 +11,7 @@ ghost use Rattle.model.specs.Layout.{readHeader, decode, encode};
 ghost use Rattle.model.specs.Judged.{isSound};
 ghost use Rattle.model.specs.Convert.{replay};
 ghost use Rattle.local.specs.Local.{slotAt};
-ghost use Rattle.model.proofs.Quiet.{Out};
+ghost use Rattle.model.specs.Inner.{Out};
 ghost use Rattle.notes.specs.Ready.{Sooner, QuietSlots};
 ghost use Rattle.convert.specs.Version.{Replaying};
 ghost use Rattle.convert.specs.Skip.{moved, Still, Skipped};

@@ -29,6 +29,5 @@ pub mod Fakes
 pub mod Releasing
 pub mod Returning
 pub mod Singly
-pub mod Converting
 pub mod Promises
 pub mod Sampled

@@ -63,7 +63,6 @@ use Rattle.promises.proofs.Releasing as releasing
 use Rattle.promises.proofs.Returning as returning
 use Rattle.promises.proofs.Singly as singly
 use Rattle.promises.proofs.Fakes as fakes
-use Rattle.promises.proofs.Converting as converting
 
 -- ---- demand 1
 

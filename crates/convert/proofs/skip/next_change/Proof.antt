@@ -5,7 +5,7 @@ use mathlib.Core.Path.{_≡_, ap, sym, _∙_}
 use mathlib.Core.List.{List}
 use Rattle.model.specs.declared.Header.{Header}
 use Rattle.model.specs.Layout.{pageOf, readHeader, sizeOf}
-use Rattle.model.proofs.Quiet.{Out}
+use Rattle.model.specs.Inner.{Out}
 use Rattle.page.specs.Head.{readHead}
 use Rattle.store.specs.Sure.{front, few, part-in, whole}
 use Rattle.local.specs.Local.{slotAt}

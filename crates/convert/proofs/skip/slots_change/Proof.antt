@@ -3,7 +3,7 @@ use Prim.Native.Nat.{ℕ, _≤_, _<_, _-_}
 use native.Mathlib.Omega.{arith}
 use mathlib.Core.Path.{ap}
 use Rattle.model.specs.declared.Header.{Header}
-use Rattle.model.proofs.Quiet.{Out}
+use Rattle.model.specs.Inner.{Out}
 use Rattle.store.specs.Sure.{front, few, roots}
 use Rattle.local.specs.Local.{slotAt}
 use Rattle.notes.specs.Ready.{Sooner, outs-more}
