@@ -8,8 +8,10 @@
  * and range judge the header, the slots and the pages that they walk, every other
  * call the whole store, and so costs time in its size (docs/CHECK-COST.md).
  *
- * A store is 6 to 4,096 pages of 256 bytes. Keys are 0 to 16,777,215, a value is
- * any 32 bits, versions are 0 to 1,048,574. Version 0 is empty. An update is
+ * A store is 6 to 4,096 pages: of 256 bytes in edition 1, of 512 in edition 2, which
+ * has room for twice the entries in a page and twice the roots. One set of calls serves
+ * both: the edition stands in the store's fifth byte, and making fresh is a call for
+ * each. Keys are 0 to 16,777,215, a value is any 32 bits, versions are 0 to 1,048,574. Version 0 is empty. An update is
  * opened on the version after the current one; it is readable while it is open,
  * and it ends by a commit, which makes it the current version for ever, or by an
  * abandon, after which every byte is what it was before the open.
@@ -18,10 +20,11 @@
  * 5; lookup, range and delete take them, so that a store that was shipped with
  * bench keys can be read and cleaned. A return lets them through.
  *
- * Every call gives a number, of several that apply the smallest; but lookup and
- * range give 5 or 6 before they look at a page of their walk, and 16 and 17 come
- * before the store's (see "Named settings"). enum rcst_number has the numbers'
- * names, rcst_words their words.
+ * Every call gives a number. Fewer than five bytes give 1; otherwise 2 goes before 3,
+ * 3 before 1 by the edition's page size, and then of several that apply the smallest is
+ * given; but lookup and range give 5 or 6 before they look at a page of their walk, and
+ * 16 and 17 come before the store's (see "Named settings"). enum rcst_number has the
+ * numbers' names, rcst_words their words.
  *
  * Every number but 0 leaves store and list untouched, byte for byte, with one
  * exception: a return that gives 12 or 13 has abandoned the update. After an insert's
@@ -65,16 +68,19 @@ extern "C" {
 #endif
 
 /*
- * The edition of the format that the calls read and write, and the version of what
- * this header offers: the first number rises where a program that was written for
- * the one before may have to change, the second where something is added.
+ * The editions of the format that the calls read and write: the one that rcst_fresh
+ * makes and the one that rcst_fresh_second makes; and the version of what this header
+ * offers: the first number rises where a program that was written for the one before
+ * may have to change, the second where something is added.
  */
 #define RCST_FORMAT_EDITION 1u
+#define RCST_SECOND_EDITION 2u
 #define RCST_LIBRARY_MAJOR 1u
-#define RCST_LIBRARY_MINOR 1u
+#define RCST_LIBRARY_MINOR 2u
 
-/* The format's limits. */
+/* The format's limits: a page's bytes in edition 1 and in edition 2, and those that both share. */
 #define RCST_PAGE_BYTES 256u
+#define RCST_SECOND_PAGE_BYTES 512u
 #define RCST_FEWEST_PAGES 6u
 #define RCST_MOST_PAGES 4096u
 #define RCST_HIGHEST_KEY 16777215u
@@ -114,9 +120,9 @@ enum rcst_number {
 static inline const char *rcst_words(uint32_t number) {
     static const char *const words[] = {
         "done",
-        "length not 6 to 4,096 whole pages",
+        "length not 6 to 4,096 whole pages of the edition",
         "first four bytes wrong",
-        "edition not 1",
+        "edition neither 1 nor 2",
         "not sound (lookup, range: the header, a slot, or a page of their own walk is wrong, or the walk cannot go on)",
         "key too large (insert: 16,776,960 or above), or range low above high",
         "version above last (of a difference: either version; of a return: above current)",
@@ -126,7 +132,7 @@ static inline const char *rcst_words(uint32_t number) {
         "key alive (insert)",
         "key not alive (delete)",
         "the rules need a page and none is free",
-        "the rules need a 257th slot",
+        "the rules need a 257th slot (edition 2: a 513th)",
         ("caller's list holds fewer numbers than two for each setting found (range), three for each stretch (life), "
          "four for each difference (difference), one for each page visited (visits)"),
         "the open version's settings equal the current version's, key for key (commit)",
@@ -136,8 +142,17 @@ static inline const char *rcst_words(uint32_t number) {
     return number < sizeof words / sizeof words[0] ? words[number] : "not a number of this library";
 }
 
-/* Makes a fresh store over any bytes: version 0, no settings. Gives 0 or 1. */
+/*
+ * Makes a fresh store of edition 1 over any bytes: version 0, no settings. Reads nothing
+ * of them, and gives 0, or 1 where the length is not 6 to 4,096 pages of 256 bytes.
+ */
 uint32_t rcst_fresh(uint8_t *store, size_t length);
+
+/*
+ * Makes a fresh store of edition 2, of pages of 512 bytes. Programs from before edition 2
+ * give 1 or 3 on such a store, and never an answer.
+ */
+uint32_t rcst_fresh_second(uint8_t *store, size_t length);
 
 /*
  * Judges the store: 0 if it is sound, else 1 to 4. With 4, *rule is the lowest
@@ -182,6 +197,18 @@ uint32_t rcst_abandon(uint8_t *store, size_t length);
 uint32_t rcst_return(uint8_t *store, size_t length, uint32_t version);
 
 /*
+ * Converts a store of edition 1, `source`, into `target`, which may hold any bytes and
+ * becomes a store of edition 2: it is made fresh, and each version's differences are
+ * replayed into it, deletes before inserts, bench keys let through, so that every
+ * committed version reads the same; an empty version stays one. The source is only read;
+ * the two may not overlap. Gives 0, 1 (also for a target that is not 6 to 4,096 pages of
+ * 512 bytes), 2, 3 (for any source that is not of edition 1), 4, 8 (the source has an
+ * update open), 12 or 13. With 12 or 13 the target is a fresh store of edition 2; every
+ * other number but 0 leaves it untouched.
+ */
+uint32_t rcst_convert(const uint8_t *source, size_t source_length, uint8_t *target, size_t target_length);
+
+/*
  * Looks a key up at a version. Gives 0 or 1 to 6. With 0, *found is 1 and *value
  * the key's value, or both are 0: an absent key is an answer. With any other
  * number both are 0.
@@ -209,8 +236,8 @@ uint32_t rcst_range(const uint8_t *store, size_t length, uint32_t low, uint32_t 
 /*
  * Tells by which pages a lookup of a key at a version goes: their numbers, from
  * the root down to the leaf, one on each level, so 1 to RCST_MOST_LEVELS of them.
- * A page's number is its place: page n starts at byte n * RCST_PAGE_BYTES. Gives
- * 0, 1 to 6 or 14. With 0 the numbers stand in the list, and nothing behind them is
+ * A page's number is its place: page n starts at byte n * RCST_PAGE_BYTES, in edition
+ * 2 at byte n * RCST_SECOND_PAGE_BYTES. Gives 0, 1 to 6 or 14. With 0 the numbers stand in the list, and nothing behind them is
  * touched. *count is how many they are with 0 and with 14, else 0. For a committed
  * version it says the same for ever, whatever is called later, short of making the
  * store fresh again.

@@ -27,9 +27,14 @@ static void fresh_and_check(void) {
     store[12] = 1;
     expect(rcst_check(store, sizeof store, &rule) == 4 && rule == 1, "a stray bit breaks rule 1");
     store[4] = 2;
+    expect(rcst_check(store, sizeof store, &rule) == 1 && rule == 0, "six pages of edition 1 are three of edition 2: 1");
+    store[4] = 3;
     expect(rcst_check(store, sizeof store, &rule) == 3 && rule == 0, "another edition gives 3");
+    expect(rcst_check(store, 5, &rule) == 3, "whatever the length from five bytes on");
     store[0] = 0;
     expect(rcst_check(store, sizeof store, &rule) == 2, "other bytes give 2");
+    expect(rcst_check(store, 5, &rule) == 2, "whatever the length from five bytes on");
+    expect(rcst_check(store, 4, &rule) == 1, "fewer give 1");
     expect(rcst_check(store, 0, &rule) == 1, "no bytes give 1");
 }
 

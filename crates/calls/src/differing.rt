@@ -1,6 +1,8 @@
 // What differs between two versions: the list that is signed before a release (request 2026-03).
+use model::Limits;
 use walk::Counted;
 ghost use mathlib.Core.Path.{_≡_};
+ghost use Rattle.model.specs.Limits.{Edition};
 ghost use Rattle.model.specs.Lent.{differenceLent};
 ghost use Rattle.walk.specs.Counted.{withList};
 ghost use Rattle.calls.specs.Differing.{later};
@@ -17,10 +19,10 @@ fn later(old: u32, new: u32) -> u32
 
 // What differs from the old version to the new, in key order: how many differences there are, and key, kind (0 added, 1 removed, 2
 // changed), old value and new value of each in the caller's list.
-pub fn difference(s: &[u8], old: u32, new: u32, list: &mut [u32]) -> Counted
-    ensures { λ r. ⌜ withList r (now (list .exit)) ≡ differenceLent 4 (now (s .entry)) old new (now (list .entry)) ⌝ }
+pub(crate) fn difference_in(s: &[u8], l: Limits, old: u32, new: u32, list: &mut [u32]) -> Counted
+    requires { ⌜ Edition l ⌝ }
+    ensures { λ r. ⌜ withList r (now (list .exit)) ≡ differenceLent (l .least) (now (s .entry)) old new (now (list .entry)) ⌝ }
 {
-    let l = model::edition_one();
     let n = crate::guard_reading(s, l, false, later(old, new));
     if n != 0 {
         return Counted {

@@ -1,25 +1,31 @@
 // The calls, for any bytes and any numbers lent: each is its guard, which judges the store and then goes through the call's
-// refusals in order, and a core that rests on a sound store. Lookup and range judge only what they read, and are near's.
+// refusals in order, and a core that rests on a sound store. Lookup and range judge only what they read, and are near's. Below they
+// are given the limits of an edition; offered are those of any.rt, which go by the edition lent.
+mod any;
 mod differing;
 mod living;
 mod returning;
 mod updating;
 mod visiting;
 
-pub use differing::difference;
-pub use living::life;
+pub use any::abandon;
+pub use any::commit;
+pub use any::delete;
+pub use any::difference;
+pub use any::insert;
+pub use any::life;
+pub use any::lookup;
+pub use any::open;
+pub use any::range;
+pub use any::return_to;
+pub use any::visits;
 use model::Limits;
-use model::Looked;
 pub(crate) use near::KEYS;
-pub use returning::return_to;
-pub use updating::delete;
-pub use updating::insert;
-pub use visiting::visits;
-use walk::Counted;
+pub use updating::delete_in;
+pub use updating::insert_in;
 ghost use mathlib.Core.Path.{_≡_};
 ghost use Rattle.model.specs.Limits.{Edition};
-ghost use Rattle.model.specs.Lent.{leaving, openLent, commitLent, abandonLent, lookupLent, rangeLent};
-ghost use Rattle.walk.specs.Counted.{withList};
+ghost use Rattle.model.specs.Lent.{leaving, openLent, commitLent, abandonLent};
 ghost use Rattle.calls.specs.Guard.{guarded};
 ghost use Rattle.calls.specs.Reading.{reading};
 ghost use Rattle.calls.specs.Turning.{opening, closing, committing};
@@ -99,10 +105,10 @@ fn guard_committing(s: &[u8], l: Limits) -> u32
 }
 
 // Opens an update.
-pub fn open(s: &mut [u8]) -> u32
-    ensures { λ r. ⌜ leaving r (now (s .exit)) ≡ openLent 4 (now (s .entry)) ⌝ }
+pub fn open_in(s: &mut [u8], l: Limits) -> u32
+    requires { ⌜ Edition l ⌝ }
+    ensures { λ r. ⌜ leaving r (now (s .exit)) ≡ openLent (l .least) (now (s .entry)) ⌝ }
 {
-    let l = model::edition_one();
     let n = guard_opening(s, l);
     if n != 0 {
         return n;
@@ -112,10 +118,10 @@ pub fn open(s: &mut [u8]) -> u32
 }
 
 // Commits the open update, unless its settings are the current version's.
-pub fn commit(s: &mut [u8]) -> u32
-    ensures { λ r. ⌜ leaving r (now (s .exit)) ≡ commitLent 4 (now (s .entry)) ⌝ }
+pub fn commit_in(s: &mut [u8], l: Limits) -> u32
+    requires { ⌜ Edition l ⌝ }
+    ensures { λ r. ⌜ leaving r (now (s .exit)) ≡ commitLent (l .least) (now (s .entry)) ⌝ }
 {
-    let l = model::edition_one();
     let n = guard_committing(s, l);
     if n != 0 {
         return n;
@@ -125,28 +131,14 @@ pub fn commit(s: &mut [u8]) -> u32
 }
 
 // Abandons the open update.
-pub fn abandon(s: &mut [u8]) -> u32
-    ensures { λ r. ⌜ leaving r (now (s .exit)) ≡ abandonLent 4 (now (s .entry)) ⌝ }
+pub fn abandon_in(s: &mut [u8], l: Limits) -> u32
+    requires { ⌜ Edition l ⌝ }
+    ensures { λ r. ⌜ leaving r (now (s .exit)) ≡ abandonLent (l .least) (now (s .entry)) ⌝ }
 {
-    let l = model::edition_one();
     let n = guard_closing(s, l);
     if n != 0 {
         return n;
     }
     turn::abandon(s, l);
     0
-}
-
-// "lookup(s, key, version)": the value at the version, that the key is absent, or a number.
-pub fn lookup(s: &[u8], key: u32, v: u32) -> Looked
-    ensures { λ r. ⌜ r ≡ lookupLent 4 (now (s .entry)) key v ⌝ }
-{
-    near::lookup(s, model::edition_one(), key, v)
-}
-
-// The settings from low to high, both included, in key order: their number, and key, value, key, value in the caller's list.
-pub fn range(s: &[u8], low: u32, high: u32, v: u32, list: &mut [u32]) -> Counted
-    ensures { λ r. ⌜ withList r (now (list .exit)) ≡ rangeLent 4 (now (s .entry)) low high v (now (list .entry)) ⌝ }
-{
-    near::range(s, model::edition_one(), low, high, v, list)
 }

@@ -25,10 +25,10 @@ fn guard_living(s: &[u8], l: Limits, key: u32) -> u32
 
 // Every stretch of committed versions in which a key held one value, oldest first: their number, and start, end and value of each in
 // the caller's list.
-pub fn life(s: &[u8], key: u32, list: &mut [u32]) -> Counted
-    ensures { λ r. ⌜ withList r (now (list .exit)) ≡ lifeLent 4 (now (s .entry)) key (now (list .entry)) ⌝ }
+pub(crate) fn life_in(s: &[u8], l: Limits, key: u32, list: &mut [u32]) -> Counted
+    requires { ⌜ Edition l ⌝ }
+    ensures { λ r. ⌜ withList r (now (list .exit)) ≡ lifeLent (l .least) (now (s .entry)) key (now (list .entry)) ⌝ }
 {
-    let l = model::edition_one();
     let n = guard_living(s, l, key);
     if n != 0 {
         return Counted {

@@ -26,10 +26,10 @@ fn guard_returning(s: &[u8], l: Limits, v: u32) -> u32
 }
 
 // Returns to version v in the open update: its settings become those of that version; with 12 or 13 the update is abandoned.
-pub fn return_to(s: &mut [u8], v: u32) -> u32
-    ensures { λ r. ⌜ leaving r (now (s .exit)) ≡ returnLent 4 (now (s .entry)) v ⌝ }
+pub(crate) fn return_in(s: &mut [u8], l: Limits, v: u32) -> u32
+    requires { ⌜ Edition l ⌝ }
+    ensures { λ r. ⌜ leaving r (now (s .exit)) ≡ returnLent (l .least) (now (s .entry)) v ⌝ }
 {
-    let l = model::edition_one();
     let n = guard_returning(s, l, v);
     if n != 0 {
         return n;

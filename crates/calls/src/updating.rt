@@ -73,10 +73,10 @@ fn guard_updating(s: &[u8], l: Limits, key: u32, insert: bool) -> u32
 }
 
 // Inserts a setting in the open update.
-pub fn insert(s: &mut [u8], key: u32, value: u32) -> u32
-    ensures { λ r. ⌜ leaving r (now (s .exit)) ≡ insertLent 4 (now (s .entry)) key value ⌝ }
+pub fn insert_in(s: &mut [u8], l: Limits, key: u32, value: u32) -> u32
+    requires { ⌜ Edition l ⌝ }
+    ensures { λ r. ⌜ leaving r (now (s .exit)) ≡ insertLent (l .least) (now (s .entry)) key value ⌝ }
 {
-    let l = model::edition_one();
     let n = guard_updating(s, l, key, true);
     if n != 0 {
         return n;
@@ -85,10 +85,10 @@ pub fn insert(s: &mut [u8], key: u32, value: u32) -> u32
 }
 
 // Deletes a setting in the open update.
-pub fn delete(s: &mut [u8], key: u32) -> u32
-    ensures { λ r. ⌜ leaving r (now (s .exit)) ≡ deleteLent 4 (now (s .entry)) key ⌝ }
+pub fn delete_in(s: &mut [u8], l: Limits, key: u32) -> u32
+    requires { ⌜ Edition l ⌝ }
+    ensures { λ r. ⌜ leaving r (now (s .exit)) ≡ deleteLent (l .least) (now (s .entry)) key ⌝ }
 {
-    let l = model::edition_one();
     let n = guard_updating(s, l, key, false);
     if n != 0 {
         return n;

@@ -44,7 +44,7 @@ fresh-made p n e few many =
     let size : sizeOf 4 p ≡ n = omega arith in
     let whole : length p % 256 ≡ 0 = omega arith in
     let yes : lengthOk 4 p ≡ true = length-rest 4 p whole (omega arith) ∙ le-leb (sizeOf 4 p) 4096 (omega arith) in
-    sym (done-store p yes) ∙ ap (λ (m : ℕ). encode 4 (fresh m)) size
+    sym (done-store 4 p yes) ∙ ap (λ (m : ℕ). encode 4 (fresh m)) size
 
 module _ (b : List ℕ) (n : ℕ) where
   abbrev stays : Said

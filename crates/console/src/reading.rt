@@ -24,8 +24,9 @@ pub(crate) fn get(key: u32, v: u32, pages: usize, bytes: &[u8]) -> Answer
     requires { ⌜ (pages ≤ 256) × (length (now bytes) ≡ 65536) ⌝ }
     ensures { λ r. ⌜ r ≡ Session·looked (lookupLent 4 (storeIn (now (bytes .entry)) pages) key v) ⌝ }
 {
+    let l = model::edition_one();
     let e = pages * 256;
-    looked(calls::lookup(&bytes[..e], key, v))
+    looked(near::lookup(&bytes[..e], l, key, v))
 }
 
 // "with a list of 10,040 numbers, which no range there outgrows": what an earlier range left in the list makes no difference.
@@ -40,8 +41,9 @@ pub(crate) fn range(
     requires { ⌜ (pages ≤ 256) × (length (now bytes) ≡ 65536) × (length (now list) ≡ 10040) ⌝ }
     ensures { λ r. ⌜ Replies (said 4 (storeIn (now (bytes .entry)) pages) (Range low high v)) (now (bytes .entry)) (now (list .exit)) r ⌝ }
 {
+    let l = model::edition_one();
     let e = pages * 256;
-    let r = calls::range(&bytes[..e], low, high, v, list);
+    let r = near::range(&bytes[..e], l, low, high, v, list);
     if r.number != 0 {
         return Reply {
             pages,

@@ -1,4 +1,5 @@
-// The calls that change the store, each on the part of the bytes that is the store.
+// The calls that change the store, each on the part of the bytes that is the store. The console makes stores of edition 1, and calls by
+// its limits.
 ghost use mathlib.Core.Path.{_≡_};
 ghost use Prim.Native.Nat.{_≤_};
 ghost use lib.ListN.{length};
@@ -22,8 +23,9 @@ pub(crate) fn open(pages: usize, bytes: &mut [u8]) -> Reply
     requires { ⌜ (pages ≤ 256) × (length (now bytes) ≡ 65536) ⌝ }
     ensures { λ r. ⌜ Single (outcome (openLent 4 (storeIn (now (bytes .entry)) pages))) (now (bytes .exit)) r ⌝ }
 {
+    let l = model::edition_one();
     let e = pages * 256;
-    let n = calls::open(&mut bytes[..e]);
+    let n = calls::open_in(&mut bytes[..e], l);
     Reply {
         pages,
         answer: answer(n),
@@ -35,8 +37,9 @@ pub(crate) fn insert(key: u32, value: u32, pages: usize, bytes: &mut [u8]) -> Re
     requires { ⌜ (pages ≤ 256) × (length (now bytes) ≡ 65536) ⌝ }
     ensures { λ r. ⌜ Single (outcome (insertLent 4 (storeIn (now (bytes .entry)) pages) key value)) (now (bytes .exit)) r ⌝ }
 {
+    let l = model::edition_one();
     let e = pages * 256;
-    let n = calls::insert(&mut bytes[..e], key, value);
+    let n = calls::insert_in(&mut bytes[..e], l, key, value);
     Reply {
         pages,
         answer: answer(n),
@@ -48,8 +51,9 @@ pub(crate) fn delete(key: u32, pages: usize, bytes: &mut [u8]) -> Reply
     requires { ⌜ (pages ≤ 256) × (length (now bytes) ≡ 65536) ⌝ }
     ensures { λ r. ⌜ Single (outcome (deleteLent 4 (storeIn (now (bytes .entry)) pages) key)) (now (bytes .exit)) r ⌝ }
 {
+    let l = model::edition_one();
     let e = pages * 256;
-    let n = calls::delete(&mut bytes[..e], key);
+    let n = calls::delete_in(&mut bytes[..e], l, key);
     Reply {
         pages,
         answer: answer(n),
@@ -61,8 +65,9 @@ pub(crate) fn commit(pages: usize, bytes: &mut [u8]) -> Reply
     requires { ⌜ (pages ≤ 256) × (length (now bytes) ≡ 65536) ⌝ }
     ensures { λ r. ⌜ Single (outcome (commitLent 4 (storeIn (now (bytes .entry)) pages))) (now (bytes .exit)) r ⌝ }
 {
+    let l = model::edition_one();
     let e = pages * 256;
-    let n = calls::commit(&mut bytes[..e]);
+    let n = calls::commit_in(&mut bytes[..e], l);
     Reply {
         pages,
         answer: answer(n),
@@ -74,8 +79,9 @@ pub(crate) fn abandon(pages: usize, bytes: &mut [u8]) -> Reply
     requires { ⌜ (pages ≤ 256) × (length (now bytes) ≡ 65536) ⌝ }
     ensures { λ r. ⌜ Single (outcome (abandonLent 4 (storeIn (now (bytes .entry)) pages))) (now (bytes .exit)) r ⌝ }
 {
+    let l = model::edition_one();
     let e = pages * 256;
-    let n = calls::abandon(&mut bytes[..e]);
+    let n = calls::abandon_in(&mut bytes[..e], l);
     Reply {
         pages,
         answer: answer(n),

@@ -4,11 +4,12 @@ mod naming;
 use model::Looked;
 ghost use mathlib.Core.Path.{_≡_};
 ghost use Rattle.model.specs.Layout.{bit};
-ghost use Rattle.model.specs.Judged.{judged};
 ghost use Rattle.model.specs.Calls.{lookedNumber, lookedFound, lookedValue};
-ghost use Rattle.model.specs.Lent.{leaving, freshLent, openLent, insertLent, deleteLent, commitLent, abandonLent, returnLent, lookupLent, rangeLent, lifeLent, differenceLent, visitsLent};
+ghost use Rattle.model.specs.Lent.{leaving, freshLent};
+ghost use Rattle.model.specs.Any.{judgedAny, openAny, insertAny, deleteAny, commitAny, abandonAny, returnAny, lookupAny, rangeAny, lifeAny, differenceAny, visitsAny};
+ghost use Rattle.model.specs.Convert.{convertLent};
 
-// Makes a fresh store.
+// Makes a fresh store of edition 1.
 #[no_mangle]
 pub extern "C" fn rcst_fresh(store: &mut [u8]) -> u32
     ensures number { λ r. ⌜ r ≡ freshLent 4 (now (store .entry)) .number ⌝ }
@@ -17,11 +18,20 @@ pub extern "C" fn rcst_fresh(store: &mut [u8]) -> u32
     store::fresh(store)
 }
 
+// Makes a fresh store of edition 2.
+#[no_mangle]
+pub extern "C" fn rcst_fresh_second(store: &mut [u8]) -> u32
+    ensures number { λ r. ⌜ r ≡ freshLent 8 (now (store .entry)) .number ⌝ }
+    ensures bytes { λ _. ⌜ now (store .exit) ≡ freshLent 8 (now (store .entry)) .store ⌝ }
+{
+    store::fresh_second(store)
+}
+
 // Judges a store; the lowest broken rule goes to `rule`.
 #[no_mangle]
 pub extern "C" fn rcst_check(store: &[u8], rule: &mut u32) -> u32
-    ensures number { λ r. ⌜ r ≡ judged 4 (now (store .entry)) .number ⌝ }
-    ensures broken { λ _. ⌜ now (rule .exit) ≡ judged 4 (now (store .entry)) .rule ⌝ }
+    ensures number { λ r. ⌜ r ≡ judgedAny (now (store .entry)) .number ⌝ }
+    ensures broken { λ _. ⌜ now (rule .exit) ≡ judgedAny (now (store .entry)) .rule ⌝ }
 {
     let v = judge::check(store);
     *rule = v.rule;
@@ -31,7 +41,7 @@ pub extern "C" fn rcst_check(store: &[u8], rule: &mut u32) -> u32
 // Opens an update.
 #[no_mangle]
 pub extern "C" fn rcst_open(store: &mut [u8]) -> u32
-    ensures { λ r. ⌜ leaving r (now (store .exit)) ≡ openLent 4 (now (store .entry)) ⌝ }
+    ensures { λ r. ⌜ leaving r (now (store .exit)) ≡ openAny (now (store .entry)) ⌝ }
 {
     calls::open(store)
 }
@@ -39,7 +49,7 @@ pub extern "C" fn rcst_open(store: &mut [u8]) -> u32
 // Inserts a setting in the open update.
 #[no_mangle]
 pub extern "C" fn rcst_insert(store: &mut [u8], key: u32, value: u32) -> u32
-    ensures { λ r. ⌜ leaving r (now (store .exit)) ≡ insertLent 4 (now (store .entry)) key value ⌝ }
+    ensures { λ r. ⌜ leaving r (now (store .exit)) ≡ insertAny (now (store .entry)) key value ⌝ }
 {
     calls::insert(store, key, value)
 }
@@ -47,7 +57,7 @@ pub extern "C" fn rcst_insert(store: &mut [u8], key: u32, value: u32) -> u32
 // Deletes a setting in the open update.
 #[no_mangle]
 pub extern "C" fn rcst_delete(store: &mut [u8], key: u32) -> u32
-    ensures { λ r. ⌜ leaving r (now (store .exit)) ≡ deleteLent 4 (now (store .entry)) key ⌝ }
+    ensures { λ r. ⌜ leaving r (now (store .exit)) ≡ deleteAny (now (store .entry)) key ⌝ }
 {
     calls::delete(store, key)
 }
@@ -55,7 +65,7 @@ pub extern "C" fn rcst_delete(store: &mut [u8], key: u32) -> u32
 // Commits the open update.
 #[no_mangle]
 pub extern "C" fn rcst_commit(store: &mut [u8]) -> u32
-    ensures { λ r. ⌜ leaving r (now (store .exit)) ≡ commitLent 4 (now (store .entry)) ⌝ }
+    ensures { λ r. ⌜ leaving r (now (store .exit)) ≡ commitAny (now (store .entry)) ⌝ }
 {
     calls::commit(store)
 }
@@ -63,7 +73,7 @@ pub extern "C" fn rcst_commit(store: &mut [u8]) -> u32
 // Abandons the open update.
 #[no_mangle]
 pub extern "C" fn rcst_abandon(store: &mut [u8]) -> u32
-    ensures { λ r. ⌜ leaving r (now (store .exit)) ≡ abandonLent 4 (now (store .entry)) ⌝ }
+    ensures { λ r. ⌜ leaving r (now (store .exit)) ≡ abandonAny (now (store .entry)) ⌝ }
 {
     calls::abandon(store)
 }
@@ -71,9 +81,17 @@ pub extern "C" fn rcst_abandon(store: &mut [u8]) -> u32
 // Returns to a committed version in the open update.
 #[no_mangle]
 pub extern "C" fn rcst_return(store: &mut [u8], version: u32) -> u32
-    ensures { λ r. ⌜ leaving r (now (store .exit)) ≡ returnLent 4 (now (store .entry)) version ⌝ }
+    ensures { λ r. ⌜ leaving r (now (store .exit)) ≡ returnAny (now (store .entry)) version ⌝ }
 {
     calls::return_to(store, version)
+}
+
+// Converts a store of edition 1 into one of edition 2.
+#[no_mangle]
+pub extern "C" fn rcst_convert(source: &[u8], target: &mut [u8]) -> u32
+    ensures { λ r. ⌜ leaving r (now (target .exit)) ≡ convertLent (now (source .entry)) (now (target .entry)) ⌝ }
+{
+    convert::convert(source, target)
 }
 
 fn number_of(r: Looked) -> u32
@@ -115,9 +133,9 @@ pub extern "C" fn rcst_lookup(
     found: &mut u32,
     value: &mut u32,
 ) -> u32
-    ensures number { λ r. ⌜ r ≡ lookedNumber (lookupLent 4 (now (store .entry)) key version) ⌝ }
-    ensures alive { λ _. ⌜ now (found .exit) ≡ bit (lookedFound (lookupLent 4 (now (store .entry)) key version)) ⌝ }
-    ensures setting { λ _. ⌜ now (value .exit) ≡ lookedValue (lookupLent 4 (now (store .entry)) key version) ⌝ }
+    ensures number { λ r. ⌜ r ≡ lookedNumber (lookupAny (now (store .entry)) key version) ⌝ }
+    ensures alive { λ _. ⌜ now (found .exit) ≡ bit (lookedFound (lookupAny (now (store .entry)) key version)) ⌝ }
+    ensures setting { λ _. ⌜ now (value .exit) ≡ lookedValue (lookupAny (now (store .entry)) key version) ⌝ }
 {
     let r = calls::lookup(store, key, version);
     *found = found_of(r);
@@ -135,9 +153,9 @@ pub extern "C" fn rcst_range(
     list: &mut [u32],
     count: &mut usize,
 ) -> u32
-    ensures number { λ r. ⌜ r ≡ rangeLent 4 (now (store .entry)) low high version (now (list .entry)) .number ⌝ }
-    ensures settings { λ _. ⌜ now (count .exit) ≡ rangeLent 4 (now (store .entry)) low high version (now (list .entry)) .count ⌝ }
-    ensures written { λ _. ⌜ now (list .exit) ≡ rangeLent 4 (now (store .entry)) low high version (now (list .entry)) .list ⌝ }
+    ensures number { λ r. ⌜ r ≡ rangeAny (now (store .entry)) low high version (now (list .entry)) .number ⌝ }
+    ensures settings { λ _. ⌜ now (count .exit) ≡ rangeAny (now (store .entry)) low high version (now (list .entry)) .count ⌝ }
+    ensures written { λ _. ⌜ now (list .exit) ≡ rangeAny (now (store .entry)) low high version (now (list .entry)) .list ⌝ }
 {
     let r = calls::range(store, low, high, version, list);
     *count = r.count;
@@ -153,9 +171,9 @@ pub extern "C" fn rcst_visits(
     pages: &mut [u32],
     count: &mut usize,
 ) -> u32
-    ensures number { λ r. ⌜ r ≡ visitsLent 4 (now (store .entry)) key version (now (pages .entry)) .number ⌝ }
-    ensures visited { λ _. ⌜ now (count .exit) ≡ visitsLent 4 (now (store .entry)) key version (now (pages .entry)) .count ⌝ }
-    ensures written { λ _. ⌜ now (pages .exit) ≡ visitsLent 4 (now (store .entry)) key version (now (pages .entry)) .list ⌝ }
+    ensures number { λ r. ⌜ r ≡ visitsAny (now (store .entry)) key version (now (pages .entry)) .number ⌝ }
+    ensures visited { λ _. ⌜ now (count .exit) ≡ visitsAny (now (store .entry)) key version (now (pages .entry)) .count ⌝ }
+    ensures written { λ _. ⌜ now (pages .exit) ≡ visitsAny (now (store .entry)) key version (now (pages .entry)) .list ⌝ }
 {
     let r = calls::visits(store, key, version, pages);
     *count = r.count;
@@ -171,9 +189,9 @@ pub extern "C" fn rcst_difference(
     list: &mut [u32],
     count: &mut usize,
 ) -> u32
-    ensures number { λ r. ⌜ r ≡ differenceLent 4 (now (store .entry)) old new (now (list .entry)) .number ⌝ }
-    ensures differences { λ _. ⌜ now (count .exit) ≡ differenceLent 4 (now (store .entry)) old new (now (list .entry)) .count ⌝ }
-    ensures written { λ _. ⌜ now (list .exit) ≡ differenceLent 4 (now (store .entry)) old new (now (list .entry)) .list ⌝ }
+    ensures number { λ r. ⌜ r ≡ differenceAny (now (store .entry)) old new (now (list .entry)) .number ⌝ }
+    ensures differences { λ _. ⌜ now (count .exit) ≡ differenceAny (now (store .entry)) old new (now (list .entry)) .count ⌝ }
+    ensures written { λ _. ⌜ now (list .exit) ≡ differenceAny (now (store .entry)) old new (now (list .entry)) .list ⌝ }
 {
     let r = calls::difference(store, old, new, list);
     *count = r.count;
@@ -183,9 +201,9 @@ pub extern "C" fn rcst_difference(
 // The stretches of committed versions in which a key held one value go to `list`, their number to `count`.
 #[no_mangle]
 pub extern "C" fn rcst_life(store: &[u8], key: u32, list: &mut [u32], count: &mut usize) -> u32
-    ensures number { λ r. ⌜ r ≡ lifeLent 4 (now (store .entry)) key (now (list .entry)) .number ⌝ }
-    ensures stretches { λ _. ⌜ now (count .exit) ≡ lifeLent 4 (now (store .entry)) key (now (list .entry)) .count ⌝ }
-    ensures written { λ _. ⌜ now (list .exit) ≡ lifeLent 4 (now (store .entry)) key (now (list .entry)) .list ⌝ }
+    ensures number { λ r. ⌜ r ≡ lifeAny (now (store .entry)) key (now (list .entry)) .number ⌝ }
+    ensures stretches { λ _. ⌜ now (count .exit) ≡ lifeAny (now (store .entry)) key (now (list .entry)) .count ⌝ }
+    ensures written { λ _. ⌜ now (list .exit) ≡ lifeAny (now (store .entry)) key (now (list .entry)) .list ⌝ }
 {
     let r = calls::life(store, key, list);
     *count = r.count;

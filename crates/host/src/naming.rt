@@ -27,7 +27,7 @@ pub extern "C" fn rcst_kinds_check(table: &[u32]) -> usize
 // Inserts a setting by its kind: 17, 16, or what the store gives.
 #[no_mangle]
 pub extern "C" fn rcst_named_insert(store: &mut [u8], table: &[u32], key: u32, value: u32) -> u32
-    ensures { λ r. ⌜ leaving r (now (store .exit)) ≡ insertNamed 4 (now (table .entry)) (now (store .entry)) key value ⌝ }
+    ensures { λ r. ⌜ leaving r (now (store .exit)) ≡ insertNamed (now (table .entry)) (now (store .entry)) key value ⌝ }
 {
     named::insert(store, table, key, value)
 }
@@ -35,7 +35,7 @@ pub extern "C" fn rcst_named_insert(store: &mut [u8], table: &[u32], key: u32, v
 // Deletes a setting with a known key: 17, or what the store gives.
 #[no_mangle]
 pub extern "C" fn rcst_named_delete(store: &mut [u8], table: &[u32], key: u32) -> u32
-    ensures { λ r. ⌜ leaving r (now (store .exit)) ≡ deleteNamed 4 (now (table .entry)) (now (store .entry)) key ⌝ }
+    ensures { λ r. ⌜ leaving r (now (store .exit)) ≡ deleteNamed (now (table .entry)) (now (store .entry)) key ⌝ }
 {
     named::delete(store, table, key)
 }
@@ -43,7 +43,7 @@ pub extern "C" fn rcst_named_delete(store: &mut [u8], table: &[u32], key: u32) -
 // Opens a viewer on a store and one version.
 #[no_mangle]
 pub extern "C" fn rcst_view_open(store: &[u8], version: u32) -> u32
-    ensures { λ r. ⌜ r ≡ viewed 4 (now (store .entry)) version ⌝ }
+    ensures { λ r. ⌜ r ≡ viewed (now (store .entry)) version ⌝ }
 {
     viewer::opens(store, version)
 }
@@ -69,9 +69,9 @@ pub extern "C" fn rcst_view_value(
     found: &mut u32,
     value: &mut u32,
 ) -> u32
-    ensures number { λ r. ⌜ r ≡ lookedNumber (lookupNamed 4 (now (table .entry)) (now (store .entry)) key version) ⌝ }
-    ensures alive { λ _. ⌜ now (found .exit) ≡ bit (lookedFound (lookupNamed 4 (now (table .entry)) (now (store .entry)) key version)) ⌝ }
-    ensures setting { λ _. ⌜ now (value .exit) ≡ lookedValue (lookupNamed 4 (now (table .entry)) (now (store .entry)) key version) ⌝ }
+    ensures number { λ r. ⌜ r ≡ lookedNumber (lookupNamed (now (table .entry)) (now (store .entry)) key version) ⌝ }
+    ensures alive { λ _. ⌜ now (found .exit) ≡ bit (lookedFound (lookupNamed (now (table .entry)) (now (store .entry)) key version)) ⌝ }
+    ensures setting { λ _. ⌜ now (value .exit) ≡ lookedValue (lookupNamed (now (table .entry)) (now (store .entry)) key version) ⌝ }
 {
     told(named::lookup(store, table, key, version), found, value)
 }
@@ -86,9 +86,9 @@ pub extern "C" fn rcst_view_whole(
     found: &mut u32,
     value: &mut u32,
 ) -> u32
-    ensures number { λ r. ⌜ r ≡ lookedNumber (kindNamed 0 4 (now (table .entry)) (now (store .entry)) key version) ⌝ }
-    ensures alive { λ _. ⌜ now (found .exit) ≡ bit (lookedFound (kindNamed 0 4 (now (table .entry)) (now (store .entry)) key version)) ⌝ }
-    ensures setting { λ _. ⌜ now (value .exit) ≡ lookedValue (kindNamed 0 4 (now (table .entry)) (now (store .entry)) key version) ⌝ }
+    ensures number { λ r. ⌜ r ≡ lookedNumber (kindNamed 0 (now (table .entry)) (now (store .entry)) key version) ⌝ }
+    ensures alive { λ _. ⌜ now (found .exit) ≡ bit (lookedFound (kindNamed 0 (now (table .entry)) (now (store .entry)) key version)) ⌝ }
+    ensures setting { λ _. ⌜ now (value .exit) ≡ lookedValue (kindNamed 0 (now (table .entry)) (now (store .entry)) key version) ⌝ }
 {
     told(
         named::lookup_kind(store, table, WHOLE, key, version),
@@ -107,9 +107,9 @@ pub extern "C" fn rcst_view_switch(
     found: &mut u32,
     value: &mut u32,
 ) -> u32
-    ensures number { λ r. ⌜ r ≡ lookedNumber (kindNamed 1 4 (now (table .entry)) (now (store .entry)) key version) ⌝ }
-    ensures alive { λ _. ⌜ now (found .exit) ≡ bit (lookedFound (kindNamed 1 4 (now (table .entry)) (now (store .entry)) key version)) ⌝ }
-    ensures setting { λ _. ⌜ now (value .exit) ≡ lookedValue (kindNamed 1 4 (now (table .entry)) (now (store .entry)) key version) ⌝ }
+    ensures number { λ r. ⌜ r ≡ lookedNumber (kindNamed 1 (now (table .entry)) (now (store .entry)) key version) ⌝ }
+    ensures alive { λ _. ⌜ now (found .exit) ≡ bit (lookedFound (kindNamed 1 (now (table .entry)) (now (store .entry)) key version)) ⌝ }
+    ensures setting { λ _. ⌜ now (value .exit) ≡ lookedValue (kindNamed 1 (now (table .entry)) (now (store .entry)) key version) ⌝ }
 {
     told(
         named::lookup_kind(store, table, SWITCH, key, version),
@@ -129,10 +129,10 @@ pub extern "C" fn rcst_view_level(
     bits: &mut u32,
     level: &mut f32,
 ) -> u32
-    ensures number { λ r. ⌜ r ≡ lookedNumber (kindNamed 2 4 (now (table .entry)) (now (store .entry)) key version) ⌝ }
-    ensures alive { λ _. ⌜ now (found .exit) ≡ bit (lookedFound (kindNamed 2 4 (now (table .entry)) (now (store .entry)) key version)) ⌝ }
-    ensures setting { λ _. ⌜ now (bits .exit) ≡ lookedValue (kindNamed 2 4 (now (table .entry)) (now (store .entry)) key version) ⌝ }
-    ensures float { λ _. ⌜ now (level .exit) ≡ ofBits binary32 (lookedValue (kindNamed 2 4 (now (table .entry)) (now (store .entry)) key version)) ⌝ }
+    ensures number { λ r. ⌜ r ≡ lookedNumber (kindNamed 2 (now (table .entry)) (now (store .entry)) key version) ⌝ }
+    ensures alive { λ _. ⌜ now (found .exit) ≡ bit (lookedFound (kindNamed 2 (now (table .entry)) (now (store .entry)) key version)) ⌝ }
+    ensures setting { λ _. ⌜ now (bits .exit) ≡ lookedValue (kindNamed 2 (now (table .entry)) (now (store .entry)) key version) ⌝ }
+    ensures float { λ _. ⌜ now (level .exit) ≡ ofBits binary32 (lookedValue (kindNamed 2 (now (table .entry)) (now (store .entry)) key version)) ⌝ }
 {
     let r = named::lookup_kind(store, table, LEVEL, key, version);
     *level = kinds::float_of(crate::value_of(r));
@@ -150,9 +150,9 @@ pub extern "C" fn rcst_view_range(
     list: &mut [u32],
     count: &mut usize,
 ) -> u32
-    ensures number { λ r. ⌜ r ≡ rangeNamed 4 (now (table .entry)) (now (store .entry)) low high version (now (list .entry)) .number ⌝ }
-    ensures settings { λ _. ⌜ now (count .exit) ≡ rangeNamed 4 (now (table .entry)) (now (store .entry)) low high version (now (list .entry)) .count ⌝ }
-    ensures written { λ _. ⌜ now (list .exit) ≡ rangeNamed 4 (now (table .entry)) (now (store .entry)) low high version (now (list .entry)) .list ⌝ }
+    ensures number { λ r. ⌜ r ≡ rangeNamed (now (table .entry)) (now (store .entry)) low high version (now (list .entry)) .number ⌝ }
+    ensures settings { λ _. ⌜ now (count .exit) ≡ rangeNamed (now (table .entry)) (now (store .entry)) low high version (now (list .entry)) .count ⌝ }
+    ensures written { λ _. ⌜ now (list .exit) ≡ rangeNamed (now (table .entry)) (now (store .entry)) low high version (now (list .entry)) .list ⌝ }
 {
     let r = named::range(store, table, low, high, version, list);
     *count = r.count;

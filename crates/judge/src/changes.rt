@@ -9,7 +9,7 @@ ghost use Rattle.notes.specs.Ready.{Sooner};
 ghost use Rattle.judge.specs.Versions.{QuietPart};
 
 // A version up to r such that nothing of the page starts or ends before it and behind v. For a single version nothing is read.
-pub(crate) fn page_change(page: &[u8], l: Limits, v: u32, r: u32) -> u32
+pub fn page_change(page: &[u8], l: Limits, v: u32, r: u32) -> u32
     requires { ⌜ Edition l × (length (now page) ≡ 64 * l .least) × (readHead (l .least) (now page) .count ≤ 5 * l .least) × (v < r) ⌝ }
     ensures { λ q. ⌜ Sooner v r q × QuietPart (l .least) (now (page .entry)) v q ⌝ }
 {

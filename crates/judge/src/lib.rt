@@ -7,11 +7,13 @@ mod live;
 mod reach;
 mod walk;
 
+pub use changes::page_change;
 use model::Limits;
 use model::Verdict;
 ghost use mathlib.Core.Path.{_≡_};
 ghost use Rattle.model.specs.Limits.{Edition};
 ghost use Rattle.model.specs.Judged.{brokenIn, judged};
+ghost use Rattle.model.specs.Any.{judgedAny};
 ghost use Rattle.local.specs.Local.{Sized};
 
 pub(crate) fn wide(x: u32) -> usize
@@ -73,9 +75,16 @@ pub fn judge_in(s: &[u8], l: Limits) -> Verdict
     }
 }
 
-// Judging by the limits of edition 1.
+// Judging by the edition lent.
 pub fn check(s: &[u8]) -> Verdict
-    ensures { λ r. ⌜ r ≡ judged 4 (now (s .entry)) ⌝ }
+    ensures { λ r. ⌜ r ≡ judgedAny (now (s .entry)) ⌝ }
 {
-    judge_in(s, model::edition_one())
+    let e = store::edition_lent(s);
+    if e.number != 0 {
+        return Verdict {
+            number: e.number,
+            rule: 0,
+        };
+    }
+    judge_in(s, e.limits)
 }

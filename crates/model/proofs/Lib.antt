@@ -43,6 +43,7 @@ pub mod Turns
 pub mod Abandon
 pub mod Stops
 pub mod Returned
+pub mod Converted
 pub mod History
 pub mod Undone
 pub mod Theorems
@@ -56,12 +57,16 @@ pub mod Most
 pub mod Gathers
 pub mod Lacking
 pub mod Unique
+pub mod Editions
+pub mod OldPrograms
 pub mod Steady
 pub mod Lives
+pub mod Readings
 pub mod Telling
 pub mod Sampled
 pub mod Rising
 pub mod Judging
+pub mod Converting
 pub mod Quiet
 pub mod Parents
 pub mod Once

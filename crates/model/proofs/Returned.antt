@@ -48,7 +48,7 @@ module _ (least : ℕ) where
     pub steady : (v : ℕ) → v ≤ s .current → Alike s v t v
     pub undone : abandoned t ≡ abandoned s
 
-  abbrev Steps : Store → List Pair → Result → Type 0
+  abbrev pub Steps : Store → List Pair → Result → Type 0
   Steps s us (done t) = Stepped s t us
   Steps s us (refused n) = lacking n ≡ true
 
@@ -66,7 +66,7 @@ module _ (least : ℕ) where
     undone = b .undone ∙ a .undone;
   }
 
-  runs-on : (s t : Store) (us vs : List Pair) (q : Ran) → Stepped s t us → Runs t vs q → Runs s vs q
+  pub runs-on : (s t : Store) (us vs : List Pair) (q : Ran) → Stepped s t us → Runs t vs q → Runs s vs q
   runs-on s t us vs (reached u) a b = stepped-on s t u us vs a b
   runs-on s t us vs (stopped n u) a b = (b .0, b .1 ∙ a .undone)
 
@@ -105,7 +105,7 @@ module _ (least : ℕ) where
     unfolding setOne
     set-is x low z = due 10 _ _ _ _ (lt-leb keyLimit (x .key) low) (ap not o) (ap isSome (here (x .key) low ∙ z))
 
-    end-step : (x : Delta) → small (pair (x .key) (x .old)) ≡ true → isSome (find (x .key) (settings s (next s))) ≡ true → Steps s (ended x (settings s (next s))) (endOne least s x)
+    pub end-step : (x : Delta) → small (pair (x .key) (x .old)) ≡ true → isSome (find (x .key) (settings s (next s))) ≡ true → Steps s (ended x (settings s (next s))) (endOne least s x)
     end-step x f z =
         let k : ℕ = x .key in
         let low : k < keyLimit = ltb-true k keyLimit (both-true (ltb k keyLimit) _ f .0) in
@@ -113,7 +113,7 @@ module _ (least : ℕ) where
         (delete-keeps least four s d o k) (delete-changes least (omega arith) s sure k) (delete-undone least (omega arith) s sure k)
         (subst Ends (sym (delete-is k low z)) (update-ends least s k (record { drop = k ∷ []; take = [] })))
 
-    set-step : (x : Delta) → small (asked x) ≡ true → find (x .key) (settings s (next s)) ≡ none → Steps s (enterPair (asked x) (settings s (next s))) (setOne least s x)
+    pub set-step : (x : Delta) → small (asked x) ≡ true → find (x .key) (settings s (next s)) ≡ none → Steps s (enterPair (asked x) (settings s (next s))) (setOne least s x)
     set-step x f z =
         let k : ℕ = x .key in
         let (a, b) = both-true (ltb k keyLimit) (ltb (x .new) 4294967296) f in
@@ -133,14 +133,14 @@ module _ (least : ℕ) where
   go-on go s us vs (refused n) l f = (l, refl)
   go-on go s us vs (done t) a f = runs-on s t us vs (go t) a (f t a)
 
-  ends-run : 4 ≤ least → (ds : List Delta) (s : Store) → Sound least s → s .opened ≡ true → (vs : List Pair) → Remade.Ends small (settings s (next s)) ds vs → Runs s vs (through (endOne least) ds s)
+  pub ends-run : 4 ≤ least → (ds : List Delta) (s : Store) → Sound least s → s .opened ≡ true → (vs : List Pair) → Remade.Ends small (settings s (next s)) ds vs → Runs s vs (through (endOne least) ds s)
   unfolding through
   ends-run four [] s d o vs e = itself four s d o vs e
   ends-run four (x ∷ ds) s d o vs (f, z, r) =
       go-on (through (endOne least) ds) s (ended x (settings s (next s))) vs (endOne least s x) (end-step four s d o x f z)
       (λ t g. ends-run four ds t (g .is-sound) (g .opened) vs (subst (λ (us : List Pair). Remade.Ends small us ds vs) (sym (g .openly)) r))
 
-  sets-run : 4 ≤ least → (ds : List Delta) (s : Store) → Sound least s → s .opened ≡ true → (vs : List Pair) → Remade.Sets small (settings s (next s)) ds vs → Runs s vs (through (setOne least) ds s)
+  pub sets-run : 4 ≤ least → (ds : List Delta) (s : Store) → Sound least s → s .opened ≡ true → (vs : List Pair) → Remade.Sets small (settings s (next s)) ds vs → Runs s vs (through (setOne least) ds s)
   unfolding through
   sets-run four [] s d o vs e = itself four s d o vs e
   sets-run four (x ∷ ds) s d o vs (f, z, r) =
@@ -157,6 +157,19 @@ module _ (least : ℕ) where
           → orStopped (through (setOne least) ds) t u ≡ orStopped (through (setOne least) (map added (map asked ds))) t u
       at (done w) f = f w
       at (refused n) f = refl
+
+  -- ---- both runs, from the settings that the open version shows to others
+
+  pub way-runs : 4 ≤ least → (s : Store) → Sound least s → s .opened ≡ true → (us vs : List Pair) (ds : List Delta) → settings s (next s) ≡ us → Way small us vs ds → Runs s vs (carried least ds s)
+  unfolding carried
+  way-runs four s d o us vs ds e w =
+      second (through (endOne least) (those goes ds) s) (ends-run four (those goes ds) s d o (w .mid) (subst (λ (zs : List Pair). Remade.Ends small zs (those goes ds) (w .mid)) (sym e) (w .ends)))
+    where
+      second : (q : Ran) → Runs s (w .mid) q → Runs s vs (andOn (through (setOne least) (those comes ds)) q)
+      second (stopped n t) r = r
+      second (reached t) r =
+          runs-on s t (w .mid) vs (through (setOne least) (those comes ds) t) r
+          (sets-run four (those comes ds) t (r .is-sound) (r .opened) vs (subst (λ (zs : List Pair). Remade.Sets small zs (those comes ds) vs) (sym (r .openly)) (w .sets)))
 
   -- ---- a return
 
@@ -178,15 +191,8 @@ module _ (least : ℕ) where
     first-run : Runs s (way .mid) (through (endOne least) (those goes (differ now then)) s)
     first-run = ends-run four (those goes (differ now then)) s d o (way .mid) (way .ends)
 
-    second-run : (q : Ran) → Runs s (way .mid) q → Runs s then (andOn (through (setOne least) (those comes (differ now then))) q)
-    second-run (stopped n t) r = r
-    second-run (reached t) r =
-        runs-on s t (way .mid) then (through (setOne least) (those comes (differ now then)) t) r
-        (sets-run four (those comes (differ now then)) t (r .is-sound) (r .opened) then (subst (λ (us : List Pair). Remade.Sets small us (those comes (differ now then)) then) (sym (r .openly)) (way .sets)))
-
     pub carried-runs : Runs s (settings s v) (carried least (differ (settings s (next s)) (settings s v)) s)
-    unfolding carried
-    carried-runs = second-run (through (endOne least) (those goes (differ now then)) s) first-run
+    carried-runs = way-runs four s d o now then (differ now then) refl way
 
     -- ---- what comes, told anew after the deletes: as code does that has no list
 

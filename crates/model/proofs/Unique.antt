@@ -29,14 +29,15 @@ use Rattle.model.specs.Life
 use Rattle.model.specs.Near
 use Rattle.model.specs.Return
 use Rattle.model.specs.Return.{Ran, reached, stopped, carried, Came, gave, gaveUp, lacking, orAbandoned, returnTests, unless}
-use Rattle.model.specs.Ended.{Asked, toFresh, toCheck, toOpen, toCommit, toAbandon, toInsert, toDelete, toReturn, toLookup, toRange, toLife, toDifference, toVisits, Ended, ended, Meets, Untouched, Excepted, Named, Zeros}
+use Rattle.model.specs.Ended.{Asked, toFresh, toFreshSecond, toCheck, toOpen, toCommit, toAbandon, toInsert, toDelete, toReturn, toLookup, toRange, toLife, toDifference, toVisits, Ended, endedBy, Meets, Untouched, Excepted, Named, Zeros}
 use Rattle.model.specs.Lent
 use Rattle.model.specs.Lent.{Outcome, Listed, listed, left, leftBy, judgedFirst, openLent, insertLent, deleteLent, commitLent, abandonLent, returnLent, freshLent, lookupLent, rangeLent, lifeLent, differenceLent, visitsLent}
 use Rattle.model.proofs.Stops.{lacking-is}
+use Rattle.model.proofs.Editions.{ended-either}
 
 -- Two outcomes that meet a call's contract are the same: number, results, store and list.
-pub unique : (least : ℕ) (c : Asked) (b ns : List ℕ) (e f : Ended) → Meets least c b ns e → Meets least c b ns f → e ≡ f
-unique least c b ns e f p q = p ∙ sym q
+pub unique : (c : Asked) (b ns : List ℕ) (e f : Ended) → Meets c b ns e → Meets c b ns f → e ≡ f
+unique c b ns e f p q = p ∙ sym q
 
 -- ---- "Every number but 0 leaves store and list untouched", 2026-07's exception aside
 
@@ -144,9 +145,10 @@ life-same least b k ns = at (judged least b .number)
     at zero = told-same Life.stretchNumbers 3 ns _ _
     at (suc n) = λ h. refl
 
-leaves : (least : ℕ) (c : Asked) (b ns : List ℕ) → ended least c b ns .number ≢ 0 → (Excepted c (ended least c b ns .number) → ⊥) → Untouched b ns (ended least c b ns)
+leaves : (least : ℕ) (c : Asked) (b ns : List ℕ) → endedBy least c b ns .number ≢ 0 → (Excepted c (endedBy least c b ns .number) → ⊥) → Untouched b ns (endedBy least c b ns)
 unfolding Lent.openLent Lent.commitLent Lent.abandonLent Lent.insertLent Lent.deleteLent
 leaves least toFresh b ns h x = record { store = fresh-same least b h; list = refl }
+leaves least toFreshSecond b ns h x = record { store = fresh-same least b h; list = refl }
 leaves least toCheck b ns h x = record { store = refl; list = refl }
 leaves least toOpen b ns h x = record { store = lent-same least _ b h; list = refl }
 leaves least toCommit b ns h x = record { store = lent-same least _ b h; list = refl }
@@ -160,9 +162,11 @@ leaves least (toVisits k v) b ns h x = record { store = refl; list = visits-same
 leaves least (toDifference u v) b ns h x = record { store = refl; list = difference-same least b u v ns h }
 leaves least (toLife k) b ns h x = record { store = refl; list = life-same least b k ns h }
 
-pub refused : (least : ℕ) (c : Asked) (b ns : List ℕ) (e : Ended) → Meets least c b ns e → e .number ≢ 0 → (Excepted c (e .number) → ⊥) → Untouched b ns e
-refused least c b ns e m h x =
-    subst (Untouched b ns) (sym m) (leaves least c b ns (subst (λ (y : Ended). y .number ≢ 0) m h) (subst (λ (y : Ended). Excepted c (y .number) → ⊥) m x))
+pub refused : (c : Asked) (b ns : List ℕ) (e : Ended) → Meets c b ns e → e .number ≢ 0 → (Excepted c (e .number) → ⊥) → Untouched b ns e
+refused c b ns e m = subst Left (sym m) (ended-either b ns Left c (λ least i. leaves least c b ns) (λ n z x r h k. r .untouched))
+  where
+    Left : Ended → Type 0
+    Left x = x .number ≢ 0 → (Excepted c (x .number) → ⊥) → Untouched b ns x
 
 -- ---- "any result not named here is 0"
 
@@ -243,8 +247,9 @@ life-blank least b k ns = at (judged least b .number)
 zero-one : (x : ℕ) → x ≡ 0 → Zeros (x ∷ [])
 zero-one x e = rw e
 
-blanks : (least : ℕ) (c : Asked) (b ns : List ℕ) → ended least c b ns .number ≢ 0 → (Named c (ended least c b ns .number) → ⊥) → Zeros (ended least c b ns .results)
+blanks : (least : ℕ) (c : Asked) (b ns : List ℕ) → endedBy least c b ns .number ≢ 0 → (Named c (endedBy least c b ns .number) → ⊥) → Zeros (endedBy least c b ns .results)
 blanks least toFresh b ns h k = refl
+blanks least toFreshSecond b ns h k = refl
 blanks least toCheck b ns h k = zero-one _ (check-blank least b h k)
 blanks least toOpen b ns h k = refl
 blanks least toCommit b ns h k = refl
@@ -258,7 +263,8 @@ blanks least (toVisits i v) b ns h k = zero-one _ (visits-blank least b i v ns h
 blanks least (toDifference u v) b ns h k = zero-one _ (difference-blank least b u v ns h k)
 blanks least (toLife i) b ns h k = zero-one _ (life-blank least b i ns h k)
 
-pub blank : (least : ℕ) (c : Asked) (b ns : List ℕ) (e : Ended) → Meets least c b ns e → e .number ≢ 0 → (Named c (e .number) → ⊥) → Zeros (e .results)
-blank least c b ns e m h k =
-    subst (λ (x : Ended). Zeros (x .results)) (sym m)
-    (blanks least c b ns (subst (λ (x : Ended). x .number ≢ 0) m h) (subst (λ (x : Ended). Named c (x .number) → ⊥) m k))
+pub blank : (c : Asked) (b ns : List ℕ) (e : Ended) → Meets c b ns e → e .number ≢ 0 → (Named c (e .number) → ⊥) → Zeros (e .results)
+blank c b ns e m = subst Blank (sym m) (ended-either b ns Blank c (λ least i. blanks least c b ns) (λ n z x r h k. r .zeros))
+  where
+    Blank : Ended → Type 0
+    Blank x = x .number ≢ 0 → (Named c (x .number) → ⊥) → Zeros (x .results)

@@ -3,7 +3,7 @@
 -- proofs/Unique.
 -- Assumes nothing.
 use Prim.Native.Nat.{ℕ}
-use mathlib.Core.Bool.{true}
+use mathlib.Core.Bool.{Bool, true, false}
 use mathlib.Core.Path.{_≡_}
 use mathlib.Core.Logic.{_⊎_}
 use mathlib.Core.List.{List, [], _∷_}
@@ -14,11 +14,12 @@ use Rattle.model.specs.declared.Verdict.{Verdict}
 use Rattle.model.specs.Layout.{bit}
 use Rattle.model.specs.Judged.{judged}
 use Rattle.model.specs.Calls.{lookedNumber, lookedFound, lookedValue}
+use Rattle.model.specs.Any.{openAny, insertAny, deleteAny, commitAny, abandonAny, returnAny, lookupAny, rangeAny, lifeAny, differenceAny, visitsAny, judgedAny}
 use Rattle.model.specs.Lent.{Outcome, Listed, openLent, insertLent, deleteLent, commitLent, abandonLent, returnLent, freshLent, lookupLent, rangeLent, lifeLent, differenceLent, visitsLent}
 
 -- the calls, with the numbers that they take
 pub data Asked : Type 0 where
-  toFresh toCheck toOpen toCommit toAbandon : Asked
+  toFresh toFreshSecond toCheck toOpen toCommit toAbandon : Asked
   toInsert : ℕ → ℕ → Asked
   toDelete : ℕ → Asked
   toReturn : ℕ → Asked
@@ -47,25 +48,62 @@ ofLooked b ns r = record { number = lookedNumber r; results = bit (lookedFound r
 abbrev pub ofListed : List ℕ → Listed → Ended
 ofListed b r = record { number = r .number; results = r .count ∷ []; store = b; list = r .list }
 
--- what the definitions say of a call, for any bytes lent as a store and any list
-abbrev pub ended : ℕ → Asked → List ℕ → List ℕ → Ended
-ended least toFresh b ns = ofOutcome ns (freshLent least b)
-ended least toCheck b ns = ofVerdict b ns (judged least b)
-ended least toOpen b ns = ofOutcome ns (openLent least b)
-ended least toCommit b ns = ofOutcome ns (commitLent least b)
-ended least toAbandon b ns = ofOutcome ns (abandonLent least b)
-ended least (toInsert k x) b ns = ofOutcome ns (insertLent least b k x)
-ended least (toDelete k) b ns = ofOutcome ns (deleteLent least b k)
-ended least (toReturn v) b ns = ofOutcome ns (returnLent least b v)
-ended least (toLookup k v) b ns = ofLooked b ns (lookupLent least b k v)
-ended least (toRange lo hi v) b ns = ofListed b (rangeLent least b lo hi v ns)
-ended least (toVisits k v) b ns = ofListed b (visitsLent least b k v ns)
-ended least (toDifference u v) b ns = ofListed b (differenceLent least b u v ns)
-ended least (toLife k) b ns = ofListed b (lifeLent least b k ns)
+-- what the definitions say of a call, for any bytes lent as a store and any list; making fresh is a call for each edition, and reads nothing
+-- of the bytes but their length
+abbrev pub ended : Asked → List ℕ → List ℕ → Ended
+ended toFresh b ns = ofOutcome ns (freshLent 4 b)
+ended toFreshSecond b ns = ofOutcome ns (freshLent 8 b)
+ended toCheck b ns = ofVerdict b ns (judgedAny b)
+ended toOpen b ns = ofOutcome ns (openAny b)
+ended toCommit b ns = ofOutcome ns (commitAny b)
+ended toAbandon b ns = ofOutcome ns (abandonAny b)
+ended (toInsert k x) b ns = ofOutcome ns (insertAny b k x)
+ended (toDelete k) b ns = ofOutcome ns (deleteAny b k)
+ended (toReturn v) b ns = ofOutcome ns (returnAny b v)
+ended (toLookup k v) b ns = ofLooked b ns (lookupAny b k v)
+ended (toRange lo hi v) b ns = ofListed b (rangeAny b lo hi v ns)
+ended (toVisits k v) b ns = ofListed b (visitsAny b k v ns)
+ended (toDifference u v) b ns = ofListed b (differenceAny b u v ns)
+ended (toLife k) b ns = ofListed b (lifeAny b k ns)
 
 -- a call's contract, said of an outcome
-abbrev pub Meets : ℕ → Asked → List ℕ → List ℕ → Ended → Type 0
-Meets least c b ns e = e ≡ ended least c b ns
+abbrev pub Meets : Asked → List ℕ → List ℕ → Ended → Type 0
+Meets c b ns e = e ≡ ended c b ns
+
+-- The same calls by the limits of one edition alone, in 01's order: with 4, what programs of edition 1 give. Making fresh makes a store of
+-- that edition.
+abbrev pub endedBy : ℕ → Asked → List ℕ → List ℕ → Ended
+endedBy least toFresh b ns = ofOutcome ns (freshLent least b)
+endedBy least toFreshSecond b ns = ofOutcome ns (freshLent least b)
+endedBy least toCheck b ns = ofVerdict b ns (judged least b)
+endedBy least toOpen b ns = ofOutcome ns (openLent least b)
+endedBy least toCommit b ns = ofOutcome ns (commitLent least b)
+endedBy least toAbandon b ns = ofOutcome ns (abandonLent least b)
+endedBy least (toInsert k x) b ns = ofOutcome ns (insertLent least b k x)
+endedBy least (toDelete k) b ns = ofOutcome ns (deleteLent least b k)
+endedBy least (toReturn v) b ns = ofOutcome ns (returnLent least b v)
+endedBy least (toLookup k v) b ns = ofLooked b ns (lookupLent least b k v)
+endedBy least (toRange lo hi v) b ns = ofListed b (rangeLent least b lo hi v ns)
+endedBy least (toVisits k v) b ns = ofListed b (visitsLent least b k v ns)
+endedBy least (toDifference u v) b ns = ofListed b (differenceLent least b u v ns)
+endedBy least (toLife k) b ns = ofListed b (lifeLent least b k ns)
+
+-- making fresh, for either edition: these calls read nothing of the bytes
+abbrev pub makes : Asked → Bool
+makes toFresh = true
+makes toFreshSecond = true
+makes toCheck = false
+makes toOpen = false
+makes toCommit = false
+makes toAbandon = false
+makes (toInsert k x) = false
+makes (toDelete k) = false
+makes (toReturn v) = false
+makes (toLookup k v) = false
+makes (toRange lo hi v) = false
+makes (toVisits k v) = false
+makes (toDifference u v) = false
+makes (toLife k) = false
 
 -- store and list are as they were
 pub record Untouched (b ns : List ℕ) (e : Ended) : Type 0 where
@@ -79,6 +117,7 @@ Excepted c n = ((v : ℕ) × (c ≡ toReturn v)) × ((n ≡ 12) ⊎ (n ≡ 13))
 -- "any result not named here is 0": the numbers besides 0 that come with a result
 abbrev pub Named : Asked → ℕ → Type 0
 Named toFresh n = ⊥
+Named toFreshSecond n = ⊥
 Named toCheck n = n ≡ 4
 Named toOpen n = ⊥
 Named toCommit n = ⊥
@@ -94,3 +133,9 @@ Named (toLife k) n = n ≡ 14
 
 abbrev pub Zeros : List ℕ → Type 0
 Zeros xs = all (λ (x : ℕ). eqb x 0) xs ≡ true
+
+-- a refusal: the number, store and list as they were, and every result 0
+pub record Refuses (n : ℕ) (b ns : List ℕ) (e : Ended) : Type 0 where
+  pub number : e .number ≡ n
+  pub untouched : Untouched b ns e
+  pub zeros : Zeros (e .results)

@@ -26,6 +26,9 @@ pub mod Inner
 pub mod Judged
 pub mod Near
 pub mod Lent
+pub mod Editions
+pub mod Any
+pub mod Convert
 pub mod Ended
 pub mod Kinds
 pub mod Named

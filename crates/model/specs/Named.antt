@@ -1,5 +1,5 @@
--- 2026-14: named settings and the viewer, on lent bytes. Each call is the layer's own number, or the store's call as it stands (Lent). These
--- are the right-hand sides of the layer's contracts.
+-- 2026-14: named settings and the viewer, on lent bytes. Each call is the layer's own number, or the store's call as it stands (Any). These
+-- are the right-hand sides of the layer's contracts, for stores of either edition.
 -- Assumes nothing.
 use Prim.Native.Nat.{ℕ}
 use mathlib.Core.Bool.{Bool, _||_}
@@ -15,7 +15,9 @@ use Rattle.model.specs.Layout.{decode}
 use Rattle.model.specs.Judged.{judged}
 use Rattle.model.specs.Calls.{rule, firstOf}
 use Rattle.model.specs.Near.{early}
-use Rattle.model.specs.Lent.{Outcome, Listed, judgedFirst, openLent, insertLent, deleteLent, commitLent, abandonLent, lookupLent, rangeLent}
+use Rattle.model.specs.Lent.{Outcome, Listed, judgedFirst, rangeLent}
+use Rattle.model.specs.Editions.{byEdition}
+use Rattle.model.specs.Any.{listedAny, openAny, insertAny, deleteAny, commitAny, abandonAny, lookupAny}
 use Rattle.model.specs.Ended.{Ended, ofOutcome, ofLooked, ofListed}
 use Rattle.model.specs.Kinds.{knownIn, allowed, unknown, unlike}
 
@@ -24,19 +26,19 @@ abbrev pub before : ℕ → List ℕ → Outcome → Outcome
 before n b out = judgedFirst n (λ m. record { number = m; store = b }) out
 
 -- "It inserts only a value of the kind inside the limits, both ends included, refusing others with 16 before the store sees them"
-unfoldable pub insertNamed : ℕ → List ℕ → List ℕ → ℕ → ℕ → Outcome
-insertNamed least table b k x = before (allowed (knownIn table k) x) b (insertLent least b k x)
+unfoldable pub insertNamed : List ℕ → List ℕ → ℕ → ℕ → Outcome
+insertNamed table b k x = before (allowed (knownIn table k) x) b (insertAny b k x)
 
 -- "An unknown key is refused with 17 on reading and writing, never skipped."
-unfoldable pub deleteNamed : ℕ → List ℕ → List ℕ → ℕ → Outcome
-deleteNamed least table b k = before (unknown (knownIn table k)) b (deleteLent least b k)
+unfoldable pub deleteNamed : List ℕ → List ℕ → ℕ → Outcome
+deleteNamed table b k = before (unknown (knownIn table k)) b (deleteAny b k)
 
-unfoldable pub lookupNamed : ℕ → List ℕ → List ℕ → ℕ → ℕ → Looked
-lookupNamed least table b k v = judgedFirst (unknown (knownIn table k)) (λ n. Refused n) (lookupLent least b k v)
+unfoldable pub lookupNamed : List ℕ → List ℕ → ℕ → ℕ → Looked
+lookupNamed table b k v = judgedFirst (unknown (knownIn table k)) (λ n. Refused n) (lookupAny b k v)
 
 -- a lookup that asks for a key of one kind, by the kind's number
-unfoldable pub kindNamed : ℕ → ℕ → List ℕ → List ℕ → ℕ → ℕ → Looked
-kindNamed number least table b k v = judgedFirst (unlike number (knownIn table k)) (λ n. Refused n) (lookupLent least b k v)
+unfoldable pub kindNamed : ℕ → List ℕ → List ℕ → ℕ → ℕ → Looked
+kindNamed number table b k v = judgedFirst (unlike number (knownIn table k)) (λ n. Refused n) (lookupAny b k v)
 
 -- each of these settings has a known key
 abbrev pub allKnown : List ℕ → List Pair → Bool
@@ -48,15 +50,21 @@ barred least b lo hi v =
     judgedFirst (judged least b .number) (λ n. n) (firstOf (rule 5 (leb keyLimit lo || leb keyLimit hi || ltb hi lo) ∷ rule 6 (ltb (last (decode least b)) v) ∷ []))
 
 -- "never skipped": a range that meets an unknown key is refused as a whole, before 14
-unfoldable pub rangeNamed : ℕ → List ℕ → List ℕ → ℕ → ℕ → ℕ → List ℕ → Listed
-rangeNamed least table b lo hi v ns =
+unfoldable pub rangeNamedBy : ℕ → List ℕ → List ℕ → ℕ → ℕ → ℕ → List ℕ → Listed
+rangeNamedBy least table b lo hi v ns =
     judgedFirst (barred least b lo hi v) (λ n. record { number = n; count = 0; list = ns })
     (pick (allKnown table (rangeOf (decode least b) lo hi v)) (rangeLent least b lo hi v ns) (record { number = 17; count = 0; list = ns }))
 
+unfoldable pub rangeNamed : List ℕ → List ℕ → ℕ → ℕ → ℕ → List ℕ → Listed
+rangeNamed table b lo hi v ns = listedAny b ns (λ least. rangeNamedBy least table b lo hi v ns)
+
 -- "The viewer is a reader opened once on a store and one version": the number that opening it gives. It judges as a lookup does before its
 -- walk: 1 to 4 by the header and the slots, or 6.
-unfoldable pub viewed : ℕ → List ℕ → ℕ → ℕ
-viewed least b v = firstOf (early least b (rule 6 (ltb (last (decode least b)) v) ∷ []))
+unfoldable pub viewedBy : ℕ → List ℕ → ℕ → ℕ
+viewedBy least b v = firstOf (early least b (rule 6 (ltb (last (decode least b)) v) ∷ []))
+
+unfoldable pub viewed : List ℕ → ℕ → ℕ
+viewed b v = byEdition b (λ n. n) (λ least. viewedBy least b v)
 
 -- ---- the calls of a program that goes by the layer, taken as one: open, commit and abandon are the store's own
 
@@ -67,11 +75,11 @@ pub data ByName : Type 0 where
   byLookup : ℕ → ℕ → ByName
   byRange : ℕ → ℕ → ℕ → ByName
 
-abbrev pub endedNamed : ℕ → List ℕ → ByName → List ℕ → List ℕ → Ended
-endedNamed least table byOpen b ns = ofOutcome ns (openLent least b)
-endedNamed least table byCommit b ns = ofOutcome ns (commitLent least b)
-endedNamed least table byAbandon b ns = ofOutcome ns (abandonLent least b)
-endedNamed least table (byInsert k x) b ns = ofOutcome ns (insertNamed least table b k x)
-endedNamed least table (byDelete k) b ns = ofOutcome ns (deleteNamed least table b k)
-endedNamed least table (byLookup k v) b ns = ofLooked b ns (lookupNamed least table b k v)
-endedNamed least table (byRange lo hi v) b ns = ofListed b (rangeNamed least table b lo hi v ns)
+abbrev pub endedNamed : List ℕ → ByName → List ℕ → List ℕ → Ended
+endedNamed table byOpen b ns = ofOutcome ns (openAny b)
+endedNamed table byCommit b ns = ofOutcome ns (commitAny b)
+endedNamed table byAbandon b ns = ofOutcome ns (abandonAny b)
+endedNamed table (byInsert k x) b ns = ofOutcome ns (insertNamed table b k x)
+endedNamed table (byDelete k) b ns = ofOutcome ns (deleteNamed table b k)
+endedNamed table (byLookup k v) b ns = ofLooked b ns (lookupNamed table b k v)
+endedNamed table (byRange lo hi v) b ns = ofListed b (rangeNamed table b lo hi v ns)

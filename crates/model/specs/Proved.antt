@@ -24,7 +24,7 @@ use Rattle.model.specs.Bench.{benchRun}
 use Rattle.model.specs.Releases.{releases}
 use Rattle.model.specs.Return
 use Rattle.model.specs.GoingBack.{goingBack}
-use Rattle.model.specs.Vectors.{freshBytes, entryForty, fortyBytes}
+use Rattle.model.specs.Vectors.{freshBytes, freshSecondBytes, entryForty, fortyBytes}
 use Rattle.model.specs.Figures.{Figure, made, figures}
 use Rattle.model.specs.Samples.{twoLevels, fromElsewhere, served, visited, visitedPages}
 use Rattle.model.specs.Differ
@@ -134,6 +134,10 @@ back-sound = tt
 pub fresh-bytes : encode 4 (fresh 6) ≡ freshBytes
 unfolding writing
 fresh-bytes = refl
+
+pub fresh-second-bytes : encode 8 (fresh 6) ≡ freshSecondBytes
+unfolding writing
+fresh-second-bytes = refl
 
 pub forty-bytes : entryBytes entryForty ≡ fortyBytes
 unfolding writing

@@ -1,4 +1,4 @@
--- The bytes that document 01 writes out.
+-- The bytes that document 01 writes out, and those of a fresh store of edition 2.
 -- Assumes nothing.
 use Prim.Native.Nat.{ℕ}
 use mathlib.Core.List.{List, [], _∷_, _++_}
@@ -21,6 +21,16 @@ pageBytes = 0x10 ∷ 0x00 ∷ 0x00 ∷ 0x07 ∷ 0xff ∷ 0xff ∷ 0x80 ∷ []
 -- "A fresh 6-page store: .. all else is zero": 256 bytes of header, four pages of slots, page 5
 abbrev pub freshBytes : List ℕ
 freshBytes = headerBytes ++ replicate 245 0 ++ slotBytes ++ replicate 1020 0 ++ pageBytes ++ replicate 249 0
+
+-- the same of edition 2: "512-byte pages", "a 6-bit count", "a directory of 512 slots with a 10-bit count"
+abbrev pub secondHeader : List ℕ
+secondHeader = 0x52 ∷ 0x43 ∷ 0x53 ∷ 0x54 ∷ 0x02 ∷ 0x00 ∷ 0x30 ∷ 0x00 ∷ 0x00 ∷ 0x00 ∷ 0x10 ∷ []
+
+abbrev pub secondPage : List ℕ
+secondPage = 0x10 ∷ 0x00 ∷ 0x00 ∷ 0x03 ∷ 0xff ∷ 0xff ∷ 0xc0 ∷ []
+
+abbrev pub freshSecondBytes : List ℕ
+freshSecondBytes = secondHeader ++ replicate 501 0 ++ slotBytes ++ replicate 2044 0 ++ secondPage ++ replicate 505 0
 
 -- "Key 40, value 7, inserted in version 1: `00 00 28 00 00 1F FF FF 00 00 00 07`"
 abbrev pub entryForty : Entry

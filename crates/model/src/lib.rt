@@ -111,6 +111,22 @@ pub fn edition_one() -> Limits
     }
 }
 
+// The limits of edition 2.
+pub fn edition_two() -> Limits
+    ensures two { λ r. ⌜ r ≡ limits 8 ⌝ }
+{
+    Limits {
+        least: 8,
+        merge: 16,
+        full: 32,
+        room: 40,
+        bytes: 512,
+        slots: 512,
+        counter: 6,
+        rooter: 10,
+    }
+}
+
 // The edition whose limits these are.
 pub fn edition_of(l: Limits) -> u32
     ensures { λ r. ⌜ r ≡ editionOf (l .least) ⌝ }

@@ -10,7 +10,7 @@ ghost use Rattle.model.specs.Lent.{leaving};
 
 // Inserts a setting in the open update, if its key is known and its value of the kind.
 pub fn insert(s: &mut [u8], table: &[u32], key: u32, value: u32) -> u32
-    ensures { λ r. ⌜ leaving r (now (s .exit)) ≡ insertNamed 4 (now (table .entry)) (now (s .entry)) key value ⌝ }
+    ensures { λ r. ⌜ leaving r (now (s .exit)) ≡ insertNamed (now (table .entry)) (now (s .entry)) key value ⌝ }
 {
     let n = kinds::allowed(kinds::kind_of(table, key), value);
     if n != 0 {
@@ -21,7 +21,7 @@ pub fn insert(s: &mut [u8], table: &[u32], key: u32, value: u32) -> u32
 
 // Deletes a setting in the open update, if its key is known.
 pub fn delete(s: &mut [u8], table: &[u32], key: u32) -> u32
-    ensures { λ r. ⌜ leaving r (now (s .exit)) ≡ deleteNamed 4 (now (table .entry)) (now (s .entry)) key ⌝ }
+    ensures { λ r. ⌜ leaving r (now (s .exit)) ≡ deleteNamed (now (table .entry)) (now (s .entry)) key ⌝ }
 {
     let n = kinds::unknown(kinds::kind_of(table, key));
     if n != 0 {
@@ -32,7 +32,7 @@ pub fn delete(s: &mut [u8], table: &[u32], key: u32) -> u32
 
 // What a viewer shows of a known key. The value is shown as it is, inside its kind's limits or not.
 pub fn lookup(s: &[u8], table: &[u32], key: u32, v: u32) -> Looked
-    ensures { λ r. ⌜ r ≡ lookupNamed 4 (now (table .entry)) (now (s .entry)) key v ⌝ }
+    ensures { λ r. ⌜ r ≡ lookupNamed (now (table .entry)) (now (s .entry)) key v ⌝ }
 {
     let n = kinds::unknown(kinds::kind_of(table, key));
     if n != 0 {
@@ -43,7 +43,7 @@ pub fn lookup(s: &[u8], table: &[u32], key: u32, v: u32) -> Looked
 
 // What a viewer shows of a key of one kind: 0 a whole number, 1 a switch, 2 a level.
 pub fn lookup_kind(s: &[u8], table: &[u32], number: u32, key: u32, v: u32) -> Looked
-    ensures { λ r. ⌜ r ≡ kindNamed number 4 (now (table .entry)) (now (s .entry)) key v ⌝ }
+    ensures { λ r. ⌜ r ≡ kindNamed number (now (table .entry)) (now (s .entry)) key v ⌝ }
 {
     let n = kinds::unlike(number, kinds::kind_of(table, key));
     if n != 0 {

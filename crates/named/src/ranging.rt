@@ -1,11 +1,13 @@
 // The range of the layer: refused as a whole where it meets an unknown key, so that none is skipped.
 use model::Limits;
+use store::edition_lent;
 use walk::Counted;
 ghost use mathlib.Core.Path.{_≡_};
 ghost use Prim.Native.Nat.{_<_};
 ghost use Rattle.model.specs.Walk.{keyLimit, rangeOf};
 ghost use Rattle.model.specs.Layout.{decode};
-ghost use Rattle.model.specs.Named.{allKnown, rangeNamed};
+ghost use Rattle.model.specs.Limits.{Edition};
+ghost use Rattle.model.specs.Named.{allKnown, rangeNamedBy, rangeNamed};
 ghost use Rattle.walk.specs.Counted.{withList};
 ghost use Rattle.walk.specs.Sure.{Readable};
 
@@ -28,12 +30,19 @@ fn all_known(s: &[u8], l: Limits, table: &[u32], low: u32, high: u32, v: u32) ->
     true
 }
 
-// The settings from low to high, both included, in key order, if each has a known key: their number, and key, value, key, value in the
-// caller's list. Nothing is written before all keys are known.
-pub fn range(s: &[u8], table: &[u32], low: u32, high: u32, v: u32, list: &mut [u32]) -> Counted
-    ensures { λ r. ⌜ withList r (now (list .exit)) ≡ rangeNamed 4 (now (table .entry)) (now (s .entry)) low high v (now (list .entry)) ⌝ }
+// The range by the limits of the store's edition. Nothing is written before all keys are known.
+fn range_in(
+    s: &[u8],
+    l: Limits,
+    table: &[u32],
+    low: u32,
+    high: u32,
+    v: u32,
+    list: &mut [u32],
+) -> Counted
+    requires { ⌜ Edition l ⌝ }
+    ensures { λ r. ⌜ withList r (now (list .exit)) ≡ rangeNamedBy (l .least) (now (table .entry)) (now (s .entry)) low high v (now (list .entry)) ⌝ }
 {
-    let l = model::edition_one();
     let n = calls::guard_reading(s, l, near::guard::bad_range(low, high), v);
     if n != 0 {
         return Counted {
@@ -47,5 +56,20 @@ pub fn range(s: &[u8], table: &[u32], low: u32, high: u32, v: u32, list: &mut [u
             count: 0,
         };
     }
-    calls::range(s, low, high, v, list)
+    near::range(s, l, low, high, v, list)
+}
+
+// The settings from low to high, both included, in key order, if each has a known key: their number, and key, value, key, value in the
+// caller's list.
+pub fn range(s: &[u8], table: &[u32], low: u32, high: u32, v: u32, list: &mut [u32]) -> Counted
+    ensures { λ r. ⌜ withList r (now (list .exit)) ≡ rangeNamed (now (table .entry)) (now (s .entry)) low high v (now (list .entry)) ⌝ }
+{
+    let e = edition_lent(s);
+    if e.number != 0 {
+        return Counted {
+            number: e.number,
+            count: 0,
+        };
+    }
+    range_in(s, e.limits, table, low, high, v, list)
 }

@@ -2,12 +2,17 @@
 -- Assumes nothing.
 use Prim.Native.Nat.{ℕ}
 use mathlib.Core.Path.{_≡_, ap, ap₂, sym, subst}
+use mathlib.Core.Logic.{_≢_}
 use mathlib.Core.List.{List, [], _∷_}
-use lib.Dec.{lit≤}
+use Rattle.model.specs.Lent.{Outcome, leaving}
+use Rattle.model.specs.Convert.{convertLent}
 use Rattle.model.specs.Ended.{Asked, Ended, ofOutcome, Meets}
 use Rattle.host.proofs.rcst_fresh as rcst-fresh
 use Rattle.host.proofs.rcst_fresh.Symbol as rcst-fresh-code
 use Rattle.host.proofs.rcst_fresh.Met as rcst-fresh-met
+use Rattle.host.proofs.rcst_fresh_second as rcst-fresh-second
+use Rattle.host.proofs.rcst_fresh_second.Symbol as rcst-fresh-second-code
+use Rattle.host.proofs.rcst_fresh_second.Met as rcst-fresh-second-met
 use Rattle.host.proofs.rcst_check as rcst-check
 use Rattle.host.proofs.rcst_check.Symbol as rcst-check-code
 use Rattle.host.proofs.rcst_check.Met as rcst-check-met
@@ -41,25 +46,38 @@ use Rattle.host.proofs.rcst_visits.Met as rcst-visits-met
 use Rattle.host.proofs.rcst_difference as rcst-difference
 use Rattle.host.proofs.rcst_difference.Symbol as rcst-difference-code
 use Rattle.host.proofs.rcst_difference.Met as rcst-difference-met
+use Rattle.host.proofs.rcst_convert as rcst-convert
+use Rattle.host.proofs.rcst_convert.Symbol as rcst-convert-code
+use Rattle.host.proofs.rcst_convert.Met as rcst-convert-met
 use Rattle.host.proofs.rcst_life as rcst-life
 use Rattle.host.proofs.rcst_life.Symbol as rcst-life-code
 use Rattle.host.proofs.rcst_life.Met as rcst-life-met
 use Rattle.promises.specs.Accepts.{Accepts}
 use Rattle.promises.specs.Demand1.{TurnedAway}
+use Rattle.promises.specs.Converts.{Converted, Emptied, Lacks}
 use Rattle.promises.proofs.Promises as promises
-use Rattle.offered.specs.Promised.{Promised, gave}
-use Rattle.offered.specs.Offered.{Fresh, Check, Open, Insert, Delete, Commit, Abandon, Return, Lookup, Range, Visits, Difference, Life, AllOffered}
+use Rattle.offered.specs.Promised.{Promised, gave, Conversion}
+use Rattle.offered.specs.Offered.{Fresh, FreshSecond, Check, Open, Insert, Delete, Commit, Abandon, Return, Lookup, Range, Visits, Difference, Life, Convert, AllOffered}
 use Rattle.offered.proofs.Passing.{by-one, by-two, by-three}
 
 -- what meets a call's contract has all that is promised of the call
-promised : (c : Asked) (b ns : List ℕ) (e : Ended) → Meets 4 c b ns e → Promised c b ns e
+promised : (c : Asked) (b ns : List ℕ) (e : Ended) → Meets c b ns e → Promised c b ns e
 promised c b ns e m = record {
   meets = m;
-  only = λ f p. promises.unique 4 c b ns f e p m;
-  refused = promises.refused 4 c b ns e m;
-  blank = promises.blank 4 c b ns e m;
-  untrusted = λ j no. subst (λ (x : Ended). TurnedAway b ns x) (sym m) (promises.untrusted 4 c b ns j no);
-  stays = λ ok f. subst (λ (x : Ended). Accepts 4 (x .store)) (sym m) (promises.sound-stays 4 (lit≤ tt) (lit≤ tt) b ok (record { call = c; list = ns }) f);
+  only = λ f p. promises.unique c b ns f e p m;
+  refused = promises.refused c b ns e m;
+  blank = promises.blank c b ns e m;
+  untrusted = λ j no. subst (λ (x : Ended). TurnedAway b ns x) (sym m) (promises.untrusted c b ns j no);
+  stays = λ ok f. subst (λ (x : Ended). Accepts (x .store)) (sym m) (promises.sound-stays b ok (record { call = c; list = ns }) f);
+}
+
+-- and of the converter
+conversion : (b t : List ℕ) (n : ℕ) (t′ : List ℕ) → leaving n t′ ≡ convertLent b t → Conversion b t n t′
+conversion b t n t′ x = record {
+  meets = x;
+  done = subst (λ (o : Outcome). o .number ≡ 0 → Converted b (o .store)) (sym x) (promises.converts .done b t);
+  lacking = subst (λ (o : Outcome). Lacks (o .number) → Emptied t (o .store)) (sym x) (promises.converts .lacking b t);
+  untouched = subst (λ (o : Outcome). o .number ≢ 0 → (Lacks (o .number) → ⊥) → o .store ≡ t) (sym x) (promises.converts .untouched b t);
 }
 
 -- ---- the parts of an outcome, put together
@@ -81,6 +99,7 @@ list-told b x y z = λ i. gave (x i) (y i ∷ []) b (z i)
 pub all-offered : {M : Type 1} → AllOffered M
 all-offered = record {
   fresh = by-two rcst-fresh.ended rcst-fresh-code.routine Fresh _ _ rcst-fresh-met.met (λ κs a r e x y ns. promised _ _ ns _ (moved ns x y));
+  fresh-second = by-two rcst-fresh-second.ended rcst-fresh-second-code.routine FreshSecond _ _ rcst-fresh-second-met.met (λ κs a r e x y ns. promised _ _ ns _ (moved ns x y));
   check = by-two rcst-check.ended rcst-check-code.routine Check _ _ rcst-check-met.met (λ κs a r e x y ns. promised _ _ ns _ (one-told _ ns x y));
   opens = by-one rcst-open.ended rcst-open-code.routine Open _ rcst-open-met.met (λ κs a r e x ns. promised _ _ ns _ (ap (ofOutcome ns) x));
   insert = by-one rcst-insert.ended rcst-insert-code.routine Insert _ rcst-insert-met.met (λ κs a r e x ns. promised _ _ ns _ (ap (ofOutcome ns) x));
@@ -92,5 +111,6 @@ all-offered = record {
   range = by-three rcst-range.ended rcst-range-code.routine Range _ _ _ rcst-range-met.met (λ κs a r e x y z. promised _ _ _ _ (list-told _ x y z));
   visits = by-three rcst-visits.ended rcst-visits-code.routine Visits _ _ _ rcst-visits-met.met (λ κs a r e x y z. promised _ _ _ _ (list-told _ x y z));
   difference = by-three rcst-difference.ended rcst-difference-code.routine Difference _ _ _ rcst-difference-met.met (λ κs a r e x y z. promised _ _ _ _ (list-told _ x y z));
+  convert = by-one rcst-convert.ended rcst-convert-code.routine Convert _ rcst-convert-met.met (λ κs a r e x. conversion _ _ _ _ x);
   life = by-three rcst-life.ended rcst-life-code.routine Life _ _ _ rcst-life-met.met (λ κs a r e x y z. promised _ _ _ _ (list-told _ x y z));
 }

@@ -4,9 +4,11 @@
 use Prim.Native.Nat.{ℕ}
 use mathlib.Core.List.{List, [], _∷_}
 use denote.Ref.{now}
-use Rattle.model.specs.Ended.{toFresh, toCheck, toOpen, toCommit, toAbandon, toInsert, toDelete, toReturn, toLookup, toRange, toVisits, toDifference, toLife}
+use Rattle.model.specs.Ended.{toFresh, toFreshSecond, toCheck, toOpen, toCommit, toAbandon, toInsert, toDelete, toReturn, toLookup, toRange, toVisits, toDifference, toLife}
 use Rattle.host.proofs.rcst_fresh as rcst-fresh
 use Rattle.host.proofs.rcst_fresh.Symbol as rcst-fresh-code
+use Rattle.host.proofs.rcst_fresh_second as rcst-fresh-second
+use Rattle.host.proofs.rcst_fresh_second.Symbol as rcst-fresh-second-code
 use Rattle.host.proofs.rcst_check as rcst-check
 use Rattle.host.proofs.rcst_check.Symbol as rcst-check-code
 use Rattle.host.proofs.rcst_open as rcst-open
@@ -29,13 +31,18 @@ use Rattle.host.proofs.rcst_visits as rcst-visits
 use Rattle.host.proofs.rcst_visits.Symbol as rcst-visits-code
 use Rattle.host.proofs.rcst_difference as rcst-difference
 use Rattle.host.proofs.rcst_difference.Symbol as rcst-difference-code
+use Rattle.host.proofs.rcst_convert as rcst-convert
+use Rattle.host.proofs.rcst_convert.Symbol as rcst-convert-code
 use Rattle.host.proofs.rcst_life as rcst-life
 use Rattle.host.proofs.rcst_life.Symbol as rcst-life-code
 use Rattle.offered.specs.Does.{Says, Does}
-use Rattle.offered.specs.Promised.{Promised, gave}
+use Rattle.offered.specs.Promised.{Promised, gave, Conversion}
 
 abbrev pub Fresh : Says rcst-fresh.ended
 Fresh κs a r e = (ns : List ℕ) → Promised toFresh (now (a .0)) ns (gave r [] (now (e .0)) ns)
+
+abbrev pub FreshSecond : Says rcst-fresh-second.ended
+FreshSecond κs a r e = (ns : List ℕ) → Promised toFreshSecond (now (a .0)) ns (gave r [] (now (e .0)) ns)
 
 abbrev pub Check : Says rcst-check.ended
 Check κs a r e = (ns : List ℕ) → Promised toCheck (now (a .0)) ns (gave r (now (e .1 .0) ∷ []) (now (a .0)) ns)
@@ -73,9 +80,13 @@ Difference κs a r e = Promised (toDifference (a .1 .0) (a .1 .1 .0)) (now (a .0
 abbrev pub Life : Says rcst-life.ended
 Life κs a r e = Promised (toLife (a .1 .0)) (now (a .0)) (now (a .1 .1 .0)) (gave r (now (e .1 .1 .1 .0) ∷ []) (now (a .0)) (now (e .1 .1 .0)))
 
+abbrev pub Convert : Says rcst-convert.ended
+Convert κs a r e = Conversion (now (a .0)) (now (a .1 .0)) r (now (e .1 .0))
+
 -- what all of them do
 pub record AllOffered (M : Type 1) : Type 2 where
   pub fresh : Does rcst-fresh.ended rcst-fresh-code.routine Fresh M
+  pub fresh-second : Does rcst-fresh-second.ended rcst-fresh-second-code.routine FreshSecond M
   pub check : Does rcst-check.ended rcst-check-code.routine Check M
   pub opens : Does rcst-open.ended rcst-open-code.routine Open M
   pub insert : Does rcst-insert.ended rcst-insert-code.routine Insert M
@@ -88,3 +99,4 @@ pub record AllOffered (M : Type 1) : Type 2 where
   pub visits : Does rcst-visits.ended rcst-visits-code.routine Visits M
   pub difference : Does rcst-difference.ended rcst-difference-code.routine Difference M
   pub life : Does rcst-life.ended rcst-life-code.routine Life M
+  pub convert : Does rcst-convert.ended rcst-convert-code.routine Convert M

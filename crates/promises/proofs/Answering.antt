@@ -13,10 +13,10 @@ use Rattle.model.specs.Basic.{inOrder}
 use Rattle.model.specs.declared.Pair.{Pair}
 use Rattle.model.specs.Store.{Store, next, last, lastOf}
 use Rattle.model.specs.Walk.{keyLimit, find, lookup, settings, between, rangeOf}
-use Rattle.model.specs.Layout.{decode}
+use Rattle.model.specs.Editions.{leastOf}
 use Rattle.model.specs.Calls
 use Rattle.model.specs.Same.{samePairs}
-use Rattle.model.specs.Calls.{unchanged, isSome, rule, benchLimit, insertTests, deleteTests, firstOf, lookedBy, Ranged, rangedBy, get, range}
+use Rattle.model.specs.Calls.{unchanged, isSome, rule, benchLimit, insertTests, deleteTests, firstOf, lookedBy, rangedBy, get, range}
 use Rattle.model.specs.Told
 use Rattle.model.specs.Told.{toldBy}
 use Rattle.model.specs.Differ
@@ -26,25 +26,32 @@ use Rattle.model.specs.Life.{lifeOf, lived, stretchNumbers}
 use Rattle.model.specs.Return.{returnTests}
 use Rattle.model.specs.Histories.{begins, commits, abandons, inserts, deletes, returns}
 use Rattle.model.specs.Settings.{Machine}
-use Rattle.model.specs.Lent
-use Rattle.model.specs.Lent.{judgedFirst, listed}
+use Rattle.model.specs.Lent.{listed}
 use Rattle.model.specs.Ended.{toInsert, toDelete, toReturn, toLookup, toRange, toLife, toDifference, ofLooked, ofListed, ended}
 use Rattle.model.proofs.Lives.{life-ext}
 use Rattle.model.proofs.Lookups.{lookup-is, settings-rise}
 use Rattle.model.proofs.Ranges.{range-is}
+use Rattle.promises.specs.Accepts.{storeOf}
 use Rattle.promises.specs.Beside.{Beside}
 use Rattle.promises.specs.Answers.{lastIn, lookupTests, rangeTests, differenceTests, openTests, endTests, commitTests, lookedIn, rangedFrom, livedIn, toldFrom, aliveIn, unchangedIn, Gives, Answers, lifeTests}
 use Rattle.promises.proofs.High.{begin-number, commit-number, abandon-number, insert-number, delete-number, return-number}
+use Rattle.promises.proofs.Known.{four}
 use Rattle.promises.proofs.Lending.{change-number}
-use Rattle.promises.proofs.Sounding.{lookup-lent, range-lent}
+use Rattle.promises.proofs.Sounding.{lookup-lent, range-lent, difference-lent, life-lent}
 use Rattle.promises.proofs.Agreed.{Agreed}
 
-module _ (least : ℕ) (four : 4 ≤ least) (eight : least ≤ 8) (x : Beside) (a : Agreed least x) where
+module _ (x : Beside) (a : Agreed x) where
+  abbrev l : ℕ
+  l = leastOf (x .bytes)
+
   abbrev s : Store
-  s = decode least (x .bytes)
+  s = storeOf (x .bytes)
 
   abbrev m : Machine
   m = x .machine
+
+  two : 2 ≤ l
+  two = omega (arith, four (x .bytes))
 
   last-is : last s ≡ lastIn m
   last-is = ap₂ lastOf (a .agrees .opened) (a .agrees .current)
@@ -52,7 +59,7 @@ module _ (least : ℕ) (four : 4 ≤ least) (eight : least ≤ 8) (x : Beside) (
   -- ---- a lookup
 
   lookup-here : (k v : ℕ) → k < keyLimit → v ≤ last s → lookup s k v ≡ find k (m .shows v)
-  lookup-here k v low h = lookup-is least (omega arith) s (a .agrees .is-sound) k v low h ∙ ap (find k) (a .agrees .shows v h)
+  lookup-here k v low h = lookup-is l two s (a .agrees .is-sound) k v low h ∙ ap (find k) (a .agrees .shows v h)
 
   get-is : (k v : ℕ) → get s k v ≡ lookedIn m k v
   unfolding Calls.get
@@ -63,8 +70,8 @@ module _ (least : ℕ) (four : 4 ≤ least) (eight : least ≤ 8) (x : Beside) (
       at false e true f = refl
       at false e false f = ap (λ (o : Option ℕ). lookedBy 0 o) (lookup-here k v (leb-false keyLimit k e) (ltb-false (last s) v f))
 
-  lookup-answers : (k v : ℕ) (ns : List ℕ) → ended least (toLookup k v) (x .bytes) ns ≡ ofLooked (x .bytes) ns (lookedIn m k v)
-  lookup-answers k v ns = ap (ofLooked (x .bytes) ns) (lookup-lent least four eight (x .bytes) (a .accepted) k v ∙ get-is k v)
+  lookup-answers : (k v : ℕ) (ns : List ℕ) → ended (toLookup k v) (x .bytes) ns ≡ ofLooked (x .bytes) ns (lookedIn m k v)
+  lookup-answers k v ns = ap (ofLooked (x .bytes) ns) (lookup-lent (x .bytes) (a .accepted) k v ∙ get-is k v)
 
   -- ---- a range
 
@@ -86,10 +93,10 @@ module _ (least : ℕ) (four : 4 ≤ least) (eight : least ≤ 8) (x : Beside) (
       at false e true f = refl
       at false e false f =
           let h : v ≤ last s = ltb-false (last s) v f in
-          ap (rangedBy 0 room) (range-is least (omega arith) s (a .agrees .is-sound) lo hi v (low-is lo hi e) h ∙ ap (between lo hi) (a .agrees .shows v h))
+          ap (rangedBy 0 room) (range-is l two s (a .agrees .is-sound) lo hi v (low-is lo hi e) h ∙ ap (between lo hi) (a .agrees .shows v h))
 
-  range-answers : (lo hi v : ℕ) (ns : List ℕ) → ended least (toRange lo hi v) (x .bytes) ns ≡ ofListed (x .bytes) (listed ns (rangedFrom m lo hi v (length ns)))
-  range-answers lo hi v ns = ap (ofListed (x .bytes)) (range-lent least four eight (x .bytes) (a .accepted) lo hi v ns ∙ ap (listed ns) (range-here lo hi v (length ns)))
+  range-answers : (lo hi v : ℕ) (ns : List ℕ) → ended (toRange lo hi v) (x .bytes) ns ≡ ofListed (x .bytes) (listed ns (rangedFrom m lo hi v (length ns)))
+  range-answers lo hi v ns = ap (ofListed (x .bytes)) (range-lent (x .bytes) (a .accepted) lo hi v ns ∙ ap (listed ns) (range-here lo hi v (length ns)))
 
   -- ---- a difference
 
@@ -104,11 +111,8 @@ module _ (least : ℕ) (four : 4 ≤ least) (eight : least ≤ 8) (x : Beside) (
       at false e true f = refl
       at false e false f = ap₂ (λ (us ws : List Pair). toldBy deltaNumbers 4 0 room (differ us ws)) (a .agrees .shows u (ltb-false (last s) u e)) (a .agrees .shows v (ltb-false (last s) v f))
 
-  difference-answers : (u v : ℕ) (ns : List ℕ) → ended least (toDifference u v) (x .bytes) ns ≡ ofListed (x .bytes) (listed ns (toldFrom m u v (length ns)))
-  unfolding Lent.differenceLent
-  difference-answers u v ns =
-      ap (λ (n : ℕ). ofListed (x .bytes) (judgedFirst n (λ j. record { number = j; count = 0; list = ns }) (listed ns (difference s u v (length ns))))) (a .accepted)
-      ∙ ap (λ (r : Ranged). ofListed (x .bytes) (listed ns r)) (difference-here u v (length ns))
+  difference-answers : (u v : ℕ) (ns : List ℕ) → ended (toDifference u v) (x .bytes) ns ≡ ofListed (x .bytes) (listed ns (toldFrom m u v (length ns)))
+  difference-answers u v ns = ap (ofListed (x .bytes)) (difference-lent (x .bytes) (a .accepted) u v ns ∙ ap (listed ns) (difference-here u v (length ns)))
 
   -- ---- a life
 
@@ -129,11 +133,8 @@ module _ (least : ℕ) (four : 4 ≤ least) (eight : least ≤ 8) (x : Beside) (
       at false e =
           ap (toldBy stretchNumbers 3 0 room) (life-ext (s .current) (lookup s k) (λ (v : ℕ). find k (m .shows v)) (λ v h. lookup-here k v (leb-false keyLimit k e) (committed v h)))
 
-  life-answers : (k : ℕ) (ns : List ℕ) → ended least (toLife k) (x .bytes) ns ≡ ofListed (x .bytes) (listed ns (livedIn m k (length ns)))
-  unfolding Lent.lifeLent
-  life-answers k ns =
-      ap (λ (n : ℕ). ofListed (x .bytes) (judgedFirst n (λ j. record { number = j; count = 0; list = ns }) (listed ns (lived s k (length ns))))) (a .accepted)
-      ∙ ap (λ (r : Ranged). ofListed (x .bytes) (listed ns r)) (lived-here k (length ns))
+  life-answers : (k : ℕ) (ns : List ℕ) → ended (toLife k) (x .bytes) ns ≡ ofListed (x .bytes) (listed ns (livedIn m k (length ns)))
+  life-answers k ns = ap (ofListed (x .bytes)) (life-lent (x .bytes) (a .accepted) k ns ∙ ap (listed ns) (lived-here k (length ns)))
 
   -- ---- numbers
 
@@ -158,17 +159,17 @@ module _ (least : ℕ) (four : 4 ≤ least) (eight : least ≤ 8) (x : Beside) (
   delete-same : (k : ℕ) → firstOf (deleteTests k (s .opened) (isSome (lookup s k (next s)))) ≡ firstOf (deleteTests k (m .opened) (aliveIn m k))
   delete-same k = tests-same k (leb keyLimit k) (leb-false keyLimit k) 11 not
 
-  insert-gives : (k v : ℕ) (ns : List ℕ) → Gives (firstOf (insertTests k (m .opened) (aliveIn m k))) (ended least (toInsert k v) (x .bytes) ns .number)
-  insert-gives k v ns = subst (λ (n : ℕ). Gives n (ended least (toInsert k v) (x .bytes) ns .number)) (insert-same k)
-      (subst (Gives (firstOf (insertTests k (s .opened) (isSome (lookup s k (next s)))))) (sym (change-number least (x .bytes) (a .accepted) (inserts k v) ns)) (insert-number least s k v))
+  insert-gives : (k v : ℕ) (ns : List ℕ) → Gives (firstOf (insertTests k (m .opened) (aliveIn m k))) (ended (toInsert k v) (x .bytes) ns .number)
+  insert-gives k v ns = subst (λ (n : ℕ). Gives n (ended (toInsert k v) (x .bytes) ns .number)) (insert-same k)
+      (subst (Gives (firstOf (insertTests k (s .opened) (isSome (lookup s k (next s)))))) (sym (change-number (x .bytes) (a .accepted) (inserts k v) ns)) (insert-number l s k v))
 
-  delete-gives : (k : ℕ) (ns : List ℕ) → Gives (firstOf (deleteTests k (m .opened) (aliveIn m k))) (ended least (toDelete k) (x .bytes) ns .number)
-  delete-gives k ns = subst (λ (n : ℕ). Gives n (ended least (toDelete k) (x .bytes) ns .number)) (delete-same k)
-      (subst (Gives (firstOf (deleteTests k (s .opened) (isSome (lookup s k (next s)))))) (sym (change-number least (x .bytes) (a .accepted) (deletes k) ns)) (delete-number least s k))
+  delete-gives : (k : ℕ) (ns : List ℕ) → Gives (firstOf (deleteTests k (m .opened) (aliveIn m k))) (ended (toDelete k) (x .bytes) ns .number)
+  delete-gives k ns = subst (λ (n : ℕ). Gives n (ended (toDelete k) (x .bytes) ns .number)) (delete-same k)
+      (subst (Gives (firstOf (deleteTests k (s .opened) (isSome (lookup s k (next s)))))) (sym (change-number (x .bytes) (a .accepted) (deletes k) ns)) (delete-number l s k))
 
-  return-gives : (v : ℕ) (ns : List ℕ) → Gives (firstOf (returnTests (m .current) (m .opened) v)) (ended least (toReturn v) (x .bytes) ns .number)
-  return-gives v ns = subst (λ (n : ℕ). Gives n (ended least (toReturn v) (x .bytes) ns .number)) (ap₂ (λ (n : ℕ) (o : Bool). firstOf (returnTests n o v)) (a .agrees .current) (a .agrees .opened))
-      (subst (Gives (firstOf (returnTests (s .current) (s .opened) v))) (sym (change-number least (x .bytes) (a .accepted) (returns v) ns)) (return-number least four s (a .agrees .is-sound) v))
+  return-gives : (v : ℕ) (ns : List ℕ) → Gives (firstOf (returnTests (m .current) (m .opened) v)) (ended (toReturn v) (x .bytes) ns .number)
+  return-gives v ns = subst (λ (n : ℕ). Gives n (ended (toReturn v) (x .bytes) ns .number)) (ap₂ (λ (n : ℕ) (o : Bool). firstOf (returnTests n o v)) (a .agrees .current) (a .agrees .opened))
+      (subst (Gives (firstOf (returnTests (s .current) (s .opened) v))) (sym (change-number (x .bytes) (a .accepted) (returns v) ns)) (return-number l (four (x .bytes)) s (a .agrees .is-sound) v))
 
   ends : firstOf (endTests (s .opened)) ≡ firstOf (endTests (m .opened))
   ends = ap (λ (o : Bool). firstOf (endTests o)) (a .agrees .opened)
@@ -188,18 +189,18 @@ module _ (least : ℕ) (four : 4 ≤ least) (eight : least ≤ 8) (x : Beside) (
 
   -- ---- all of it
 
-  pub answers : Answers least x
+  pub answers : Answers x
   answers = record {
     accepted = a .accepted;
     lookup = lookup-answers;
     range = range-answers;
     difference = difference-answers;
     life = life-answers;
-    order = λ v h. ap (inOrder (λ (p q : Pair). ltb (p .key) (q .key))) (sym (a .agrees .shows v (omega (arith, last-is)))) ∙ settings-rise least (omega arith) s (a .agrees .is-sound) v (omega (arith, last-is));
+    order = λ v h. ap (inOrder (λ (p q : Pair). ltb (p .key) (q .key))) (sym (a .agrees .shows v (omega (arith, last-is)))) ∙ settings-rise l two s (a .agrees .is-sound) v (omega (arith, last-is));
     count = λ v h. ap (λ (us : List Pair). length us + x .tally .removed v) (sym (a .agrees .shows v (omega (arith, last-is)))) ∙ a .counts .is v (omega (arith, last-is));
-    opens = λ ns. change-number least (x .bytes) (a .accepted) begins ns ∙ begin-number least s ∙ ap₂ (λ (o : Bool) (n : ℕ). firstOf (openTests o n)) (a .agrees .opened) (a .agrees .current);
-    commits = λ ns. change-number least (x .bytes) (a .accepted) commits ns ∙ commit-number least s ∙ commit-same;
-    abandons = λ ns. change-number least (x .bytes) (a .accepted) abandons ns ∙ abandon-number least s ∙ ends;
+    opens = λ ns. change-number (x .bytes) (a .accepted) begins ns ∙ begin-number l s ∙ ap₂ (λ (o : Bool) (n : ℕ). firstOf (openTests o n)) (a .agrees .opened) (a .agrees .current);
+    commits = λ ns. change-number (x .bytes) (a .accepted) commits ns ∙ commit-number l s ∙ commit-same;
+    abandons = λ ns. change-number (x .bytes) (a .accepted) abandons ns ∙ abandon-number l s ∙ ends;
     inserts = insert-gives;
     deletes = delete-gives;
     returns = return-gives;

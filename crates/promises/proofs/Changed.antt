@@ -12,11 +12,10 @@ use Rattle.model.specs.declared.Pair.{Pair}
 use Rattle.model.specs.Entry.{pair, enterPair}
 use Rattle.model.specs.Store.{last, lastOf}
 use Rattle.model.specs.Walk.{keyLimit, settings}
-use Rattle.model.specs.Layout.{decode}
 use Rattle.model.specs.Calls.{rule, firstOf, benchLimit, insertTests, deleteTests}
 use Rattle.model.specs.Settings.{Machine, edited, put}
 use Rattle.model.specs.Ended.{toInsert, toDelete, ended}
-use Rattle.promises.specs.Accepts.{Accepts}
+use Rattle.promises.specs.Accepts.{Accepts, storeOf}
 use Rattle.promises.specs.Runs.{Turn, kindOf, fitting}
 use Rattle.promises.specs.Beside.{whenDone, stepped, undone, onward, fromLent}
 use Rattle.promises.specs.Answers.{Gives, aliveIn}
@@ -37,43 +36,43 @@ insert-opened k o alive n g e = opened-by (leb benchLimit k) o alive 10 n (omega
 pub delete-opened : (k : ℕ) (o alive : Bool) (n : ℕ) → Gives (firstOf (deleteTests k o alive)) n → n ≡ 0 → o ≡ true
 delete-opened k o alive n g e = opened-by (leb keyLimit k) o (not alive) 11 n (omega arith) g e
 
-module _ (least : ℕ) (four : 4 ≤ least) (eight : least ≤ 8) (b : List ℕ) (t : Turn) (ok : Accepts least b) (fit : fitting (kindOf (t .call)) ≡ true) (done : ended least (t .call) b (t .list) .number ≡ 0)
-    (o : decode least b .opened ≡ true) (g : List Pair → List Pair) (is : stepped (kindOf (t .call)) (fromLent least b .machine) ≡ edited g (fromLent least b .machine)) where
-  agreed : Agreed least (onward least (fromLent least b) t)
-  agreed = one-turn least four eight (fromLent least b) (lent-agreed least four eight b ok) t fit
+module _ (b : List ℕ) (t : Turn) (ok : Accepts b) (fit : fitting (kindOf (t .call)) ≡ true) (done : ended (t .call) b (t .list) .number ≡ 0)
+    (o : storeOf b .opened ≡ true) (g : List Pair → List Pair) (is : stepped (kindOf (t .call)) (fromLent b .machine) ≡ edited g (fromLent b .machine)) where
+  agreed : Agreed (onward (fromLent b) t)
+  agreed = one-turn (fromLent b) (lent-agreed b ok) t fit
 
-  machine-is : onward least (fromLent least b) t .machine ≡ edited g (fromLent least b .machine)
-  machine-is = ap (λ (n : ℕ). whenDone n (stepped (kindOf (t .call)) (fromLent least b .machine)) (undone (kindOf (t .call)) n (fromLent least b .machine))) done ∙ is
+  machine-is : onward (fromLent b) t .machine ≡ edited g (fromLent b .machine)
+  machine-is = ap (λ (n : ℕ). whenDone n (stepped (kindOf (t .call)) (fromLent b .machine)) (undone (kindOf (t .call)) n (fromLent b .machine))) done ∙ is
 
-  last-is : last (decode least (onward least (fromLent least b) t .bytes)) ≡ suc (decode least b .current)
+  last-is : last (storeOf (onward (fromLent b) t .bytes)) ≡ suc (storeOf b .current)
   last-is =
       ap₂ lastOf (agreed .agrees .opened ∙ ap (λ (m : Machine). m .opened) machine-is ∙ o) (agreed .agrees .current ∙ ap (λ (m : Machine). m .current) machine-is)
 
-  shows : (v : ℕ) → v ≤ suc (decode least b .current) → settings (decode least (onward least (fromLent least b) t .bytes)) v
-      ≡ put (suc (decode least b .current)) (g (settings (decode least b) (suc (decode least b .current)))) (settings (decode least b)) v
+  shows : (v : ℕ) → v ≤ suc (storeOf b .current) → settings (storeOf (onward (fromLent b) t .bytes)) v
+      ≡ put (suc (storeOf b .current)) (g (settings (storeOf b) (suc (storeOf b .current)))) (settings (storeOf b)) v
   shows v h = agreed .agrees .shows v (omega (arith, last-is)) ∙ ap (λ (m : Machine). m .shows v) machine-is
 
-  pub changes : Changes (decode least b) (decode least (onward least (fromLent least b) t .bytes)) g
+  pub changes : Changes (storeOf b) (storeOf (onward (fromLent b) t .bytes)) g
   changes =
-      let w : ℕ = suc (decode least b .current) in
-      let us : List Pair = g (settings (decode least b) (suc (decode least b .current))) in
+      let w : ℕ = suc (storeOf b .current) in
+      let us : List Pair = g (settings (storeOf b) (suc (storeOf b .current))) in
       record {
-        last-one = shows w (omega arith) ∙ ap (λ (q : Bool). pick q us (settings (decode least b) w)) (eq-eqb w w refl);
-        older = λ v h. shows v (omega arith) ∙ ap (λ (q : Bool). pick q us (settings (decode least b) v)) (ne-eqb v w (λ (e : v ≡ w). omega arith));
+        last-one = shows w (omega arith) ∙ ap (λ (q : Bool). pick q us (settings (storeOf b) w)) (eq-eqb w w refl);
+        older = λ v h. shows v (omega arith) ∙ ap (λ (q : Bool). pick q us (settings (storeOf b) v)) (ne-eqb v w (λ (e : v ≡ w). omega arith));
       }
 
 pub settings-change : SettingsChange
 settings-change = record {
-  insert = λ least four eight b k x ns small done.
-      let ok = zero-accepts least (toInsert k x) b ns refl done in
+  insert = λ b k x ns small done.
+      let ok = zero-accepts (toInsert k x) b ns refl done in
       let t : Turn = record { call = toInsert k x; list = ns } in
-      changes least four eight b t ok (lt-ltb x 4294967296 small) done
-      (insert-opened k (decode least b .opened) (aliveIn (fromLent least b .machine) k) (ended least (toInsert k x) b ns .number)
-      (answers least four eight (fromLent least b) (lent-agreed least four eight b ok) .inserts k x ns) done) (enterPair (pair k x)) refl;
-  delete = λ least four eight b k ns done.
-      let ok = zero-accepts least (toDelete k) b ns refl done in
+      changes b t ok (lt-ltb x 4294967296 small) done
+      (insert-opened k (storeOf b .opened) (aliveIn (fromLent b .machine) k) (ended (toInsert k x) b ns .number)
+      (answers (fromLent b) (lent-agreed b ok) .inserts k x ns) done) (enterPair (pair k x)) refl;
+  delete = λ b k ns done.
+      let ok = zero-accepts (toDelete k) b ns refl done in
       let t : Turn = record { call = toDelete k; list = ns } in
-      changes least four eight b t ok refl done
-      (delete-opened k (decode least b .opened) (aliveIn (fromLent least b .machine) k) (ended least (toDelete k) b ns .number)
-      (answers least four eight (fromLent least b) (lent-agreed least four eight b ok) .deletes k ns) done) (those (λ (y : Pair). not (eqb (y .key) k))) refl;
+      changes b t ok refl done
+      (delete-opened k (storeOf b .opened) (aliveIn (fromLent b .machine) k) (ended (toDelete k) b ns .number)
+      (answers (fromLent b) (lent-agreed b ok) .deletes k ns) done) (those (λ (y : Pair). not (eqb (y .key) k))) refl;
 }

@@ -14,14 +14,14 @@ use Rattle.model.specs.declared.Delta.{Delta}
 use Rattle.model.specs.Entry.{within}
 use Rattle.model.specs.Store.{Store, last}
 use Rattle.model.specs.Walk.{keyLimit, find, lookup, settings}
-use Rattle.model.specs.Layout.{decode}
+use Rattle.model.specs.Editions.{leastOf}
+use Rattle.model.specs.Any.{differenceAny}
 use Rattle.model.specs.Calls.{rule, firstOf}
 use Rattle.model.specs.Told
 use Rattle.model.specs.Told.{toldIn, toldBy}
 use Rattle.model.specs.Differ
 use Rattle.model.specs.Differ.{differ, saysOf, deltaNumbers, difference}
-use Rattle.model.specs.Lent
-use Rattle.model.specs.Lent.{judgedFirst, Listed, listed, differenceLent}
+use Rattle.model.specs.Lent.{Listed, listed}
 use Rattle.model.specs.Ended.{ofListed}
 use Rattle.model.specs.Inner.{rising}
 use Rattle.model.proofs.Given.{Sound, from-tests}
@@ -31,17 +31,15 @@ use Rattle.model.proofs.Local.{inRange}
 use Rattle.model.proofs.Lookups.{lookup-is, settings-rise, settings-low}
 use Rattle.model.proofs.Alike.{alike-settings}
 use Rattle.model.proofs.Differs as lists
-use Rattle.promises.specs.Accepts.{Accepts}
+use Rattle.promises.specs.Accepts.{storeOf}
 use Rattle.promises.specs.Runs.{runBytes}
 use Rattle.promises.specs.Differences.{differences, Readable, Given, DifferenceGiven, Says, DifferenceSays, DifferenceNone, DifferenceExchanged, DifferenceStays}
+use Rattle.promises.proofs.Known.{four}
 use Rattle.promises.proofs.Lending.{held-sound}
+use Rattle.promises.proofs.Sounding.{difference-lent}
 use Rattle.promises.proofs.Stays.{later, old, new, view}
 
 -- ---- the call on accepted bytes
-
-difference-lent : (least : ℕ) (b : List ℕ) → Accepts least b → (u v : ℕ) (ns : List ℕ) → differenceLent least b u v ns ≡ listed ns (difference (decode least b) u v (length ns))
-unfolding Lent.differenceLent
-difference-lent least b ok u v ns = ap (λ (n : ℕ). judgedFirst n (λ j. record { number = j; count = 0; list = ns }) (listed ns (difference (decode least b) u v (length ns)))) ok
 
 -- two versions that can be read: no 6
 read-both : (s : Store) (u v room : ℕ) → u ≤ last s → v ≤ last s → difference s u v room ≡ toldBy deltaNumbers 4 0 room (differences s u v)
@@ -70,53 +68,53 @@ low-all (x ∷ xs) i =
     let (here, rest) = all-cons (λ (y : Pair). within 0 keyLimit (y .key)) x xs i in
     both-intro (ltb (x .key) keyLimit) _ (both-true (leb 0 (x .key)) (ltb (x .key) keyLimit) here .1) (low-all xs rest)
 
-module _ (least : ℕ) (b : List ℕ) (u v : ℕ) (r : Readable least b u v) where
+module _ (b : List ℕ) (u v : ℕ) (r : Readable b u v) where
   abbrev s : Store
-  s = decode least b
+  s = storeOf b
 
-  call-is : (ns : List ℕ) → differenceLent least b u v ns ≡ listed ns (toldBy deltaNumbers 4 0 (length ns) (differences (decode least b) u v))
-  call-is ns = difference-lent least b (r .accepted) u v ns ∙ ap (listed ns) (read-both (decode least b) u v (length ns) (r .old) (r .new))
+  call-is : (ns : List ℕ) → differenceAny b u v ns ≡ listed ns (toldBy deltaNumbers 4 0 (length ns) (differences (storeOf b) u v))
+  call-is ns = difference-lent b (r .accepted) u v ns ∙ ap (listed ns) (read-both (storeOf b) u v (length ns) (r .old) (r .new))
 
-  given : Given least b u v (differences (decode least b) u v)
+  given : Given b u v (differences (storeOf b) u v)
   given = record {
-    room = λ ns h. ap (ofListed b) (call-is ns ∙ told-all ns (differences (decode least b) u v) h);
-    short = λ ns h. ap (ofListed b) (call-is ns ∙ told-short ns (differences (decode least b) u v) h);
+    room = λ ns h. ap (ofListed b) (call-is ns ∙ told-all ns (differences (storeOf b) u v) h);
+    short = λ ns h. ap (ofListed b) (call-is ns ∙ told-short ns (differences (storeOf b) u v) h);
   }
 
   -- ---- what they say
 
-  is-sound : Sound least (decode least b)
-  is-sound = from-tests least (decode least b) (holds-true _ (held-sound least (r .four) (r .eight) b (r .accepted)))
+  is-sound : Sound (leastOf b) (storeOf b)
+  is-sound = from-tests (leastOf b) (storeOf b) (holds-true _ (held-sound b (r .accepted)))
 
-  two : 2 ≤ least
-  two = omega (arith, r .four)
+  two : 2 ≤ leastOf b
+  two = omega (arith, four b)
 
-  rises : (w : ℕ) → w ≤ last (decode least b) → rising (settings (decode least b) w) ≡ true
-  rises w h = settings-rise least two (decode least b) is-sound w h
+  rises : (w : ℕ) → w ≤ last (storeOf b) → rising (settings (storeOf b) w) ≡ true
+  rises w h = settings-rise (leastOf b) two (storeOf b) is-sound w h
 
-  looks : (k w : ℕ) → k < keyLimit → w ≤ last (decode least b) → lookup (decode least b) k w ≡ find k (settings (decode least b) w)
-  looks k w low h = lookup-is least two (decode least b) is-sound k w low h
+  looks : (k w : ℕ) → k < keyLimit → w ≤ last (storeOf b) → lookup (storeOf b) k w ≡ find k (settings (storeOf b) w)
+  looks k w low h = lookup-is (leastOf b) two (storeOf b) is-sound k w low h
 
-  says : Says (decode least b) u v (differences (decode least b) u v)
+  says : Says (storeOf b) u v (differences (storeOf b) u v)
   says = record {
     complete = λ k low n. lists.complete us ws p q k (λ (e : find k us ≡ find k ws). n (looks k u low (r .old) ∙ e ∙ sym (looks k v low (r .new))));
     unchanged = λ k low e. lists.unchanged us ws p q k (sym (looks k u low (r .old)) ∙ e ∙ looks k v low (r .new));
-    keys = lists.keys-so (λ (k : ℕ). ltb k keyLimit) us ws p q (low-all us (settings-low least two (decode least b) is-sound u (r .old))) (low-all ws (settings-low least two (decode least b) is-sound v (r .new)));
+    keys = lists.keys-so (λ (k : ℕ). ltb k keyLimit) us ws p q (low-all us (settings-low (leastOf b) two (storeOf b) is-sound u (r .old))) (low-all ws (settings-low (leastOf b) two (storeOf b) is-sound v (r .new)));
     order = lists.in-order us ws p q;
     right = λ k low. lists.says k us ws p q ∙ sym (ap₂ (saysOf k) (looks k u low (r .old)) (looks k v low (r .new)));
     applied = lists.applied us ws p q;
   }
     where
       us : List Pair
-      us = settings (decode least b) u
+      us = settings (storeOf b) u
 
       ws : List Pair
-      ws = settings (decode least b) v
+      ws = settings (storeOf b) v
 
-      p : rising (settings (decode least b) u) ≡ true
+      p : rising (settings (storeOf b) u) ≡ true
       p = rises u (r .old)
 
-      q : rising (settings (decode least b) v) ≡ true
+      q : rising (settings (storeOf b) v) ≡ true
       q = rises v (r .new)
 
 pub difference-given : DifferenceGiven
@@ -126,25 +124,25 @@ pub difference-says : DifferenceSays
 difference-says = says
 
 pub difference-exchanged : DifferenceExchanged
-difference-exchanged least b u v r = lists.sides (settings (decode least b) u) (settings (decode least b) v) (rises least b u v r u (r .old)) (rises least b u v r v (r .new))
+difference-exchanged b u v r = lists.sides (settings (storeOf b) u) (settings (storeOf b) v) (rises b u v r u (r .old)) (rises b u v r v (r .new))
 
 pub difference-none : DifferenceNone
-difference-none least b v r ns =
-    let e : differences (decode least b) v v ≡ [] = lists.none-differs (settings (decode least b) v) (rises least b v v r v (r .old)) in
-    ap (ofListed b) (call-is least b v v r ns ∙ ap (λ (ds : List Delta). listed ns (toldBy deltaNumbers 4 0 (length ns) ds)) e ∙ told-all ns [] (omega arith))
+difference-none b v r ns =
+    let e : differences (storeOf b) v v ≡ [] = lists.none-differs (settings (storeOf b) v) (rises b v v r v (r .old)) in
+    ap (ofListed b) (call-is b v v r ns ∙ ap (λ (ds : List Delta). listed ns (toldBy deltaNumbers 4 0 (length ns) ds)) e ∙ told-all ns [] (omega arith))
 
 -- ---- later
 
 pub difference-stays : DifferenceStays
-difference-stays least four eight b ok ts f m u v i j ns =
-    let b′ = runBytes least b ts in
-    let t = decode least b′ in
-    let now : Readable least b u v = record { four = four; eight = eight; accepted = ok; old = old least four eight b ok ts f m u i; new = old least four eight b ok ts f m v j } in
-    let then : Readable least b′ u v = record { four = four; eight = eight; accepted = later least four eight b ok ts f m .accepts; old = new least four eight b ok ts f m u i; new = new least four eight b ok ts f m v j } in
-    let same : differenceLent least b′ u v ns ≡ differenceLent least b u v ns =
-    call-is least b′ u v then ns
-    ∙ ap₂ (λ (us ws : List Pair). listed ns (toldBy deltaNumbers 4 0 (length ns) (differ us ws))) (alike-settings (decode least b) u t u (view least four eight b ok ts f m u i)) (alike-settings (decode least b) v t v (view least four eight b ok ts f m v j))
-    ∙ sym (call-is least b u v now ns) in
+difference-stays b ok ts f m u v i j ns =
+    let b′ = runBytes b ts in
+    let t = storeOf b′ in
+    let now : Readable b u v = record { accepted = ok; old = old b ok ts f m u i; new = old b ok ts f m v j } in
+    let then : Readable b′ u v = record { accepted = later b ok ts f m .accepts; old = new b ok ts f m u i; new = new b ok ts f m v j } in
+    let same : differenceAny b′ u v ns ≡ differenceAny b u v ns =
+    call-is b′ u v then ns
+    ∙ ap₂ (λ (us ws : List Pair). listed ns (toldBy deltaNumbers 4 0 (length ns) (differ us ws))) (alike-settings (storeOf b) u t u (view b ok ts f m u i)) (alike-settings (storeOf b) v t v (view b ok ts f m v j))
+    ∙ sym (call-is b u v now ns) in
     record {
       number = ap (λ (r : Listed). r .number) same;
       results = ap (λ (r : Listed). r .count ∷ []) same;

@@ -18,7 +18,6 @@ use Rattle.model.specs.declared.Looked.the-variants.{Value}
 use Rattle.model.specs.Entry.{pair, placed, enterPair}
 use Rattle.model.specs.Store.{Store, page, lastOf}
 use Rattle.model.specs.Walk.{keyLimit, find, settings, between}
-use Rattle.model.specs.Layout.{decode}
 use Rattle.model.specs.Climb.{Result, done}
 use Rattle.model.specs.Calls
 use Rattle.model.specs.Calls.{isSome, rule, firstOf, benchLimit, insertTests, lookedBy, rangedBy, begin}
@@ -30,7 +29,7 @@ use Rattle.model.specs.Table.{twenty, twentyOne, deleteFrom, reopened, table}
 use Rattle.model.specs.Ended.{Asked, toOpen, toInsert, toLookup, toRange, Ended, ofLooked, ended}
 use Rattle.model.proofs.Members.{not-both, in-getD}
 use Rattle.model.proofs.Fits.{numbered-by, is-none}
-use Rattle.promises.specs.Accepts.{Accepts}
+use Rattle.promises.specs.Accepts.{Accepts, storeOf}
 use Rattle.promises.specs.Runs.{Turn}
 use Rattle.promises.specs.Beside.{Beside, whenDone, onward, fromLent}
 use Rattle.promises.specs.Answers.{lookedIn, aliveIn, Gives}
@@ -44,13 +43,13 @@ use Rattle.promises.proofs.Replaying.{table-lent, fact-in, none as blan
 
 module _ (f : Implementation) (honest : Honest f) where
   -- what it gives is what the definitions say
-  number-is : (c : Asked) (b ns : List ℕ) → f c b ns .number ≡ 0 → ended 4 c b ns .number ≡ 0
+  number-is : (c : Asked) (b ns : List ℕ) → f c b ns .number ≡ 0 → ended c b ns .number ≡ 0
   number-is c b ns e = ap (λ (x : Ended). x .number) (sym (honest c b ns)) ∙ e
 
-  store-is : (c : Asked) (b ns : List ℕ) → f c b ns .store ≡ ended 4 c b ns .store
+  store-is : (c : Asked) (b ns : List ℕ) → f c b ns .store ≡ ended c b ns .store
   store-is c b ns = ap (λ (x : Ended). x .store) (honest c b ns)
 
-  results-are : (c : Asked) (b ns : List ℕ) → f c b ns .results ≡ ended 4 c b ns .results
+  results-are : (c : Asked) (b ns : List ℕ) → f c b ns .results ≡ ended c b ns .results
   results-are c b ns = ap (λ (x : Ended). x .results) (honest c b ns)
 
   -- ---- P2: an insert is done, and page 5, which held the keys 1 to 20, is empty
@@ -70,8 +69,8 @@ module _ (f : Implementation) (honest : Honest f) where
   nothing : WritesNothing f → ⊥
   nothing same =
       let e : madeOn 16 twentyOne .store ≡ before = sym (store-is (toInsert 21 121) before []) ∙ same 21 121 before [] in
-      no-keys (page (decode 4 before .pages) 5 .entries)
-      (ap (λ (b : List ℕ). length (page (decode 4 b .pages) 5 .entries)) (sym e) ∙ eqb-true _ 0 (fact-in (place 1) (in-getD blank table 1 (lit≤ tt)) (holding 5 0) (inr (inr (inr (inr (inr (inr (inl refl)))))))))
+      no-keys (page (storeOf before .pages) 5 .entries)
+      (ap (λ (b : List ℕ). length (page (storeOf b .pages) 5 .entries)) (sym e) ∙ eqb-true _ 0 (fact-in (place 1) (in-getD blank table 1 (lit≤ tt)) (holding 5 0) (inr (inr (inr (inr (inr (inr (inl refl)))))))))
       (fact-in (place 0) (in-getD blank table 0 (lit≤ tt)) (keys 5 (count 1 20)) (inr (inl refl)))
 
   -- ---- P9: one key, two answers
@@ -96,10 +95,10 @@ module _ (f : Implementation) (honest : Honest f) where
   opens : SplitsAtOpen f → ⊥
   opens x =
       let b : List ℕ = x .bytes in
-      let ok : Accepts 4 b = zero-accepts 4 toOpen b (x .list) refl (number-is toOpen b (x .list) (x .given)) in
+      let ok : Accepts b = zero-accepts toOpen b (x .list) refl (number-is toOpen b (x .list) (x .given)) in
       x .split
-      (ap (λ (q : List ℕ). decode 4 q .pages) (store-is toOpen b (x .list))
-      ∙ ap (λ (s : Store). s .pages) (change-leaves 4 (lit≤ tt) (lit≤ tt) b ok begins refl (x .list) .holds) ∙ begin-pages (decode 4 b))
+      (ap (λ (q : List ℕ). storeOf q .pages) (store-is toOpen b (x .list))
+      ∙ ap (λ (s : Store). s .pages) (change-leaves b ok begins refl (x .list) .holds) ∙ begin-pages (storeOf b))
 
   -- ---- a range counts the settings alive
 
@@ -117,10 +116,10 @@ module _ (f : Implementation) (honest : Honest f) where
       let c : Asked = toRange (x .low) (x .high) (x .version) in
       let b : List ℕ = x .bytes in
       let zero = number-is c b (x .list) (x .given) in
-      let a = answers 4 (lit≤ tt) (lit≤ tt) (fromLent 4 b) (lent-agreed 4 (lit≤ tt) (lit≤ tt) b (x .accepted)) .range (x .low) (x .high) (x .version) (x .list) in
+      let a = answers (fromLent b) (lent-agreed b (x .accepted)) .range (x .low) (x .high) (x .version) (x .list) in
       x .invented
       (results-are c b (x .list) ∙ ap (λ (e : Ended). e .results) a
-      ∙ ap (λ (n : ℕ). n ∷ []) (ranged-count _ (length (x .list)) (between (x .low) (x .high) (settings (decode 4 b) (x .version))) (ap (λ (e : Ended). e .number) (sym a) ∙ zero)))
+      ∙ ap (λ (n : ℕ). n ∷ []) (ranged-count _ (length (x .list)) (between (x .low) (x .high) (settings (storeOf b) (x .version))) (ap (λ (e : Ended). e .number) (sym a) ∙ zero)))
 
   -- ---- an insert shows at once
 
@@ -155,25 +154,25 @@ module _ (f : Implementation) (honest : Honest f) where
       ap₂ (λ (p q : Bool). lookedBy (firstOf (rule 5 p ∷ rule 6 q ∷ [])) (find k (put (suc (m .current)) (enterPair (pair k v) (m .shows (suc (m .current)))) (m .shows) (suc (m .current))))) low readable
       ∙ ap (lookedBy 0) (ap (find k) here ∙ entered k v us (is-none (find k us) absent))
 
-  insert-shows : (k v : ℕ) (b ns ms : List ℕ) → v < 4294967296 → ended 4 (toInsert k v) b ns .number ≡ 0
-      → ended 4 (toLookup k (suc (decode 4 b .current))) (ended 4 (toInsert k v) b ns .store) ms .results ≡ 1 ∷ v ∷ []
+  insert-shows : (k v : ℕ) (b ns ms : List ℕ) → v < 4294967296 → ended (toInsert k v) b ns .number ≡ 0
+      → ended (toLookup k (suc (storeOf b .current))) (ended (toInsert k v) b ns .store) ms .results ≡ 1 ∷ v ∷ []
   insert-shows k v b ns ms small e =
-      let ok : Accepts 4 b = zero-accepts 4 (toInsert k v) b ns refl e in
-      let x : Beside = fromLent 4 b in
+      let ok : Accepts b = zero-accepts (toInsert k v) b ns refl e in
+      let x : Beside = fromLent b in
       let t : Turn = record { call = toInsert k v; list = ns } in
-      let a : Agreed 4 (fromLent 4 b) = lent-agreed 4 (lit≤ tt) (lit≤ tt) b ok in
-      let (low, (o, absent)) = clear k (decode 4 b .opened) (aliveIn (fromLent 4 b .machine) k) (ended 4 (toInsert k v) b ns .number) (answers 4 (lit≤ tt) (lit≤ tt) (fromLent 4 b) a .inserts k v ns) e in
-      let after-it = answers 4 (lit≤ tt) (lit≤ tt) (onward 4 x t) (one-turn 4 (lit≤ tt) (lit≤ tt) x a t (lt-ltb v 4294967296 small)) .lookup k (suc (decode 4 b .current)) ms in
+      let a : Agreed (fromLent b) = lent-agreed b ok in
+      let (low, (o, absent)) = clear k (storeOf b .opened) (aliveIn (fromLent b .machine) k) (ended (toInsert k v) b ns .number) (answers (fromLent b) a .inserts k v ns) e in
+      let after-it = answers (onward x t) (one-turn x a t (lt-ltb v 4294967296 small)) .lookup k (suc (storeOf b .current)) ms in
       ap (λ (y : Ended). y .results) after-it
-      ∙ ap (λ (n : ℕ). ofLooked [] ms (lookedIn (whenDone n (step (fromLent 4 b .machine) (inserts k v)) (fromLent 4 b .machine)) k (suc (decode 4 b .current))) .results) e
-      ∙ ap (λ (y : Looked). ofLooked [] ms y .results) (found k v (fromLent 4 b .machine) low o absent)
+      ∙ ap (λ (n : ℕ). ofLooked [] ms (lookedIn (whenDone n (step (fromLent b .machine) (inserts k v)) (fromLent b .machine)) k (suc (storeOf b .current))) .results) e
+      ∙ ap (λ (y : Looked). ofLooked [] ms y .results) (found k v (fromLent b .machine) low o absent)
 
   hides : Hides f → ⊥
   hides x =
       let put-in : Asked = toInsert (x .key) (x .value) in
-      let ask : Asked = toLookup (x .key) (suc (decode 4 (x .bytes) .current)) in
+      let ask : Asked = toLookup (x .key) (suc (storeOf (x .bytes) .current)) in
       x .hidden
-      (ap (λ (b : List ℕ). f ask b (x .list) .results) (store-is put-in (x .bytes) (x .list)) ∙ results-are ask (ended 4 put-in (x .bytes) (x .list) .store) (x .list)
+      (ap (λ (b : List ℕ). f ask b (x .list) .results) (store-is put-in (x .bytes) (x .list)) ∙ results-are ask (ended put-in (x .bytes) (x .list) .store) (x .list)
       ∙ insert-shows (x .key) (x .value) (x .bytes) (x .list) (x .list) (x .small) (number-is put-in (x .bytes) (x .list) (x .given)))
 
 pub fakes-stopped : FakesStopped

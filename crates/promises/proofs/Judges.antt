@@ -3,19 +3,23 @@
 use Prim.Native.Nat.{ℕ, zero, suc, _*_, _≤_}
 use native.Mathlib.Omega.{arith}
 use mathlib.Core.Bool.{Bool, true, false, _&&_}
-use mathlib.Core.Path.{_≡_, refl, ap, sym, _∙_}
-use mathlib.Core.Logic.{_↔_, _⊎_, inl, inr}
+use mathlib.Core.Path.{_≡_, refl, ap, sym, _∙_, subst}
+use mathlib.Core.Logic.{_≢_, _↔_, _⊎_, inl, inr}
 use mathlib.Core.List.{List, [], _∷_}
 use lib.Dec.{leb, ltb}
 use lib.ListN.{length}
 use Rattle.model.specs.Basic.{pick}
-use Rattle.model.specs.Store.{Store, fresh, last}
+use Rattle.model.specs.declared.Verdict.{Verdict}
+use Rattle.model.specs.Store.{Store, last}
 use Rattle.model.specs.Walk.{keyLimit, settings, lookupVisits}
 use Rattle.model.specs.Sound.{sound}
-use Rattle.model.specs.Layout.{sizeOf, encode, decode}
+use Rattle.model.specs.Layout.{encode, decode}
 use Rattle.model.specs.Clean.{clean}
 use Rattle.model.specs.Judged
 use Rattle.model.specs.Judged.{lengthOk, magicOk, editionOk, brokenIn, judged, verdict, ruled}
+use Rattle.model.specs.Editions.{lentNumber, leastOf}
+use Rattle.model.specs.Any
+use Rattle.model.specs.Any.{judgedAny}
 use Rattle.model.specs.Climb.{Result, done, refused}
 use Rattle.model.specs.Calls.{rule, firstOf}
 use Rattle.model.specs.Told
@@ -27,18 +31,21 @@ use Rattle.model.specs.Life
 use Rattle.model.specs.Return.{Came, gave, gaveUp, returned}
 use Rattle.model.specs.Histories.{begins, commits, abandons, inserts, deletes, returns}
 use Rattle.model.specs.Lent
-use Rattle.model.specs.Lent.{left, leftBy, judgedFirst, listed, returnLent, lifeLent, differenceLent, visitsLent}
-use Rattle.model.specs.Ended.{Asked, toFresh, toCheck, toOpen, toCommit, toAbandon, toInsert, toDelete, toReturn, toLookup, toRange, toLife, toDifference, toVisits, ofOutcome, ended}
+use Rattle.model.specs.Lent.{left, leftBy, judgedFirst, listed, freshLent, returnLent, lifeLent, differenceLent, visitsLent}
+use Rattle.model.specs.Ended.{Asked, toFresh, toFreshSecond, toCheck, toOpen, toCommit, toAbandon, toInsert, toDelete, toReturn, toLookup, toRange, toLife, toDifference, toVisits, Ended, ofOutcome, ended, endedBy, makes}
 use Rattle.model.proofs.Lists.{both-true, both-intro}
 use Rattle.model.proofs.Members.{bool-cases, not-both}
 use Rattle.model.proofs.Judging.{unbroken, whole}
 use Rattle.model.proofs.Lacking.{judged-low}
 use Rattle.model.proofs.Unique.{refused as leaves}
-use Rattle.promises.specs.Accepts.{Accepts}
-use Rattle.promises.specs.Demand1.{FirstNumbers, judgesAll, Judges, TurnedAway, Untrusted, OneForm, FreshMade}
+use Rattle.model.proofs.Editions.{ended-goes, ended-refuses}
+use Rattle.promises.specs.Accepts.{Accepts, storeOf}
+use Rattle.promises.specs.Demand1.{FirstNumbers, editionKnown, judgesAll, Judges, TurnedAway, Untrusted, OneForm, Made, FreshMade}
 use Rattle.promises.proofs.High.{High, HighBy, call-high}
+use Rattle.promises.proofs.Known.{check-goes, check-refuses}
+use Rattle.promises.proofs.Early.{by-tests, number-by, early-low}
 use Rattle.promises.proofs.Encoded.{accepted}
-use Rattle.promises.proofs.Lending.{fresh-is}
+use Rattle.promises.proofs.Lending.{made-right, made-wrong}
 
 -- ---- a call's number by check's: that number, or where it is 0, 0 or one from 5 on
 
@@ -137,33 +144,69 @@ past-same : (j : ℕ) → Past j j
 past-same zero = inl refl
 past-same (suc j) = refl
 
-call-past : (least : ℕ) (c : Asked) (b ns : List ℕ) → judgesAll c ≡ true → Past (judged least b .number) (ended least c b ns .number)
+past-by : (least : ℕ) (c : Asked) (b ns : List ℕ) → judgesAll c ≡ true → Past (judged least b .number) (endedBy least c b ns .number)
 unfolding Lent.openLent Lent.commitLent Lent.abandonLent Lent.insertLent Lent.deleteLent
-call-past least toFresh b ns h = absurd (not-both false h refl)
-call-past least toCheck b ns h = past-same (judged least b .number)
-call-past least toOpen b ns h = change-past least b _ (λ s. call-high least s begins)
-call-past least toCommit b ns h = change-past least b _ (λ s. call-high least s commits)
-call-past least toAbandon b ns h = change-past least b _ (λ s. call-high least s abandons)
-call-past least (toInsert k x) b ns h = change-past least b _ (λ s. call-high least s (inserts k x))
-call-past least (toDelete k) b ns h = change-past least b _ (λ s. call-high least s (deletes k))
-call-past least (toReturn v) b ns h = return-past least b v
-call-past least (toLookup k v) b ns h = absurd (not-both false h refl)
-call-past least (toRange lo hi v) b ns h = absurd (not-both false h refl)
-call-past least (toVisits k v) b ns h = visits-past least b k v ns
-call-past least (toDifference u v) b ns h = difference-past least b u v ns
-call-past least (toLife k) b ns h = life-past least b k ns
+past-by least toFresh b ns h = absurd (not-both false h refl)
+past-by least toFreshSecond b ns h = absurd (not-both false h refl)
+past-by least toCheck b ns h = past-same (judged least b .number)
+past-by least toOpen b ns h = change-past least b _ (λ s. call-high least s begins)
+past-by least toCommit b ns h = change-past least b _ (λ s. call-high least s commits)
+past-by least toAbandon b ns h = change-past least b _ (λ s. call-high least s abandons)
+past-by least (toInsert k x) b ns h = change-past least b _ (λ s. call-high least s (inserts k x))
+past-by least (toDelete k) b ns h = change-past least b _ (λ s. call-high least s (deletes k))
+past-by least (toReturn v) b ns h = return-past least b v
+past-by least (toLookup k v) b ns h = absurd (not-both false h refl)
+past-by least (toRange lo hi v) b ns h = absurd (not-both false h refl)
+past-by least (toVisits k v) b ns h = visits-past least b k v ns
+past-by least (toDifference u v) b ns h = difference-past least b u v ns
+past-by least (toLife k) b ns h = life-past least b k ns
+
+judges-makes : (c : Asked) → judgesAll c ≡ true → makes c ≡ false
+judges-makes toFresh h = absurd (not-both false h refl)
+judges-makes toFreshSecond h = absurd (not-both false h refl)
+judges-makes toCheck h = refl
+judges-makes toOpen h = refl
+judges-makes toCommit h = refl
+judges-makes toAbandon h = refl
+judges-makes (toInsert k x) h = refl
+judges-makes (toDelete k) h = refl
+judges-makes (toReturn v) h = refl
+judges-makes (toLookup k v) h = refl
+judges-makes (toRange lo hi v) h = refl
+judges-makes (toVisits k v) h = refl
+judges-makes (toDifference u v) h = refl
+judges-makes (toLife k) h = refl
+
+-- the early number is check's and the call's
+call-past : (c : Asked) (b ns : List ℕ) → judgesAll c ≡ true → Past (judgedAny b .number) (ended c b ns .number)
+call-past c b ns h = at (lentNumber b) refl
+  where
+    at : (n : ℕ) → lentNumber b ≡ n → Past (judgedAny b .number) (ended c b ns .number)
+    at zero z =
+        subst (λ (e : Ended). Past (judgedAny b .number) (e .number)) (sym (ended-goes b ns c (judges-makes c h) z))
+        (subst (λ (v : Verdict). Past (v .number) (endedBy (leastOf b) c b ns .number)) (sym (check-goes b z)) (past-by (leastOf b) c b ns h))
+    at (suc n) z =
+        let early : lentNumber b ≢ 0 = λ (q : lentNumber b ≡ 0). omega arith in
+        subst (λ (m : ℕ). Past (judgedAny b .number) m) (ap (λ (v : Verdict). v .number) (check-refuses b early) ∙ sym (ended-refuses b ns c (judges-makes c h) early .number)) (past-same (judgedAny b .number))
+
+check-low : (b : List ℕ) → judgedAny b .number ≤ 4
+check-low b = at (lentNumber b) refl
+  where
+    at : (n : ℕ) → lentNumber b ≡ n → judgedAny b .number ≤ 4
+    at zero z = subst (λ (v : Verdict). v .number ≤ 4) (sym (check-goes b z)) (judged-low (leastOf b) b)
+    at (suc n) z = subst (λ (v : Verdict). v .number ≤ 4) (sym (check-refuses b (λ (q : lentNumber b ≡ 0). omega arith))) (omega (arith, early-low b))
 
 -- bytes on which it gives a number from 5 on are accepted
-pub late-accepts : (least : ℕ) (c : Asked) (b ns : List ℕ) → judgesAll c ≡ true → 5 ≤ ended least c b ns .number → Accepts least b
-late-accepts least c b ns m h = at (judged least b .number) (judged-low least b) (call-past least c b ns m)
+pub late-accepts : (c : Asked) (b ns : List ℕ) → judgesAll c ≡ true → 5 ≤ ended c b ns .number → Accepts b
+late-accepts c b ns m h = at (judgedAny b .number) (check-low b) (call-past c b ns m)
   where
-    at : (j : ℕ) → j ≤ 4 → Past j (ended least c b ns .number) → j ≡ 0
+    at : (j : ℕ) → j ≤ 4 → Past j (ended c b ns .number) → j ≡ 0
     at zero l p = refl
     at (suc j) l p = absurd (omega arith)
 
 -- bytes on which it gives 0 are accepted
-pub zero-accepts : (least : ℕ) (c : Asked) (b ns : List ℕ) → judgesAll c ≡ true → ended least c b ns .number ≡ 0 → Accepts least b
-zero-accepts least c b ns m e = at (judged least b .number) (ended least c b ns .number) (call-past least c b ns m) e
+pub zero-accepts : (c : Asked) (b ns : List ℕ) → judgesAll c ≡ true → ended c b ns .number ≡ 0 → Accepts b
+zero-accepts c b ns m e = at (judgedAny b .number) (ended c b ns .number) (call-past c b ns m) e
   where
     at : (j n : ℕ) → Past j n → n ≡ 0 → j ≡ 0
     at zero n p e = refl
@@ -171,102 +214,144 @@ zero-accepts least c b ns m e = at (judged least b .number) (ended least c b ns 
 
 -- ---- check's own number
 
-module _ (least : ℕ) (b : List ℕ) where
-  abbrev good : Bool
-  good = clean least b && sound least (decode least b)
+clash : {A : Type 0} → true ≡ false → A
+clash e = absurd (not-both true refl e)
 
-  clash : {A : Type 0} → true ≡ false → A
-  clash e = absurd (not-both true refl e)
+module _ (b : List ℕ) where
+  abbrev good : ℕ → Bool
+  good least = clean least b && sound least (decode least b)
 
-  ruled-first : (r : ℕ) → (r ≡ 0 → good ≡ true) → (good ≡ true → r ≡ 0) → FirstNumbers true true true good (ruled r .number)
-  ruled-first zero f g = record {
-    one = (λ e. absurd (omega arith), λ e. clash e);
+  -- none of 1 to 3, by the number of the first broken rule
+  ruled-first : (g : Bool) (r : ℕ) → (r ≡ 0 → g ≡ true) → (g ≡ true → r ≡ 0) → FirstNumbers true true true true g (ruled r .number)
+  ruled-first g zero f h = record {
+    one = (λ e. absurd (omega arith), none);
     two = (λ e. absurd (omega arith), λ e. clash (e .1));
     three = (λ e. absurd (omega arith), λ e. clash (e .1 .1));
-    four = (λ e. absurd (omega arith), λ e. absurd (not-both good (f refl) (e .1 .1 .1)));
-  }
-  ruled-first (suc r) f g = record {
-    one = (λ e. absurd (omega arith), λ e. clash e);
-    two = (λ e. absurd (omega arith), λ e. clash (e .1));
-    three = (λ e. absurd (omega arith), λ e. clash (e .1 .1));
-    four = (λ e. (refl, (refl, (refl, bad (bool-cases good)))), λ e. refl);
+    four = (λ e. absurd (omega arith), λ e. absurd (not-both g (f refl) (e .1 .1 .1 .1)));
   }
     where
-      bad : (good ≡ true) ⊎ (good ≡ false) → good ≡ false
-      bad (inl e) = absurd (omega (arith, g e))
+      none : {A : Type 0} → (true ≡ false) ⊎ ((true ≡ true) × ((true ≡ true) × ((true ≡ true) × (true ≡ false)))) → A
+      none (inl e) = clash e
+      none (inr e) = clash (e .1 .1 .1)
+  ruled-first g (suc r) f h = record {
+    one = (λ e. absurd (omega arith), none);
+    two = (λ e. absurd (omega arith), λ e. clash (e .1));
+    three = (λ e. absurd (omega arith), λ e. clash (e .1 .1));
+    four = (λ e. (refl, (refl, (refl, (refl, bad (bool-cases g))))), λ e. refl);
+  }
+    where
+      none : {A : Type 0} → (true ≡ false) ⊎ ((true ≡ true) × ((true ≡ true) × ((true ≡ true) × (true ≡ false)))) → A
+      none (inl e) = clash e
+      none (inr e) = clash (e .1 .1 .1)
+
+      bad : (g ≡ true) ⊎ (g ≡ false) → g ≡ false
+      bad (inl e) = absurd (omega (arith, h e))
       bad (inr e) = e
 
-  check-first : FirstNumbers (lengthOk least b) (magicOk b) (editionOk least b) good (judged least b .number)
+  -- by the limits of an edition, where the first bytes and the edition are right
+  edition-first : (least : ℕ) → magicOk b ≡ true → editionOk least b ≡ true → FirstNumbers true true true (lengthOk least b) (good least) (judged least b .number)
   unfolding Judged.judged
-  check-first = at (lengthOk least b) (magicOk b) (editionOk least b)
+  edition-first least m e = rw (m, e) (at (lengthOk least b))
     where
-      up : (r : ℕ) → brokenIn least b ≡ r → r ≡ 0 → good ≡ true
+      up : (r : ℕ) → brokenIn least b ≡ r → r ≡ 0 → good least ≡ true
       up r e z = let u = unbroken least b (e ∙ z) in both-intro _ _ (u .0) (u .1)
 
-      down : good ≡ true → brokenIn least b ≡ 0
+      down : good least ≡ true → brokenIn least b ≡ 0
       down e = let u = both-true (clean least b) (sound least (decode least b)) e in whole least b (u .0) (u .1)
 
-      at : (x y z : Bool) → FirstNumbers x y z good (pick x (pick y (pick z (ruled (brokenIn least b)) (verdict 3 0)) (verdict 2 0)) (verdict 1 0) .number)
-      at true true true = ruled-first (brokenIn least b) (up (brokenIn least b) refl) down
-      at true true false = record {
-        one = (λ e. absurd (omega arith), λ e. clash e);
+      at : (x : Bool) → FirstNumbers true true true x (good least) (pick x (ruled (brokenIn least b)) (verdict 1 0) .number)
+      at true = ruled-first (good least) (brokenIn least b) (up (brokenIn least b) refl) down
+      at false = record {
+        one = (λ e. inr (refl, (refl, (refl, refl))), λ e. refl);
         two = (λ e. absurd (omega arith), λ e. clash (e .1));
-        three = (λ e. (refl, (refl, refl)), λ e. refl);
-        four = (λ e. absurd (omega arith), λ e. clash (sym (e .1 .1 .0)));
-      }
-      at true false z = record {
-        one = (λ e. absurd (omega arith), λ e. clash e);
-        two = (λ e. (refl, refl), λ e. refl);
-        three = (λ e. absurd (omega arith), λ e. clash (sym (e .1 .0)));
-        four = (λ e. absurd (omega arith), λ e. clash (sym (e .1 .0)));
-      }
-      at false y z = record {
-        one = (λ e. refl, λ e. refl);
-        two = (λ e. absurd (omega arith), λ e. clash (sym (e .0)));
-        three = (λ e. absurd (omega arith), λ e. clash (sym (e .0)));
-        four = (λ e. absurd (omega arith), λ e. clash (sym (e .0)));
+        three = (λ e. absurd (omega arith), λ e. clash (e .1 .1));
+        four = (λ e. absurd (omega arith), λ e. clash (sym (e .1 .1 .1 .0)));
       }
 
-  -- a number that is past another says the same of 1 to 4
-  first-past : (x y z g : Bool) (j n : ℕ) → Past j n → FirstNumbers x y z g j → FirstNumbers x y z g n
-  first-past x y z g j n p f =
-      let same = past-is j n p in
-      record {
-        one = joined (same 1 (omega arith) (omega arith)) (f .one);
-        two = joined (same 2 (omega arith) (omega arith)) (f .two);
-        three = joined (same 3 (omega arith) (omega arith)) (f .three);
-        four = joined (same 4 (omega arith) (omega arith)) (f .four);
-      }
+  -- the early numbers, by what they were given for
+  short-first : (m e l g : Bool) → FirstNumbers false m e l g 1
+  short-first m e l g = record {
+    one = (λ q. inl refl, λ q. refl);
+    two = (λ q. absurd (omega arith), λ q. clash (sym (q .0)));
+    three = (λ q. absurd (omega arith), λ q. clash (sym (q .0)));
+    four = (λ q. absurd (omega arith), λ q. clash (sym (q .0)));
+  }
+
+  magic-first : (e l g : Bool) → FirstNumbers true false e l g 2
+  magic-first e l g = record {
+    one = (λ q. absurd (omega arith), none);
+    two = (λ q. (refl, refl), λ q. refl);
+    three = (λ q. absurd (omega arith), λ q. clash (sym (q .1 .0)));
+    four = (λ q. absurd (omega arith), λ q. clash (sym (q .1 .0)));
+  }
     where
-      joined : {A B C : Type 0} → A ↔ B → B ↔ C → A ↔ C
-      joined u v = (λ a. v .0 (u .0 a), λ c. u .1 (v .1 c))
+      none : {A : Type 0} → (true ≡ false) ⊎ ((true ≡ true) × ((false ≡ true) × ((e ≡ true) × (l ≡ false)))) → A
+      none (inl q) = clash q
+      none (inr q) = clash (sym (q .1 .0))
+
+  other-first : (l g : Bool) → FirstNumbers true true false l g 3
+  other-first l g = record {
+    one = (λ q. absurd (omega arith), none);
+    two = (λ q. absurd (omega arith), λ q. clash (q .1));
+    three = (λ q. (refl, (refl, refl)), λ q. refl);
+    four = (λ q. absurd (omega arith), λ q. clash (sym (q .1 .1 .0)));
+  }
+    where
+      none : {A : Type 0} → (true ≡ false) ⊎ ((true ≡ true) × ((true ≡ true) × ((false ≡ true) × (l ≡ false)))) → A
+      none (inl q) = clash q
+      none (inr q) = clash (sym (q .1 .1 .0))
+
+  check-first : FirstNumbers (leb 5 (length b)) (magicOk b) (editionKnown b) (lengthOk (leastOf b) b) (good (leastOf b)) (judgedAny b .number)
+  unfolding Any.judgedAny
+  check-first =
+      let N : Bool → Bool → Bool → ℕ → ℕ → Type 0 = λ w m e l n. FirstNumbers w m e (lengthOk l b) (good l) n in
+      subst (λ (n : ℕ). FirstNumbers (leb 5 (length b)) (magicOk b) (editionKnown b) (lengthOk (leastOf b) b) (good (leastOf b)) n)
+      (sym (number-by b (λ (v : Verdict). v .number) (λ (n : ℕ). verdict n 0) (λ (l : ℕ). judged l b) (λ n. refl)))
+      (by-tests b N (λ (l : ℕ). judged l b .number) (λ m e l. short-first m e _ _) (λ e l. magic-first e _ _) (λ l. other-first _ _) edition-first)
+
+-- a number that is past another says the same of 1 to 4
+first-past : (w x y z g : Bool) (j n : ℕ) → Past j n → FirstNumbers w x y z g j → FirstNumbers w x y z g n
+first-past w x y z g j n p f =
+    let same = past-is j n p in
+    record {
+      one = joined (same 1 (omega arith) (omega arith)) (f .one);
+      two = joined (same 2 (omega arith) (omega arith)) (f .two);
+      three = joined (same 3 (omega arith) (omega arith)) (f .three);
+      four = joined (same 4 (omega arith) (omega arith)) (f .four);
+    }
+  where
+    joined : {A B C : Type 0} → A ↔ B → B ↔ C → A ↔ C
+    joined u v = (λ a. v .0 (u .0 a), λ c. u .1 (v .1 c))
 
 pub judges : Judges
-judges least c b ns h = first-past least b (lengthOk least b) (magicOk b) (editionOk least b) _ (judged least b .number) (ended least c b ns .number) (call-past least c b ns h) (check-first least b)
+judges c b ns h =
+    first-past (leb 5 (length b)) (magicOk b) (editionKnown b) (lengthOk (leastOf b) b) _ (judgedAny b .number) (ended c b ns .number) (call-past c b ns h) (check-first b)
 
 -- ---- bytes that are not accepted
 
 pub untrusted : Untrusted
-untrusted least c b ns h bad = at (judged least b .number) refl (call-past least c b ns h)
+untrusted c b ns h bad = at (judgedAny b .number) refl (call-past c b ns h)
   where
-    late : {n j : ℕ} → judged least b .number ≤ 4 → judged least b .number ≡ suc j → n ≡ suc j → (n ≡ 12) ⊎ (n ≡ 13) → ⊥
+    late : {n j : ℕ} → judgedAny b .number ≤ 4 → judgedAny b .number ≡ suc j → n ≡ suc j → (n ≡ 12) ⊎ (n ≡ 13) → ⊥
     late l e p (inl z) = omega arith
     late l e p (inr z) = omega arith
 
-    at : (j : ℕ) → judged least b .number ≡ j → Past j (ended least c b ns .number) → TurnedAway b ns (ended least c b ns)
+    at : (j : ℕ) → judgedAny b .number ≡ j → Past j (ended c b ns .number) → TurnedAway b ns (ended c b ns)
     at zero e p = absurd (bad e)
     at (suc j) e p = record {
       low = omega arith;
-      high = omega (arith, judged-low least b);
-      untouched = leaves least c b ns (ended least c b ns) refl (λ (z : ended least c b ns .number ≡ 0). omega arith) (λ x. late (judged-low least b) e p (x .1));
+      high = omega (arith, check-low b);
+      untouched = leaves c b ns (ended c b ns) refl (λ (z : ended c b ns .number ≡ 0). omega arith) (λ x. late (check-low b) e p (x .1));
     }
 
 pub one-form : OneForm
-one-form least four eight a b p q x y same = sym (accepted least four eight a p x .same) ∙ ap (encode least) same ∙ accepted least four eight b q y .same
+one-form a b p q x y edition same = sym (accepted a p x .same) ∙ ap (λ (l : ℕ). encode l (storeOf a)) edition ∙ ap (encode (leastOf b)) same ∙ accepted b q y .same
+
+made : (least : ℕ) (c : Asked) → ((b ns : List ℕ) → ended c b ns ≡ ofOutcome ns (freshLent least b)) → (b ns : List ℕ) → Made least c b ns
+made least c is b ns = record {
+  right = λ h. is b ns ∙ ap (ofOutcome ns) (made-right least b h);
+  wrong = λ h. is b ns ∙ ap (ofOutcome ns) (made-wrong least b h);
+}
 
 pub fresh-made : FreshMade
-unfolding Lent.freshLent
-fresh-made least b ns = record {
-  right = λ h. fresh-is least b ns h;
-  wrong = λ h. ap (λ (t : Bool). ofOutcome ns (pick t (record { number = 0; store = encode least (fresh (sizeOf least b)) }) (record { number = 1; store = b }))) h;
-}
+fresh-made = record { first = made 4 toFresh (λ b ns. refl); second = made 8 toFreshSecond (λ b ns. refl) }

@@ -13,15 +13,16 @@ use Rattle.model.specs.declared.Pair.{Pair}
 use Rattle.model.specs.Entry.{pair, enterPair}
 use Rattle.model.specs.Store.{Store, next, last, lastOf, fresh}
 use Rattle.model.specs.Walk.{lookup}
-use Rattle.model.specs.Layout.{decode}
+use Rattle.model.specs.Editions.{leastOf}
 use Rattle.model.specs.Calls.{isSome, rule, benchLimit, insertTests, firstOf, insert}
 use Rattle.model.specs.Return.{returnTests}
 use Rattle.model.specs.Histories.{Call, begins, commits, abandons, inserts, deletes, returns}
 use Rattle.model.specs.Settings.{Machine, start, step, put}
-use Rattle.model.specs.Ended.{Asked, toFresh, toInsert, toDelete, toReturn, ended}
+use Rattle.model.specs.Ended.{Asked, toInsert, toDelete, toReturn, ended}
 use Rattle.model.proofs.Lists.{all-cons}
 use Rattle.model.proofs.Members.{In, all-in, all-by, in-those}
 use Rattle.model.proofs.Fitted.{entered-in}
+use Rattle.promises.specs.Accepts.{storeOf}
 use Rattle.promises.specs.Runs.{Turn, Kind, making, changing, reading, kindOf, asks, fitting, givesUp, each}
 use Rattle.promises.specs.Beside.{Beside, whenDone, stepped, undone, onward, along, fromFresh, fromLent}
 use Rattle.promises.specs.Answers.{lastIn, aliveIn, unchangedIn, Gives}
@@ -119,76 +120,76 @@ module _ (u : ℕ) where
   Brings (changing (returns v)) = u ≤ v
   Brings reading = Unit {0}
 
-  module _ (least : ℕ) (four : 4 ≤ least) (eight : least ≤ 8) where
-    module _ (x : Beside) (a : Agreed least x) (f : Free (x .machine)) where
-      abbrev m : Machine
-      m = x .machine
+  module _ (x : Beside) (a : Agreed x) (f : Free (x .machine)) where
+    abbrev m : Machine
+    m = x .machine
 
-      earlier : (v : ℕ) → u ≤ v → v ≤ x .machine .current → all isLow (x .machine .shows v) ≡ true
-      earlier v h g = f .keys v h (omega (arith, g, current-last (x .machine .opened) (x .machine .current)))
+    earlier : (v : ℕ) → u ≤ v → v ≤ x .machine .current → all isLow (x .machine .shows v) ≡ true
+    earlier v h g = f .keys v h (omega (arith, g, current-last (x .machine .opened) (x .machine .current)))
 
-      opened-last : x .machine .opened ≡ true → lastIn (x .machine) ≡ suc (x .machine .current)
-      opened-last o = ap (λ (q : Bool). lastOf q (x .machine .current)) o
+    opened-last : x .machine .opened ≡ true → lastIn (x .machine) ≡ suc (x .machine .current)
+    opened-last o = ap (λ (q : Bool). lastOf q (x .machine .current)) o
 
-      -- an insert, a delete or a return, where an update is open
-      edits : x .machine .opened ≡ true → (us : List Pair) → (all isLow (x .machine .shows (suc (x .machine .current))) ≡ true → all isLow us ≡ true)
-          → Free (record { current = x .machine .current; opened = x .machine .opened; shows = put (suc (x .machine .current)) us (x .machine .shows) })
-      edits o us g = record {
-        from = f .from;
-        keys = λ v h i. put-free (x .machine) us (g (f .keys (suc (x .machine .current)) (omega (arith, f .from)) (omega (arith, opened-last o)))) earlier v h (omega (arith, i, opened-last o));
-      }
+    -- an insert, a delete or a return, where an update is open
+    edits : x .machine .opened ≡ true → (us : List Pair) → (all isLow (x .machine .shows (suc (x .machine .current))) ≡ true → all isLow us ≡ true)
+        → Free (record { current = x .machine .current; opened = x .machine .opened; shows = put (suc (x .machine .current)) us (x .machine .shows) })
+    edits o us g = record {
+      from = f .from;
+      keys = λ v h i. put-free (x .machine) us (g (f .keys (suc (x .machine .current)) (omega (arith, f .from)) (omega (arith, opened-last o)))) earlier v h (omega (arith, i, opened-last o));
+    }
 
-      steps : (c : Call) → Brings (changing c) → (ns : List ℕ) → ended least (asks c) (x .bytes) ns .number ≡ 0 → Free (step (x .machine) c)
-      steps begins w ns e = record { from = f .from; keys = λ v h g. put-free (x .machine) (x .machine .shows (x .machine .current)) (earlier (x .machine .current) (f .from) (omega arith)) earlier v h g }
-      steps commits w ns e =
-          let o : x .machine .opened ≡ true = first-none (x .machine .opened) (unchangedIn (x .machine)) (sym (answers least four eight x a .commits ns) ∙ e) .0 in
-          record { from = omega (arith, f .from); keys = λ v h g. f .keys v h (omega (arith, g, opened-last o)) }
-      steps abandons w ns e = back (x .machine) f
-      steps (inserts k y) w ns e =
-          let (low, o) = insert-low k (x .machine .opened) (aliveIn (x .machine) k) (ended least (toInsert k y) (x .bytes) ns .number) (answers least four eight x a .inserts k y ns) e in
-          edits o (enterPair (pair k y) (x .machine .shows (suc (x .machine .current)))) (low-entered k y (x .machine .shows (suc (x .machine .current))) low)
-      steps (deletes k) w ns e =
-          let o = delete-opened k (x .machine .opened) (aliveIn (x .machine) k) (ended least (toDelete k) (x .bytes) ns .number) (answers least four eight x a .deletes k ns) e in
-          edits o (those (λ (y : Pair). not (eqb (y .key) k)) (x .machine .shows (suc (x .machine .current)))) (low-those (λ (y : Pair). not (eqb (y .key) k)) (x .machine .shows (suc (x .machine .current))))
-      steps (returns v) w ns e =
-          let (o, h) = return-opened (x .machine .current) (x .machine .opened) v (ended least (toReturn v) (x .bytes) ns .number) (answers least four eight x a .returns v ns) e in
-          edits o (x .machine .shows v) (λ z. earlier v w h)
+    steps : (c : Call) → Brings (changing c) → (ns : List ℕ) → ended (asks c) (x .bytes) ns .number ≡ 0 → Free (step (x .machine) c)
+    steps begins w ns e = record { from = f .from; keys = λ v h g. put-free (x .machine) (x .machine .shows (x .machine .current)) (earlier (x .machine .current) (f .from) (omega arith)) earlier v h g }
+    steps commits w ns e =
+        let o : x .machine .opened ≡ true = first-none (x .machine .opened) (unchangedIn (x .machine)) (sym (answers x a .commits ns) ∙ e) .0 in
+        record { from = omega (arith, f .from); keys = λ v h g. f .keys v h (omega (arith, g, opened-last o)) }
+    steps abandons w ns e = back (x .machine) f
+    steps (inserts k y) w ns e =
+        let (low, o) = insert-low k (x .machine .opened) (aliveIn (x .machine) k) (ended (toInsert k y) (x .bytes) ns .number) (answers x a .inserts k y ns) e in
+        edits o (enterPair (pair k y) (x .machine .shows (suc (x .machine .current)))) (low-entered k y (x .machine .shows (suc (x .machine .current))) low)
+    steps (deletes k) w ns e =
+        let o = delete-opened k (x .machine .opened) (aliveIn (x .machine) k) (ended (toDelete k) (x .bytes) ns .number) (answers x a .deletes k ns) e in
+        edits o (those (λ (y : Pair). not (eqb (y .key) k)) (x .machine .shows (suc (x .machine .current)))) (low-those (λ (y : Pair). not (eqb (y .key) k)) (x .machine .shows (suc (x .machine .current))))
+    steps (returns v) w ns e =
+        let (o, h) = return-opened (x .machine .current) (x .machine .opened) v (ended (toReturn v) (x .bytes) ns .number) (answers x a .returns v ns) e in
+        edits o (x .machine .shows v) (λ z. earlier v w h)
 
-      one-free : (t : Turn) → Brings (kindOf (t .call)) → Free (onward least x t .machine)
-      one-free t = at (t .call)
-        where
-          same : (n : ℕ) → Free (whenDone n (x .machine) (x .machine))
-          same n = when n (x .machine) (x .machine) (λ e. f) f
+    one-free : (t : Turn) → Brings (kindOf (t .call)) → Free (onward x t .machine)
+    one-free t = at (t .call)
+      where
+        same : (n : ℕ) → Free (whenDone n (x .machine) (x .machine))
+        same n = when n (x .machine) (x .machine) (λ e. f) f
 
-          number : Asked → ℕ
-          number c = ended least c (x .bytes) (t .list) .number
+        number : Asked → ℕ
+        number c = ended c (x .bytes) (t .list) .number
 
-          by : (c : Call) → Brings (changing c) → Free (whenDone (number (asks c)) (step (x .machine) c) (undone (changing c) (number (asks c)) (x .machine)))
-          by c w = when (number (asks c)) (undone (changing c) (number (asks c)) (x .machine)) (step (x .machine) c) (steps c w (t .list)) (undoes (changing c) (number (asks c)) (x .machine) f)
+        by : (c : Call) → Brings (changing c) → Free (whenDone (number (asks c)) (step (x .machine) c) (undone (changing c) (number (asks c)) (x .machine)))
+        by c w = when (number (asks c)) (undone (changing c) (number (asks c)) (x .machine)) (step (x .machine) c) (steps c w (t .list)) (undoes (changing c) (number (asks c)) (x .machine) f)
 
-          Goes : Asked → Kind → Type 0
-          Goes c q = Free (whenDone (ended least c (x .bytes) (t .list) .number) (stepped q (x .machine)) (undone q (ended least c (x .bytes) (t .list) .number) (x .machine)))
+        Goes : Asked → Kind → Type 0
+        Goes c q = Free (whenDone (ended c (x .bytes) (t .list) .number) (stepped q (x .machine)) (undone q (ended c (x .bytes) (t .list) .number) (x .machine)))
 
-          at : (c : Asked) → Brings (kindOf c) → Goes c (kindOf c)
-          at =
-              by-kind least (λ (c : Asked). Brings (kindOf c) → Goes c (kindOf c))
-              (λ h. when (ended least toFresh (x .bytes) (t .list) .number) (x .machine) start (λ e. record { from = omega (arith, h); keys = λ v i g. refl }) f)
-              (λ c h. subst (Goes (asks c)) (sym (kind-asks c)) (by c (subst Brings (kind-asks c) h)))
-              (λ c k stays h. subst (Goes c) (sym k) (same (ended least c (x .bytes) (t .list) .number)))
+        at : (c : Asked) → Brings (kindOf c) → Goes c (kindOf c)
+        at =
+            by-kind (λ (c : Asked). Brings (kindOf c) → Goes c (kindOf c))
+            (λ least c y h. subst (Goes c) (sym (y .kind))
+            (let h′ : u ≡ 0 = subst Brings (y .kind) h in when (ended c (x .bytes) (t .list) .number) (x .machine) start (λ e. record { from = omega (arith, h′); keys = λ v i g. refl }) f))
+            (λ c h. subst (Goes (asks c)) (sym (kind-asks c)) (by c (subst Brings (kind-asks c) h)))
+            (λ c k stays h. subst (Goes c) (sym k) (same (ended c (x .bytes) (t .list) .number)))
 
-    many-free : (g : Kind → Bool) → ((k : Kind) → g k ≡ true → Brings k) → (ts : List Turn) → each fitting ts ≡ true → each g ts ≡ true → (x : Beside) → Agreed least x → Free (x .machine)
-        → Free (along least x ts .machine)
-    many-free g z [] h i x a f = f
-    many-free g z (t ∷ ts) h i x a f =
-        let (p, q) = all-cons (λ (y : Turn). fitting (kindOf (y .call))) t ts h in
-        let (r, s) = all-cons (λ (y : Turn). g (kindOf (y .call))) t ts i in
-        many-free g z ts q s (onward least x t) (one-turn least four eight x a t p) (one-free x a f t (z (kindOf (t .call)) r))
+  many-free : (g : Kind → Bool) → ((k : Kind) → g k ≡ true → Brings k) → (ts : List Turn) → each fitting ts ≡ true → each g ts ≡ true → (x : Beside) → Agreed x → Free (x .machine)
+      → Free (along x ts .machine)
+  many-free g z [] h i x a f = f
+  many-free g z (t ∷ ts) h i x a f =
+      let (p, q) = all-cons (λ (y : Turn). fitting (kindOf (y .call))) t ts h in
+      let (r, s) = all-cons (λ (y : Turn). g (kindOf (y .call))) t ts i in
+      many-free g z ts q s (onward x t) (one-turn x a t p) (one-free x a f t (z (kindOf (t .call)) r))
 
-    -- in the words of the store
-    store-free : (x : Beside) → Agreed least x → Free (x .machine) → BenchFree u (decode least (x .bytes))
-    store-free x a f v h g =
-        let l : last (decode least (x .bytes)) ≡ lastIn (x .machine) = ap₂ lastOf (a .agrees .opened) (a .agrees .current) in
-        ap (all isLow) (a .agrees .shows v g) ∙ f .keys v h (omega (arith, g, l))
+  -- in the words of the store
+  store-free : (x : Beside) → Agreed x → Free (x .machine) → BenchFree u (storeOf (x .bytes))
+  store-free x a f v h g =
+      let l : last (storeOf (x .bytes)) ≡ lastIn (x .machine) = ap₂ lastOf (a .agrees .opened) (a .agrees .current) in
+      ap (all isLow) (a .agrees .shows v g) ∙ f .keys v h (omega (arith, g, l))
 
 -- ---- the promise
 
@@ -219,18 +220,18 @@ brings-none u reading e = tt
 
 pub kept-out : KeptOut
 kept-out = record {
-  five = λ least b ok k x ns h. change-number least b ok (inserts k x) ns ∙ insert-five least (decode least b) k x h;
-  fresh = λ least four eight n six most ts h.
+  five = λ b ok k x ns h. change-number b ok (inserts k x) ns ∙ insert-five (leastOf b) (storeOf b) k x h;
+  fresh = λ least e n six most ts h.
       let x : Beside = fromFresh least n in
-      let a : Agreed least x = fresh-agreed least four eight n six most in
+      let a : Agreed x = fresh-agreed least e n six most in
       let f : Free 0 (x .machine) = record { from = omega arith; keys = λ v i g. refl } in
-      subst (λ (b : List ℕ). BenchFree 0 (decode least b)) (along-bytes least ts x)
-      (store-free 0 least four eight (along least x ts) (many-turns least four eight ts h x a) (many-free 0 least four eight (λ (k : Kind). true) (λ k e. any-brings k) ts h (any-kind ts) x a f));
-  cleaned = λ least four eight b ok clean ts h i.
-      let u : ℕ = decode least b .current in
-      let x : Beside = fromLent least b in
-      let a : Agreed least x = lent-agreed least four eight b ok in
+      subst (λ (b : List ℕ). BenchFree 0 (storeOf b)) (along-bytes ts x)
+      (store-free 0 (along x ts) (many-turns ts h x a) (many-free 0 (λ (k : Kind). true) (λ k e. any-brings k) ts h (any-kind ts) x a f));
+  cleaned = λ b ok clean ts h i.
+      let u : ℕ = storeOf b .current in
+      let x : Beside = fromLent b in
+      let a : Agreed x = lent-agreed b ok in
       let f : Free u (x .machine) = record { from = omega arith; keys = λ v j g. clean v j g } in
-      subst (λ (q : List ℕ). BenchFree u (decode least q)) (along-bytes least ts x)
-      (store-free u least four eight (along least x ts) (many-turns least four eight ts h x a) (many-free u least four eight (notBehind u) (brings-none u) ts h i x a f));
+      subst (λ (q : List ℕ). BenchFree u (storeOf q)) (along-bytes ts x)
+      (store-free u (along x ts) (many-turns ts h x a) (many-free u (notBehind u) (brings-none u) ts h i x a f));
 }

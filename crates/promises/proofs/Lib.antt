@@ -1,3 +1,5 @@
+pub mod Known
+pub mod Early
 pub mod Encoded
 pub mod High
 pub mod Lending
@@ -19,6 +21,7 @@ pub mod Stretches
 pub mod Lives
 pub mod Restored
 pub mod KeptOut
+pub mod Converting
 pub mod NamedSettings
 pub mod Tables
 pub mod Replaying

@@ -17,7 +17,7 @@ use Rattle.model.specs.declared.Looked.the-variants.{Value}
 use Rattle.model.specs.Entry.{alive}
 use Rattle.model.specs.Store.{Store, next, last, lastOf}
 use Rattle.model.specs.Walk.{keyLimit, lookup}
-use Rattle.model.specs.Layout.{decode}
+use Rattle.model.specs.Editions.{leastOf}
 use Rattle.model.specs.Climb.{done, refused}
 use Rattle.model.specs.Calls
 use Rattle.model.specs.Calls.{rule, firstOf, lookedAt, lookedBy, get, committed, unchanged, commit}
@@ -28,23 +28,24 @@ use Rattle.model.specs.Life.{lifeOf, life, lived, stretchNumbers}
 use Rattle.model.specs.Return.{Came, gave, gaveUp}
 use Rattle.model.specs.Histories.{Call, begins, commits, abandons, inserts, deletes, returns, callBy, after}
 use Rattle.model.specs.Settings.{Both, lent, onward, together}
-use Rattle.model.specs.Lent
-use Rattle.model.specs.Lent.{judgedFirst, Listed, listed, lookupLent, lifeLent}
+use Rattle.model.specs.Lent.{Listed, listed}
+use Rattle.model.specs.Any.{lookupAny, lifeAny}
 use Rattle.model.specs.Ended.{toCommit, toLife, ofListed, ended}
 use Rattle.model.specs.Telling.{Shape}
 use Rattle.model.proofs.Lists.{all-cons, both-intro}
-use Rattle.model.proofs.Judging.{accepted as judged-zero, accepted-sound}
+use Rattle.model.proofs.Judging.{accepted-sound}
 use Rattle.model.proofs.Alike.{alike-lookup}
 use Rattle.model.proofs.History.{many-calls}
 use Rattle.model.proofs.Undone.{lent-agrees}
 use Rattle.model.proofs.Lives.{life-ext}
 use Rattle.model.proofs.Telling.{length-numbers}
-use Rattle.promises.specs.Accepts.{Accepts}
+use Rattle.promises.specs.Accepts.{Accepts, storeOf}
 use Rattle.promises.specs.Runs.{Turn, runBytes, Kind, making, changing, reading, kindOf, notMaking, uncommitting, each}
 use Rattle.promises.specs.Views.{SaysSame}
 use Rattle.promises.specs.Lives.{LifeGiven, LivesAgree, StretchesApart, OpenUnshown, LeftAlone}
+use Rattle.promises.proofs.Known.{four, taken}
 use Rattle.promises.proofs.Lending.{held-sound, change-leaves}
-use Rattle.promises.proofs.Sounding.{lookup-lent}
+use Rattle.promises.proofs.Sounding.{lookup-lent, life-lent}
 use Rattle.promises.proofs.Projected.{withCall, callsOf, calls-fit}
 use Rattle.promises.proofs.Stays.{later, goes}
 use Rattle.promises.proofs.Releasing.{first-none, number-is}
@@ -52,32 +53,28 @@ use Rattle.promises.proofs.Stretches.{life-ends, life-apart, life-lies,
 
 -- ---- readings of accepted bytes
 
-module _ (least : ℕ) (b : List ℕ) (ok : Accepts least b) where
+module _ (b : List ℕ) (ok : Accepts b) where
   abbrev s : Store
-  s = decode least b
+  s = storeOf b
 
-  last-low : last (decode least b) ≤ 1048574
-  last-low = accepted-sound least b (judged-zero least b ok) .last-low
+  last-low : last (storeOf b) ≤ 1048574
+  last-low = accepted-sound (leastOf b) b (taken b ok) .last-low
 
-  upto : decode least b .current ≤ last (decode least b)
-  upto = at (decode least b .opened) (decode least b .current)
+  upto : storeOf b .current ≤ last (storeOf b)
+  upto = at (storeOf b .opened) (storeOf b .current)
     where
       at : (o : Bool) (n : ℕ) → n ≤ lastOf o n
       at true n = omega arith
       at false n = omega arith
 
-  current-low : decode least b .current < alive
+  current-low : storeOf b .current < alive
   current-low = omega (arith, last-low, upto)
 
-  looked : 4 ≤ least → least ≤ 8 → (k v : ℕ) → k < keyLimit → v ≤ last (decode least b) → lookupLent least b k v ≡ lookedAt (lookup (decode least b) k v)
+  looked : (k v : ℕ) → k < keyLimit → v ≤ last (storeOf b) → lookupAny b k v ≡ lookedAt (lookup (storeOf b) k v)
   unfolding Calls.get
-  looked four eight k v h l =
-      lookup-lent least four eight b ok k v
+  looked k v h l =
+      lookup-lent b ok k v
       ∙ ap₂ (λ (p q : Bool). lookedBy (firstOf (rule 5 p ∷ rule 6 q ∷ [])) (lookup s k v)) (lt-leb keyLimit k h) (le-ltb (last s) v l)
-
-  life-lent : (k : ℕ) (ns : List ℕ) → lifeLent least b k ns ≡ listed ns (lived (decode least b) k (length ns))
-  unfolding Lent.lifeLent
-  life-lent k ns = ap (λ (n : ℕ). judgedFirst n (λ j. record { number = j; count = 0; list = ns }) (listed ns (lived s k (length ns)))) ok
 
 value-is : (o : Option ℕ) (x : ℕ) → (lookedAt o ≡ Value x) ↔ (o ≡ some x)
 value-is none x = (λ e. absurd (let z : _≡_ {A = ℕ} 0 1 = cc in omega arith), λ e. absurd (let z : _≡_ {A = ℕ} 0 1 = cc in omega arith))
@@ -94,56 +91,56 @@ looked-one (some x) (some y) e = let q : x ≡ y = cc in ap some q
 abbrev shape : Shape Stretch
 shape = record { numbers = stretchNumbers; each = 3; size = λ a. refl }
 
-module _ (least : ℕ) (b : List ℕ) (ok : Accepts least b) (k : ℕ) (h : k < keyLimit) (ns : List ℕ) where
-  told : (t : Bool) → ltb (length ns) (3 * length (life (decode least b) k)) ≡ t
-      → ended least (toLife k) b ns ≡ ofListed b (listed ns (toldIn stretchNumbers (firstOf (rule 14 t ∷ [])) (life (decode least b) k)))
+module _ (b : List ℕ) (ok : Accepts b) (k : ℕ) (h : k < keyLimit) (ns : List ℕ) where
+  told : (t : Bool) → ltb (length ns) (3 * length (life (storeOf b) k)) ≡ t
+      → ended (toLife k) b ns ≡ ofListed b (listed ns (toldIn stretchNumbers (firstOf (rule 14 t ∷ [])) (life (storeOf b) k)))
   unfolding Life.lived Told.toldBy
   told t e =
-      ap (ofListed b) (life-lent least b ok k ns)
-      ∙ ap (λ (p : Bool). ofListed b (listed ns (toldBy stretchNumbers 3 (firstOf (rule 5 p ∷ [])) (length ns) (life (decode least b) k)))) (lt-leb keyLimit k h)
-      ∙ ap (λ (q : Bool). ofListed b (listed ns (toldIn stretchNumbers (firstOf (rule 14 q ∷ [])) (life (decode least b) k)))) e
+      ap (ofListed b) (life-lent b ok k ns)
+      ∙ ap (λ (p : Bool). ofListed b (listed ns (toldBy stretchNumbers 3 (firstOf (rule 5 p ∷ [])) (length ns) (life (storeOf b) k)))) (lt-leb keyLimit k h)
+      ∙ ap (λ (q : Bool). ofListed b (listed ns (toldIn stretchNumbers (firstOf (rule 14 q ∷ [])) (life (storeOf b) k)))) e
 
 pub life-given : LifeGiven
 unfolding Told.toldIn
-life-given least b ok k h ns =
-    let xs = life (decode least b) k in
+life-given b ok k h ns =
+    let xs = life (storeOf b) k in
     record {
-      room = λ r. told least b ok k h ns false (le-ltb (length ns) (3 * length xs) r)
+      room = λ r. told b ok k h ns false (le-ltb (length ns) (3 * length xs) r)
           ∙ ap (λ (n : ℕ). record { number = 0; results = length xs ∷ []; store = b; list = flatMap stretchNumbers xs ++ drop n ns }) (length-numbers shape xs);
-      short = λ r. told least b ok k h ns true (lt-ltb (length ns) (3 * length xs) r);
+      short = λ r. told b ok k h ns true (lt-ltb (length ns) (3 * length xs) r);
     }
 
 -- ---- lookups and lives never disagree; stretches stand apart
 
 pub lives-agree : LivesAgree
-lives-agree least four eight b ok k v x h l =
-    let s = decode least b in
-    let e = looked least b ok four eight k v h (omega (arith, upto least b ok)) in
+lives-agree b ok k v x h l =
+    let s = storeOf b in
+    let e = looked b ok k v h (omega (arith, upto b ok)) in
     let f = value-is (lookup s k v) x in
-    let g = life-lies (s .current) (lookup s k) (current-low least b ok) v x l in
+    let g = life-lies (s .current) (lookup s k) (current-low b ok) v x l in
     (λ q. g .0 (f .0 (sym e ∙ q)), λ q. e ∙ f .1 (g .1 q))
 
 pub stretches-apart : StretchesApart
 stretches-apart = record {
-  apart = λ least b ok k. life-apart (decode least b .current) (lookup (decode least b) k) (current-low least b ok);
-  ends = λ least b k. life-ends (decode least b .current) (lookup (decode least b) k);
+  apart = λ b ok k. life-apart (storeOf b .current) (lookup (storeOf b) k) (current-low b ok);
+  ends = λ b k. life-ends (storeOf b .current) (lookup (storeOf b) k);
 }
 
 -- ---- two stores with one life
 
-module _ (least : ℕ) (b b′ : List ℕ) (ok : Accepts least b) (ok′ : Accepts least b′) (k : ℕ) (same : k < keyLimit → life (decode least b′) k ≡ life (decode least b) k) where
-  lived-same : (room : ℕ) → lived (decode least b′) k room ≡ lived (decode least b) k room
+module _ (b b′ : List ℕ) (ok : Accepts b) (ok′ : Accepts b′) (k : ℕ) (same : k < keyLimit → life (storeOf b′) k ≡ life (storeOf b) k) where
+  lived-same : (room : ℕ) → lived (storeOf b′) k room ≡ lived (storeOf b) k room
   unfolding Life.lived Told.toldBy
   lived-same room = at (leb keyLimit k) refl
     where
       at : (p : Bool) → leb keyLimit k ≡ p
-          → toldBy stretchNumbers 3 (firstOf (rule 5 p ∷ [])) room (life (decode least b′) k) ≡ toldBy stretchNumbers 3 (firstOf (rule 5 p ∷ [])) room (life (decode least b) k)
+          → toldBy stretchNumbers 3 (firstOf (rule 5 p ∷ [])) room (life (storeOf b′) k) ≡ toldBy stretchNumbers 3 (firstOf (rule 5 p ∷ [])) room (life (storeOf b) k)
       at true e = refl
       at false e = ap (toldBy stretchNumbers 3 0 room) (same (leb-false keyLimit k e))
 
-  says-same : (ns : List ℕ) → SaysSame (ended least (toLife k) b′ ns) (ended least (toLife k) b ns)
+  says-same : (ns : List ℕ) → SaysSame (ended (toLife k) b′ ns) (ended (toLife k) b ns)
   says-same ns =
-      let e : lifeLent least b′ k ns ≡ lifeLent least b k ns = life-lent least b′ ok′ k ns ∙ ap (listed ns) (lived-same (length ns)) ∙ sym (life-lent least b ok k ns) in
+      let e : lifeAny b′ k ns ≡ lifeAny b k ns = life-lent b′ ok′ k ns ∙ ap (listed ns) (lived-same (length ns)) ∙ sym (life-lent b ok k ns) in
       record {
         number = ap (λ (r : Listed). r .number) e;
         results = ap (λ (r : Listed). ofListed b r .results) e;
@@ -191,36 +188,36 @@ all-kept least (c ∷ cs) h y =
     all-kept least cs q (onward y c (callBy least (y .store) c)) ∙ one-kept y c (callBy least (y .store) c) p
 
 pub open-unshown : OpenUnshown
-open-unshown least four eight b ok ts f u k =
-    let s = decode least b in
-    let b′ = runBytes least b ts in
+open-unshown b ok ts f u k =
+    let s = storeOf b in
+    let b′ = runBytes b ts in
     let m = each-not ts u in
-    let left = later least four eight b ok ts f m in
-    let on = goes least four eight b ok ts f m in
-    let agrees = many-calls least four (callsOf ts) (calls-fit ts f) (lent s) (lent-agrees least s (held-sound least four eight b ok)) in
-    let kept : decode least b′ .current ≡ s .current = ap (λ (t : Store). t .current) (left .holds) ∙ agrees .current ∙ all-kept least (callsOf ts) (calls-keep ts u) (lent s) in
-    says-same least b b′ ok (left .accepts) k
-    (λ h. ap (λ (c : ℕ). lifeOf c (lookup (decode least b′) k)) kept ∙ life-ext (s .current) (lookup (decode least b′) k) (lookup s k) (λ v l. alike-lookup s v (decode least b′) v (on .steady v l) k))
+    let left = later b ok ts f m in
+    let on = goes b ok ts f m in
+    let agrees = many-calls (leastOf b) (four b) (callsOf ts) (calls-fit ts f) (lent s) (lent-agrees (leastOf b) s (held-sound b ok)) in
+    let kept : storeOf b′ .current ≡ s .current = ap (λ (t : Store). t .current) (left .holds) ∙ agrees .current ∙ all-kept (leastOf b) (callsOf ts) (calls-keep ts u) (lent s) in
+    says-same b b′ ok (left .accepts) k
+    (λ h. ap (λ (c : ℕ). lifeOf c (lookup (storeOf b′) k)) kept ∙ life-ext (s .current) (lookup (storeOf b′) k) (lookup s k) (λ v l. alike-lookup s v (storeOf b′) v (on .steady v l) k))
 
 -- ---- a commit
 
-module _ (least : ℕ) (b : List ℕ) (ok : Accepts least b) where
+module _ (b : List ℕ) (ok : Accepts b) where
   -- where it is done, an update is open that changes something
-  opened-by : (ms : List ℕ) → ended least toCommit b ms .number ≡ 0 → (decode least b .opened ≡ true) × (unchanged (decode least b) ≡ false)
-  opened-by ms given = first-none (decode least b .opened) (unchanged (decode least b)) (sym (number-is least b ms ok) ∙ given)
+  opened-by : (ms : List ℕ) → ended toCommit b ms .number ≡ 0 → (storeOf b .opened ≡ true) × (unchanged (storeOf b) ≡ false)
+  opened-by ms given = first-none (storeOf b .opened) (unchanged (storeOf b)) (sym (number-is b ms ok) ∙ given)
 
-  commit-after : decode least b .opened ≡ true → unchanged (decode least b) ≡ false → after (decode least b) (callBy least (decode least b) commits) .store ≡ committed (decode least b)
+  commit-after : storeOf b .opened ≡ true → unchanged (storeOf b) ≡ false → after (storeOf b) (callBy (leastOf b) (storeOf b) commits) .store ≡ committed (storeOf b)
   unfolding Calls.commit
-  commit-after o c = ap₂ (λ (q r : Bool). after (decode least b) (gave (Calls.numbered (rule 7 (not q) ∷ rule 15 r ∷ []) (done (committed (decode least b))))) .store) o c
+  commit-after o c = ap₂ (λ (q r : Bool). after (storeOf b) (gave (Calls.numbered (rule 7 (not q) ∷ rule 15 r ∷ []) (done (committed (storeOf b))))) .store) o c
 
 pub left-alone : LeftAlone
-left-alone least four eight b ok ms given k same =
-    let s = decode least b in
-    let (o, c) = opened-by least b ok ms given in
-    let left = change-leaves least four eight b ok commits refl ms in
-    let b′ = ended least toCommit b ms .store in
-    let is : decode least b′ ≡ committed s = left .holds ∙ commit-after least b ok o c in
+left-alone b ok ms given k same =
+    let s = storeOf b in
+    let (o, c) = opened-by b ok ms given in
+    let left = change-leaves b ok commits refl ms in
+    let b′ = ended toCommit b ms .store in
+    let is : storeOf b′ ≡ committed s = left .holds ∙ commit-after b ok o c in
     let up : last s ≡ next s = ap (λ (q : Bool). lastOf q (s .current)) o in
-    says-same least b b′ ok (left .accepts) k
+    says-same b b′ ok (left .accepts) k
     (λ h. ap (λ (t : Store). life t k) is
-    ∙ life-stays (s .current) (lookup s k) (looked-one (lookup s k (next s)) (lookup s k (s .current)) (sym (looked least b ok four eight k (next s) h (omega arith)) ∙ same ∙ looked least b ok four eight k (s .current) h (upto least b ok))))
+    ∙ life-stays (s .current) (lookup s k) (looked-one (lookup s k (next s)) (lookup s k (s .current)) (sym (looked b ok k (next s) h (omega arith)) ∙ same ∙ looked b ok k (s .current) h (upto b ok))))

@@ -25,23 +25,28 @@ use Rattle.model.specs.Walk.{settings, between, find, rangeOf, keyLimit}
 use Rattle.model.specs.Layout.{encode, decode}
 use Rattle.model.specs.Judged.{judged}
 use Rattle.model.specs.Calls.{rule, firstOf, pairNumbers, rangedIn, rangedBy, range}
-use Rattle.model.specs.Lent.{Outcome, Listed, judgedFirst, listed, insertLent, deleteLent, lookupLent, rangeLent}
+use Rattle.model.specs.Lent.{Outcome, Listed, judgedFirst, listed, rangeLent}
+use Rattle.model.specs.Editions.{lentNumber, leastOf}
+use Rattle.model.specs.Any
+use Rattle.model.specs.Any.{insertAny, deleteAny, lookupAny, rangeAny}
 use Rattle.model.specs.Settings.{Machine, step, put}
 use Rattle.model.specs.Histories.{begins, commits, abandons, inserts, deletes}
-use Rattle.model.specs.Ended.{Asked, toFresh, toCheck, toOpen, toCommit, toAbandon, toInsert, toDelete, toReturn, toLookup, toRange, toVisits, toDifference, toLife, ended, Untouched, ofOutcome, ofLooked, ofListed}
+use Rattle.model.specs.Ended.{Asked, toFresh, toFreshSecond, toCheck, toOpen, toCommit, toAbandon, toInsert, toDelete, toReturn, toLookup, toRange, toVisits, toDifference, toLife, Ended, ended, Untouched, ofOutcome, ofLooked, ofListed}
 use Rattle.model.specs.Kinds.{admits, knownIn, allowed, unknown}
-use Rattle.model.specs.Named.{before, insertNamed, deleteNamed, lookupNamed, allKnown, barred, rangeNamed, ByName, byOpen, byCommit, byAbandon, byInsert, byDelete, byLookup, byRange, endedNamed}
+use Rattle.model.specs.Named.{before, insertNamed, deleteNamed, lookupNamed, allKnown, barred, rangeNamedBy, rangeNamed, ByName, byOpen, byCommit, byAbandon, byInsert, byDelete, byLookup, byRange, endedNamed}
 use Rattle.model.proofs.Lists.{all-cons, both-intro}
 use Rattle.model.proofs.Members.{bool-cases, not-both, In, all-in, all-by, in-those, those-in}
 use Rattle.model.proofs.Fitted.{entered-in}
 use Rattle.model.proofs.Judging.{accepted, accepted-sound}
 use Rattle.model.proofs.Ranges.{range-is}
+use Rattle.model.proofs.Editions.{goes, refuses, ended-goes}
 use Rattle.model.proofs.Unique as one
 use Rattle.kinds.specs.Floats.{no-nan}
-use Rattle.promises.specs.Accepts.{Accepts}
+use Rattle.promises.specs.Accepts.{Accepts, storeOf}
 use Rattle.promises.specs.Runs.{Turn, turned, runBytes, kindOf, fitting, each}
 use Rattle.promises.specs.Beside.{Beside, whenDone, onward, along, fromFresh}
-use Rattle.promises.specs.NamedSettings.{NamedTurn, runNamed, fits, eachFits, EachWithin, NamedRefused, admitted, shown, AdmittedOnly, NoNan, NeverSkipped, NeverSofter}
+use Rattle.promises.specs.NamedSettings.{NamedTurn, runNamed, fits, eachFits, EachWithin, NamedRefused, admitted, shown, AdmittedOnly, NoNan, ShowsAll, NeverSkipped, NeverSofter}
+use Rattle.promises.proofs.Known.{four, known, judged-by, accepts-by}
 use Rattle.promises.proofs.Agreed.{Agreed, many-turns, fresh-agreed}
 use Rattle.promises.proofs.Sounding.{range-lent}
 use Rattle.promises.proofs.Restored.{along-bytes}
@@ -66,6 +71,7 @@ kept-list (suc n) ns r f z = refl
 -- the one call that may be refused and yet change the store is none of the layer's
 abbrev returning : Asked → ℕ
 returning toFresh = 0
+returning toFreshSecond = 0
 returning toCheck = 0
 returning toOpen = 0
 returning toCommit = 0
@@ -79,32 +85,57 @@ returning (toVisits k v) = 0
 returning (toDifference u v) = 0
 returning (toLife k) = 0
 
-untouched : (least : ℕ) (c : Asked) (b ns : List ℕ) → returning c ≡ 0 → ended least c b ns .number ≢ 0 → Untouched b ns (ended least c b ns)
-untouched least c b ns e z = one.refused least c b ns (ended least c b ns) refl z (λ x. omega (arith, e, ap returning (x .0 .1)))
+untouched : (c : Asked) (b ns : List ℕ) → returning c ≡ 0 → ended c b ns .number ≢ 0 → Untouched b ns (ended c b ns)
+untouched c b ns e z = one.refused c b ns (ended c b ns) refl z (λ x. omega (arith, e, ap returning (x .0 .1)))
+
+-- a range by name, by the edition that the bytes name
+range-goes : (table b : List ℕ) (lo hi v : ℕ) (ns : List ℕ) → lentNumber b ≡ 0 → rangeNamed table b lo hi v ns ≡ rangeNamedBy (leastOf b) table b lo hi v ns
+unfolding rangeNamed
+range-goes table b lo hi v ns z = goes {A = Listed} b (λ (n : ℕ). record { number = n; count = 0; list = ns }) (λ (least : ℕ). rangeNamedBy least table b lo hi v ns) z
+
+range-early : (table b : List ℕ) (lo hi v : ℕ) (ns : List ℕ) → lentNumber b ≢ 0 → rangeNamed table b lo hi v ns ≡ record { number = lentNumber b; count = 0; list = ns }
+unfolding rangeNamed
+range-early table b lo hi v ns z = refuses {A = Listed} b (λ (n : ℕ). record { number = n; count = 0; list = ns }) (λ (least : ℕ). rangeNamedBy least table b lo hi v ns) z
+
+range-kept : (table b : List ℕ) (lo hi v : ℕ) (ns : List ℕ) → rangeNamed table b lo hi v ns .number ≢ 0 → rangeNamed table b lo hi v ns .list ≡ ns
+unfolding rangeNamedBy
+range-kept table b lo hi v ns y = by (lentNumber b) refl
+  where
+    least : ℕ
+    least = leastOf b
+
+    kept : Listed
+    kept = record { number = 17; count = 0; list = ns }
+
+    at : lentNumber b ≡ 0 → (q : Bool) → pick q (rangeLent least b lo hi v ns) kept .number ≢ 0 → pick q (rangeLent least b lo hi v ns) kept .list ≡ ns
+    at z true w =
+        let e = ended-goes b ns (toRange lo hi v) refl z in
+        sym (ap (λ (x : Ended). x .list) e) ∙ untouched (toRange lo hi v) b ns refl (λ n. w (sym (ap (λ (x : Ended). x .number) e) ∙ n)) .list
+    at z false w = refl
+
+    by : (n : ℕ) → lentNumber b ≡ n → rangeNamed table b lo hi v ns .list ≡ ns
+    by zero z =
+        let e = range-goes table b lo hi v ns z in
+        ap (λ (x : Listed). x .list) e
+        ∙ kept-list (barred least b lo hi v) ns (pick (allKnown table (rangeOf (decode least b) lo hi v)) (rangeLent least b lo hi v ns) kept)
+        (at z (allKnown table (rangeOf (decode least b) lo hi v))) (λ n. y (ap (λ (x : Listed). x .number) e ∙ n))
+    by (suc n) z = ap (λ (x : Listed). x .list) (range-early table b lo hi v ns (λ q. absurd (omega arith)))
 
 pub named-refused : NamedRefused
-unfolding insertNamed deleteNamed rangeNamed
-named-refused least table byOpen b ns z = untouched least toOpen b ns refl z
-named-refused least table byCommit b ns z = untouched least toCommit b ns refl z
-named-refused least table byAbandon b ns z = untouched least toAbandon b ns refl z
-named-refused least table (byInsert k x) b ns z = record {
-  store = kept-store (allowed (knownIn table k) x) b (insertLent least b k x) (λ y. untouched least (toInsert k x) b ns refl y .store) z;
+unfolding insertNamed deleteNamed
+named-refused table byOpen b ns z = untouched toOpen b ns refl z
+named-refused table byCommit b ns z = untouched toCommit b ns refl z
+named-refused table byAbandon b ns z = untouched toAbandon b ns refl z
+named-refused table (byInsert k x) b ns z = record {
+  store = kept-store (allowed (knownIn table k) x) b (insertAny b k x) (λ y. untouched (toInsert k x) b ns refl y .store) z;
   list = refl;
 }
-named-refused least table (byDelete k) b ns z = record {
-  store = kept-store (unknown (knownIn table k)) b (deleteLent least b k) (λ y. untouched least (toDelete k) b ns refl y .store) z;
+named-refused table (byDelete k) b ns z = record {
+  store = kept-store (unknown (knownIn table k)) b (deleteAny b k) (λ y. untouched (toDelete k) b ns refl y .store) z;
   list = refl;
 }
-named-refused least table (byLookup k v) b ns z = record { store = refl; list = refl }
-named-refused least table (byRange lo hi v) b ns z = record {
-  store = refl;
-  list = kept-list (barred least b lo hi v) ns (pick (allKnown table (rangeOf (decode least b) lo hi v)) (rangeLent least b lo hi v ns) (record { number = 17; count = 0; list = ns }))
-      (at (allKnown table (rangeOf (decode least b) lo hi v))) z;
-}
-  where
-    at : (q : Bool) → pick q (rangeLent least b lo hi v ns) (record { number = 17; count = 0; list = ns }) .number ≢ 0 → pick q (rangeLent least b lo hi v ns) (record { number = 17; count = 0; list = ns }) .list ≡ ns
-    at true y = untouched least (toRange lo hi v) b ns refl y .list
-    at false y = refl
+named-refused table (byLookup k v) b ns z = record { store = refl; list = refl }
+named-refused table (byRange lo hi v) b ns z = record { store = refl; list = range-kept table b lo hi v ns z }
 
 -- ---- the calls that the layer lets through
 
@@ -134,23 +165,23 @@ plain [] = []
 plain (t ∷ ts) = keep (passes (t .table) (t .call)) (asked t) (plain ts)
 
 -- each leaves what the store's call leaves, or nothing was done
-one-same : (least : ℕ) (b : List ℕ) (table : List ℕ) (c : ByName) (ns : List ℕ) → endedNamed least table c b ns .store ≡ pick (passes table c) (ended least (asks c) b ns .store) b
+one-same : (b : List ℕ) (table : List ℕ) (c : ByName) (ns : List ℕ) → endedNamed table c b ns .store ≡ pick (passes table c) (ended (asks c) b ns .store) b
 unfolding insertNamed deleteNamed
-one-same least b table byOpen ns = refl
-one-same least b table byCommit ns = refl
-one-same least b table byAbandon ns = refl
-one-same least b table (byInsert k x) ns = through (allowed (knownIn table k) x) b (insertLent least b k x)
-one-same least b table (byDelete k) ns = through (unknown (knownIn table k)) b (deleteLent least b k)
-one-same least b table (byLookup k v) ns = refl
-one-same least b table (byRange lo hi v) ns = refl
+one-same b table byOpen ns = refl
+one-same b table byCommit ns = refl
+one-same b table byAbandon ns = refl
+one-same b table (byInsert k x) ns = through (allowed (knownIn table k) x) b (insertAny b k x)
+one-same b table (byDelete k) ns = through (unknown (knownIn table k)) b (deleteAny b k)
+one-same b table (byLookup k v) ns = refl
+one-same b table (byRange lo hi v) ns = refl
 
-many-same : (least : ℕ) (ts : List NamedTurn) (b : List ℕ) → runNamed least b ts ≡ runBytes least b (plain ts)
-many-same least [] b = refl
-many-same least (t ∷ ts) b =
-    ap (λ (q : List ℕ). runNamed least q ts) (one-same least b (t .table) (t .call) (t .list)) ∙ at (passes (t .table) (t .call)) (many-same least ts)
+many-same : (ts : List NamedTurn) (b : List ℕ) → runNamed b ts ≡ runBytes b (plain ts)
+many-same [] b = refl
+many-same (t ∷ ts) b =
+    ap (λ (q : List ℕ). runNamed q ts) (one-same b (t .table) (t .call) (t .list)) ∙ at (passes (t .table) (t .call)) (many-same ts)
   where
-    at : (p : Bool) → ((q : List ℕ) → runNamed least q ts ≡ runBytes least q (plain ts)) → runNamed least (pick p (turned least b (asked t) .store) b) ts ≡ runBytes least b (keep p (asked t) (plain ts))
-    at true ih = ih (turned least b (asked t) .store)
+    at : (p : Bool) → ((q : List ℕ) → runNamed q ts ≡ runBytes q (plain ts)) → runNamed (pick p (turned b (asked t) .store) b) ts ≡ runBytes b (keep p (asked t) (plain ts))
+    at true ih = ih (turned b (asked t) .store)
     at false ih = ih b
 
 -- ---- the machine beside them holds settings that pass a test alone, if every insert does
@@ -188,35 +219,34 @@ module _ (f : Pair → Bool) where
   EachLets [] = Unit {0}
   EachLets (t ∷ ts) = Lets (t .table) × EachLets ts
 
-  module _ (least : ℕ) where
-    one-only : (x : Beside) (t : NamedTurn) → passes (t .table) (t .call) ≡ true → Lets (t .table) → Only (x .machine) → Only (onward least x (asked t) .machine)
-    one-only x t p l o = at (t .call) p
-      where
-        number : ByName → ℕ
-        number c = ended least (asks c) (x .bytes) (t .list) .number
+  one-only : (x : Beside) (t : NamedTurn) → passes (t .table) (t .call) ≡ true → Lets (t .table) → Only (x .machine) → Only (onward x (asked t) .machine)
+  one-only x t p l o = at (t .call) p
+    where
+      number : ByName → ℕ
+      number c = ended (asks c) (x .bytes) (t .list) .number
 
-        at : (c : ByName) → passes (t .table) c ≡ true → Only (onward least x (record { call = asks c; list = t .list }) .machine)
-        at byOpen p = when (number byOpen) (x .machine) (step (x .machine) begins) (put-only (x .machine) (x .machine .shows (x .machine .current)) (o (x .machine .current)) o) o
-        at byCommit p = when (number byCommit) (x .machine) (step (x .machine) commits) o o
-        at byAbandon p = when (number byAbandon) (x .machine) (step (x .machine) abandons) o o
-        at (byInsert k y) p =
-            when (number (byInsert k y)) (x .machine) (step (x .machine) (inserts k y))
-            (put-only (x .machine) (enterPair (pair k y) (x .machine .shows (suc (x .machine .current))))
-            (entered-only k y (x .machine .shows (suc (x .machine .current))) (l k y (eqb-true (allowed (knownIn (t .table) k) y) 0 p)) (o (suc (x .machine .current)))) o) o
-        at (byDelete k) p =
-            when (number (byDelete k)) (x .machine) (step (x .machine) (deletes k))
-            (put-only (x .machine) (those (λ (y : Pair). not (eqb (y .key) k)) (x .machine .shows (suc (x .machine .current))))
-            (those-only (λ (y : Pair). not (eqb (y .key) k)) (x .machine .shows (suc (x .machine .current))) (o (suc (x .machine .current)))) o) o
-        at (byLookup k v) p = when (number (byLookup k v)) (x .machine) (x .machine) o o
-        at (byRange lo hi v) p = when (number (byRange lo hi v)) (x .machine) (x .machine) o o
+      at : (c : ByName) → passes (t .table) c ≡ true → Only (onward x (record { call = asks c; list = t .list }) .machine)
+      at byOpen p = when (number byOpen) (x .machine) (step (x .machine) begins) (put-only (x .machine) (x .machine .shows (x .machine .current)) (o (x .machine .current)) o) o
+      at byCommit p = when (number byCommit) (x .machine) (step (x .machine) commits) o o
+      at byAbandon p = when (number byAbandon) (x .machine) (step (x .machine) abandons) o o
+      at (byInsert k y) p =
+          when (number (byInsert k y)) (x .machine) (step (x .machine) (inserts k y))
+          (put-only (x .machine) (enterPair (pair k y) (x .machine .shows (suc (x .machine .current))))
+          (entered-only k y (x .machine .shows (suc (x .machine .current))) (l k y (eqb-true (allowed (knownIn (t .table) k) y) 0 p)) (o (suc (x .machine .current)))) o) o
+      at (byDelete k) p =
+          when (number (byDelete k)) (x .machine) (step (x .machine) (deletes k))
+          (put-only (x .machine) (those (λ (y : Pair). not (eqb (y .key) k)) (x .machine .shows (suc (x .machine .current))))
+          (those-only (λ (y : Pair). not (eqb (y .key) k)) (x .machine .shows (suc (x .machine .current))) (o (suc (x .machine .current)))) o) o
+      at (byLookup k v) p = when (number (byLookup k v)) (x .machine) (x .machine) o o
+      at (byRange lo hi v) p = when (number (byRange lo hi v)) (x .machine) (x .machine) o o
 
-    many-only : (ts : List NamedTurn) → EachLets ts → (x : Beside) → Only (x .machine) → Only (along least x (plain ts) .machine)
-    many-only [] ls x o = o
-    many-only (t ∷ ts) ls x o = at (passes (t .table) (t .call)) refl (many-only ts (ls .1))
-      where
-        at : (p : Bool) → passes (t .table) (t .call) ≡ p → ((y : Beside) → Only (y .machine) → Only (along least y (plain ts) .machine)) → Only (along least x (keep p (asked t) (plain ts)) .machine)
-        at true e ih = ih (onward least x (asked t)) (one-only x t e (ls .0) o)
-        at false e ih = ih x o
+  many-only : (ts : List NamedTurn) → EachLets ts → (x : Beside) → Only (x .machine) → Only (along x (plain ts) .machine)
+  many-only [] ls x o = o
+  many-only (t ∷ ts) ls x o = at (passes (t .table) (t .call)) refl (many-only ts (ls .1))
+    where
+      at : (p : Bool) → passes (t .table) (t .call) ≡ p → ((y : Beside) → Only (y .machine) → Only (along y (plain ts) .machine)) → Only (along x (keep p (asked t) (plain ts)) .machine)
+      at true e ih = ih (onward x (asked t)) (one-only x t e (ls .0) o)
+      at false e ih = ih x o
 
 -- ---- from a fresh store on
 
@@ -247,11 +277,11 @@ pub admitted-only : AdmittedOnly
 admitted-only least n table ts h v g =
     let x : Beside = fromFresh least n in
     let f = plain-fits ts (h .values) in
-    let a : Agreed least (along least x (plain ts)) = many-turns least (h .four) (h .eight) (plain ts) f x (fresh-agreed least (h .four) (h .eight) n (h .six) (h .most)) in
-    let e : runNamed least (encode least (fresh n)) ts ≡ along least x (plain ts) .bytes = many-same least ts (encode least (fresh n)) ∙ sym (along-bytes least (plain ts) x) in
-    let o : (w : ℕ) → all (admitted table) (along least x (plain ts) .machine .shows w) ≡ true = many-only (admitted table) least ts (within-lets table ts (h .tables)) x (λ w. refl) in
-    ap (λ (b : List ℕ). all (admitted table) (settings (decode least b) v)) e
-    ∙ ap (all (admitted table)) (a .agrees .shows v (subst (λ (b : List ℕ). v ≤ last (decode least b)) e g))
+    let a : Agreed (along x (plain ts)) = many-turns (plain ts) f x (fresh-agreed least (h .edition) n (h .six) (h .most)) in
+    let e : runNamed (encode least (fresh n)) ts ≡ along x (plain ts) .bytes = many-same ts (encode least (fresh n)) ∙ sym (along-bytes (plain ts) x) in
+    let o : (w : ℕ) → all (admitted table) (along x (plain ts) .machine .shows w) ≡ true = many-only (admitted table) ts (within-lets table ts (h .tables)) x (λ w. refl) in
+    ap (λ (b : List ℕ). all (admitted table) (settings (storeOf b) v)) e
+    ∙ ap (all (admitted table)) (a .agrees .shows v (subst (λ (b : List ℕ). v ≤ last (storeOf b)) e g))
     ∙ o v
 
 -- ---- a NaN
@@ -312,7 +342,7 @@ module _ (least : ℕ) (b : List ℕ) (lo hi v : ℕ) where
   wrong = leb keyLimit lo || leb keyLimit hi || ltb hi lo
 
   record Met : Type 0 where
-    accepts : Accepts least b
+    accepts : judged least b .number ≡ 0
     keys : wrong ≡ false
     low : lo < keyLimit
     readable : v ≤ last (decode least b)
@@ -335,8 +365,14 @@ module _ (least : ℕ) (b : List ℕ) (lo hi v : ℕ) where
   range-met : 4 ≤ least → Met → rangeOf (decode least b) lo hi v ≡ between lo hi (settings (decode least b) v)
   range-met four m = range-is least (omega arith) (decode least b) (accepted-sound least b (accepted least b (m .accepts))) lo hi v (m .low) (m .readable)
 
-  lent-met : 4 ≤ least → least ≤ 8 → (ns : List ℕ) → Met → rangeLent least b lo hi v ns ≡ listed ns (rangedBy 0 (length ns) (rangeOf (decode least b) lo hi v))
-  lent-met four eight ns m = range-lent least four eight b (m .accepts) lo hi v ns ∙ (unfold range in rw (m .keys, le-ltb (last (decode least b)) v (m .readable)))
+  plain-met : (ns : List ℕ) → Met → listed ns (range (decode least b) lo hi v (length ns)) ≡ listed ns (rangedBy 0 (length ns) (rangeOf (decode least b) lo hi v))
+  unfolding range
+  plain-met ns m = rw (m .keys, le-ltb (last (decode least b)) v (m .readable))
+
+-- the store's range, by the edition that the bytes name
+any-goes : (b : List ℕ) (lo hi v : ℕ) (ns : List ℕ) → lentNumber b ≡ 0 → rangeAny b lo hi v ns ≡ rangeLent (leastOf b) b lo hi v ns
+unfolding Any.rangeAny
+any-goes b lo hi v ns z = goes {A = Listed} b (λ (n : ℕ). record { number = n; count = 0; list = ns }) (λ (least : ℕ). rangeLent least b lo hi v ns) z
 
 -- a list that had room
 room-written : (ns : List ℕ) (xs : List Pair) → listed ns (rangedBy 0 (length ns) xs) .number ≡ 0
@@ -354,9 +390,9 @@ module _ (least : ℕ) (table b : List ℕ) (lo hi v : ℕ) (ns : List ℕ) wher
   seventeenth = record { number = 17; count = 0; list = ns }
 
   -- a range by name that is done has met only known keys, and is the store's
-  done-is : rangeNamed least table b lo hi v ns .number ≡ 0
-      → (barred least b lo hi v ≡ 0) × (allKnown table (rangeOf (decode least b) lo hi v) ≡ true) × (rangeNamed least table b lo hi v ns ≡ rangeLent least b lo hi v ns)
-  unfolding rangeNamed
+  done-is : rangeNamedBy least table b lo hi v ns .number ≡ 0
+      → (barred least b lo hi v ≡ 0) × (allKnown table (rangeOf (decode least b) lo hi v) ≡ true) × (rangeNamedBy least table b lo hi v ns ≡ rangeLent least b lo hi v ns)
+  unfolding rangeNamedBy
   done-is = at (barred least b lo hi v) (allKnown table (rangeOf (decode least b) lo hi v))
     where
       gives : ℕ → Bool → Listed
@@ -368,41 +404,52 @@ module _ (least : ℕ) (table b : List ℕ) (lo hi v : ℕ) (ns : List ℕ) wher
       at (suc n) q e = absurd (omega arith)
 
   -- one that meets an unknown key is refused
-  unknown-is : barred least b lo hi v ≡ 0 → allKnown table (rangeOf (decode least b) lo hi v) ≡ false → rangeNamed least table b lo hi v ns ≡ seventeenth
-  unfolding rangeNamed
+  unknown-is : barred least b lo hi v ≡ 0 → allKnown table (rangeOf (decode least b) lo hi v) ≡ false → rangeNamedBy least table b lo hi v ns ≡ seventeenth
+  unfolding rangeNamedBy
   unknown-is e f = rw (e, f)
 
 pub never-skipped : NeverSkipped
-never-skipped least four eight table b lo hi v ns e =
-    let (z, q, same) = done-is least table b lo hi v ns e in
-    let m : Met least b lo hi v = met least b lo hi v z in
-    let f : rangeOf (decode least b) lo hi v ≡ between lo hi (settings (decode least b) v) = range-met least b lo hi v four m in
-    let is : rangeNamed least table b lo hi v ns ≡ listed ns (rangedBy 0 (length ns) (between lo hi (settings (decode least b) v))) =
-    same ∙ lent-met least b lo hi v four eight ns m ∙ ap (λ (us : List Pair). listed ns (rangedBy 0 (length ns) us)) f in
-    let all-of = is ∙ room-written ns (between lo hi (settings (decode least b) v)) (sym (ap (λ (r : Listed). r .number) is) ∙ e) in
-    record {
-      accepted = m .accepts;
-      readable = m .readable;
-      known = sym (ap (allKnown table) f) ∙ q;
-      count = ap (λ (r : Listed). r .count ∷ []) all-of;
-      list = ap (λ (r : Listed). r .list) all-of;
-    }
+never-skipped table b lo hi v ns e = by (lentNumber b) refl
+  where
+    us : List Pair
+    us = between lo hi (settings (storeOf b) v)
+
+    by : (n : ℕ) → lentNumber b ≡ n → ShowsAll table b lo hi v ns us
+    by (suc n) z = let q = sym (ap (λ (r : Listed). r .number) (range-early table b lo hi v ns (λ y. absurd (omega arith)))) ∙ e in absurd (omega arith)
+    by zero z =
+        let go = range-goes table b lo hi v ns z in
+        let (w, q, same) = done-is (leastOf b) table b lo hi v ns (sym (ap (λ (r : Listed). r .number) go) ∙ e) in
+        let m : Met (leastOf b) b lo hi v = met (leastOf b) b lo hi v w in
+        let ok : Accepts b = accepts-by b z (m .accepts) in
+        let f : rangeOf (storeOf b) lo hi v ≡ us = range-met (leastOf b) b lo hi v (four b) m in
+        let is : rangeNamed table b lo hi v ns ≡ listed ns (rangedBy 0 (length ns) us) = go ∙ same ∙ sym (any-goes b lo hi v ns z) ∙ range-lent b ok lo hi v ns ∙ plain-met (leastOf b) b lo hi v ns m ∙ ap (λ (xs : List Pair). listed ns (rangedBy 0 (length ns) xs)) f in
+        let all-of = is ∙ room-written ns us (sym (ap (λ (r : Listed). r .number) is) ∙ e) in
+        record {
+          accepted = ok;
+          readable = m .readable;
+          known = sym (ap (allKnown table) f) ∙ q;
+          count = ap (λ (r : Listed). r .count ∷ []) all-of;
+          list = ap (λ (r : Listed). r .list) all-of;
+        }
 
 -- ---- a key that the program does not know
 
 pub never-softer : NeverSofter
 unfolding lookupNamed insertNamed deleteNamed
-never-softer least four eight old b ok k x v h found none-of = record {
-  lookup = λ ns. ap (λ (q : Known). ofLooked b ns (judgedFirst (unknown q) (λ n. Refused n) (lookupLent least b k v))) none-of;
-  range = λ lo hi ns p q t. ap (ofListed b) (unknown-is least old b lo hi v ns (meets least b lo hi v (around lo hi p q t)) (not-all lo hi p q t));
-  insert = λ y ns. ap (λ (q : Known). ofOutcome ns (before (allowed q y) b (insertLent least b k y))) none-of;
-  delete = λ ns. ap (λ (q : Known). ofOutcome ns (before (unknown q) b (deleteLent least b k))) none-of;
+never-softer old b ok k x v h found none-of = record {
+  lookup = λ ns. ap (λ (q : Known). ofLooked b ns (judgedFirst (unknown q) (λ n. Refused n) (lookupAny b k v))) none-of;
+  range = λ lo hi ns p q t. ap (ofListed b) (range-goes old b lo hi v ns (known b ok) ∙ unknown-is least old b lo hi v ns (meets least b lo hi v (around lo hi p q t)) (not-all lo hi p q t));
+  insert = λ y ns. ap (λ (q : Known). ofOutcome ns (before (allowed q y) b (insertAny b k y))) none-of;
+  delete = λ ns. ap (λ (q : Known). ofOutcome ns (before (unknown q) b (deleteAny b k))) none-of;
 }
   where
+    least : ℕ
+    least = leastOf b
+
     around : (lo hi : ℕ) → lo ≤ k → k ≤ hi → hi < keyLimit → Met least b lo hi v
     around lo hi p q t =
         let low : lo < keyLimit = omega arith in
-        record { accepts = ok; keys = rw (lt-leb keyLimit lo low, lt-leb keyLimit hi t, le-ltb hi lo (omega arith)); low = low; readable = h }
+        record { accepts = judged-by b ok; keys = rw (lt-leb keyLimit lo low, lt-leb keyLimit hi t, le-ltb hi lo (omega arith)); low = low; readable = h }
 
     not-all : (lo hi : ℕ) → lo ≤ k → k ≤ hi → hi < keyLimit → allKnown old (rangeOf (decode least b) lo hi v) ≡ false
     not-all lo hi p q t = at (bool-cases (allKnown old (rangeOf (decode least b) lo hi v)))
@@ -413,6 +460,6 @@ never-softer least four eight old b ok k x v h found none-of = record {
         at : (allKnown old (rangeOf (decode least b) lo hi v) ≡ true) ⊎ (allKnown old (rangeOf (decode least b) lo hi v) ≡ false) → allKnown old (rangeOf (decode least b) lo hi v) ≡ false
         at (inr e) = e
         at (inl e) =
-            let known : allKnown old (between lo hi (settings (decode least b) v)) ≡ true = sym (ap (allKnown old) (range-met least b lo hi v four (around lo hi p q t))) ∙ e in
+            let known : allKnown old (between lo hi (settings (decode least b) v)) ≡ true = sym (ap (allKnown old) (range-met least b lo hi v (four b) (around lo hi p q t))) ∙ e in
             let one-known = all-in (λ (y : Pair). eqb (unknown (knownIn old (y .key))) 0) (pair k x) (between lo hi (settings (decode least b) v)) known i in
             absurd (not-both (eqb (unknown (knownIn old k)) 0) one-known (ap (λ (g : Known). eqb (unknown g) 0) none-of))

@@ -3,7 +3,7 @@
 use Prim.Native.Nat.{ℕ, zero, suc, _*_, _≤_, _<_}
 use native.Mathlib.Omega.{arith}
 use mathlib.Core.Bool.{Bool, true, false, _||_, not}
-use mathlib.Core.Path.{_≡_, refl, ap, sym, _∙_}
+use mathlib.Core.Path.{_≡_, refl, ap, sym, _∙_, subst}
 use mathlib.Core.Logic.{_↔_, _⊎_, inl, inr}
 use mathlib.Core.Option.{Option, none, some}
 use mathlib.Core.List.{List, [], _∷_}
@@ -11,18 +11,26 @@ use lib.Dec.{leb, ltb}
 use lib.ListN.{length}
 use borrow.Author.Tests.{leb-true, le-leb, ltb-true, lt-ltb}
 use Rattle.model.specs.declared.Pair.{Pair}
+use Rattle.model.specs.declared.Looked.the-variants.{Refused}
 use Rattle.model.specs.Store.{last}
 use Rattle.model.specs.Walk.{keyLimit, lookup, rangeOf}
 use Rattle.model.specs.Layout.{decode}
 use Rattle.model.specs.Judged.{lengthOk, magicOk, editionOk}
+use Rattle.model.specs.Editions.{byEdition, leastOf}
 use Rattle.model.specs.Calls
 use Rattle.model.specs.Calls.{rule, firstOf, lookedNumber, lookedAt, lookedBy, rangedIn, rangedBy}
 use Rattle.model.specs.Near
 use Rattle.model.specs.Near.{frontRight, downRight, rangeRight, fromRoot}
 use Rattle.model.specs.Lent
-use Rattle.model.specs.Lent.{listed}
-use Rattle.model.specs.Ended.{ofLooked, ofListed}
-use Rattle.promises.specs.Near.{ReadingNumbers, LookupJudges, RangeJudges}
+use Rattle.model.specs.Lent.{Listed, listed, lookupLent, rangeLent}
+use Rattle.model.specs.Any
+use Rattle.model.specs.Any.{lookupAny, rangeAny}
+use Rattle.model.specs.Ended.{toLookup, toRange, Ended, ended, endedBy, ofLooked, ofListed}
+use Rattle.model.proofs.Editions.{ended-goes}
+use Rattle.promises.specs.Accepts.{storeOf}
+use Rattle.promises.specs.Demand1.{editionKnown}
+use Rattle.promises.specs.Near.{FrontWrong, WrongDown, WrongAcross, WrongFrom, ReadingNumbers, LookupJudges, RangeJudges}
+use Rattle.promises.proofs.Early.{by-tests, number-by, past-early}
 use Rattle.promises.proofs.Clauses.{clash, front-clauses, lookup-clauses, range-clauses}
 
 -- ---- the chain: 1, 2, 3, 4 by the front, 5, 6, 4 by the walk
@@ -39,6 +47,52 @@ chain-low true true true true true h w = omega arith
 chain-low true true true true false true w = omega arith
 chain-low true true true true false false true = omega arith
 chain-low true true true true false false false = omega arith
+
+-- ---- the early numbers, by the test that each is given for
+
+module _ (front bad late walk : Type 0) where
+  abbrev Numbers : Bool → Bool → Bool → Bool → ℕ → Type 0
+  Numbers enough m e a n = ReadingNumbers enough m e a front bad late walk n
+
+  pub short-one : (m e a : Bool) → Numbers false m e a 1
+  short-one m e a = record {
+    one = (λ q. inl refl, λ c. refl);
+    two = (λ q. absurd (omega arith), λ c. clash (sym (c .0)));
+    three = (λ q. absurd (omega arith), λ c. clash (sym (c .0)));
+    four = (λ q. absurd (omega arith), λ c. clash (sym (c .0)));
+    five = (λ q. absurd (omega arith), λ c. clash (sym (c .0)));
+    six = (λ q. absurd (omega arith), λ c. clash (sym (c .0)));
+  }
+
+  pub magic-two : (e a : Bool) → Numbers true false e a 2
+  magic-two e a = record {
+    one = (λ q. absurd (omega arith), none);
+    two = (λ q. (refl, refl), λ c. refl);
+    three = (λ q. absurd (omega arith), λ c. clash (sym (c .1 .0)));
+    four = (λ q. absurd (omega arith), λ c. clash (sym (c .1 .0)));
+    five = (λ q. absurd (omega arith), λ c. clash (sym (c .1 .0)));
+    six = (λ q. absurd (omega arith), λ c. clash (sym (c .1 .0)));
+  }
+    where
+      none : {A : Type 0} → (true ≡ false) ⊎ ((true ≡ true) × ((false ≡ true) × ((e ≡ true) × (a ≡ false)))) → A
+      none (inl q) = clash q
+      none (inr q) = clash (sym (q .1 .0))
+
+  pub other-three : (a : Bool) → Numbers true true false a 3
+  other-three a = record {
+    one = (λ q. absurd (omega arith), none);
+    two = (λ q. absurd (omega arith), λ c. clash (c .1));
+    three = (λ q. (refl, (refl, refl)), λ c. refl);
+    four = (λ q. absurd (omega arith), λ c. clash (sym (c .1 .1 .0)));
+    five = (λ q. absurd (omega arith), λ c. clash (sym (c .1 .1 .0)));
+    six = (λ q. absurd (omega arith), λ c. clash (sym (c .1 .1 .0)));
+  }
+    where
+      none : {A : Type 0} → (true ≡ false) ⊎ ((true ≡ true) × ((true ≡ true) × ((false ≡ true) × (a ≡ false)))) → A
+      none (inl q) = clash q
+      none (inr q) = clash (sym (q .1 .1 .0))
+
+-- ---- the rest
 
 module _ (front bad late walk : Type 0) (f g h w : Bool) (ff : (f ≡ false) ↔ front) (gg : (g ≡ true) ↔ bad) (hh : (h ≡ true) ↔ late) (ww : (w ≡ false) ↔ walk) where
   -- what stands behind the first three, by the four tests
@@ -108,49 +162,35 @@ module _ (front bad late walk : Type 0) (f g h w : Bool) (ff : (f ≡ false) ↔
         six = (λ e. absurd (omega arith), λ c. absurd (early (c .1 .1)));
       }
 
-  abbrev Numbers : Bool → Bool → Bool → ℕ → Type 0
-  Numbers a m e n = ReadingNumbers a m e front bad late walk n
-
-  behind : (n : ℕ) → Rest n → Numbers true true true n
+  behind : (n : ℕ) → Rest n → Numbers front bad late walk true true true true n
   behind n r = record {
-    one = (λ e. absurd (omega (arith, r .low (omega arith))), λ c. clash c);
+    one = (λ e. absurd (omega (arith, r .low (omega arith))), none);
     two = (λ e. absurd (omega (arith, r .low (omega arith))), λ c. clash (c .1));
     three = (λ e. absurd (omega (arith, r .low (omega arith))), λ c. clash (c .1 .1));
-    four = (λ e. (refl, (refl, (refl, r .four .0 e))), λ c. r .four .1 (c .1 .1 .1));
-    five = (λ e. (refl, (refl, (refl, r .five .0 e))), λ c. r .five .1 (c .1 .1 .1));
-    six = (λ e. (refl, (refl, (refl, r .six .0 e))), λ c. r .six .1 (c .1 .1 .1));
+    four = (λ e. (refl, (refl, (refl, (refl, r .four .0 e)))), λ c. r .four .1 (c .1 .1 .1 .1));
+    five = (λ e. (refl, (refl, (refl, (refl, r .five .0 e)))), λ c. r .five .1 (c .1 .1 .1 .1));
+    six = (λ e. (refl, (refl, (refl, (refl, r .six .0 e)))), λ c. r .six .1 (c .1 .1 .1 .1));
   }
+    where
+      none : {A : Type 0} → (true ≡ false) ⊎ ((true ≡ true) × ((true ≡ true) × ((true ≡ true) × (true ≡ false)))) → A
+      none (inl q) = clash q
+      none (inr q) = clash (q .1 .1 .1)
 
-  pub numbers-are : (a m e : Bool) → Numbers a m e (chain a m e f g h w)
-  numbers-are false m e = record {
-    one = (λ q. refl, λ c. refl);
-    two = (λ q. absurd (omega arith), λ c. clash (sym (c .0)));
-    three = (λ q. absurd (omega arith), λ c. clash (sym (c .0)));
-    four = (λ q. absurd (omega arith), λ c. clash (sym (c .0)));
-    five = (λ q. absurd (omega arith), λ c. clash (sym (c .0)));
-    six = (λ q. absurd (omega arith), λ c. clash (sym (c .0)));
-  }
-  numbers-are true false e = record {
-    one = (λ q. absurd (omega arith), λ c. clash c);
-    two = (λ q. (refl, refl), λ c. refl);
-    three = (λ q. absurd (omega arith), λ c. clash (sym (c .1 .0)));
-    four = (λ q. absurd (omega arith), λ c. clash (sym (c .1 .0)));
-    five = (λ q. absurd (omega arith), λ c. clash (sym (c .1 .0)));
-    six = (λ q. absurd (omega arith), λ c. clash (sym (c .1 .0)));
-  }
-  numbers-are true true false = record {
-    one = (λ q. absurd (omega arith), λ c. clash c);
+  -- where the edition is known: 1 by its page size, then the rest
+  pub numbers-are : (a : Bool) → Numbers front bad late walk true true true a (chain a true true f g h w)
+  numbers-are false = record {
+    one = (λ q. inr (refl, (refl, (refl, refl))), λ c. refl);
     two = (λ q. absurd (omega arith), λ c. clash (c .1));
-    three = (λ q. (refl, (refl, refl)), λ c. refl);
-    four = (λ q. absurd (omega arith), λ c. clash (sym (c .1 .1 .0)));
-    five = (λ q. absurd (omega arith), λ c. clash (sym (c .1 .1 .0)));
-    six = (λ q. absurd (omega arith), λ c. clash (sym (c .1 .1 .0)));
+    three = (λ q. absurd (omega arith), λ c. clash (c .1 .1));
+    four = (λ q. absurd (omega arith), λ c. clash (sym (c .1 .1 .1 .0)));
+    five = (λ q. absurd (omega arith), λ c. clash (sym (c .1 .1 .1 .0)));
+    six = (λ q. absurd (omega arith), λ c. clash (sym (c .1 .1 .1 .0)));
   }
-  numbers-are true true true = behind (rest f g h w) (rest-is f g h w refl refl refl refl)
+  numbers-are true = behind (rest f g h w) (rest-is f g h w refl refl refl refl)
 
   -- a number that is 14 in the place of 0 says the same of 1 to 6
-  pub carried : (a m e : Bool) (c n : ℕ) → (c ≡ n) ⊎ ((c ≡ 0) × (n ≡ 14)) → Numbers a m e c → Numbers a m e n
-  carried a m e c n t r = record {
+  pub carried : (x m e a : Bool) (c n : ℕ) → (c ≡ n) ⊎ ((c ≡ 0) × (n ≡ 14)) → Numbers front bad late walk x m e a c → Numbers front bad late walk x m e a n
+  carried x m e a c n t r = record {
     one = joined (same 1 (omega arith) (omega arith)) (r .one);
     two = joined (same 2 (omega arith) (omega arith)) (r .two);
     three = joined (same 3 (omega arith) (omega arith)) (r .three);
@@ -160,11 +200,11 @@ module _ (front bad late walk : Type 0) (f g h w : Bool) (ff : (f ≡ false) ↔
   }
     where
       joined : {A B C : Type 0} → A ↔ B → B ↔ C → A ↔ C
-      joined u v = (λ x. v .0 (u .0 x), λ y. u .1 (v .1 y))
+      joined u v = (λ p. v .0 (u .0 p), λ q. u .1 (v .1 q))
 
       by : (i : ℕ) → 1 ≤ i → i ≤ 6 → (c ≡ n) ⊎ ((c ≡ 0) × (n ≡ 14)) → n ≡ i ↔ c ≡ i
-      by i low high (inl q) = (λ x. q ∙ x, λ x. sym q ∙ x)
-      by i low high (inr q) = (λ x. absurd (omega (arith, q .1)), λ x. absurd (omega (arith, q .0)))
+      by i low high (inl q) = (λ p. q ∙ p, λ p. sym q ∙ p)
+      by i low high (inr q) = (λ p. absurd (omega (arith, q .1)), λ p. absurd (omega (arith, q .0)))
 
       same : (i : ℕ) → 1 ≤ i → i ≤ 6 → n ≡ i ↔ c ≡ i
       same i low high = by i low high t
@@ -184,20 +224,49 @@ module _ (least : ℕ) (b : List ℕ) (k v : ℕ) where
   abbrev right-way : Bool
   right-way = fromRoot least b v (λ up n. downRight least b v up k n)
 
-  abbrev told : ℕ
-  told = chain (lengthOk least b) (magicOk b) (editionOk least b) (frontRight least b) (leb keyLimit k) (ltb (last (decode least b)) v) right-way
+  abbrev told : Bool → Bool → ℕ
+  told m e = chain (lengthOk least b) m e (frontRight least b) (leb keyLimit k) (ltb (last (decode least b)) v) right-way
+
+  abbrev Looks : Bool → Bool → Bool → ℕ → Type 0
+  Looks x m e n =
+      ReadingNumbers x m e (lengthOk least b) (FrontWrong least b) (keyLimit ≤ k) (last (decode least b) < v) (WrongFrom least b v (λ up n. WrongDown least b v up k n)) n
+
+  -- by the limits of an edition
+  looks-by : magicOk b ≡ true → editionOk least b ≡ true → Looks true true true (lookedNumber (lookupLent least b k v))
+  unfolding Lent.lookupLent Near.lookupNear
+  looks-by m e =
+      let top : ℕ = last (decode least b) in
+      rw (m, e)
+      (carried _ _ _ _ (frontRight least b) (leb keyLimit k) (ltb top v) right-way (front-clauses least b) (leb-true keyLimit k, le-leb keyLimit k) (ltb-true top v, lt-ltb top v) (lookup-clauses least b v k)
+      true true true (lengthOk least b) (told true true) _ (inl (sym (looked-number (told true true) (lookup (decode least b) k v))))
+      (numbers-are _ _ _ _ (frontRight least b) (leb keyLimit k) (ltb top v) right-way (front-clauses least b) (leb-true keyLimit k, le-leb keyLimit k) (ltb-true top v, lt-ltb top v) (lookup-clauses least b v k)
+      (lengthOk least b)))
+
+  looks-done : lookedNumber (lookupLent least b k v) ≡ 0 → lookupLent least b k v ≡ lookedAt (lookup (decode least b) k v)
+  unfolding Lent.lookupLent Near.lookupNear
+  looks-done e = looked-done (told (magicOk b) (editionOk least b)) (lookup (decode least b) k v) e
+
+module _ (b : List ℕ) (k v : ℕ) where
+  lookup-number : lookedNumber (lookupAny b k v) ≡ byEdition b (λ (n : ℕ). n) (λ (l : ℕ). lookedNumber (lookupLent l b k v))
+  unfolding Any.lookupAny
+  lookup-number = number-by b lookedNumber (λ (n : ℕ). Refused n) (λ (l : ℕ). lookupLent l b k v) (λ n. refl)
+
+  looks : Looks (leastOf b) b k v (leb 5 (length b)) (magicOk b) (editionKnown b) (lookedNumber (lookupAny b k v))
+  looks =
+      subst (λ (n : ℕ). Looks (leastOf b) b k v (leb 5 (length b)) (magicOk b) (editionKnown b) n) (sym lookup-number)
+      (by-tests b (λ x m e l n. Looks l b k v x m e n) (λ (l : ℕ). lookedNumber (lookupLent l b k v))
+      (λ m e l. short-one _ _ _ _ m e (lengthOk l b))
+      (λ e l. magic-two _ _ _ _ e (lengthOk l b))
+      (λ l. other-three _ _ _ _ (lengthOk l b))
+      (λ l m e. looks-by l b k v m e))
+
+  looked-so : (ns : List ℕ) → ended (toLookup k v) b ns .number ≡ 0 → ended (toLookup k v) b ns ≡ ofLooked b ns (lookedAt (lookup (storeOf b) k v))
+  looked-so ns e =
+      let is : ended (toLookup k v) b ns ≡ endedBy (leastOf b) (toLookup k v) b ns = ended-goes b ns (toLookup k v) refl (past-early b (toLookup k v) refl ns (inl e)) in
+      is ∙ ap (ofLooked b ns) (looks-done (leastOf b) b k v (sym (ap (λ (x : Ended). x .number) is) ∙ e))
 
 pub lookup-judges : LookupJudges
-unfolding Lent.lookupLent Near.lookupNear
-lookup-judges = record {
-  numbers = λ least b k v ns.
-      let top : ℕ = last (decode least b) in
-      carried _ _ _ _ (frontRight least b) (leb keyLimit k) (ltb top v) (right-way least b k v) (front-clauses least b) (leb-true keyLimit k, le-leb keyLimit k) (ltb-true top v, lt-ltb top v) (lookup-clauses least b v k)
-      (lengthOk least b) (magicOk b) (editionOk least b) (told least b k v) _ (inl (sym (looked-number (told least b k v) (lookup (decode least b) k v))))
-      (numbers-are _ _ _ _ (frontRight least b) (leb keyLimit k) (ltb top v) (right-way least b k v) (front-clauses least b) (leb-true keyLimit k, le-leb keyLimit k) (ltb-true top v, lt-ltb top v) (lookup-clauses least b v k)
-      (lengthOk least b) (magicOk b) (editionOk least b));
-  answers = λ least b k v ns e. ap (ofLooked b ns) (looked-done (told least b k v) (lookup (decode least b) k v) e);
-}
+lookup-judges = record { numbers = λ b k v ns. looks b k v; answers = looked-so }
 
 -- ---- a range
 
@@ -260,20 +329,64 @@ module _ (least : ℕ) (b : List ℕ) (lo hi v : ℕ) where
   abbrev right : Bool
   right = fromRoot least b v (λ up n. rangeRight least b v up hi lo n)
 
-  abbrev given : ℕ
-  given = chain (lengthOk least b) (magicOk b) (editionOk least b) (frontRight least b) wrong (ltb top v) right
+  abbrev given : Bool → Bool → ℕ
+  given m e = chain (lengthOk least b) m e (frontRight least b) wrong (ltb top v) right
 
-  low : given ≤ 6
+  low : given (magicOk b) (editionOk least b) ≤ 6
   low = chain-low (lengthOk least b) (magicOk b) (editionOk least b) (frontRight least b) wrong (ltb top v) right
 
+  abbrev Ranges : Bool → Bool → Bool → ℕ → Type 0
+  Ranges x m e n =
+      ReadingNumbers x m e (lengthOk least b) (FrontWrong least b) ((keyLimit ≤ lo) ⊎ ((keyLimit ≤ hi) ⊎ (hi < lo))) (last (decode least b) < v) (WrongFrom least b v (λ up n. WrongAcross least b v up hi lo n)) n
+
+  ranges-by : (ns : List ℕ) → magicOk b ≡ true → editionOk least b ≡ true → Ranges true true true (rangeLent least b lo hi v ns .number)
+  unfolding Lent.rangeLent Near.rangeNear
+  ranges-by ns m e =
+      rw (m, e)
+      (carried _ _ _ _ (frontRight least b) wrong (ltb top v) right (front-clauses least b) (bad-is lo hi) (ltb-true top v, lt-ltb top v) (range-clauses least b v lo hi)
+      true true true (lengthOk least b) (given true true) _ (ranged-number (length ns) (rangeOf (decode least b) lo hi v) (given true true))
+      (numbers-are _ _ _ _ (frontRight least b) wrong (ltb top v) right (front-clauses least b) (bad-is lo hi) (ltb-true top v, lt-ltb top v) (range-clauses least b v lo hi)
+      (lengthOk least b)))
+
+  ranges-done : (ns : List ℕ) → (rangeLent least b lo hi v ns .number ≡ 0) ⊎ (rangeLent least b lo hi v ns .number ≡ 14)
+      → rangeLent least b lo hi v ns ≡ listed ns (rangedBy 0 (length ns) (rangeOf (decode least b) lo hi v))
+  unfolding Lent.rangeLent Near.rangeNear
+  ranges-done ns e = ap (listed ns) (none-given (length ns) (rangeOf (decode least b) lo hi v) (given (magicOk b) (editionOk least b)) low e)
+
+  ranges-short : (ns : List ℕ) → rangeLent least b lo hi v ns .number ≡ 14 → length ns < 2 * length (rangeOf (decode least b) lo hi v)
+  unfolding Lent.rangeLent Near.rangeNear
+  ranges-short ns e = short (length ns) (rangeOf (decode least b) lo hi v) (given (magicOk b) (editionOk least b)) low e
+
+module _ (b : List ℕ) (lo hi v : ℕ) (ns : List ℕ) where
+  range-number : rangeAny b lo hi v ns .number ≡ byEdition b (λ (n : ℕ). n) (λ (l : ℕ). rangeLent l b lo hi v ns .number)
+  unfolding Any.rangeAny
+  range-number = number-by b (λ (r : Listed). r .number) (λ (n : ℕ). record { number = n; count = 0; list = ns }) (λ (l : ℕ). rangeLent l b lo hi v ns) (λ n. refl)
+
+  ranges : Ranges (leastOf b) b lo hi v (leb 5 (length b)) (magicOk b) (editionKnown b) (rangeAny b lo hi v ns .number)
+  ranges =
+      subst (λ (n : ℕ). Ranges (leastOf b) b lo hi v (leb 5 (length b)) (magicOk b) (editionKnown b) n) (sym range-number)
+      (by-tests b (λ x m e l n. Ranges l b lo hi v x m e n) (λ (l : ℕ). rangeLent l b lo hi v ns .number)
+      (λ m e l. short-one _ _ _ _ m e (lengthOk l b))
+      (λ e l. magic-two _ _ _ _ e (lengthOk l b))
+      (λ l. other-three _ _ _ _ (lengthOk l b))
+      (λ l m e. ranges-by l b lo hi v ns m e))
+
+  -- by the limits of the edition, where the number is 0 or 14
+  late : (ended (toRange lo hi v) b ns .number ≡ 0) ⊎ (ended (toRange lo hi v) b ns .number ≡ 14) → ended (toRange lo hi v) b ns ≡ endedBy (leastOf b) (toRange lo hi v) b ns
+  late e = ended-goes b ns (toRange lo hi v) refl (past-early b (toRange lo hi v) refl ns (at e))
+    where
+      at : (ended (toRange lo hi v) b ns .number ≡ 0) ⊎ (ended (toRange lo hi v) b ns .number ≡ 14) → (ended (toRange lo hi v) b ns .number ≡ 0) ⊎ (4 ≤ ended (toRange lo hi v) b ns .number)
+      at (inl q) = inl q
+      at (inr q) = inr (omega arith)
+
+  ranged-so : (ended (toRange lo hi v) b ns .number ≡ 0) ⊎ (ended (toRange lo hi v) b ns .number ≡ 14)
+      → ended (toRange lo hi v) b ns ≡ ofListed b (listed ns (rangedBy 0 (length ns) (rangeOf (storeOf b) lo hi v)))
+  ranged-so e =
+      let is = late e in
+      is ∙ ap (ofListed b) (ranges-done (leastOf b) b lo hi v ns (subst (λ (x : Ended). (x .number ≡ 0) ⊎ (x .number ≡ 14)) is e))
+
+  short-so : ended (toRange lo hi v) b ns .number ≡ 14 → length ns < 2 * length (rangeOf (storeOf b) lo hi v)
+  short-so e = ranges-short (leastOf b) b lo hi v ns (sym (ap (λ (x : Ended). x .number) (late (inr e))) ∙ e)
+
 pub range-judges : RangeJudges
-unfolding Lent.rangeLent Near.rangeNear
-range-judges = record {
-  numbers = λ least b lo hi v ns.
-      carried _ _ _ _ (frontRight least b) (wrong least b lo hi v) (ltb (last (decode least b)) v) (right least b lo hi v) (front-clauses least b) (bad-is lo hi) (ltb-true (last (decode least b)) v, lt-ltb (last (decode least b)) v) (range-clauses least b v lo hi)
-      (lengthOk least b) (magicOk b) (editionOk least b) (given least b lo hi v) _ (ranged-number (length ns) (rangeOf (decode least b) lo hi v) (given least b lo hi v))
-      (numbers-are _ _ _ _ (frontRight least b) (wrong least b lo hi v) (ltb (last (decode least b)) v) (right least b lo hi v) (front-clauses least b) (bad-is lo hi) (ltb-true (last (decode least b)) v, lt-ltb (last (decode least b)) v) (range-clauses least b v lo hi)
-      (lengthOk least b) (magicOk b) (editionOk least b));
-  answers = λ least b lo hi v ns e. ap (λ (r : Calls.Ranged). ofListed b (listed ns r)) (none-given (length ns) (rangeOf (decode least b) lo hi v) (given least b lo hi v) (low least b lo hi v) e);
-  fourteen = λ least b lo hi v ns e. short (length ns) (rangeOf (decode least b) lo hi v) (given least b lo hi v) (low least b lo hi v) e;
-}
+range-judges = record { numbers = ranges; answers = ranged-so; fourteen = short-so }

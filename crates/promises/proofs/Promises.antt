@@ -1,28 +1,29 @@
 -- The promises, each under its name: what it says stands in specs/Demand1, Demand2, Levels, Room, Demand3, in a file for each request of
--- document 02 (OldReadings, Near, Bench, Differences, Lives, Releases, Returns, NamedSettings), in Replayed and Fakes.
+-- document 02 (OldReadings, Near, Bench, Differences, Lives, Releases, Returns, Apart, Converts, NamedSettings), in Replayed and Fakes.
 -- Assumes nothing.
 use Prim.Native.Nat.{ℕ}
 use native.Mathlib.Omega.{arith}
 use mathlib.Core.Bool.{Bool, true, false}
-use mathlib.Core.Path.{_≡_, refl, ap, sym, _∙_}
+use mathlib.Core.Path.{_≡_, refl, ap, sym, _∙_, subst}
 use mathlib.Core.List.{List, []}
-use Rattle.model.specs.Sound.{sound}
-use Rattle.model.specs.Layout.{encode, decode}
+use Rattle.model.specs.Layout.{encode}
 use Rattle.model.specs.Judged.{lengthOk}
+use Rattle.model.specs.Editions.{leastOf}
 use Rattle.model.specs.Climb.{done, refused as stopped}
 use Rattle.model.specs.Return.{Came, gave, gaveUp}
 use Rattle.model.specs.Histories.{callBy, after}
-use Rattle.model.specs.Lent.{leftBy}
-use Rattle.model.specs.Ended.{Asked, toFresh, Ended, ended}
-use Rattle.model.proofs.Members.{true-holds}
-use Rattle.model.proofs.Judging.{accepted as judged-zero}
+use Rattle.model.specs.Lent.{Outcome, leftBy, freshLent}
+use Rattle.model.specs.Ended.{Asked, toInsert, toDelete, Ended, ended}
+use Rattle.model.proofs.Editions.{ended-at}
+use Rattle.model.proofs.OldPrograms as old
 use Rattle.model.proofs.Unique as one
 use Rattle.model.proofs.Lacking as lacks
-use Rattle.model.proofs.Theorems as stores
-use Rattle.promises.specs.Accepts.{Accepts}
-use Rattle.promises.specs.Runs.{changing, reading, kindOf}
+use Rattle.promises.specs.Accepts.{Accepts, storeOf}
+use Rattle.promises.specs.Runs.{making, changing, reading, kindOf}
+use Rattle.promises.specs.Way.{ruledOf}
 use Rattle.promises.specs.Demand1.{Unique, Refused, Blank, Judges, Untrusted, OneForm, FreshMade}
-use Rattle.promises.specs.Demand2.{EncodedSound, AcceptedSound, SoundStays, FreshSound, History, HistoryLent, Found, SettingsChange, AnswersStay, ViewsStay, ByTheRules, ReadsOnly, Balanced, Lacking}
+use Rattle.promises.specs.Demand2.{EncodedSound, AcceptedSound, SoundStays, FreshSound, History, HistoryLent, Found, SettingsChange, AnswersStay, ViewsStay, EditionStays, ByTheRules, ReadsOnly, Balanced, Lacking}
+use Rattle.promises.specs.Apart.{EditionsApart}
 use Rattle.promises.specs.Levels.{Levels}
 use Rattle.promises.specs.Room.{NoRangeOutgrows}
 use Rattle.promises.specs.Demand3.{Abandoned}
@@ -34,11 +35,14 @@ use Rattle.promises.specs.Replayed.{TableLent}
 use Rattle.promises.specs.Bench.{KeptOut}
 use Rattle.promises.specs.Releases.{EmptyReleases}
 use Rattle.promises.specs.Returns.{Returns}
+use Rattle.promises.specs.Converts.{Converts}
 use Rattle.promises.specs.NamedSettings.{NamedRefused, AdmittedOnly, NoNan, NeverSkipped, NeverSofter, RightTable}
 use Rattle.promises.specs.Fakes.{FakesStopped}
+use Rattle.promises.proofs.Known.{four}
+use Rattle.promises.proofs.Early.{lifted}
 use Rattle.promises.proofs.Encoded as encoded
 use Rattle.promises.proofs.Judges as judging
-use Rattle.promises.proofs.Lending.{kind-asks, by-kind, change-is, call-accepts, fresh-leaves}
+use Rattle.promises.proofs.Lending.{kind-asks, Makes, by-kind, change-is, made-wrong, held-sound, call-accepts, fresh-leaves}
 use Rattle.promises.proofs.Way as way
 use Rattle.promises.proofs.Changed as changed
 use Rattle.promises.proofs.Leveled as leveled
@@ -51,6 +55,7 @@ use Rattle.promises.proofs.Differences as differ
 use Rattle.promises.proofs.Lives as lives
 use Rattle.promises.proofs.Restored as restored
 use Rattle.promises.proofs.KeptOut as bench
+use Rattle.promises.proofs.Converting as converting
 use Rattle.promises.proofs.NamedSettings as named
 use Rattle.promises.proofs.Tables as tables
 use Rattle.promises.proofs.Replaying as replaying
@@ -91,23 +96,32 @@ pub accepted : AcceptedSound
 accepted = encoded.accepted
 
 pub sound-stays : SoundStays
-sound-stays least four eight b ok t f = call-accepts least four eight b ok (t .call) f (t .list)
+sound-stays b ok t f = call-accepts b ok (t .call) f (t .list)
 
 pub fresh-sound : FreshSound
-fresh-sound least four eight b ns given = at (lengthOk least b) refl
+fresh-sound =
+    by-kind (λ (c : Asked). kindOf c ≡ making → (b ns : List ℕ) → ended c b ns .number ≡ 0 → Accepts (ended c b ns .store)) (λ least c m k b ns given. made least c m b ns given)
+    (λ d e. let f : changing d ≡ making = sym (kind-asks d) ∙ e in let z : _≡_ {A = ℕ} 0 1 = cc in absurd (omega arith))
+    (λ c k same e. let f : reading ≡ making = sym k ∙ e in let z : _≡_ {A = ℕ} 0 1 = cc in absurd (omega arith))
   where
-    at : (x : Bool) → lengthOk least b ≡ x → Accepts least (ended least toFresh b ns .store)
-    at true e = fresh-leaves least four eight b e ns .accepts
-    at false e = let n = ap (λ (x : Ended). x .number) (judging.fresh-made least b ns .wrong e) in absurd (omega arith)
+    made : (least : ℕ) (c : Asked) → Makes least c → (b ns : List ℕ) → ended c b ns .number ≡ 0 → Accepts (ended c b ns .store)
+    made least c m b ns given = subst (λ (e : Ended). Accepts (e .store)) (sym (m .is b ns)) (at (lengthOk least b) refl)
+      where
+        at : (x : Bool) → lengthOk least b ≡ x → Accepts (freshLent least b .store)
+        at true e = fresh-leaves least (m .edition) b e .accepts
+        at false e =
+            let n : freshLent least b .number ≡ 1 = ap (λ (o : Outcome). o .number) (made-wrong least b e) in
+            let z : freshLent least b .number ≡ 0 = ap (λ (x : Ended). x .number) (sym (m .is b ns)) ∙ given in
+            absurd (omega arith)
 
 pub history : History
-history least four eight n six most ts f = way.fresh-way least four eight n six most ts f
+history = way.fresh-way
 
 pub history-lent : HistoryLent
-history-lent least four eight b ok ts f = way.lent-way least four eight b ok ts f
+history-lent = way.lent-way
 
 pub found : Found
-found least four eight b ok = history-lent least four eight b ok [] refl .answers
+found b ok = history-lent b ok [] refl .answers
 
 pub settings-change : SettingsChange
 settings-change = changed.settings-change
@@ -121,21 +135,24 @@ answers-stay = stays.answers-stay
 pub views-stay : ViewsStay
 views-stay = stays.views-stay
 
+pub edition-stays : EditionStays
+edition-stays = stays.edition-stays
+
 pub by-the-rules : ByTheRules
-by-the-rules least four eight b bytes ok c ns = ap (λ (e : Ended). e .store) (change-is least b ok c ns) ∙ at (callBy least (decode least b) c)
+by-the-rules b bytes ok c ns = ap (λ (e : Ended). e .store) (change-is b ok c ns) ∙ at (callBy (leastOf b) (storeOf b) c)
   where
-    at : (r : Came) → leftBy least b r .store ≡ encode least (after (decode least b) r .store)
+    at : (r : Came) → leftBy (leastOf b) b r .store ≡ encode (leastOf b) (after (storeOf b) r .store)
     at (gave (done t)) = refl
-    at (gave (stopped n)) = sym (encoded.accepted least four eight b bytes ok .same)
+    at (gave (stopped n)) = sym (encoded.accepted b bytes ok .same)
     at (gaveUp n t) = refl
 
 pub reads-only : ReadsOnly
-reads-only least c b ns =
-    by-kind least (λ (a : Asked). kindOf a ≡ reading → ended least a b ns .store ≡ b) (λ e. let z : _≡_ {A = ℕ} 0 1 = cc in absurd (omega arith))
+reads-only c b ns =
+    by-kind (λ (a : Asked). kindOf a ≡ reading → ended a b ns .store ≡ b) (λ least a m e. let f : making ≡ reading = sym (m .kind) ∙ e in let z : _≡_ {A = ℕ} 0 1 = cc in absurd (omega arith))
     (λ d e. let f : changing d ≡ reading = sym (kind-asks d) ∙ e in let z : _≡_ {A = ℕ} 0 1 = cc in absurd (omega arith)) (λ a e same i. same b ns) c
 
 pub balanced : Balanced
-balanced least four b ok = way.balanced-in least four (decode least b) (true-holds (sound least (decode least b)) (judged-zero least b ok .is-sound))
+balanced b ok = way.balanced-in (ruledOf b) (four b) (held-sound b ok)
 
 -- (specs/Levels, specs/Room)
 pub levels : Levels
@@ -145,7 +162,14 @@ pub no-range-outgrows : NoRangeOutgrows
 no-range-outgrows = roomy.no-range-outgrows
 
 pub lacking : Lacking
-lacking = lacks.lacking-lent
+lacking b ns =
+    let l = lacks.lacking-lent (leastOf b) b in
+    record {
+      insert-page = λ k x. lifted b (toInsert k x) refl ns 12 (omega arith) _ (l .insert-page k x);
+      insert-slot = λ k x. lifted b (toInsert k x) refl ns 13 (omega arith) _ (l .insert-slot k x);
+      delete-page = λ k. lifted b (toDelete k) refl ns 12 (omega arith) _ (l .delete-page k);
+      delete-slot = λ k. lifted b (toDelete k) refl ns 13 (omega arith) _ (l .delete-slot k);
+    }
 
 pub table : TableLent
 table = replaying.table-lent
@@ -154,6 +178,14 @@ table = replaying.table-lent
 
 pub abandoned : Abandoned
 abandoned = restored.abandoned
+
+-- ---- 2026-08, both editions (specs/Apart; that roots stay at level 5 or lower in edition 2 is `levels`, field `two`)
+
+pub editions-apart : EditionsApart
+editions-apart = record {
+  old-programs = λ c m b ns n. old.old-programs b ns (record { number = n .early; is = n .edition }) c m;
+  old-stores = λ c m b ns n. ended-at 4 b (record { number = n .early; is = n .edition }) c ns m;
+}
 
 -- ---- request 2026-13
 
@@ -230,6 +262,11 @@ returns = record {
   stopped = returning.when-stopped;
   abandons = returning.is-abandon;
 }
+
+-- ---- 2026-08, the converter
+
+pub converts : Converts
+converts = converting.converts
 
 -- ---- 2026-14, named settings
 

@@ -17,7 +17,8 @@ use Rattle.model.specs.Entry.{pair, within, enterPair}
 use Rattle.model.specs.Store.{Store, next, last, lastOf}
 use Rattle.model.specs.Walk.{keyLimit, find, settings}
 use Rattle.model.specs.Same.{samePairs}
-use Rattle.model.specs.Layout.{bit, decode}
+use Rattle.model.specs.Layout.{bit}
+use Rattle.model.specs.Editions.{leastOf}
 use Rattle.model.specs.Calls.{isSome, unchanged, rule, benchLimit, firstOf, lookedAt, lookedBy, lookedFound, lookedValue}
 use Rattle.model.specs.Histories.{commits}
 use Rattle.model.specs.Settings.{Machine, edited}
@@ -27,13 +28,14 @@ use Rattle.model.proofs.Members.{not-both}
 use Rattle.model.proofs.Lookups.{settings-rise, settings-low}
 use Rattle.model.proofs.Same.{same-equal, equal-same, same-none, finds-equal, enter-undone}
 use Rattle.model.proofs.Unique.{refused}
-use Rattle.promises.specs.Accepts.{Accepts}
+use Rattle.promises.specs.Accepts.{Accepts, storeOf}
 use Rattle.promises.specs.Beside.{Beside, whenDone, onward, fromLent}
 use Rattle.promises.specs.Answers.{commitTests, aliveIn, unchangedIn, Gives}
 use Rattle.promises.specs.Views.{SaysSame}
 use Rattle.promises.specs.Differences.{Readable, differences}
 use Rattle.promises.specs.Releases.{Opened, Equal, Commits, NothingDiffers, EmptyReleases}
 use Rattle.promises.proofs.High.{commit-number}
+use Rattle.promises.proofs.Known.{four}
 use Rattle.promises.proofs.Judges.{zero-accepts, late-accepts}
 use Rattle.promises.proofs.Lending.{change-number}
 use Rattle.promises.proofs.Agreed.{Agreed, one-turn, lent-agreed}
@@ -59,30 +61,30 @@ module _ (s : Store) where
   equal-settings : Equal s → unchanged s ≡ true
   equal-settings e = ap (samePairs (settings s (s .current))) e ∙ equal-same (settings s (s .current))
 
-module _ (least : ℕ) (b ns : List ℕ) where
+module _ (b ns : List ℕ) where
   abbrev s : Store
-  s = decode least b
+  s = storeOf b
 
   abbrev n : ℕ
-  n = ended least toCommit b ns .number
+  n = ended toCommit b ns .number
 
-  pub number-is : Accepts least b → n ≡ firstOf (commitTests (s .opened) (unchanged s))
-  number-is ok = change-number least b ok commits ns ∙ commit-number least s
+  pub number-is : Accepts b → n ≡ firstOf (commitTests (s .opened) (unchanged s))
+  number-is ok = change-number b ok commits ns ∙ commit-number (leastOf b) s
 
-  fifteen-accepts : n ≡ 15 → Accepts least b
-  fifteen-accepts e = late-accepts least toCommit b ns refl (omega arith)
+  fifteen-accepts : n ≡ 15 → Accepts b
+  fifteen-accepts e = late-accepts toCommit b ns refl (omega arith)
 
-  commits-so : Commits least b ns
+  commits-so : Commits b ns
   commits-so = record {
     empty = (
       λ e. let ok = fifteen-accepts e in let (o, q) = first-fifteen (s .opened) (unchanged s) (sym (number-is ok) ∙ e) in (record { accepted = ok; opened = o }, same-settings s q),
       λ (o, q). number-is (o .accepted) ∙ ap₂ (λ (x y : Bool). firstOf (commitTests x y)) (o .opened) (equal-settings s q),
     );
     done = (
-      λ e. let ok = zero-accepts least toCommit b ns refl e in let (o, q) = first-none (s .opened) (unchanged s) (sym (number-is ok) ∙ e) in (record { accepted = ok; opened = o }, λ z. not-both (unchanged s) (equal-settings s z) q),
+      λ e. let ok = zero-accepts toCommit b ns refl e in let (o, q) = first-none (s .opened) (unchanged s) (sym (number-is ok) ∙ e) in (record { accepted = ok; opened = o }, λ z. not-both (unchanged s) (equal-settings s z) q),
       λ (o, q). number-is (o .accepted) ∙ ap (λ (x : Bool). firstOf (commitTests x (unchanged s))) (o .opened) ∙ by (unchanged s) refl q,
     );
-    nothing = λ e. refused least toCommit b ns (ended least toCommit b ns) refl (λ (z : n ≡ 0). omega arith) (λ x. late e (x .1));
+    nothing = λ e. refused toCommit b ns (ended toCommit b ns) refl (λ (z : n ≡ 0). omega arith) (λ x. late e (x .1));
   }
     where
       late : n ≡ 15 → (n ≡ 12) ⊎ (n ≡ 13) → ⊥
@@ -101,44 +103,44 @@ answer-tells none (some y) e = absurd (omega (arith, ap (λ (xs : List ℕ). get
 answer-tells (some x) none e = absurd (omega (arith, ap (λ (xs : List ℕ). getD xs 0 0) e))
 answer-tells (some x) (some y) e = ap some (ap (λ (xs : List ℕ). getD xs 1 0) e)
 
-module _ (least : ℕ) (four : 4 ≤ least) (eight : least ≤ 8) (b : List ℕ) (o : Opened least b) where
+module _ (b : List ℕ) (o : Opened b) where
   abbrev t : Store
-  t = decode least b
+  t = storeOf b
 
-  abbrev a : Agreed least (fromLent least b)
-  a = lent-agreed least four eight b (o .accepted)
+  abbrev a : Agreed (fromLent b)
+  a = lent-agreed b (o .accepted)
 
   last-is : last t ≡ next t
   last-is = ap (λ (q : Bool). lastOf q (t .current)) (o .opened)
 
   -- what a lookup of either version says
-  looked : (k v : ℕ) (ns : List ℕ) → v ≤ next t → ended least (toLookup k v) b ns ≡ ofLooked b ns (lookedBy (firstOf (rule 5 (leb keyLimit k) ∷ rule 6 false ∷ [])) (find k (settings t v)))
+  looked : (k v : ℕ) (ns : List ℕ) → v ≤ next t → ended (toLookup k v) b ns ≡ ofLooked b ns (lookedBy (firstOf (rule 5 (leb keyLimit k) ∷ rule 6 false ∷ [])) (find k (settings t v)))
   looked k v ns h =
-      answers least four eight (fromLent least b) a .lookup k v ns
+      answers (fromLent b) a .lookup k v ns
       ∙ ap (λ (q : Bool). ofLooked b ns (lookedBy (firstOf (rule 5 (leb keyLimit k) ∷ rule 6 q ∷ [])) (find k (settings t v)))) (le-ltb (last t) v (omega (arith, last-is)))
 
-  say-same : Equal t → (k : ℕ) (ns : List ℕ) → SaysSame (ended least (toLookup k (next t)) b ns) (ended least (toLookup k (t .current)) b ns)
+  say-same : Equal t → (k : ℕ) (ns : List ℕ) → SaysSame (ended (toLookup k (next t)) b ns) (ended (toLookup k (t .current)) b ns)
   say-same e k ns =
-      let same : ended least (toLookup k (next t)) b ns ≡ ended least (toLookup k (t .current)) b ns
+      let same : ended (toLookup k (next t)) b ns ≡ ended (toLookup k (t .current)) b ns
       = looked k (next t) ns (omega arith)
       ∙ ap (λ (us : List Pair). ofLooked b ns (lookedBy (firstOf (rule 5 (leb keyLimit k) ∷ rule 6 false ∷ [])) (find k us))) e
       ∙ sym (looked k (t .current) ns (omega arith)) in
       record { number = ap (λ (x : Ended). x .number) same; results = ap (λ (x : Ended). x .results) same; list = ap (λ (x : Ended). x .list) same }
 
-  find-by : ((k : ℕ) (ns : List ℕ) → SaysSame (ended least (toLookup k (next t)) b ns) (ended least (toLookup k (t .current)) b ns))
+  find-by : ((k : ℕ) (ns : List ℕ) → SaysSame (ended (toLookup k (next t)) b ns) (ended (toLookup k (t .current)) b ns))
       → (k : ℕ) → within 0 keyLimit k ≡ true → find k (settings t (next t)) ≡ find k (settings t (t .current))
   find-by f k h =
       let low : leb keyLimit k ≡ false = lt-leb keyLimit k (ltb-true k keyLimit (both-true (leb 0 k) (ltb k keyLimit) h .1)) in
       answer-tells (find k (settings t (next t))) (find k (settings t (t .current))) (sym (found low (next t) (omega arith)) ∙ f k [] .results ∙ found low (t .current) (omega arith))
     where
       found : leb keyLimit k ≡ false → (v : ℕ) → v ≤ next t
-          → ended least (toLookup k v) b [] .results ≡ bit (lookedFound (lookedAt (find k (settings t v)))) ∷ lookedValue (lookedAt (find k (settings t v))) ∷ []
+          → ended (toLookup k v) b [] .results ≡ bit (lookedFound (lookedAt (find k (settings t v)))) ∷ lookedValue (lookedAt (find k (settings t v))) ∷ []
       found low v g = ap (λ (x : Ended). x .results) (looked k v [] g ∙ ap (λ (q : Bool). ofLooked b [] (lookedBy (firstOf (rule 5 q ∷ rule 6 false ∷ [])) (find k (settings t v)))) low)
 
-  equal-by : ((k : ℕ) (ns : List ℕ) → SaysSame (ended least (toLookup k (next t)) b ns) (ended least (toLookup k (t .current)) b ns)) → Equal t
+  equal-by : ((k : ℕ) (ns : List ℕ) → SaysSame (ended (toLookup k (next t)) b ns) (ended (toLookup k (t .current)) b ns)) → Equal t
   equal-by f =
-      let rise = settings-rise least (omega arith) t (a .agrees .is-sound) in
-      let low = settings-low least (omega arith) t (a .agrees .is-sound) in
+      let rise = settings-rise (leastOf b) (omega (arith, four b)) t (a .agrees .is-sound) in
+      let low = settings-low (leastOf b) (omega (arith, four b)) t (a .agrees .is-sound) in
       finds-equal (λ (k : ℕ). within 0 keyLimit k) (settings t (next t)) (settings t (t .current)) (rise (next t) (omega (arith, last-is))) (rise (t .current) (omega (arith, last-is)))
       (low (next t) (omega (arith, last-is))) (low (t .current) (omega (arith, last-is))) (find-by f)
 
@@ -152,41 +154,41 @@ counted-none : (ds : List Delta) → length ds ≡ 0 → isEmpty ds ≡ true
 counted-none [] e = refl
 counted-none (d ∷ ds) e = absurd (omega arith)
 
-module _ (least : ℕ) (four : 4 ≤ least) (eight : least ≤ 8) (b : List ℕ) (o : Opened least b) (ms : List ℕ) where
+module _ (b : List ℕ) (o : Opened b) (ms : List ℕ) where
   abbrev z : Store
-  z = decode least b
+  z = storeOf b
 
   upto : last z ≡ next z
   upto = ap (λ (q : Bool). lastOf q (z .current)) (o .opened)
 
-  reads : Readable least b (z .current) (next z)
-  reads = record { four = four; eight = eight; accepted = o .accepted; old = omega (arith, upto); new = omega (arith, upto) }
+  reads : Readable b (z .current) (next z)
+  reads = record { accepted = o .accepted; old = omega (arith, upto); new = omega (arith, upto) }
 
   abbrev ds : List Delta
   ds = differences z (z .current) (next z)
 
   -- with room or without, the count is given
-  count-is : ended least (toDifference (z .current) (next z)) b ms .results ≡ length ds ∷ []
+  count-is : ended (toDifference (z .current) (next z)) b ms .results ≡ length ds ∷ []
   count-is = at (ltb (length ms) (4 * length ds)) refl
     where
-      at : (q : Bool) → ltb (length ms) (4 * length ds) ≡ q → ended least (toDifference (z .current) (next z)) b ms .results ≡ length ds ∷ []
-      at true e = ap (λ (x : Ended). x .results) (difference-given least b (z .current) (next z) reads .short ms (ltb-true (length ms) (4 * length ds) e))
-      at false e = ap (λ (x : Ended). x .results) (difference-given least b (z .current) (next z) reads .room ms (ltb-false (length ms) (4 * length ds) e))
+      at : (q : Bool) → ltb (length ms) (4 * length ds) ≡ q → ended (toDifference (z .current) (next z)) b ms .results ≡ length ds ∷ []
+      at true e = ap (λ (x : Ended). x .results) (difference-given b (z .current) (next z) reads .short ms (ltb-true (length ms) (4 * length ds) e))
+      at false e = ap (λ (x : Ended). x .results) (difference-given b (z .current) (next z) reads .room ms (ltb-false (length ms) (4 * length ds) e))
 
   none-is : unchanged z ≡ isEmpty ds
   none-is =
-      let rise = settings-rise least (omega arith) z (lent-agreed least four eight b (o .accepted) .agrees .is-sound) in
+      let rise = settings-rise (leastOf b) (omega (arith, four b)) z (lent-agreed b (o .accepted) .agrees .is-sound) in
       same-none (settings z (z .current)) (settings z (next z)) (rise (z .current) (omega (arith, upto))) (rise (next z) (omega (arith, upto)))
 
-  equal-none : Equal z → ended least (toDifference (z .current) (next z)) b ms .results ≡ 0 ∷ []
+  equal-none : Equal z → ended (toDifference (z .current) (next z)) b ms .results ≡ 0 ∷ []
   equal-none e = count-is ∙ ap (λ (n : ℕ). n ∷ []) (none-counted ds (sym none-is ∙ equal-settings z e))
 
-  none-equal : ended least (toDifference (z .current) (next z)) b ms .results ≡ 0 ∷ [] → Equal z
+  none-equal : ended (toDifference (z .current) (next z)) b ms .results ≡ 0 ∷ [] → Equal z
   none-equal e = same-settings z (none-is ∙ counted-none ds (ap (λ (xs : List ℕ). getD xs 0 0) (sym count-is ∙ e)))
 
 nothing-differs : NothingDiffers
-nothing-differs least four eight b o ns ms =
-    (λ e. equal-none least four eight b o ms (commits-so least b ns .empty .0 e .1), λ e. commits-so least b ns .empty .1 (o, none-equal least four eight b o ms e))
+nothing-differs b o ns ms =
+    (λ e. equal-none b o ms (commits-so b ns .empty .0 e .1), λ e. commits-so b ns .empty .1 (o, none-equal b o ms e))
 
 -- ---- an insert undone by a delete
 
@@ -219,29 +221,29 @@ module _ (m : Machine) (k x : ℕ) (h : find k (m .shows (suc (m .current))) ≡
   undone-same : unchangedIn after ≡ unchangedIn m
   undone-same = ap₂ samePairs at-current at-last
 
-module _ (least : ℕ) (four : 4 ≤ least) (eight : least ≤ 8) (b : List ℕ) (k x : ℕ) (ns : List ℕ) (small : x < 4294967296) (done₁ : ended least (toInsert k x) b ns .number ≡ 0)
-    (done₂ : ended least (toDelete k) (ended least (toInsert k x) b ns .store) ns .number ≡ 0) where
+module _ (b : List ℕ) (k x : ℕ) (ns : List ℕ) (small : x < 4294967296) (done₁ : ended (toInsert k x) b ns .number ≡ 0)
+    (done₂ : ended (toDelete k) (ended (toInsert k x) b ns .store) ns .number ≡ 0) where
   abbrev x₀ : Beside
-  x₀ = fromLent least b
+  x₀ = fromLent b
 
   abbrev x₁ : Beside
-  x₁ = onward least x₀ (record { call = toInsert k x; list = ns })
+  x₁ = onward x₀ (record { call = toInsert k x; list = ns })
 
   abbrev x₂ : Beside
-  x₂ = onward least x₁ (record { call = toDelete k; list = ns })
+  x₂ = onward x₁ (record { call = toDelete k; list = ns })
 
-  agreed₀ : Agreed least x₀
-  agreed₀ = lent-agreed least four eight b (zero-accepts least (toInsert k x) b ns refl done₁)
+  agreed₀ : Agreed x₀
+  agreed₀ = lent-agreed b (zero-accepts (toInsert k x) b ns refl done₁)
 
-  agreed₁ : Agreed least x₁
-  agreed₁ = one-turn least four eight x₀ agreed₀ (record { call = toInsert k x; list = ns }) (lt-ltb x 4294967296 small)
+  agreed₁ : Agreed x₁
+  agreed₁ = one-turn x₀ agreed₀ (record { call = toInsert k x; list = ns }) (lt-ltb x 4294967296 small)
 
-  agreed₂ : Agreed least x₂
-  agreed₂ = one-turn least four eight x₁ agreed₁ (record { call = toDelete k; list = ns }) refl
+  agreed₂ : Agreed x₂
+  agreed₂ = one-turn x₁ agreed₁ (record { call = toDelete k; list = ns }) refl
 
   absent : find k (x₀ .machine .shows (suc (x₀ .machine .current))) ≡ none
   absent = none-by (find k (x₀ .machine .shows (suc (x₀ .machine .current))))
-      (absent-by (leb benchLimit k) (x₀ .machine .opened) (aliveIn (x₀ .machine) k) (ended least (toInsert k x) b ns .number) (answers least four eight x₀ agreed₀ .inserts k x ns) done₁)
+      (absent-by (leb benchLimit k) (x₀ .machine .opened) (aliveIn (x₀ .machine) k) (ended (toInsert k x) b ns .number) (answers x₀ agreed₀ .inserts k x ns) done₁)
 
   machine-is : x₂ .machine ≡ edited (λ (us : List Pair). those (λ (y : Pair). not (eqb (y .key) k)) us) (edited (enterPair (pair k x)) (x₀ .machine))
   machine-is =
@@ -249,15 +251,15 @@ module _ (least : ℕ) (four : 4 ≤ least) (eight : least ≤ 8) (b : List ℕ)
       ap (λ (n : ℕ). whenDone n (edited (λ (us : List Pair). those (λ (y : Pair). not (eqb (y .key) k)) us) (x₁ .machine)) (x₁ .machine)) done₂
       ∙ ap (edited (λ (us : List Pair). those (λ (y : Pair). not (eqb (y .key) k)) us)) one
 
-  undone-so : ended least toCommit (x₂ .bytes) ns .number ≡ ended least toCommit b ns .number
+  undone-so : ended toCommit (x₂ .bytes) ns .number ≡ ended toCommit b ns .number
   undone-so =
-      answers least four eight x₂ agreed₂ .commits ns ∙ ap (λ (m : Machine). firstOf (commitTests (m .opened) (unchangedIn m))) machine-is
-      ∙ ap (λ (q : Bool). firstOf (commitTests (x₀ .machine .opened) q)) (undone-same (x₀ .machine) k x absent) ∙ sym (answers least four eight x₀ agreed₀ .commits ns)
+      answers x₂ agreed₂ .commits ns ∙ ap (λ (m : Machine). firstOf (commitTests (m .opened) (unchangedIn m))) machine-is
+      ∙ ap (λ (q : Bool). firstOf (commitTests (x₀ .machine .opened) q)) (undone-same (x₀ .machine) k x absent) ∙ sym (answers x₀ agreed₀ .commits ns)
 
 pub empty-releases : EmptyReleases
 empty-releases = record {
   exactly = commits-so;
-  by-key = λ least four eight b o. (say-same least four eight b o, equal-by least four eight b o);
+  by-key = λ b o. (say-same b o, equal-by b o);
   nothing-differs = nothing-differs;
-  undone = λ least four eight b k x ns small d e. undone-so least four eight b k x ns small d e;
+  undone = λ b k x ns small d e. undone-so b k x ns small d e;
 }

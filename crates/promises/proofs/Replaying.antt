@@ -1,6 +1,6 @@
 -- The table's histories on bytes: the calls on bytes leave the bytes of the table's stores.
 -- Assumes nothing.
-use Prim.Native.Nat.{ℕ, _≤_}
+use Prim.Native.Nat.{ℕ}
 use mathlib.Core.Bool.{Bool, true}
 use mathlib.Core.Path.{_≡_, refl, ap, ap₂, sym, _∙_, subst}
 use mathlib.Core.Logic.{inl, inr}
@@ -13,7 +13,7 @@ use Rattle.model.specs.declared.Looked.{Looked}
 use Rattle.model.specs.declared.Looked.the-variants.{Value, Absent}
 use Rattle.model.specs.Store.{Store, fresh}
 use Rattle.model.specs.Sound.{sound}
-use Rattle.model.specs.Layout.{bit, encode, decode}
+use Rattle.model.specs.Layout.{bit, encode}
 use Rattle.model.specs.Climb.{done, refused}
 use Rattle.model.specs.Return.{Came, gave, gaveUp}
 use Rattle.model.specs.Calls.{get, lookedNumber, lookedFound, lookedValue}
@@ -28,7 +28,8 @@ use Rattle.model.specs.Ended.{toLookup, Ended, ofOutcome, ofLooked, ended}
 use Rattle.model.proofs.Lists.{both-true, all-cons}
 use Rattle.model.proofs.Members.{holds-true, true-holds, In, all-in, in-getD}
 use Rattle.model.proofs.Theorems.{call-sound}
-use Rattle.promises.specs.Accepts.{Accepts, Written}
+use Rattle.model.proofs.Editions.{edition-four}
+use Rattle.promises.specs.Accepts.{Accepts, storeOf, OfEdition, Written}
 use Rattle.promises.specs.Runs.{run, asks}
 use Rattle.promises.specs.Replayed.{turnOf, madeOn, replayed, Replays, AllReplay, TableLent}
 use Rattle.promises.proofs.Encoded.{encoded-sound}
@@ -37,34 +38,35 @@ use Rattle.promises.proofs.Sounding.{lookup-lent}
 
 -- ---- calls on the bytes of a sound store
 
-module _ (least : ℕ) (four : 4 ≤ least) (eight : least ≤ 8) where
+module _ (least : ℕ) (e : OfEdition least) where
   left-after : (s : Store) (r : Came) → leftBy least (encode least s) r ≡ record { number = after s r .number; store = encode least (after s r .store) }
   left-after s (gave (done t)) = refl
   left-after s (gave (refused n)) = refl
   left-after s (gaveUp n t) = refl
 
   -- one
-  one : (s : Store) → T (sound least s) → (c : Call) → ended least (asks c) (encode least s) [] ≡ ofOutcome [] (record { number = after s (callBy least s c) .number; store = encode least (after s (callBy least s c) .store) })
+  one : (s : Store) → T (sound least s) → (c : Call) → ended (asks c) (encode least s) [] ≡ ofOutcome [] (record { number = after s (callBy least s c) .number; store = encode least (after s (callBy least s c) .store) })
   one s sure c =
-      let w : Written least s = encoded-sound least four eight s sure in
-      change-is least (encode least s) (w .accepted) c [] ∙ ap (λ (t : Store). ofOutcome [] (leftBy least (encode least s) (callBy least t c))) (w .held)
-      ∙ ap (ofOutcome []) (left-after s (callBy least s c))
+      let b : List ℕ = encode least s in
+      let w : Written least s = encoded-sound least e s sure in
+      change-is b (w .accepted) c [] ∙ ap (λ (l : ℕ). ofOutcome [] (leftBy l b (callBy l (storeOf b) c))) (w .edition)
+      ∙ ap (λ (t : Store). ofOutcome [] (leftBy least b (callBy least t c))) (w .held) ∙ ap (ofOutcome []) (left-after s (callBy least s c))
 
   -- one after another
   pub runs : (cs : List Call) → all fits cs ≡ true → (n : ℕ) (s : Store) → T (sound least s)
-      → run least (record { number = n; store = encode least s }) (map turnOf cs)
+      → run (record { number = n; store = encode least s }) (map turnOf cs)
       ≡ record { number = Histories.run least (record { number = n; store = s }) cs .number; store = encode least (Histories.run least (record { number = n; store = s }) cs .store) }
   runs [] h n s sure = refl
   runs (c ∷ cs) h n s sure =
       let (f, g) = all-cons fits c cs h in
-      ap (λ (e : Ended). run least (record { number = e .number; store = e .store }) (map turnOf cs)) (one s sure c)
-      ∙ runs cs g (after s (callBy least s c) .number) (after s (callBy least s c) .store) (call-sound least four s sure c (true-holds (fits c) f))
+      ap (λ (e : Ended). run (record { number = e .number; store = e .store }) (map turnOf cs)) (one s sure c)
+      ∙ runs cs g (after s (callBy least s c) .number) (after s (callBy least s c) .store) (call-sound least (edition-four least e) s sure c (true-holds (fits c) f))
 
   run-sound : (cs : List Call) → all fits cs ≡ true → (a : After) → T (sound least (a .store)) → T (sound least (Histories.run least a cs .store))
   run-sound [] h a sure = sure
   run-sound (c ∷ cs) h a sure =
       let (f, g) = all-cons fits c cs h in
-      run-sound cs g (after (a .store) (callBy least (a .store) c)) (call-sound least four (a .store) sure c (true-holds (fits c) f))
+      run-sound cs g (after (a .store) (callBy least (a .store) c)) (call-sound least (edition-four least e) (a .store) sure c (true-holds (fits c) f))
 
 -- ---- the table
 
@@ -80,24 +82,24 @@ module _ (h : History) (well : soundWay h ≡ true) (fit : all fits (h .calls) �
   start = sound-first (h .store) (h .calls) well
 
   is : replayed h ≡ record { number = end .number; store = encode 4 (end .store) }
-  is = runs 4 (lit≤ tt) (lit≤ tt) (h .calls) fit 0 (h .store) start
+  is = runs 4 (inl refl) (h .calls) fit 0 (h .store) start
 
   end-written : Written 4 (end .store)
-  end-written = encoded-sound 4 (lit≤ tt) (lit≤ tt) (end .store) (run-sound 4 (lit≤ tt) (lit≤ tt) (h .calls) fit (record { number = 0; store = h .store }) start)
+  end-written = encoded-sound 4 (inl refl) (end .store) (run-sound 4 (inl refl) (h .calls) fit (record { number = 0; store = h .store }) start)
 
   pub end-bytes : replayed h .store ≡ encode 4 (end .store)
   end-bytes = ap (λ (o : Outcome). o .store) is
 
-  pub end-accepted : Accepts 4 (replayed h .store)
-  end-accepted = subst (Accepts 4) (sym end-bytes) (end-written .accepted)
+  pub end-accepted : Accepts (replayed h .store)
+  end-accepted = subst Accepts (sym end-bytes) (end-written .accepted)
 
-  pub end-held : decode 4 (replayed h .store) ≡ end .store
-  end-held = ap (decode 4) end-bytes ∙ end-written .held
+  pub end-held : storeOf (replayed h .store) ≡ end .store
+  end-held = ap storeOf end-bytes ∙ end-written .held
 
   pub replay : holds h ≡ true → Replays h
   replay all-hold =
       let n : replayed h .number ≡ end .number = ap (λ (o : Outcome). o .number) is in
-      let same : _≡_ {A = After} (record { number = replayed h .number; store = decode 4 (replayed h .store) }) end = λ i. record { number = n i; store = end-held i } in
+      let same : _≡_ {A = After} (record { number = replayed h .number; store = storeOf (replayed h .store) }) end = λ i. record { number = n i; store = end-held i } in
       record { number = n; bytes = end-bytes; facts = true-holds _ (ap (allOf (h .facts)) same ∙ all-hold) }
 
 all-replay : (hs : List History) → all holds hs ≡ true → all soundWay hs ≡ true → all (λ (h : History). all fits (h .calls)) hs ≡ true → AllReplay hs
@@ -135,7 +137,7 @@ module _ (h : History) (i : In h table) where
   in-fits = all-in (λ (x : History). all fits (x .calls)) h table (holds-true _ table-fits) i
 
   -- a fact that the table has of the store after it, of the bytes
-  pub fact-in : (f : After → Bool) → In f (h .facts) → f (record { number = replayed h .number; store = decode 4 (replayed h .store) }) ≡ true
+  pub fact-in : (f : After → Bool) → In f (h .facts) → f (record { number = replayed h .number; store = storeOf (replayed h .store) }) ≡ true
   fact-in f j = fact f (h .facts) _ j (holds-true _ (replay h in-sound in-fits in-holds .facts))
 
   -- where the table says that the bytes are those of s, they are
@@ -153,7 +155,7 @@ third : madeOn 8 twentyOne .store ≡ madeOn 8 twenty .store
 third =
     let early : all fits twenty ≡ true = refl in
     bytes-in (place 2) (in-getD none table 2 (lit≤ tt)) (from 4 8 twenty .store) (inr (inl refl))
-    ∙ sym (ap (λ (o : Outcome). o .store) (runs 4 (lit≤ tt) (lit≤ tt) twenty early 0 (fresh 8) (start (place 2) (in-sound (place 2) (in-getD none table 2 (lit≤ tt))) (in-fits (place 2) (in-getD none table 2 (lit≤ tt))))))
+    ∙ sym (ap (λ (o : Outcome). o .store) (runs 4 (inl refl) twenty early 0 (fresh 8) (start (place 2) (in-sound (place 2) (in-getD none table 2 (lit≤ tt))) (in-fits (place 2) (in-getD none table 2 (lit≤ tt))))))
 
 seventh : madeOn 16 (twentyOne ++ deleteFrom 12 7 ++ (abandons ∷ [])) .store ≡ encode 4 (fresh 16)
 seventh = bytes-in (place 6) (in-getD none table 6 (lit≤ tt)) (fresh 16) (inr (inl refl))
@@ -162,17 +164,17 @@ twelfth : madeOn 16 (reopened twenty ++ (deletes 1 ∷ insertKey 1 ∷ abandons 
 twelfth =
     let early : all fits (twenty ++ (commits ∷ [])) ≡ true = refl in
     bytes-in (place 11) (in-getD none table 11 (lit≤ tt)) (from 4 16 (twenty ++ (commits ∷ [])) .store) (inr (inl refl))
-    ∙ sym (ap (λ (o : Outcome). o .store) (runs 4 (lit≤ tt) (lit≤ tt) (twenty ++ (commits ∷ [])) early 0 (fresh 16) (start (place 11) (in-sound (place 11) (in-getD none table 11 (lit≤ tt))) (in-fits (place 11) (in-getD none table 11 (lit≤ tt))))))
+    ∙ sym (ap (λ (o : Outcome). o .store) (runs 4 (inl refl) (twenty ++ (commits ∷ [])) early 0 (fresh 16) (start (place 11) (in-sound (place 11) (in-getD none table 11 (lit≤ tt))) (in-fits (place 11) (in-getD none table 11 (lit≤ tt))))))
 
 -- a lookup that the table answers
 looked : (h : History) (i : In h table) (k v : ℕ) (x : Looked) → In (looks k v x) (h .facts) → (ns : List ℕ)
-    → ended 4 (toLookup k v) (replayed h .store) ns ≡ ofLooked (replayed h .store) ns x
+    → ended (toLookup k v) (replayed h .store) ns ≡ ofLooked (replayed h .store) ns x
 looked h i k v x j ns =
     let b : List ℕ = replayed h .store in
     let s : Store = runOn 4 (h .store) (h .calls) .store in
     let same : lookedNumbers (get s k v) ≡ lookedNumbers x = list-true _ _ (fact (looks k v x) (h .facts) (runOn 4 (h .store) (h .calls)) j (in-holds h i)) in
-    let ok : Accepts 4 (replayed h .store) = end-accepted h (in-sound h i) (in-fits h i) in
-    ap (ofLooked b ns) (lookup-lent 4 (lit≤ tt) (lit≤ tt) b ok k v ∙ ap (λ (t : Store). get t k v) (end-held h (in-sound h i) (in-fits h i))) ∙ told b ns (get s k v) x same
+    let ok : Accepts (replayed h .store) = end-accepted h (in-sound h i) (in-fits h i) in
+    ap (ofLooked b ns) (lookup-lent b ok k v ∙ ap (λ (t : Store). get t k v) (end-held h (in-sound h i) (in-fits h i))) ∙ told b ns (get s k v) x same
   where
     told : (b ns : List ℕ) (x y : Looked) → lookedNumbers x ≡ lookedNumbers y → ofLooked b ns x ≡ ofLooked b ns y
     told b ns x y e =

@@ -15,7 +15,8 @@ use Rattle.model.specs.declared.Delta.{Delta}
 use Rattle.model.specs.Store.{Store, next, last, lastOf}
 use Rattle.model.specs.Walk.{settings}
 use Rattle.model.specs.Sound.{sound}
-use Rattle.model.specs.Layout.{encode, decode}
+use Rattle.model.specs.Layout.{encode}
+use Rattle.model.specs.Editions.{leastOf}
 use Rattle.model.specs.Climb.{done}
 use Rattle.model.specs.Calls
 use Rattle.model.specs.Calls.{rule, firstOf, abandon, abandoned}
@@ -32,11 +33,12 @@ use Rattle.model.proofs.Alike.{alike-settings}
 use Rattle.model.proofs.Differs.{none-differs}
 use Rattle.model.proofs.Stops.{lacking-is}
 use Rattle.model.proofs.Returned.{Stepped, returned-by}
-use Rattle.promises.specs.Accepts.{Accepts}
+use Rattle.promises.specs.Accepts.{Accepts, storeOf}
 use Rattle.promises.specs.Runs.{Turn, turned, runBytes}
 use Rattle.promises.specs.Beside.{fromLent}
 use Rattle.promises.specs.Demand3.{opening, abandoning}
 use Rattle.promises.specs.Returns.{ReturnGives, Returned, ReturnDone, Stops, Stopped, ReturnStopped, returning, ReturnNothing, ReturnAbandons}
+use Rattle.promises.proofs.Known.{four}
 use Rattle.promises.proofs.Encoded.{accepted}
 use Rattle.promises.proofs.High.{numberBy, return-free}
 use Rattle.promises.proofs.Judges.{zero-accepts, late-accepts}
@@ -60,12 +62,12 @@ record Undoes (least : ℕ) (s : Store) (b : List ℕ) (q : Came) : Type 0 where
   opened : s .opened ≡ true
   store : leftBy least b q .store ≡ encode least (abandoned s)
 
-module _ (least : ℕ) (four : 4 ≤ least) (eight : least ≤ 8) (b : List ℕ) (ok : Accepts least b) (v : ℕ) (ns : List ℕ) where
+module _ (b : List ℕ) (ok : Accepts b) (v : ℕ) (ns : List ℕ) where
   abbrev s : Store
-  s = decode least b
+  s = storeOf b
 
-  sure : Sound least (decode least b)
-  sure = from-tests least (decode least b) (holds-true (sound least (decode least b)) (held-sound least four eight b ok))
+  sure : Sound (leastOf b) (storeOf b)
+  sure = from-tests (leastOf b) (storeOf b) (holds-true (sound (leastOf b) (storeOf b)) (held-sound b ok))
 
   never : (n m : ℕ) → lacking n ≡ true → n ≡ 0 → ⊥
   never n m l e = at (lacking-is n l)
@@ -74,9 +76,9 @@ module _ (least : ℕ) (four : 4 ≤ least) (eight : least ≤ 8) (b : List ℕ)
       at (inl z) = omega arith
       at (inr z) = omega arith
 
-  whole : numberBy (returned least (decode least b) v) ≡ 0 → Whole least (decode least b) v (returned least (decode least b) v)
+  whole : numberBy (returned (leastOf b) (storeOf b) v) ≡ 0 → Whole (leastOf b) (storeOf b) v (returned (leastOf b) (storeOf b) v)
   whole =
-      returned-by least (λ (q : Came). numberBy q ≡ 0 → Whole least (decode least b) v q) four (decode least b) sure v (λ n e. absurd (n e))
+      returned-by (leastOf b) (λ (q : Came). numberBy q ≡ 0 → Whole (leastOf b) (storeOf b) v q) (four b) (storeOf b) sure v (λ n e. absurd (n e))
       (λ o h t g e. record { opened = o; committed = h; left-so = t; is = refl; stepped = g }) (λ o h n l e. absurd (never n 0 l e))
 
   early : (x y : Bool) → Stops (firstOf (rule 6 x ∷ rule 7 y ∷ [])) → ⊥
@@ -91,23 +93,23 @@ module _ (least : ℕ) (four : 4 ≤ least) (eight : least ≤ 8) (b : List ℕ)
   zero (inl e) = omega arith
   zero (inr e) = omega arith
 
-  undoes : Stops (numberBy (returned least (decode least b) v)) → Undoes least (decode least b) b (returned least (decode least b) v)
+  undoes : Stops (numberBy (returned (leastOf b) (storeOf b) v)) → Undoes (leastOf b) (storeOf b) b (returned (leastOf b) (storeOf b) v)
   undoes =
-      returned-by least (λ (q : Came). Stops (numberBy q) → Undoes least (decode least b) b q) four (decode least b) sure v
-      (λ n e. absurd (early (ltb (decode least b .current) v) (not (decode least b .opened)) e)) (λ o h t g e. absurd (zero e)) (λ o h n l e. record { opened = o; store = refl })
+      returned-by (leastOf b) (λ (q : Came). Stops (numberBy q) → Undoes (leastOf b) (storeOf b) b q) (four b) (storeOf b) sure v
+      (λ n e. absurd (early (ltb (storeOf b .current) v) (not (storeOf b .opened)) e)) (λ o h t g e. absurd (zero e)) (λ o h n l e. record { opened = o; store = refl })
 
   -- an abandon of an update that is open
-  abandon-is : decode least b .opened ≡ true → ended least toAbandon b ns ≡ ofOutcome ns (record { number = 0; store = encode least (abandoned (decode least b)) })
+  abandon-is : storeOf b .opened ≡ true → ended toAbandon b ns ≡ ofOutcome ns (record { number = 0; store = encode (leastOf b) (abandoned (storeOf b)) })
   unfolding Calls.abandon
   abandon-is o =
-      change-is least b ok abandons ns
-      ∙ ap (λ (p : Bool). ofOutcome ns (left least b (Calls.numbered (rule 7 (not p) ∷ []) (done (abandoned (decode least b)))))) o
+      change-is b ok abandons ns
+      ∙ ap (λ (p : Bool). ofOutcome ns (left (leastOf b) b (Calls.numbered (rule 7 (not p) ∷ []) (done (abandoned (storeOf b)))))) o
 
-  stopped-so : Stops (ended least (toReturn v) b ns .number) → Stopped least b v ns
+  stopped-so : Stops (ended (toReturn v) b ns .number) → Stopped b v ns
   stopped-so e =
-      let u = undoes (subst Stops (change-number least b ok (returns v) ns) e) in
+      let u = undoes (subst Stops (change-number b ok (returns v) ns) e) in
       record {
-        store = ap (λ (x : Ended). x .store) (change-is least b ok (returns v) ns) ∙ u .store ∙ sym (ap (λ (x : Ended). x .store) (abandon-is (u .opened)));
+        store = ap (λ (x : Ended). x .store) (change-is b ok (returns v) ns) ∙ u .store ∙ sym (ap (λ (x : Ended). x .store) (abandon-is (u .opened)));
         list = refl;
         abandons = ap (λ (x : Ended). x .number) (abandon-is (u .opened));
       }
@@ -115,80 +117,80 @@ module _ (least : ℕ) (four : 4 ≤ least) (eight : least ≤ 8) (b : List ℕ)
   -- ---- done
 
   abbrev b′ : List ℕ
-  b′ = ended least (toReturn v) b ns .store
+  b′ = ended (toReturn v) b ns .store
 
-  module _ (e : ended least (toReturn v) b ns .number ≡ 0) where
-    pub w : Whole least (decode least b) v (returned least (decode least b) v)
-    w = whole (sym (change-number least b ok (returns v) ns) ∙ e)
+  module _ (e : ended (toReturn v) b ns .number ≡ 0) where
+    pub w : Whole (leastOf b) (storeOf b) v (returned (leastOf b) (storeOf b) v)
+    w = whole (sym (change-number b ok (returns v) ns) ∙ e)
 
-    pub holds : decode least (ended least (toReturn v) b ns .store) ≡ w .left-so
-    holds = change-leaves least four eight b ok (returns v) refl ns .holds ∙ ap (λ (q : Came). after (decode least b) q .store) (w .is)
+    pub holds : storeOf (ended (toReturn v) b ns .store) ≡ w .left-so
+    holds = change-leaves b ok (returns v) refl ns .holds ∙ ap (λ (q : Came). after (storeOf b) q .store) (w .is)
 
-    kept : Accepts least (ended least (toReturn v) b ns .store)
-    kept = call-accepts least four eight b ok (toReturn v) refl ns
+    kept : Accepts (ended (toReturn v) b ns .store)
+    kept = call-accepts b ok (toReturn v) refl ns
 
-    still : decode least (ended least (toReturn v) b ns .store) .opened ≡ true
+    still : storeOf (ended (toReturn v) b ns .store) .opened ≡ true
     still = ap (λ (t : Store). t .opened) holds ∙ w .stepped .opened
 
-    current-is : decode least (ended least (toReturn v) b ns .store) .current ≡ decode least b .current
+    current-is : storeOf (ended (toReturn v) b ns .store) .current ≡ storeOf b .current
     current-is = ap (λ (t : Store). t .current) holds ∙ w .stepped .current
 
-    shown : settings (decode least (ended least (toReturn v) b ns .store)) (next (decode least (ended least (toReturn v) b ns .store))) ≡ settings (decode least b) v
+    shown : settings (storeOf (ended (toReturn v) b ns .store)) (next (storeOf (ended (toReturn v) b ns .store))) ≡ settings (storeOf b) v
     shown = ap (λ (t : Store). settings t (next t)) holds ∙ w .stepped .openly
 
-    old-shown : settings (decode least (ended least (toReturn v) b ns .store)) v ≡ settings (decode least b) v
-    old-shown = ap (λ (t : Store). settings t v) holds ∙ alike-settings (decode least b) v (w .left-so) v (w .stepped .steady v (w .committed))
+    old-shown : settings (storeOf (ended (toReturn v) b ns .store)) v ≡ settings (storeOf b) v
+    old-shown = ap (λ (t : Store). settings t v) holds ∙ alike-settings (storeOf b) v (w .left-so) v (w .stepped .steady v (w .committed))
 
-    last-is : last (decode least (ended least (toReturn v) b ns .store)) ≡ suc (decode least b .current)
+    last-is : last (storeOf (ended (toReturn v) b ns .store)) ≡ suc (storeOf b .current)
     last-is = ap₂ lastOf still current-is
 
-    none : differ (settings (decode least (ended least (toReturn v) b ns .store)) v) (settings (decode least (ended least (toReturn v) b ns .store)) (next (decode least (ended least (toReturn v) b ns .store)))) ≡ []
+    none : differ (settings (storeOf (ended (toReturn v) b ns .store)) v) (settings (storeOf (ended (toReturn v) b ns .store)) (next (storeOf (ended (toReturn v) b ns .store)))) ≡ []
     none =
         ap₂ differ old-shown shown
-        ∙ none-differs (settings (decode least b) v) (settings-rise least (omega arith) (decode least b) sure v (omega (arith, w .committed, low (decode least b .opened) (decode least b .current))))
+        ∙ none-differs (settings (storeOf b) v) (settings-rise (leastOf b) (omega (arith, four b)) (storeOf b) sure v (omega (arith, w .committed, low (storeOf b .opened) (storeOf b .current))))
       where
         low : (o : Bool) (n : ℕ) → n ≤ lastOf o n
         low true n = omega arith
         low false n = omega arith
 
-    returned-so : Returned least b v (ended least (toReturn v) b ns .store)
+    returned-so : Returned b v (ended (toReturn v) b ns .store)
     returned-so = record {
       accepted = kept;
       opened = still;
       current = current-is;
       shows = shown;
-      older = λ u h. views-stay least four eight b ok (record { call = toReturn v; list = ns } ∷ []) refl refl u h;
+      older = λ u h. views-stay b ok (record { call = toReturn v; list = ns } ∷ []) refl refl u h;
       nothing-differs = λ ms. nothing ms
-          (difference-given least b′ v (next (decode least b′)) (record { four = four; eight = eight; accepted = kept; old = omega (arith, w .committed, last-is); new = omega (arith, last-is, current-is) }) .room ms);
+          (difference-given b′ v (next (storeOf b′)) (record { accepted = kept; old = omega (arith, w .committed, last-is); new = omega (arith, last-is, current-is) }) .room ms);
     }
       where
         ds : List Delta
-        ds = differ (settings (decode least (ended least (toReturn v) b ns .store)) v) (settings (decode least (ended least (toReturn v) b ns .store)) (next (decode least (ended least (toReturn v) b ns .store))))
+        ds = differ (settings (storeOf (ended (toReturn v) b ns .store)) v) (settings (storeOf (ended (toReturn v) b ns .store)) (next (storeOf (ended (toReturn v) b ns .store))))
 
         nothing : (ms : List ℕ)
-            → (4 * length ds ≤ length ms → ended least (toDifference v (next (decode least b′))) b′ ms
+            → (4 * length ds ≤ length ms → ended (toDifference v (next (storeOf b′))) b′ ms
             ≡ record { number = 0; results = length ds ∷ []; store = b′; list = flatMap deltaNumbers ds ++ drop (4 * length ds) ms })
-            → ended least (toDifference v (next (decode least b′))) b′ ms ≡ record { number = 0; results = 0 ∷ []; store = b′; list = ms }
+            → ended (toDifference v (next (storeOf b′))) b′ ms ≡ record { number = 0; results = 0 ∷ []; store = b′; list = ms }
         nothing ms f =
             f (omega (arith, ap (λ (xs : List Delta). length xs) none))
             ∙ ap (λ (xs : List Delta). record { number = 0; results = length xs ∷ []; store = b′; list = flatMap deltaNumbers xs ++ drop (4 * length xs) ms }) none
 
   -- ---- nothing to do
 
-  module _ (o : decode least b .opened ≡ true) (h : v ≤ decode least b .current) (same : settings (decode least b) (next (decode least b)) ≡ settings (decode least b) v) where
-    returned-same : returned least (decode least b) v ≡ gave (done (decode least b))
+  module _ (o : storeOf b .opened ≡ true) (h : v ≤ storeOf b .current) (same : settings (storeOf b) (next (storeOf b)) ≡ settings (storeOf b) v) where
+    returned-same : returned (leastOf b) (storeOf b) v ≡ gave (done (storeOf b))
     unfolding Return.returned Return.carried Return.through
     returned-same =
-        ap₂ (λ (n : ℕ) (ds : List Delta). unless n (orAbandoned (carried least ds (decode least b)))) (return-free (decode least b) v o h)
-        (ap (λ (us : List Pair). differ us (settings (decode least b) v)) same ∙ none-differs (settings (decode least b) v) (settings-rise least (omega arith) (decode least b) sure v (omega (arith, open-last))))
+        ap₂ (λ (n : ℕ) (ds : List Delta). unless n (orAbandoned (carried (leastOf b) ds (storeOf b)))) (return-free (storeOf b) v o h)
+        (ap (λ (us : List Pair). differ us (settings (storeOf b) v)) same ∙ none-differs (settings (storeOf b) v) (settings-rise (leastOf b) (omega (arith, four b)) (storeOf b) sure v (omega (arith, open-last))))
       where
-        open-last : last (decode least b) ≡ next (decode least b)
-        open-last = ap (λ (p : Bool). lastOf p (decode least b .current)) o
+        open-last : last (storeOf b) ≡ next (storeOf b)
+        open-last = ap (λ (p : Bool). lastOf p (storeOf b .current)) o
 
-    nothing-so : Bytes b → ended least (toReturn v) b ns ≡ ofOutcome ns (record { number = 0; store = b })
+    nothing-so : Bytes b → ended (toReturn v) b ns ≡ ofOutcome ns (record { number = 0; store = b })
     nothing-so bytes =
-        change-is least b ok (returns v) ns ∙ ap (λ (q : Came). ofOutcome ns (leftBy least b q)) returned-same
-        ∙ ap (λ (q : List ℕ). ofOutcome ns (record { number = 0; store = q })) (accepted least four eight b bytes ok .same)
+        change-is b ok (returns v) ns ∙ ap (λ (q : Came). ofOutcome ns (leftBy (leastOf b) b q)) returned-same
+        ∙ ap (λ (q : List ℕ). ofOutcome ns (record { number = 0; store = q })) (accepted b bytes ok .same)
 
 -- ---- the promise
 
@@ -196,26 +198,26 @@ late-stops : (n : ℕ) → Stops n → 5 ≤ n
 late-stops n (inl e) = omega arith
 late-stops n (inr e) = omega arith
 
-run-append : (least : ℕ) (b : List ℕ) (ts us : List Turn) → runBytes least b (ts ++ us) ≡ runBytes least (runBytes least b ts) us
-run-append least b [] us = refl
-run-append least b (t ∷ ts) us = run-append least (turned least b t .store) ts us
+run-append : (b : List ℕ) (ts us : List Turn) → runBytes b (ts ++ us) ≡ runBytes (runBytes b ts) us
+run-append b [] us = refl
+run-append b (t ∷ ts) us = run-append (turned b t .store) ts us
 
 pub gives : ReturnGives
-gives least four eight b ok v ns = answers least four eight (fromLent least b) (lent-agreed least four eight b ok) .returns v ns
+gives b ok v ns = answers (fromLent b) (lent-agreed b ok) .returns v ns
 
 pub when-done : ReturnDone
-when-done least four eight b v ns e = returned-so least four eight b (zero-accepts least (toReturn v) b ns refl e) v ns e
+when-done b v ns e = returned-so b (zero-accepts (toReturn v) b ns refl e) v ns e
 
 pub when-stopped : ReturnStopped
-when-stopped least four eight b v ns e = stopped-so least four eight b (late-accepts least (toReturn v) b ns refl (late-stops (ended least (toReturn v) b ns .number) e)) v ns e
+when-stopped b v ns e = stopped-so b (late-accepts (toReturn v) b ns refl (late-stops (ended (toReturn v) b ns .number) e)) v ns e
 
 pub is-abandon : ReturnAbandons
-is-abandon least four eight b bytes given ts f i v e =
-    let c : List ℕ = runBytes least b (opening ∷ ts) in
-    let same : runBytes least b (opening ∷ (ts ++ (returning v ∷ []))) ≡ b
-    = run-append least b (opening ∷ ts) (returning v ∷ []) ∙ when-stopped least four eight c v [] e .store
-    ∙ sym (run-append least b (opening ∷ ts) (abandoning ∷ [])) ∙ restored.abandoned least four eight b bytes given ts f i .bytes in
-    record { bytes = same; later = λ a ns. ap (λ (q : List ℕ). ended least a q ns) same }
+is-abandon b bytes given ts f i v e =
+    let c : List ℕ = runBytes b (opening ∷ ts) in
+    let same : runBytes b (opening ∷ (ts ++ (returning v ∷ []))) ≡ b
+    = run-append b (opening ∷ ts) (returning v ∷ []) ∙ when-stopped c v [] e .store
+    ∙ sym (run-append b (opening ∷ ts) (abandoning ∷ [])) ∙ restored.abandoned b bytes given ts f i .bytes in
+    record { bytes = same; later = λ a ns. ap (λ (q : List ℕ). ended a q ns) same }
 
 pub when-nothing : ReturnNothing
-when-nothing least four eight b bytes ok o v h same ns = nothing-so least four eight b ok v ns o h same bytes
+when-nothing b bytes ok o v h same ns = nothing-so b ok v ns o h same bytes

@@ -4,14 +4,16 @@ use Prim.Native.Nat.{ℕ, suc, _≤_}
 use native.Mathlib.Omega.{arith}
 use mathlib.Core.Bool.{true, _&&_}
 use mathlib.Core.Path.{_≡_, refl, ap, ap₂, sym, _∙_}
+use mathlib.Core.Logic.{inl, inr}
 use mathlib.Core.List.{List, [], _∷_}
 use lib.Dec.{lit≤}
 use Rattle.model.specs.Field.{Bytes}
 use Rattle.model.specs.Store.{Store, next, last, lastOf, fresh}
 use Rattle.model.specs.Walk.{settings}
 use Rattle.model.specs.Sound.{sound}
-use Rattle.model.specs.Layout.{encode, decode}
-use Rattle.model.specs.Judged
+use Rattle.model.specs.Layout.{encode}
+use Rattle.model.specs.Editions
+use Rattle.model.specs.Any
 use Rattle.model.specs.Calls.{firstOf}
 use Rattle.model.specs.Histories.{begins, commits, returns}
 use Rattle.model.specs.Settings.{start, step}
@@ -21,12 +23,15 @@ use Rattle.model.specs.Proved.{two-levels-sound, from-elsewhere-sound}
 use Rattle.model.proofs.Members.{true-holds}
 use Rattle.model.proofs.Given.{to-tests}
 use Rattle.model.proofs.Turns.{fresh-sound}
-use Rattle.promises.specs.Accepts.{Accepts, Written}
+use Rattle.model.proofs.Editions.{edition-four}
+use Rattle.promises.specs.Accepts.{Accepts, storeOf, OfEdition, Written}
 use Rattle.promises.specs.Runs.{Turn, turned, changing, notMaking, fitting, staying, inside, each}
 use Rattle.promises.specs.Beside.{whenDone, onward, fromFresh}
 use Rattle.promises.specs.Answers.{commitTests, unchangedIn}
 use Rattle.promises.specs.Demand3.{opening}
+use Rattle.promises.specs.Apart.{Names}
 use Rattle.promises.specs.Fakes.{Honest}
+use Rattle.promises.proofs.Known.{known}
 use Rattle.promises.proofs.Agreed.{Agreed, many-turns, fresh-agreed}
 use Rattle.promises.proofs.Answering.{answers}
 use Rattle.promises.proofs.Lending.{call-bytes}
@@ -49,68 +54,79 @@ pub record Met : Type 0 where
   pub open-update : Written 4 twoLevels
   pub from-elsewhere : Written 4 fromElsewhere
   pub edition-two : Written 8 (fresh 6)
+  -- bytes that name each edition
+  pub first : Names 4 (encode 4 (fresh 6))
+  pub second : Names 8 (encode 8 (fresh 6))
   -- a version that they have committed
-  pub committed : 1 ≤ decode 4 (encode 4 twoLevels) .current
+  pub committed : 1 ≤ storeOf (encode 4 twoLevels) .current
   -- bytes that are not accepted
-  pub no-store : Accepts 4 [] → ⊥
+  pub no-store : Accepts [] → ⊥
   -- calls
   pub fit : each fitting calls ≡ true
-  pub stay : inside 4 (encode 4 (fresh 6)) (opening ∷ calls) ≡ true
+  pub stay : inside (encode 4 (fresh 6)) (opening ∷ calls) ≡ true
   pub not-fresh : each notMaking calls ≡ true
-  -- bytes on which an open is done
-  pub opens : Bytes (encode 4 (fresh 6)) × (turned 4 (encode 4 (fresh 6)) opening .number ≡ 0)
+  -- bytes on which an open is done, of each edition
+  pub opens : Bytes (encode 4 (fresh 6)) × (turned (encode 4 (fresh 6)) opening .number ≡ 0)
+  pub opens-second : Bytes (encode 8 (fresh 6)) × (turned (encode 8 (fresh 6)) opening .number ≡ 0)
   -- an implementation that meets every contract
-  pub honest : Honest (ended 4)
+  pub honest : Honest ended
 
-fresh-written : (least : ℕ) → 4 ≤ least → least ≤ 8 → Written least (fresh 6)
-fresh-written least four eight =
-    encoded-sound least four eight (fresh 6) (true-holds (sound least (fresh 6)) (to-tests least (fresh 6) (fresh-sound least (omega arith) 6 (lit≤ tt) (lit≤ tt))))
+fresh-written : (least : ℕ) → OfEdition least → Written least (fresh 6)
+fresh-written least e =
+    let low : 4 ≤ least = edition-four least e in
+    encoded-sound least e (fresh 6) (true-holds (sound least (fresh 6)) (to-tests least (fresh 6) (fresh-sound least (omega arith) 6 (lit≤ tt) (lit≤ tt))))
 
-none : Accepts 4 [] → ⊥
-unfolding Judged.judged Judged.lengthOk
+named : (least : ℕ) → OfEdition least → Names least (encode least (fresh 6))
+named least e = let w : Written least (fresh 6) = fresh-written least e in record { early = known (encode least (fresh 6)) (w .accepted); edition = w .edition }
+
+none : Accepts [] → ⊥
+unfolding Any.judgedAny Editions.byEdition
 none e = omega arith
 
 -- on the bytes that the open leaves, a commit is refused by 15
-opened : turned 4 (encode 4 (fresh 6)) opening .number ≡ 0
-opened = answers 4 (lit≤ tt) (lit≤ tt) (fromFresh 4 6) (fresh-agreed 4 (lit≤ tt) (lit≤ tt) 6 (lit≤ tt) (lit≤ tt)) .opens []
+opened : turned (encode 4 (fresh 6)) opening .number ≡ 0
+opened = answers (fromFresh 4 6) (fresh-agreed 4 (inl refl) 6 (lit≤ tt) (lit≤ tt)) .opens []
 
-agreed : Agreed 4 (onward 4 (fromFresh 4 6) opening)
-agreed = many-turns 4 (lit≤ tt) (lit≤ tt) (opening ∷ []) refl (fromFresh 4 6) (fresh-agreed 4 (lit≤ tt) (lit≤ tt) 6 (lit≤ tt) (lit≤ tt))
+agreed : Agreed (onward (fromFresh 4 6) opening)
+agreed = many-turns (opening ∷ []) refl (fromFresh 4 6) (fresh-agreed 4 (inl refl) 6 (lit≤ tt) (lit≤ tt))
 
-empty : ended 4 toCommit (turned 4 (encode 4 (fresh 6)) opening .store) [] .number ≡ 15
+empty : ended toCommit (turned (encode 4 (fresh 6)) opening .store) [] .number ≡ 15
 empty =
-    answers 4 (lit≤ tt) (lit≤ tt) (onward 4 (fromFresh 4 6) opening) agreed .commits []
+    answers (onward (fromFresh 4 6) opening) agreed .commits []
     ∙ ap (λ (n : ℕ). firstOf (commitTests (whenDone n (step start begins) start .opened) (unchangedIn (whenDone n (step start begins) start)))) opened
 
 -- and a return to version 0 is done, with nothing to do
 abbrev begun : List ℕ
-begun = turned 4 (encode 4 (fresh 6)) opening .store
+begun = turned (encode 4 (fresh 6)) opening .store
 
-returned : ended 4 (toReturn 0) begun [] ≡ record { number = 0; results = []; store = begun; list = [] }
+returned : ended (toReturn 0) begun [] ≡ record { number = 0; results = []; store = begun; list = [] }
 returned =
-    let w : Written 4 (fresh 6) = fresh-written 4 (lit≤ tt) (lit≤ tt) in
-    let s : Store = decode 4 begun in
+    let w : Written 4 (fresh 6) = fresh-written 4 (inl refl) in
+    let s : Store = storeOf begun in
     let open-then : s .opened ≡ true = agreed .agrees .opened ∙ ap (λ (n : ℕ). whenDone n (step start begins) start .opened) opened in
     let first : s .current ≡ 0 = agreed .agrees .current ∙ ap (λ (n : ℕ). whenDone n (step start begins) start .current) opened in
     let readable : last s ≡ 1 = ap₂ lastOf open-then first in
     let new : settings s (next s) ≡ [] = agreed .agrees .shows (next s) (omega arith) ∙ ap₂ (λ (n c : ℕ). whenDone n (step start begins) start .shows (suc c)) opened first in
     let old : settings s 0 ≡ [] = agreed .agrees .shows 0 (omega arith) ∙ ap (λ (n : ℕ). whenDone n (step start begins) start .shows 0) opened in
-    when-nothing 4 (lit≤ tt) (lit≤ tt) begun (call-bytes 4 (lit≤ tt) (lit≤ tt) (encode 4 (fresh 6)) (w .accepted) (w .bytes) toOpen refl []) (agreed .accepted) open-then 0 (omega arith) (new ∙ sym old) []
+    when-nothing begun (call-bytes (encode 4 (fresh 6)) (w .accepted) (w .bytes) toOpen refl []) (agreed .accepted) open-then 0 (omega arith) (new ∙ sym old) []
 
 pub met : Met
 met =
-    let two : Written 4 twoLevels = encoded-sound 4 (lit≤ tt) (lit≤ tt) twoLevels two-levels-sound in
+    let two : Written 4 twoLevels = encoded-sound 4 (inl refl) twoLevels two-levels-sound in
     record {
       open-update = two;
-      from-elsewhere = encoded-sound 4 (lit≤ tt) (lit≤ tt) fromElsewhere from-elsewhere-sound;
-      edition-two = fresh-written 8 (lit≤ tt) (lit≤ tt);
+      from-elsewhere = encoded-sound 4 (inl refl) fromElsewhere from-elsewhere-sound;
+      edition-two = fresh-written 8 (inr refl);
+      first = named 4 (inl refl);
+      second = named 8 (inr refl);
       committed = omega (arith, ap (λ (s : Store). s .current) (two .held));
       no-store = none;
       fit = refl;
       stay =
           ap₂ (λ (m n : ℕ). staying (changing (returns 0)) m && (staying (changing commits) n && true)) (ap (λ (e : Ended). e .number) returned)
-          (ap (λ (e : Ended). ended 4 toCommit (e .store) [] .number) returned ∙ empty);
+          (ap (λ (e : Ended). ended toCommit (e .store) [] .number) returned ∙ empty);
       not-fresh = refl;
-      opens = (fresh-written 4 (lit≤ tt) (lit≤ tt) .bytes, opened);
+      opens = (fresh-written 4 (inl refl) .bytes, opened);
+      opens-second = (fresh-written 8 (inr refl) .bytes, answers (fromFresh 8 6) (fresh-agreed 8 (inr refl) 6 (lit≤ tt) (lit≤ tt)) .opens []);
       honest = λ c b ns. refl;
     }

@@ -14,14 +14,14 @@ use Rattle.model.specs.declared.Delta.{Delta}
 use Rattle.model.specs.Store.{Store, next, last, lastOf}
 use Rattle.model.specs.Walk.{keyLimit, lookup, settings}
 use Rattle.model.specs.Sound.{sound}
-use Rattle.model.specs.Layout.{decode}
+use Rattle.model.specs.Editions.{leastOf}
 use Rattle.model.specs.Climb.{Result, done, refused}
 use Rattle.model.specs.Calls
 use Rattle.model.specs.Calls.{isSome, rule, numbered, rawInsert, benchLimit, insert, abandoned}
 use Rattle.model.specs.Differ.{differ}
 use Rattle.model.specs.Return
 use Rattle.model.specs.Return.{goes, comes, endOne, setOne, Ran, reached, stopped, orStopped, through, andOn, carried, Came, gave, gaveUp, lacking, orAbandoned, unless, returned}
-use Rattle.model.specs.Histories.{Call, inserts, deletes, callBy}
+use Rattle.model.specs.Histories.{Call, inserts, deletes, returns, callBy}
 use Rattle.model.specs.Settings
 use Rattle.model.specs.Settings.{Both, together, lent}
 use Rattle.model.specs.Ended.{toReturn, ended}
@@ -35,13 +35,14 @@ use Rattle.model.proofs.Remade
 use Rattle.model.proofs.Remade.{all-those}
 use Rattle.model.proofs.Returned.{way}
 use Rattle.model.proofs.Undone.{together-append}
-use Rattle.promises.specs.Accepts.{Accepts}
+use Rattle.promises.specs.Accepts.{Accepts, storeOf}
 use Rattle.promises.specs.Runs.{Turn, runBytes, Kind, kindOf, asks, notMaking, fitting, each}
 use Rattle.promises.specs.Replayed.{turnOf}
 use Rattle.promises.specs.Returns.{stepsOf, NoBench, ReturnSingly}
 use Rattle.promises.proofs.High.{return-free}
+use Rattle.promises.proofs.Known.{four}
 use Rattle.promises.proofs.Judges.{zero-accepts, one-form}
-use Rattle.promises.proofs.Lending.{kind-asks, call-bytes, call-accepts, held-sound}
+use Rattle.promises.proofs.Lending.{kind-asks, change-leaves, call-bytes, call-accepts, held-sound}
 use Rattle.promises.proofs.Projected.{withCall, callsOf, ran}
 use Rattle.promises.proofs.Returning.{w, holds}
 
@@ -116,62 +117,62 @@ turns-each f g h (c ∷ cs) a = let (p, q) = all-cons g c cs a in both-intro _ _
 
 -- ---- on bytes
 
-module _ (least : ℕ) (four : 4 ≤ least) (eight : least ≤ 8) (b : List ℕ) (bytes : Bytes b) (ok : Accepts least b) (v : ℕ) (ns : List ℕ) (e : ended least (toReturn v) b ns .number ≡ 0)
-    (i : NoBench (settings (decode least b) (next (decode least b)))) (j : NoBench (settings (decode least b) v)) where
+module _ (b : List ℕ) (bytes : Bytes b) (ok : Accepts b) (v : ℕ) (ns : List ℕ) (e : ended (toReturn v) b ns .number ≡ 0)
+    (i : NoBench (settings (storeOf b) (next (storeOf b)))) (j : NoBench (settings (storeOf b) v)) where
   abbrev s : Store
-  s = decode least b
+  s = storeOf b
 
   abbrev now : List Pair
-  now = settings (decode least b) (next (decode least b))
+  now = settings (storeOf b) (next (storeOf b))
 
   abbrev then : List Pair
-  then = settings (decode least b) v
+  then = settings (storeOf b) v
 
   abbrev ds : List Delta
   ds = differ now then
 
-  sure : Sound least (decode least b)
-  sure = from-tests least (decode least b) (holds-true (sound least (decode least b)) (held-sound least four eight b ok))
+  sure : Sound (leastOf b) (storeOf b)
+  sure = from-tests (leastOf b) (storeOf b) (holds-true (sound (leastOf b) (storeOf b)) (held-sound b ok))
 
   abbrev t : Store
-  t = w least four eight b ok v ns e .left-so
+  t = w b ok v ns e .left-so
 
-  open-last : last (decode least b) ≡ next (decode least b)
-  open-last = ap (λ (o : Bool). lastOf o (decode least b .current)) (w least four eight b ok v ns e .opened)
+  open-last : last (storeOf b) ≡ next (storeOf b)
+  open-last = ap (λ (o : Bool). lastOf o (storeOf b .current)) (w b ok v ns e .opened)
 
-  committed : v ≤ decode least b .current
-  committed = w least four eight b ok v ns e .committed
+  committed : v ≤ storeOf b .current
+  committed = w b ok v ns e .committed
 
   lows : all below ds ≡ true
   lows =
-      keys-so (λ (k : ℕ). ltb k benchLimit) now then (settings-rise least (omega arith) s sure (next s) (omega (arith, open-last))) (settings-rise least (omega arith) s sure v (omega (arith, open-last, committed))) i j
+      keys-so (λ (k : ℕ). ltb k benchLimit) now then (settings-rise (leastOf b) (omega (arith, four b)) s sure (next s) (omega (arith, open-last))) (settings-rise (leastOf b) (omega (arith, four b)) s sure v (omega (arith, open-last, committed))) i j
 
-  ran-through : carried least (differ (settings (decode least b) (next (decode least b))) (settings (decode least b) v)) (decode least b) ≡ reached (w least four eight b ok v ns e .left-so)
+  ran-through : carried (leastOf b) (differ (settings (storeOf b) (next (storeOf b))) (settings (storeOf b) v)) (storeOf b) ≡ reached (w b ok v ns e .left-so)
   unfolding Return.returned
   ran-through =
-      given-is (carried least ds s) t
-      (sym (ap (λ (n : ℕ). unless n (orAbandoned (carried least ds s))) (return-free s v (w least four eight b ok v ns e .opened) committed)) ∙ w least four eight b ok v ns e .is)
+      given-is (carried (leastOf b) ds s) t
+      (sym (ap (λ (n : ℕ). unless n (orAbandoned (carried (leastOf b) ds s))) (return-free s v (w b ok v ns e .opened) committed)) ∙ w b ok v ns e .is)
 
-  calls-left : together least (lent (decode least b)) (stepsOf (differ (settings (decode least b) (next (decode least b))) (settings (decode least b) v))) .store ≡ w least four eight b ok v ns e .left-so
+  calls-left : together (leastOf b) (lent (storeOf b)) (stepsOf (differ (settings (storeOf b) (next (storeOf b))) (settings (storeOf b) v))) .store ≡ w b ok v ns e .left-so
   unfolding Return.carried
   calls-left =
-      let (u, p, q) = in-two (through (setOne least) (those comes ds)) (through (endOne least) (those goes ds) s) t ran-through in
-      let first : together least (lent s) (map (λ (d : Delta). deletes (d .key)) (those goes ds)) .store ≡ u
-      = all-done least (endOne least) (λ (d : Delta). deletes (d .key)) (λ x d h. refl) (those goes ds) (all-those below goes ds lows) (lent s) u p in
-      ap (λ (y : Both). y .store) (together-append least (lent s) (map (λ (d : Delta). deletes (d .key)) (those goes ds)) (map (λ (d : Delta). inserts (d .key) (d .new)) (those comes ds)))
-      ∙ all-done least (setOne least) (λ (d : Delta). inserts (d .key) (d .new)) (λ x d h. ap gave (same-insert least x d h)) (those comes ds) (all-those below comes ds lows)
-      (together least (lent s) (map (λ (d : Delta). deletes (d .key)) (those goes ds))) t (ap (through (setOne least) (those comes ds)) first ∙ q)
+      let (u, p, q) = in-two (through (setOne (leastOf b)) (those comes ds)) (through (endOne (leastOf b)) (those goes ds) s) t ran-through in
+      let first : together (leastOf b) (lent s) (map (λ (d : Delta). deletes (d .key)) (those goes ds)) .store ≡ u
+      = all-done (leastOf b) (endOne (leastOf b)) (λ (d : Delta). deletes (d .key)) (λ x d h. refl) (those goes ds) (all-those below goes ds lows) (lent s) u p in
+      ap (λ (y : Both). y .store) (together-append (leastOf b) (lent s) (map (λ (d : Delta). deletes (d .key)) (those goes ds)) (map (λ (d : Delta). inserts (d .key) (d .new)) (those comes ds)))
+      ∙ all-done (leastOf b) (setOne (leastOf b)) (λ (d : Delta). inserts (d .key) (d .new)) (λ x d h. ap gave (same-insert (leastOf b) x d h)) (those comes ds) (all-those below comes ds lows)
+      (together (leastOf b) (lent s) (map (λ (d : Delta). deletes (d .key)) (those goes ds))) t (ap (through (setOne (leastOf b)) (those comes ds)) first ∙ q)
 
   fit : all Settings.fits (stepsOf ds) ≡ true
-  fit = ends-fit (those goes ds) (map (λ (d : Delta). inserts (d .key) (d .new)) (those comes ds)) (sets-fit _ (those comes ds) then (way least four s sure (w least four eight b ok v ns e .opened) v committed .sets))
+  fit = ends-fit (those goes ds) (map (λ (d : Delta). inserts (d .key) (d .new)) (those comes ds)) (sets-fit _ (those comes ds) then (way (leastOf b) (four b) s sure (w b ok v ns e .opened) v committed .sets))
 
-  same-bytes : runBytes least b (map turnOf (stepsOf ds)) ≡ ended least (toReturn v) b ns .store
+  same-bytes : runBytes b (map turnOf (stepsOf ds)) ≡ ended (toReturn v) b ns .store
   same-bytes =
       let ts : List Turn = map turnOf (stepsOf ds) in
-      let left = ran least four eight ts (turns-each notMaking Settings.fits (λ c h. ap notMaking (kind-asks c)) (stepsOf ds) fit) (turns-each fitting Settings.fits (λ c h. ap fitting (kind-asks c) ∙ h) (stepsOf ds) fit) b ok (lent s) refl in
-      one-form least four eight (runBytes least b ts) (ended least (toReturn v) b ns .store) (left .bytes bytes) (call-bytes least four eight b ok bytes (toReturn v) refl ns) (left .accepts)
-      (call-accepts least four eight b ok (toReturn v) refl ns)
-      (left .holds ∙ ap (λ (cs : List Call). together least (lent s) cs .store) (turns-are (stepsOf ds)) ∙ calls-left ∙ sym (holds least four eight b ok v ns e))
+      let left = ran (leastOf b) ts (turns-each notMaking Settings.fits (λ c h. ap notMaking (kind-asks c)) (stepsOf ds) fit) (turns-each fitting Settings.fits (λ c h. ap fitting (kind-asks c) ∙ h) (stepsOf ds) fit) b ok refl (lent s) refl in
+      one-form (runBytes b ts) (ended (toReturn v) b ns .store) (left .bytes bytes) (call-bytes b ok bytes (toReturn v) refl ns) (left .accepts)
+      (call-accepts b ok (toReturn v) refl ns) (left .edition ∙ sym (change-leaves b ok (returns v) refl ns .edition))
+      (left .holds ∙ ap (λ (cs : List Call). together (leastOf b) (lent s) cs .store) (turns-are (stepsOf ds)) ∙ calls-left ∙ sym (holds b ok v ns e))
 
 pub singly : ReturnSingly
-singly least four eight b bytes v ns e i j = same-bytes least four eight b bytes (zero-accepts least (toReturn v) b ns refl e) v ns e i j
+singly b bytes v ns e i j = same-bytes b bytes (zero-accepts (toReturn v) b ns refl e) v ns e i j

@@ -13,7 +13,7 @@ use Rattle.model.specs.declared.Pair.{Pair}
 use Rattle.model.specs.declared.Looked.{Looked}
 use Rattle.model.specs.Store.{Store, last, lastOf}
 use Rattle.model.specs.Walk.{keyLimit, lookup, lookupVisits}
-use Rattle.model.specs.Layout.{decode}
+use Rattle.model.specs.Editions.{leastOf}
 use Rattle.model.specs.Calls
 use Rattle.model.specs.Calls.{rule, firstOf, lookedBy, rangedBy, get, range}
 use Rattle.model.specs.Told
@@ -21,27 +21,22 @@ use Rattle.model.specs.Told.{toldIn, toldBy}
 use Rattle.model.specs.Visited
 use Rattle.model.specs.Visited.{pageNumber, visits}
 use Rattle.model.specs.Settings.{lent, together}
-use Rattle.model.specs.Lent
-use Rattle.model.specs.Lent.{judgedFirst, Listed, listed, lookupLent, rangeLent, visitsLent}
+use Rattle.model.specs.Lent.{Listed, listed}
+use Rattle.model.specs.Any.{lookupAny, rangeAny, visitsAny}
 use Rattle.model.specs.Ended.{ofLooked, ofListed}
 use Rattle.model.proofs.Alike.{Alike, alike-lookup, alike-visits, alike-range, alike-range-visits}
 use Rattle.model.proofs.Visits.{pages-told}
 use Rattle.model.proofs.Undone.{lent-agrees}
 use Rattle.model.proofs.Steady.{Onward, goes-on}
-use Rattle.promises.specs.Accepts.{Accepts}
+use Rattle.promises.specs.Accepts.{Accepts, storeOf}
 use Rattle.promises.specs.Runs.{Turn, runBytes, notMaking, fitting, each}
 use Rattle.promises.specs.Views.{SameView, SameAnswers}
-use Rattle.promises.specs.Demand2.{ViewsStay, AnswersStay}
+use Rattle.promises.specs.Demand2.{ViewsStay, EditionStays, AnswersStay}
 use Rattle.promises.specs.OldReadings.{PagesStay, VisitsTold, VisitsStay}
+use Rattle.promises.proofs.Known.{four}
 use Rattle.promises.proofs.Lending.{Leaves, held-sound}
-use Rattle.promises.proofs.Sounding.{lookup-lent, range-lent}
+use Rattle.promises.proofs.Sounding.{lookup-lent, range-lent, visits-lent}
 use Rattle.promises.proofs.Projected.{callsOf, calls-fit, ran}
-
--- ---- readings of accepted bytes
-
-visits-lent : (least : ℕ) (b : List ℕ) → Accepts least b → (k v : ℕ) (ns : List ℕ) → visitsLent least b k v ns ≡ listed ns (visits (decode least b) k v (length ns))
-unfolding Lent.visitsLent
-visits-lent least b ok k v ns = ap (λ (n : ℕ). judgedFirst n (λ j. record { number = j; count = 0; list = ns }) (listed ns (visits (decode least b) k v (length ns)))) ok
 
 -- the pages that a lookup visits, told into a list that holds them
 module _ (s : Store) (k v : ℕ) (low : k < keyLimit) (h : v ≤ last s) (ns : List ℕ) where
@@ -76,55 +71,55 @@ module _ (s t : Store) (v : ℕ) (old : v ≤ last s) (new : v ≤ last t) (a : 
 
 -- ---- the calls
 
-module _ (least : ℕ) (four : 4 ≤ least) (eight : least ≤ 8) (b : List ℕ) (ok : Accepts least b) (ts : List Turn) (f : each fitting ts ≡ true) (m : each notMaking ts ≡ true) where
+module _ (b : List ℕ) (ok : Accepts b) (ts : List Turn) (f : each fitting ts ≡ true) (m : each notMaking ts ≡ true) where
   abbrev s : Store
-  s = decode least b
+  s = storeOf b
 
   abbrev b′ : List ℕ
-  b′ = runBytes least b ts
+  b′ = runBytes b ts
 
-  pub later : Leaves least b (together least (lent (decode least b)) (callsOf ts) .store) (runBytes least b ts)
-  later = ran least four eight ts m f b ok (lent (decode least b)) refl
+  pub later : Leaves (leastOf b) b (together (leastOf b) (lent (storeOf b)) (callsOf ts) .store) (runBytes b ts)
+  later = ran (leastOf b) ts m f b ok refl (lent (storeOf b)) refl
 
-  pub goes : Onward (decode least b) (decode least (runBytes least b ts))
+  pub goes : Onward (storeOf b) (storeOf (runBytes b ts))
   goes =
-      subst (Onward (decode least b)) (sym (later .holds))
-      (goes-on least four (callsOf ts) (calls-fit ts f) (lent (decode least b)) (lent-agrees least (decode least b) (held-sound least four eight b ok)))
+      subst (Onward (storeOf b)) (sym (later .holds))
+      (goes-on (leastOf b) (four b) (callsOf ts) (calls-fit ts f) (lent (storeOf b)) (lent-agrees (leastOf b) (storeOf b) (held-sound b ok)))
 
   low : (q : Bool) (n : ℕ) → n ≤ lastOf q n
   low true n = omega arith
   low false n = omega arith
 
-  module _ (v : ℕ) (h : v ≤ decode least b .current) where
-    pub view : Alike (decode least b) v (decode least (runBytes least b ts)) v
+  module _ (v : ℕ) (h : v ≤ storeOf b .current) where
+    pub view : Alike (storeOf b) v (storeOf (runBytes b ts)) v
     view = goes .steady v h
 
-    pub old : v ≤ last (decode least b)
-    old = omega (arith, low (decode least b .opened) (decode least b .current))
+    pub old : v ≤ last (storeOf b)
+    old = omega (arith, low (storeOf b .opened) (storeOf b .current))
 
-    pub new : v ≤ last (decode least (runBytes least b ts))
-    new = omega (arith, goes .current, low (decode least (runBytes least b ts) .opened) (decode least (runBytes least b ts) .current))
+    pub new : v ≤ last (storeOf (runBytes b ts))
+    new = omega (arith, goes .current, low (storeOf (runBytes b ts) .opened) (storeOf (runBytes b ts) .current))
 
-    same-view : SameView (decode least b) (decode least (runBytes least b ts)) v
+    same-view : SameView (storeOf b) (storeOf (runBytes b ts)) v
     same-view = record {
       root = view .root;
       pages = view .shows;
-      lookup-visits = alike-visits (decode least b) v (decode least (runBytes least b ts)) v view;
-      range-visits = alike-range-visits (decode least b) v (decode least (runBytes least b ts)) v view;
+      lookup-visits = alike-visits (storeOf b) v (storeOf (runBytes b ts)) v view;
+      range-visits = alike-range-visits (storeOf b) v (storeOf (runBytes b ts)) v view;
     }
 
-    looks-same : (k : ℕ) → lookupLent least (runBytes least b ts) k v ≡ lookupLent least b k v
-    looks-same k = lookup-lent least four eight b′ (later .accepts) k v ∙ get-same s (decode least b′) v old new view k ∙ sym (lookup-lent least four eight b ok k v)
+    looks-same : (k : ℕ) → lookupAny (runBytes b ts) k v ≡ lookupAny b k v
+    looks-same k = lookup-lent b′ (later .accepts) k v ∙ get-same s (storeOf b′) v old new view k ∙ sym (lookup-lent b ok k v)
 
-    ranges-same : (lo hi : ℕ) (ns : List ℕ) → rangeLent least (runBytes least b ts) lo hi v ns ≡ rangeLent least b lo hi v ns
+    ranges-same : (lo hi : ℕ) (ns : List ℕ) → rangeAny (runBytes b ts) lo hi v ns ≡ rangeAny b lo hi v ns
     ranges-same lo hi ns =
-        range-lent least four eight b′ (later .accepts) lo hi v ns ∙ ap (listed ns) (range-same s (decode least b′) v old new view lo hi (length ns)) ∙ sym (range-lent least four eight b ok lo hi v ns)
+        range-lent b′ (later .accepts) lo hi v ns ∙ ap (listed ns) (range-same s (storeOf b′) v old new view lo hi (length ns)) ∙ sym (range-lent b ok lo hi v ns)
 
-    told-same : (k : ℕ) (ns : List ℕ) → visitsLent least (runBytes least b ts) k v ns ≡ visitsLent least b k v ns
+    told-same : (k : ℕ) (ns : List ℕ) → visitsAny (runBytes b ts) k v ns ≡ visitsAny b k v ns
     told-same k ns =
-        visits-lent least b′ (later .accepts) k v ns ∙ ap (listed ns) (visits-same s (decode least b′) v old new view k (length ns)) ∙ sym (visits-lent least b ok k v ns)
+        visits-lent b′ (later .accepts) k v ns ∙ ap (listed ns) (visits-same s (storeOf b′) v old new view k (length ns)) ∙ sym (visits-lent b ok k v ns)
 
-    same-answers : SameAnswers least b (runBytes least b ts) v
+    same-answers : SameAnswers b (runBytes b ts) v
     same-answers = record {
       lookup = λ k ns. record {
         number = ap (λ (r : Looked). ofLooked b ns r .number) (looks-same k);
@@ -141,20 +136,23 @@ module _ (least : ℕ) (four : 4 ≤ least) (eight : least ≤ 8) (b : List ℕ)
 pub views-stay : ViewsStay
 views-stay = same-view
 
+pub edition-stays : EditionStays
+edition-stays b ok ts f m = later b ok ts f m .edition
+
 pub answers-stay : AnswersStay
 answers-stay = same-answers
 
 -- ---- request 2026-13
 
 pub pages-stay : PagesStay
-pages-stay least four eight b ok ts f m v h = views-stay least four eight b ok ts f m v h .lookup-visits
+pages-stay b ok ts f m v h = views-stay b ok ts f m v h .lookup-visits
 
 pub visits-told : VisitsTold
-visits-told least b ok k v low h ns room = ap (ofListed b) (visits-lent least b ok k v ns ∙ all-told (decode least b) k v low h ns room)
+visits-told b ok k v low h ns room = ap (ofListed b) (visits-lent b ok k v ns ∙ all-told (storeOf b) k v low h ns room)
 
 pub visits-stay : VisitsStay
-visits-stay least four eight b ok ts f m v h k ns =
-    let e = told-same least four eight b ok ts f m v h k ns in
+visits-stay b ok ts f m v h k ns =
+    let e = told-same b ok ts f m v h k ns in
     record {
       number = ap (λ (r : Listed). r .number) e;
       results = ap (λ (r : Listed). ofListed b r .results) e;

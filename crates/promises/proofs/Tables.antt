@@ -5,6 +5,7 @@ use Prim.Native.Nat.{ℕ, zero, suc, _+_, _*_, _/_, _≤_, _<_}
 use native.Mathlib.Omega.{arith}
 use mathlib.Core.Bool.{Bool, true, false, _&&_}
 use mathlib.Core.Path.{_≡_, refl, ap, _∙_, subst}
+use mathlib.Core.Logic.{inl}
 use mathlib.Core.List.{List, [], _∷_}
 use lib.Dec.{leb, ltb, eqb, lit≤}
 use lib.ListN.{length, getD}
@@ -108,8 +109,7 @@ turns =
 pub two-programs : NamedHistory 4 6 newer turns
 unfolding turns
 two-programs = record {
-  four = lit≤ tt;
-  eight = lit≤ tt;
+  edition = inl refl;
   six = lit≤ tt;
   most = lit≤ tt;
   values = refl;

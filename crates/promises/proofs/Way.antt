@@ -3,7 +3,7 @@
 use Prim.Native.Nat.{ℕ, zero, suc, _≤_}
 use native.Mathlib.Omega.{arith}
 use mathlib.Core.Bool.{Bool, true, false, _||_}
-use mathlib.Core.Path.{_≡_, refl, ap, sym, _∙_, subst}
+use mathlib.Core.Path.{_≡_, refl, ap, ap₂, sym, _∙_, subst}
 use mathlib.Core.Logic.{_⊎_, inl, inr}
 use mathlib.Core.List.{List, [], _∷_}
 use lib.Dec.{T, leb, eqb}
@@ -16,31 +16,36 @@ use Rattle.model.specs.Page.{pairsAt}
 use Rattle.model.specs.Store.{Store, page, fresh}
 use Rattle.model.specs.Walk.{Seen, seen, rootAt}
 use Rattle.model.specs.Sound.{sound}
-use Rattle.model.specs.Layout.{encode, decode}
+use Rattle.model.specs.Layout.{encode, sizeOf}
+use Rattle.model.specs.Judged.{lengthOk}
+use Rattle.model.specs.Editions.{leastOf}
 use Rattle.model.specs.Histories.{Call, begins, commits, abandons, inserts, deletes, returns, callBy, after}
 use Rattle.model.specs.Settings.{Machine, put, step}
-use Rattle.model.specs.Ended.{Asked, ended}
+use Rattle.model.specs.Lent.{Outcome, freshLent}
+use Rattle.model.specs.Ended.{Asked, toFresh, toFreshSecond, toCheck, toOpen, toCommit, toAbandon, toInsert, toDelete, toReturn, toLookup, toRange, toVisits, toDifference, toLife, ended}
 use Rattle.model.proofs.Lists.{all-cons}
 use Rattle.model.proofs.Members.{true-holds, either-left, either-right, bool-cases, In, all-by}
 use Rattle.model.proofs.Given.{to-tests}
 use Rattle.model.proofs.Turns.{fresh-sound}
-use Rattle.model.proofs.Judging.{accepted as judged-zero}
+use Rattle.model.proofs.Editions.{edition-four}
 use Rattle.model.proofs.Theorems as stores
-use Rattle.store.specs.Tested.{whole-length}
-use Rattle.store.specs.Read.{count-pages}
-use Rattle.promises.specs.Accepts.{Accepts, Written}
-use Rattle.promises.specs.Runs.{Turn, Kind, making, changing, reading, kindOf, fitting, givesUp, each}
+use Rattle.promises.specs.Accepts.{Accepts, storeOf, OfEdition, Written}
+use Rattle.promises.specs.Runs.{Turn, Kind, making, changing, reading, kindOf, asks, fitting, givesUp, each}
 use Rattle.promises.specs.Beside.{Beside, whenDone, stepped, undone, onward, fromFresh, fromLent}
-use Rattle.promises.specs.Way.{ruledBy, EachState, BalancedIn, LentState, FreshState}
+use Rattle.promises.specs.Way.{Ruled, ruledOf, changedBy, remadeBy, ruledBy, EachState, BalancedIn, LentState, FreshState}
+use Rattle.promises.proofs.Known.{four}
 use Rattle.promises.proofs.Encoded.{encoded-sound, accepted}
-use Rattle.promises.proofs.Lending.{kind-asks, by-kind, change-leaves, fresh-leaves, call-bytes, held-sound}
+use Rattle.promises.proofs.Lending.{kind-asks, change-leaves, fresh-leaves, made-wrong, call-bytes, held-sound}
 use Rattle.promises.proofs.Agreed.{Agreed, fresh-agreed, lent-agreed, one-turn}
 use Rattle.promises.proofs.Answering.{answers}
 
-pub balanced-in : (least : ℕ) → 4 ≤ least → (s : Store) → T (sound least s) → BalancedIn least s
-balanced-in least four s sure v h =
+pub balanced-in : (r : Ruled) → 4 ≤ r .least → T (sound (r .least) (r .store)) → BalancedIn r
+balanced-in r low sure v h =
     all-by (λ (x : Seen). isRoot x || enough x) (seen s v) (λ x i. at x i (bool-cases (isRoot x)))
   where
+    s : Store
+    s = r .store
+
     isRoot : Seen → Bool
     isRoot x = eqb (x .number) (rootAt (s .slots) v)
 
@@ -48,13 +53,13 @@ balanced-in least four s sure v h =
     live x = length (pairsAt v (page (s .pages) (x .number)))
 
     enough : Seen → Bool
-    enough x = leb least (live x)
+    enough x = leb (r .least) (live x)
 
     at : (x : Seen) → In x (seen s v) → (isRoot x ≡ true) ⊎ (isRoot x ≡ false) → (isRoot x || enough x) ≡ true
     at x i (inl e) = either-left (isRoot x) (enough x) e
     at x i (inr e) =
         either-right (isRoot x) (enough x)
-        (le-leb least (live x) (stores.balanced least (omega arith) s sure v h x i (eqb-false (x .number) (rootAt (s .slots) v) e)))
+        (le-leb (r .least) (live x) (stores.balanced (r .least) (omega arith) s sure v h x i (eqb-false (x .number) (rootAt (s .slots) v) e)))
 
 -- ---- version 0
 
@@ -79,66 +84,89 @@ none-at-first k (suc n) m h = at (givesUp k (suc n))
 -- ---- state by state
 
 -- what each call hands on gives what is said of each state
-each-state : (least : ℕ) (P I : Beside → Store → Type 0) → ((x : Beside) (s : Store) → I x s → P x s)
-    → ((x : Beside) (s : Store) (t : Turn) → fitting (kindOf (t .call)) ≡ true → I x s → I (onward least x t) (ruledBy least s (kindOf (t .call))))
-    → (ts : List Turn) → each fitting ts ≡ true → (x : Beside) (s : Store) → I x s → EachState least P x s ts
-each-state least P I says hands [] f x s i = says x s i
-each-state least P I says hands (t ∷ ts) f x s i =
+each-state : (P I : Beside → Ruled → Type 0) → ((x : Beside) (r : Ruled) → I x r → P x r)
+    → ((x : Beside) (r : Ruled) (t : Turn) → fitting (kindOf (t .call)) ≡ true → I x r → I (onward x t) (ruledBy (x .bytes) r (t .call)))
+    → (ts : List Turn) → each fitting ts ≡ true → (x : Beside) (r : Ruled) → I x r → EachState P x r ts
+each-state P I says hands [] f x r i = says x r i
+each-state P I says hands (t ∷ ts) f x r i =
     let (g, h) = all-cons (λ (u : Turn). fitting (kindOf (u .call))) t ts f in
-    (says x s i, each-state least P I says hands ts h (onward least x t) (ruledBy least s (kindOf (t .call))) (hands x s t g i))
+    (says x r i, each-state P I says hands ts h (onward x t) (ruledBy (x .bytes) r (t .call)) (hands x r t g i))
+
+-- bytes that hold the store which the rules make, by its edition
+record Holds (b : List ℕ) (r : Ruled) : Type 0 where
+  pub edition : leastOf b ≡ r .least
+  pub holds : storeOf b ≡ r .store
+
+module _ (b : List ℕ) (r : Ruled) (ok : Accepts b) (i : Holds b r) where
+  changed : (c : Call) → fitting (kindOf (asks c)) ≡ true → (ns : List ℕ) → Holds (ended (asks c) b ns .store) (changedBy r c)
+  changed c f ns =
+      let l = change-leaves b ok c (ap fitting (sym (kind-asks c)) ∙ f) ns in
+      record {
+        edition = l .edition ∙ i .edition;
+        holds = l .holds ∙ ap₂ (λ (n : ℕ) (s : Store). after s (callBy n s c) .store) (i .edition) (i .holds);
+      }
+
+  remade : (least : ℕ) → OfEdition least → Holds (freshLent least b .store) (remadeBy least b r)
+  remade least e = at (lengthOk least b) refl
+    where
+      at : (t : Bool) → lengthOk least b ≡ t → Holds (freshLent least b .store) (pick t (record { least = least; store = fresh (sizeOf least b) }) r)
+      at true h = let l = fresh-leaves least e b h in record { edition = l .edition; holds = l .holds }
+      at false h = subst (λ (o : Outcome). Holds (o .store) r) (sym (made-wrong least b h)) i
+
+  holds-on : (a : Asked) → fitting (kindOf a) ≡ true → (ns : List ℕ) → Holds (ended a b ns .store) (ruledBy b r a)
+  holds-on toFresh f ns = remade 4 (inl refl)
+  holds-on toFreshSecond f ns = remade 8 (inr refl)
+  holds-on toCheck f ns = i
+  holds-on toOpen f ns = changed begins f ns
+  holds-on toCommit f ns = changed commits f ns
+  holds-on toAbandon f ns = changed abandons f ns
+  holds-on (toInsert k x) f ns = changed (inserts k x) f ns
+  holds-on (toDelete k) f ns = changed (deletes k) f ns
+  holds-on (toReturn v) f ns = changed (returns v) f ns
+  holds-on (toLookup k v) f ns = i
+  holds-on (toRange lo hi v) f ns = i
+  holds-on (toVisits k v) f ns = i
+  holds-on (toDifference u v) f ns = i
+  holds-on (toLife k) f ns = i
 
 -- the bytes hold the store that the rules make, the machine agrees with it, and they are bytes where those lent were
-record Stands (least : ℕ) (b : List ℕ) (x : Beside) (s : Store) : Type 0 where
-  pub agreed : Agreed least x
-  pub holds : decode least (x .bytes) ≡ s
+record Stands (b : List ℕ) (x : Beside) (r : Ruled) : Type 0 where
+  pub agreed : Agreed x
+  pub holds : Holds (x .bytes) r
   pub bytes : Bytes b → Bytes (x .bytes)
 
-module _ (least : ℕ) (four : 4 ≤ least) (eight : least ≤ 8) where
-  holds-on : (b : List ℕ) (s : Store) → Accepts least b → decode least b ≡ s → (a : Asked) → fitting (kindOf a) ≡ true → (ns : List ℕ) → decode least (ended least a b ns .store) ≡ ruledBy least s (kindOf a)
-  holds-on b s ok is a =
-      by-kind least (λ (c : Asked). fitting (kindOf c) ≡ true → (ns : List ℕ) → decode least (ended least c b ns .store) ≡ ruledBy least s (kindOf c))
-      (λ f ns.
-      let long = judged-zero least b ok .length-ok in
-      fresh-leaves least four eight b long ns .holds ∙ ap fresh (sym (count-pages least b (omega (arith, whole-length least b long .six))) ∙ ap (λ (t : Store). length (t .pages)) is))
-      (λ c f ns.
-      change-leaves least four eight b ok c (ap fitting (sym (kind-asks c)) ∙ f) ns .holds ∙ ap (λ (t : Store). after t (callBy least t c) .store) is ∙ ap (ruledBy least s) (sym (kind-asks c)))
-      (λ c k same f ns. ap (decode least) (same b ns) ∙ is ∙ ap (ruledBy least s) (sym k)) a
+module _ (b : List ℕ) where
+  stands-on : (x : Beside) (r : Ruled) (t : Turn) → fitting (kindOf (t .call)) ≡ true → Stands b x r → Stands b (onward x t) (ruledBy (x .bytes) r (t .call))
+  stands-on x r t f i = record {
+    agreed = one-turn x (i .agreed) t f;
+    holds = holds-on (x .bytes) r (i .agreed .accepted) (i .holds) (t .call) f (t .list);
+    bytes = λ h. call-bytes (x .bytes) (i .agreed .accepted) (i .bytes h) (t .call) f (t .list);
+  }
 
-  module _ (b : List ℕ) where
-    stands-on : (x : Beside) (s : Store) (t : Turn) → fitting (kindOf (t .call)) ≡ true → Stands least b x s → Stands least b (onward least x t) (ruledBy least s (kindOf (t .call)))
-    stands-on x s t f i = record {
-      agreed = one-turn least four eight x (i .agreed) t f;
-      holds = holds-on (x .bytes) s (i .agreed .accepted) (i .holds) (t .call) f (t .list);
-      bytes = λ h. call-bytes least four eight (x .bytes) (i .agreed .accepted) (i .bytes h) (t .call) f (t .list);
-    }
+  in-balance : (x : Beside) (r : Ruled) → Stands b x r → BalancedIn r
+  in-balance x r i =
+      balanced-in r (subst (λ (n : ℕ). 4 ≤ n) (i .holds .edition) (four (x .bytes)))
+      (subst (λ (n : ℕ). T (sound n (r .store))) (i .holds .edition) (subst (λ (s : Store). T (sound (leastOf (x .bytes)) s)) (i .holds .holds) (held-sound (x .bytes) (i .agreed .accepted))))
 
-    in-balance : (x : Beside) (s : Store) → Stands least b x s → BalancedIn least s
-    in-balance x s i = subst (BalancedIn least) (i .holds) (balanced-in least four (decode least (x .bytes)) (held-sound least four eight (x .bytes) (i .agreed .accepted)))
+  by-rules : (x : Beside) (r : Ruled) → Stands b x r → Bytes b → x .bytes ≡ encode (r .least) (r .store)
+  by-rules x r i h = sym (accepted (x .bytes) (i .bytes h) (i .agreed .accepted) .same) ∙ ap₂ encode (i .holds .edition) (i .holds .holds)
 
-    by-rules : (x : Beside) (s : Store) → Stands least b x s → Bytes b → x .bytes ≡ encode least s
-    by-rules x s i h = sym (accepted least four eight (x .bytes) (i .bytes h) (i .agreed .accepted) .same) ∙ ap (encode least) (i .holds)
+  pub lent-way : Accepts b → (ts : List Turn) → each fitting ts ≡ true → EachState (LentState b) (fromLent b) (ruledOf b) ts
+  lent-way ok ts f =
+      each-state (LentState b) (Stands b) (λ x r i. record { answers = answers x (i .agreed); bytes = by-rules x r i; balanced = in-balance x r i }) stands-on ts f (fromLent b) (ruledOf b)
+      (record { agreed = lent-agreed b ok; holds = record { edition = refl; holds = refl }; bytes = λ h. h })
 
-    pub lent-way : Accepts least b → (ts : List Turn) → each fitting ts ≡ true → EachState least (LentState least b) (fromLent least b) (decode least b) ts
-    lent-way ok ts f =
-        each-state least (LentState least b) (Stands least b) (λ x s i. record { answers = answers least four eight x (i .agreed); bytes = by-rules x s i; balanced = in-balance x s i }) stands-on ts f (fromLent least b) (decode least b)
-        (record { agreed = lent-agreed least four eight b ok; holds = refl; bytes = λ h. h })
+pub fresh-way : (least : ℕ) → OfEdition least → (n : ℕ) → 6 ≤ n → n ≤ 4096 → (ts : List Turn) → each fitting ts ≡ true
+    → EachState FreshState (fromFresh least n) (record { least = least; store = fresh n }) ts
+fresh-way least e n six most ts f =
+    each-state FreshState (λ x r. Stands b x r × (x .machine .shows 0 ≡ []))
+    (λ x r i. record { answers = answers x (i .0 .agreed); bytes = by-rules b x r (i .0) (w .bytes); balanced = in-balance b x r (i .0); empty = i .1 })
+    (λ x r t g i. (stands-on b x r t g (i .0), none-at-first (kindOf (t .call)) (ended (t .call) (x .bytes) (t .list) .number) (x .machine) (i .1)))
+    ts f (fromFresh least n) (record { least = least; store = fresh n })
+    (record { agreed = fresh-agreed least e n six most; holds = record { edition = w .edition; holds = w .held }; bytes = λ h. h }, refl)
+  where
+    b : List ℕ
+    b = encode least (fresh n)
 
-  pub fresh-way : (n : ℕ) → 6 ≤ n → n ≤ 4096 → (ts : List Turn) → each fitting ts ≡ true → EachState least (FreshState least) (fromFresh least n) (fresh n) ts
-  fresh-way n six most ts f =
-      each-state least (FreshState least) (λ x s. Stands least b x s × (x .machine .shows 0 ≡ []))
-      (λ x s i. record { answers = answers least four eight x (i .0 .agreed); bytes = by-rules b x s (i .0) bytes; balanced = in-balance b x s (i .0); empty = i .1 })
-      (λ x s t g i. (stands-on b x s t g (i .0), none-at-first (kindOf (t .call)) (ended least (t .call) (x .bytes) (t .list) .number) (x .machine) (i .1)))
-      ts f (fromFresh least n) (fresh n)
-      (record { agreed = a; holds = w .held; bytes = λ h. h }, refl)
-    where
-      b : List ℕ
-      b = encode least (fresh n)
-
-      a : Agreed least (fromFresh least n)
-      a = fresh-agreed least four eight n six most
-
-      w : Written least (fresh n)
-      w = encoded-sound least four eight (fresh n) (true-holds (sound least (fresh n)) (to-tests least (fresh n) (fresh-sound least (omega arith) n six most)))
-
-      bytes : Bytes (encode least (fresh n))
-      bytes = w .bytes
+    w : Written least (fresh n)
+    w = encoded-sound least e (fresh n) (true-holds (sound least (fresh n)) (to-tests least (fresh n) (fresh-sound least (let low : 4 ≤ least = edition-four least e in omega arith) n six most)))

@@ -91,21 +91,21 @@ abbrev pub Gives : ℕ → ℕ → Type 0
 Gives zero n = (n ≡ 0) ⊎ ((n ≡ 12) ⊎ (n ≡ 13))
 Gives (suc m) n = n ≡ suc m
 
-pub record Answers (least : ℕ) (x : Beside) : Type 0 where
-  pub accepted : Accepts least (x .bytes)
+pub record Answers (x : Beside) : Type 0 where
+  pub accepted : Accepts (x .bytes)
   -- readings
-  pub lookup : (k v : ℕ) (ns : List ℕ) → ended least (toLookup k v) (x .bytes) ns ≡ ofLooked (x .bytes) ns (lookedIn (x .machine) k v)
-  pub range : (lo hi v : ℕ) (ns : List ℕ) → ended least (toRange lo hi v) (x .bytes) ns ≡ ofListed (x .bytes) (listed ns (rangedFrom (x .machine) lo hi v (length ns)))
-  pub difference : (u v : ℕ) (ns : List ℕ) → ended least (toDifference u v) (x .bytes) ns ≡ ofListed (x .bytes) (listed ns (toldFrom (x .machine) u v (length ns)))
-  pub life : (k : ℕ) (ns : List ℕ) → ended least (toLife k) (x .bytes) ns ≡ ofListed (x .bytes) (listed ns (livedIn (x .machine) k (length ns)))
+  pub lookup : (k v : ℕ) (ns : List ℕ) → ended (toLookup k v) (x .bytes) ns ≡ ofLooked (x .bytes) ns (lookedIn (x .machine) k v)
+  pub range : (lo hi v : ℕ) (ns : List ℕ) → ended (toRange lo hi v) (x .bytes) ns ≡ ofListed (x .bytes) (listed ns (rangedFrom (x .machine) lo hi v (length ns)))
+  pub difference : (u v : ℕ) (ns : List ℕ) → ended (toDifference u v) (x .bytes) ns ≡ ofListed (x .bytes) (listed ns (toldFrom (x .machine) u v (length ns)))
+  pub life : (k : ℕ) (ns : List ℕ) → ended (toLife k) (x .bytes) ns ≡ ofListed (x .bytes) (listed ns (livedIn (x .machine) k (length ns)))
   -- "in key order", no key twice
   pub order : (v : ℕ) → v ≤ lastIn (x .machine) → inOrder (λ (p q : Pair). ltb (p .key) (q .key)) (x .machine .shows v) ≡ true
   -- "their number is those inserts less those deletes"
   pub count : (v : ℕ) → v ≤ lastIn (x .machine) → length (x .machine .shows v) + x .tally .removed v ≡ x .tally .added v
   -- which calls are accepted
-  pub opens : (ns : List ℕ) → ended least toOpen (x .bytes) ns .number ≡ firstOf (openTests (x .machine .opened) (x .machine .current))
-  pub commits : (ns : List ℕ) → ended least toCommit (x .bytes) ns .number ≡ firstOf (commitTests (x .machine .opened) (unchangedIn (x .machine)))
-  pub abandons : (ns : List ℕ) → ended least toAbandon (x .bytes) ns .number ≡ firstOf (endTests (x .machine .opened))
-  pub inserts : (k v : ℕ) (ns : List ℕ) → Gives (firstOf (insertTests k (x .machine .opened) (aliveIn (x .machine) k))) (ended least (toInsert k v) (x .bytes) ns .number)
-  pub deletes : (k : ℕ) (ns : List ℕ) → Gives (firstOf (deleteTests k (x .machine .opened) (aliveIn (x .machine) k))) (ended least (toDelete k) (x .bytes) ns .number)
-  pub returns : (v : ℕ) (ns : List ℕ) → Gives (firstOf (returnTests (x .machine .current) (x .machine .opened) v)) (ended least (toReturn v) (x .bytes) ns .number)
+  pub opens : (ns : List ℕ) → ended toOpen (x .bytes) ns .number ≡ firstOf (openTests (x .machine .opened) (x .machine .current))
+  pub commits : (ns : List ℕ) → ended toCommit (x .bytes) ns .number ≡ firstOf (commitTests (x .machine .opened) (unchangedIn (x .machine)))
+  pub abandons : (ns : List ℕ) → ended toAbandon (x .bytes) ns .number ≡ firstOf (endTests (x .machine .opened))
+  pub inserts : (k v : ℕ) (ns : List ℕ) → Gives (firstOf (insertTests k (x .machine .opened) (aliveIn (x .machine) k))) (ended (toInsert k v) (x .bytes) ns .number)
+  pub deletes : (k : ℕ) (ns : List ℕ) → Gives (firstOf (deleteTests k (x .machine .opened) (aliveIn (x .machine) k))) (ended (toDelete k) (x .bytes) ns .number)
+  pub returns : (v : ℕ) (ns : List ℕ) → Gives (firstOf (returnTests (x .machine .current) (x .machine .opened) v)) (ended (toReturn v) (x .bytes) ns .number)

@@ -11,11 +11,11 @@ use Rattle.model.specs.declared.Pair.{Pair}
 use Rattle.model.specs.Store
 use Rattle.model.specs.Store.{Store, last}
 use Rattle.model.specs.Walk.{settings}
-use Rattle.model.specs.Layout.{encode, decode}
+use Rattle.model.specs.Layout.{encode}
 use Rattle.model.specs.Calls.{benchLimit}
 use Rattle.model.specs.Histories.{begins, commits, abandons, inserts, deletes, returns}
 use Rattle.model.specs.Ended.{toInsert, ended}
-use Rattle.promises.specs.Accepts.{Accepts}
+use Rattle.promises.specs.Accepts.{Accepts, storeOf, OfEdition}
 use Rattle.promises.specs.Runs.{Turn, runBytes, Kind, making, changing, reading, fitting, each}
 
 -- from version u on, none has a bench key
@@ -35,9 +35,9 @@ notBehind u reading = true
 
 pub record KeptOut : Type 0 where
   -- whatever else speaks against the insert; by `refused` store and list are untouched
-  pub five : (least : ℕ) (b : List ℕ) → Accepts least b → (k x : ℕ) (ns : List ℕ) → benchLimit ≤ k → ended least (toInsert k x) b ns .number ≡ 5
-  -- from a fresh store on, whatever is called
-  pub fresh : (least : ℕ) → 4 ≤ least → least ≤ 8 → (n : ℕ) → 6 ≤ n → n ≤ 4096 → (ts : List Turn) → each fitting ts ≡ true → BenchFree 0 (decode least (runBytes least (encode least (Store.fresh n)) ts))
+  pub five : (b : List ℕ) → Accepts b → (k x : ℕ) (ns : List ℕ) → benchLimit ≤ k → ended (toInsert k x) b ns .number ≡ 5
+  -- from a fresh store of either edition on, whatever is called
+  pub fresh : (least : ℕ) → OfEdition least → (n : ℕ) → 6 ≤ n → n ≤ 4096 → (ts : List Turn) → each fitting ts ≡ true → BenchFree 0 (storeOf (runBytes (encode least (Store.fresh n)) ts))
   -- a store that is clean from its current version on stays so, whatever is called, short of making it fresh or returning to an older version
-  pub cleaned : (least : ℕ) → 4 ≤ least → least ≤ 8 → (b : List ℕ) → Accepts least b → BenchFree (decode least b .current) (decode least b)
-      → (ts : List Turn) → each fitting ts ≡ true → each (notBehind (decode least b .current)) ts ≡ true → BenchFree (decode least b .current) (decode least (runBytes least b ts))
+  pub cleaned : (b : List ℕ) → Accepts b → BenchFree (storeOf b .current) (storeOf b)
+      → (ts : List Turn) → each fitting ts ≡ true → each (notBehind (storeOf b .current)) ts ≡ true → BenchFree (storeOf b .current) (storeOf (runBytes b ts))

@@ -7,9 +7,10 @@ use lib.ListN.{length}
 use Rattle.model.specs.Basic.{pick}
 use Rattle.model.specs.Store.{fresh}
 use Rattle.model.specs.Walk.{settings}
-use Rattle.model.specs.Layout.{encode, decode}
+use Rattle.model.specs.Layout.{encode}
 use Rattle.model.specs.Histories.{abandons}
 use Rattle.model.specs.Settings.{Machine, start, step, Tally, nothingYet, counted}
+use Rattle.promises.specs.Accepts.{storeOf}
 use Rattle.promises.specs.Runs.{Turn, turned, Kind, making, changing, reading, kindOf, givesUp}
 
 -- bytes, the machine, and how many inserts and deletes were accepted
@@ -39,9 +40,9 @@ talliedBy making m t = nothingYet
 talliedBy (changing c) m t = counted m t c
 talliedBy reading m t = t
 
-abbrev pub onward : ℕ → Beside → Turn → Beside
-onward least x t =
-    let e = turned least (x .bytes) t in
+abbrev pub onward : Beside → Turn → Beside
+onward x t =
+    let e = turned (x .bytes) t in
     let k = kindOf (t .call) in
     record {
       bytes = e .store;
@@ -51,18 +52,18 @@ onward least x t =
 
 -- ---- one after another
 
-abbrev pub along : ℕ → Beside → List Turn → Beside
-along least x [] = x
-along least x (t ∷ ts) = along least (onward least x t) ts
+abbrev pub along : Beside → List Turn → Beside
+along x [] = x
+along x (t ∷ ts) = along (onward x t) ts
 
--- from a fresh store of n pages
+-- from a fresh store of n pages, of the edition with that least
 abbrev pub fromFresh : ℕ → ℕ → Beside
 fromFresh least n = record { bytes = encode least (fresh n); machine = start; tally = nothingYet }
 
 -- "For a sound store lent from elsewhere, the settings its walks show stand for the history so far."
-abbrev pub fromLent : ℕ → List ℕ → Beside
-fromLent least b =
-    let s = decode least b in
+abbrev pub fromLent : List ℕ → Beside
+fromLent b =
+    let s = storeOf b in
     record {
       bytes = b;
       machine = record { current = s .current; opened = s .opened; shows = settings s };

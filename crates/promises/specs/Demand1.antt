@@ -3,46 +3,56 @@
 -- call changes no byte of the store or of the caller's list." What the calls give is `ended` (model's Ended), which their contracts cite.
 -- Assumes nothing.
 use Prim.Native.Nat.{ℕ, _≤_}
-use mathlib.Core.Bool.{Bool, true, false, _&&_}
+use mathlib.Core.Bool.{Bool, true, false, _&&_, _||_}
 use mathlib.Core.Path.{_≡_}
-use mathlib.Core.Logic.{_≢_, _↔_}
+use mathlib.Core.Logic.{_≢_, _↔_, _⊎_}
 use mathlib.Core.List.{List, []}
+use lib.Dec.{leb}
+use lib.ListN.{length}
 use Rattle.model.specs.Field.{Bytes}
 use Rattle.model.specs.Store.{fresh}
 use Rattle.model.specs.Sound.{sound}
-use Rattle.model.specs.Layout.{sizeOf, encode, decode}
+use Rattle.model.specs.Layout.{sizeOf, encode}
 use Rattle.model.specs.Clean.{clean}
 use Rattle.model.specs.Judged.{lengthOk, magicOk, editionOk}
-use Rattle.model.specs.Ended.{Asked, toFresh, toCheck, toOpen, toCommit, toAbandon, toInsert, toDelete, toReturn, toLookup, toRange, toVisits, toDifference, toLife, Ended, ended, Meets, Untouched, Excepted, Named, Zeros}
-use Rattle.promises.specs.Accepts.{Accepts}
+use Rattle.model.specs.Editions.{leastOf}
+use Rattle.model.specs.Ended.{Asked, toFresh, toFreshSecond, toCheck, toOpen, toCommit, toAbandon, toInsert, toDelete, toReturn, toLookup, toRange, toVisits, toDifference, toLife, Ended, ended, Meets, Untouched, Excepted, Named, Zeros}
+use Rattle.promises.specs.Accepts.{Accepts, storeOf}
 
 -- ---- every call is pinned: no second outcome meets its contract
 
 abbrev pub Unique : Type 0
-Unique = (least : ℕ) (c : Asked) (b ns : List ℕ) (e f : Ended) → Meets least c b ns e → Meets least c b ns f → e ≡ f
+Unique = (c : Asked) (b ns : List ℕ) (e f : Ended) → Meets c b ns e → Meets c b ns f → e ≡ f
 
 -- ---- "A refused call changes no byte of the store or of the caller's list": but for a return that gives 12 or 13 (`Excepted`)
 
 abbrev pub Refused : Type 0
-Refused = (least : ℕ) (c : Asked) (b ns : List ℕ) (e : Ended) → Meets least c b ns e → e .number ≢ 0 → (Excepted c (e .number) → ⊥) → Untouched b ns e
+Refused = (c : Asked) (b ns : List ℕ) (e : Ended) → Meets c b ns e → e .number ≢ 0 → (Excepted c (e .number) → ⊥) → Untouched b ns e
 
 -- and "any result not named here is 0"
 abbrev pub Blank : Type 0
-Blank = (least : ℕ) (c : Asked) (b ns : List ℕ) (e : Ended) → Meets least c b ns e → e .number ≢ 0 → (Named c (e .number) → ⊥) → Zeros (e .results)
+Blank = (c : Asked) (b ns : List ℕ) (e : Ended) → Meets c b ns e → e .number ≢ 0 → (Named c (e .number) → ⊥) → Zeros (e .results)
 
 -- ---- "judges the store itself before it trusts it": the numbers 1 to 4, each exactly when
 
--- what the four tests found: the length is right, the first four bytes, the edition, the store is sound
-pub record FirstNumbers (length magic edition rules : Bool) (n : ℕ) : Type 0 where
-  pub one : n ≡ 1 ↔ (length ≡ false)
-  pub two : n ≡ 2 ↔ ((length ≡ true) × (magic ≡ false))
-  pub three : n ≡ 3 ↔ ((length ≡ true) × ((magic ≡ true) × (edition ≡ false)))
-  pub four : n ≡ 4 ↔ ((length ≡ true) × ((magic ≡ true) × ((edition ≡ true) × (rules ≡ false))))
+-- What the five tests found: there are five bytes, the first four are right, the edition is 1 or 2, the length is right by that edition's
+-- page size, the store is sound. 2026-08: "fewer than five bytes gives 1; otherwise 2, then 3, then 1 by the edition's page size, then the
+-- rest as before".
+pub record FirstNumbers (enough magic edition length rules : Bool) (n : ℕ) : Type 0 where
+  pub one : n ≡ 1 ↔ ((enough ≡ false) ⊎ ((enough ≡ true) × ((magic ≡ true) × ((edition ≡ true) × (length ≡ false)))))
+  pub two : n ≡ 2 ↔ ((enough ≡ true) × (magic ≡ false))
+  pub three : n ≡ 3 ↔ ((enough ≡ true) × ((magic ≡ true) × (edition ≡ false)))
+  pub four : n ≡ 4 ↔ ((enough ≡ true) × ((magic ≡ true) × ((edition ≡ true) × ((length ≡ true) × (rules ≡ false)))))
+
+-- the edition is 1 or 2
+abbrev pub editionKnown : List ℕ → Bool
+editionKnown b = editionOk 4 b || editionOk 8 b
 
 -- The calls that judge the whole store: all but making fresh, which gives only 1, and lookup and range, which judge what they read (2026-04;
 -- specs/Near has their numbers).
 abbrev pub judgesAll : Asked → Bool
 judgesAll toFresh = false
+judgesAll toFreshSecond = false
 judgesAll toCheck = true
 judgesAll toOpen = true
 judgesAll toCommit = true
@@ -58,8 +68,8 @@ judgesAll (toLife k) = true
 
 -- these, on any bytes
 abbrev pub Judges : Type 0
-Judges = (least : ℕ) (c : Asked) (b ns : List ℕ) → judgesAll c ≡ true
-    → FirstNumbers (lengthOk least b) (magicOk b) (editionOk least b) (clean least b && sound least (decode least b)) (ended least c b ns .number)
+Judges = (c : Asked) (b ns : List ℕ) → judgesAll c ≡ true
+    → FirstNumbers (leb 5 (length b)) (magicOk b) (editionKnown b) (lengthOk (leastOf b) b) (clean (leastOf b) b && sound (leastOf b) (storeOf b)) (ended c b ns .number)
 
 -- so none of them touches bytes that check does not accept; lookup and range touch no store's (`ReadsOnly`)
 pub record TurnedAway (b ns : List ℕ) (e : Ended) : Type 0 where
@@ -68,18 +78,19 @@ pub record TurnedAway (b ns : List ℕ) (e : Ended) : Type 0 where
   pub untouched : Untouched b ns e
 
 abbrev pub Untrusted : Type 0
-Untrusted = (least : ℕ) (c : Asked) (b ns : List ℕ) → judgesAll c ≡ true → (Accepts least b → ⊥) → TurnedAway b ns (ended least c b ns)
+Untrusted = (c : Asked) (b ns : List ℕ) → judgesAll c ≡ true → (Accepts b → ⊥) → TurnedAway b ns (ended c b ns)
 
--- ---- "down to a bit set that we don't define": of all the bytes that hold one store, one form alone is accepted
+-- ---- "down to a bit set that we don't define": of all the bytes of an edition that hold one store, one form alone is accepted
 
 abbrev pub OneForm : Type 0
-OneForm = (least : ℕ) → 4 ≤ least → least ≤ 8 → (a b : List ℕ) → Bytes a → Bytes b → Accepts least a → Accepts least b → decode least a ≡ decode least b → a ≡ b
+OneForm = (a b : List ℕ) → Bytes a → Bytes b → Accepts a → Accepts b → leastOf a ≡ leastOf b → storeOf a ≡ storeOf b → a ≡ b
 
--- ---- "Making fresh gives only 1": from any bytes
+-- ---- "Making fresh gives only 1": from any bytes, by the edition that is to be made
 
-pub record Made (least : ℕ) (b ns : List ℕ) : Type 0 where
-  pub right : lengthOk least b ≡ true → ended least toFresh b ns ≡ record { number = 0; results = []; store = encode least (fresh (sizeOf least b)); list = ns }
-  pub wrong : lengthOk least b ≡ false → ended least toFresh b ns ≡ record { number = 1; results = []; store = b; list = ns }
+pub record Made (least : ℕ) (c : Asked) (b ns : List ℕ) : Type 0 where
+  pub right : lengthOk least b ≡ true → ended c b ns ≡ record { number = 0; results = []; store = encode least (fresh (sizeOf least b)); list = ns }
+  pub wrong : lengthOk least b ≡ false → ended c b ns ≡ record { number = 1; results = []; store = b; list = ns }
 
-abbrev pub FreshMade : Type 0
-FreshMade = (least : ℕ) (b ns : List ℕ) → Made least b ns
+pub record FreshMade : Type 0 where
+  pub first : (b ns : List ℕ) → Made 4 toFresh b ns
+  pub second : (b ns : List ℕ) → Made 8 toFreshSecond b ns

@@ -13,10 +13,9 @@ use Rattle.model.specs.Basic.{all, inOrder, flatMap}
 use Rattle.model.specs.declared.Delta.{Delta}
 use Rattle.model.specs.Store.{Store, last}
 use Rattle.model.specs.Walk.{keyLimit, lookup, settings}
-use Rattle.model.specs.Layout.{decode}
 use Rattle.model.specs.Differ.{differ, of, names, saysOf, apply, exchanged, deltaNumbers}
 use Rattle.model.specs.Ended.{toDifference, ended}
-use Rattle.promises.specs.Accepts.{Accepts}
+use Rattle.promises.specs.Accepts.{Accepts, storeOf}
 use Rattle.promises.specs.Runs.{Turn, runBytes, notMaking, fitting, each}
 use Rattle.promises.specs.Views.{SaysSame}
 
@@ -25,23 +24,21 @@ abbrev pub differences : Store → ℕ → ℕ → List Delta
 differences s u v = differ (settings s u) (settings s v)
 
 -- both can be read
-pub record Readable (least : ℕ) (b : List ℕ) (u v : ℕ) : Type 0 where
-  pub four : 4 ≤ least
-  pub eight : least ≤ 8
-  pub accepted : Accepts least b
-  pub old : u ≤ last (decode least b)
-  pub new : v ≤ last (decode least b)
+pub record Readable (b : List ℕ) (u v : ℕ) : Type 0 where
+  pub accepted : Accepts b
+  pub old : u ≤ last (storeOf b)
+  pub new : v ≤ last (storeOf b)
 
 -- ---- the call gives them: four numbers each, and their count; "14 is given when the list holds fewer", with the count
 
-pub record Given (least : ℕ) (b : List ℕ) (u v : ℕ) (ds : List Delta) : Type 0 where
+pub record Given (b : List ℕ) (u v : ℕ) (ds : List Delta) : Type 0 where
   pub room : (ns : List ℕ) → 4 * length ds ≤ length ns
-      → ended least (toDifference u v) b ns ≡ record { number = 0; results = length ds ∷ []; store = b; list = flatMap deltaNumbers ds ++ drop (4 * length ds) ns }
+      → ended (toDifference u v) b ns ≡ record { number = 0; results = length ds ∷ []; store = b; list = flatMap deltaNumbers ds ++ drop (4 * length ds) ns }
   pub short : (ns : List ℕ) → length ns < 4 * length ds
-      → ended least (toDifference u v) b ns ≡ record { number = 14; results = length ds ∷ []; store = b; list = ns }
+      → ended (toDifference u v) b ns ≡ record { number = 14; results = length ds ∷ []; store = b; list = ns }
 
 abbrev pub DifferenceGiven : Type 0
-DifferenceGiven = (least : ℕ) (b : List ℕ) (u v : ℕ) → Readable least b u v → Given least b u v (differences (decode least b) u v)
+DifferenceGiven = (b : List ℕ) (u v : ℕ) → Readable b u v → Given b u v (differences (storeOf b) u v)
 
 -- ---- what they say
 
@@ -59,22 +56,22 @@ pub record Says (s : Store) (u v : ℕ) (ds : List Delta) : Type 0 where
   pub applied : apply ds (settings s u) ≡ settings s v
 
 abbrev pub DifferenceSays : Type 0
-DifferenceSays = (least : ℕ) (b : List ℕ) (u v : ℕ) → Readable least b u v → Says (decode least b) u v (differences (decode least b) u v)
+DifferenceSays = (b : List ℕ) (u v : ℕ) → Readable b u v → Says (storeOf b) u v (differences (storeOf b) u v)
 
 -- ---- "Equal version numbers give an empty list."
 
 abbrev pub DifferenceNone : Type 0
-DifferenceNone = (least : ℕ) (b : List ℕ) (v : ℕ) → Readable least b v v → (ns : List ℕ)
-    → ended least (toDifference v v) b ns ≡ record { number = 0; results = 0 ∷ []; store = b; list = ns }
+DifferenceNone = (b : List ℕ) (v : ℕ) → Readable b v v → (ns : List ℕ)
+    → ended (toDifference v v) b ns ≡ record { number = 0; results = 0 ∷ []; store = b; list = ns }
 
 -- ---- from the second version to the first: the same, with the sides exchanged
 
 abbrev pub DifferenceExchanged : Type 0
-DifferenceExchanged = (least : ℕ) (b : List ℕ) (u v : ℕ) → Readable least b u v → differences (decode least b) v u ≡ map exchanged (differences (decode least b) u v)
+DifferenceExchanged = (b : List ℕ) (u v : ℕ) → Readable b u v → differences (storeOf b) v u ≡ map exchanged (differences (storeOf b) u v)
 
 -- ---- between two committed versions it stays, whatever is called later, short of making fresh
 
 abbrev pub DifferenceStays : Type 0
-DifferenceStays = (least : ℕ) → 4 ≤ least → least ≤ 8 → (b : List ℕ) → Accepts least b → (ts : List Turn) → each fitting ts ≡ true → each notMaking ts ≡ true
-    → (u v : ℕ) → u ≤ decode least b .current → v ≤ decode least b .current → (ns : List ℕ)
-    → SaysSame (ended least (toDifference u v) (runBytes least b ts) ns) (ended least (toDifference u v) b ns)
+DifferenceStays = (b : List ℕ) → Accepts b → (ts : List Turn) → each fitting ts ≡ true → each notMaking ts ≡ true
+    → (u v : ℕ) → u ≤ storeOf b .current → v ≤ storeOf b .current → (ns : List ℕ)
+    → SaysSame (ended (toDifference u v) (runBytes b ts) ns) (ended (toDifference u v) b ns)

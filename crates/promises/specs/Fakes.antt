@@ -7,16 +7,15 @@ use mathlib.Core.Logic.{_≢_}
 use mathlib.Core.List.{List, [], _∷_}
 use lib.ListN.{length}
 use Rattle.model.specs.Walk.{settings, between}
-use Rattle.model.specs.Layout.{decode}
 use Rattle.model.specs.Ended.{Asked, toOpen, toInsert, toLookup, toRange, Ended, Meets}
-use Rattle.promises.specs.Accepts.{Accepts}
+use Rattle.promises.specs.Accepts.{Accepts, storeOf}
 
 abbrev pub Implementation : Type 0
 Implementation = Asked → List ℕ → List ℕ → Ended
 
 -- it meets every contract
 abbrev pub Honest : Implementation → Type 0
-Honest f = (c : Asked) (b ns : List ℕ) → Meets 4 c b ns (f c b ns)
+Honest f = (c : Asked) (b ns : List ℕ) → Meets c b ns (f c b ns)
 
 -- "a store that refuses everything": no insert is ever done
 abbrev pub RefusesAll : Implementation → Type 0
@@ -35,7 +34,7 @@ pub record SplitsAtOpen (f : Implementation) : Type 0 where
   pub bytes : List ℕ
   pub list : List ℕ
   pub given : f toOpen bytes list .number ≡ 0
-  pub split : decode 4 (f toOpen bytes list .store) .pages ≢ decode 4 bytes .pages
+  pub split : storeOf (f toOpen bytes list .store) .pages ≢ storeOf bytes .pages
 
 -- "or hides updates until commit": some insert is done, and a lookup at the open version does not find it in the bytes left
 pub record Hides (f : Implementation) : Type 0 where
@@ -45,7 +44,7 @@ pub record Hides (f : Implementation) : Type 0 where
   pub list : List ℕ
   pub small : value < 4294967296
   pub given : f (toInsert key value) bytes list .number ≡ 0
-  pub hidden : f (toLookup key (suc (decode 4 bytes .current))) (f (toInsert key value) bytes list .store) list .results ≢ 1 ∷ value ∷ []
+  pub hidden : f (toLookup key (suc (storeOf bytes .current))) (f (toInsert key value) bytes list .store) list .results ≢ 1 ∷ value ∷ []
 
 -- "a range with an invented count": some range of a sound store is done, and its count is not that of the settings alive
 pub record Invents (f : Implementation) : Type 0 where
@@ -54,9 +53,9 @@ pub record Invents (f : Implementation) : Type 0 where
   pub version : ℕ
   pub bytes : List ℕ
   pub list : List ℕ
-  pub accepted : Accepts 4 bytes
+  pub accepted : Accepts bytes
   pub given : f (toRange low high version) bytes list .number ≡ 0
-  pub invented : f (toRange low high version) bytes list .results ≢ length (between low high (settings (decode 4 bytes) version)) ∷ []
+  pub invented : f (toRange low high version) bytes list .results ≢ length (between low high (settings (storeOf bytes) version)) ∷ []
 
 pub record Stopped (f : Implementation) : Type 0 where
   pub refuses : RefusesAll f → ⊥

@@ -3,11 +3,12 @@ pub mod Runs
 pub mod Beside
 pub mod Answers
 pub mod Views
+pub mod Demand1
 pub mod Near
 pub mod Lives
 pub mod Way
-pub mod Demand1
 pub mod Demand2
+pub mod Apart
 pub mod Levels
 pub mod Room
 pub mod Demand3
@@ -17,5 +18,6 @@ pub mod Releases
 pub mod Replayed
 pub mod Bench
 pub mod Returns
+pub mod Converts
 pub mod NamedSettings
 pub mod Fakes

@@ -12,25 +12,24 @@ use Rattle.model.specs.declared.Looked.the-variants.{Value}
 use Rattle.model.specs.Entry.{alive}
 use Rattle.model.specs.Store.{next}
 use Rattle.model.specs.Walk.{keyLimit}
-use Rattle.model.specs.Layout.{decode}
 use Rattle.model.specs.Life.{life, stretchNumbers}
-use Rattle.model.specs.Lent.{lookupLent}
+use Rattle.model.specs.Any.{lookupAny}
 use Rattle.model.specs.Ended.{toCommit, toLife, ended}
-use Rattle.promises.specs.Accepts.{Accepts}
+use Rattle.promises.specs.Accepts.{Accepts, storeOf}
 use Rattle.promises.specs.Runs.{Turn, runBytes, fitting, uncommitting, each}
 use Rattle.promises.specs.Views.{SaysSame}
 
 -- ---- "Each stretch takes three numbers .. 14 is given when the list holds fewer than that, with the count of stretches. Nothing behind is
 -- touched": what the call gives and leaves
 
-pub record Given (least : ℕ) (b : List ℕ) (k : ℕ) (ns : List ℕ) : Type 0 where
-  pub room : 3 * length (life (decode least b) k) ≤ length ns
-      → ended least (toLife k) b ns
-      ≡ record { number = 0; results = length (life (decode least b) k) ∷ []; store = b; list = flatMap stretchNumbers (life (decode least b) k) ++ drop (3 * length (life (decode least b) k)) ns }
-  pub short : length ns < 3 * length (life (decode least b) k) → ended least (toLife k) b ns ≡ record { number = 14; results = length (life (decode least b) k) ∷ []; store = b; list = ns }
+pub record Given (b : List ℕ) (k : ℕ) (ns : List ℕ) : Type 0 where
+  pub room : 3 * length (life (storeOf b) k) ≤ length ns
+      → ended (toLife k) b ns
+      ≡ record { number = 0; results = length (life (storeOf b) k) ∷ []; store = b; list = flatMap stretchNumbers (life (storeOf b) k) ++ drop (3 * length (life (storeOf b) k)) ns }
+  pub short : length ns < 3 * length (life (storeOf b) k) → ended (toLife k) b ns ≡ record { number = 14; results = length (life (storeOf b) k) ∷ []; store = b; list = ns }
 
 abbrev pub LifeGiven : Type 0
-LifeGiven = (least : ℕ) (b : List ℕ) → Accepts least b → (k : ℕ) → k < keyLimit → (ns : List ℕ) → Given least b k ns
+LifeGiven = (b : List ℕ) → Accepts b → (k : ℕ) → k < keyLimit → (ns : List ℕ) → Given b k ns
 
 -- ---- "every stretch of committed versions in which it held one value": lookups and lives never disagree
 
@@ -41,8 +40,8 @@ Lies v x (a ∷ more) = ((a .start ≤ v) × (v < a .end) × (a .value ≡ x)) �
 
 -- a committed version shows the key with the value x exactly when it lies in a stretch with that value
 abbrev pub LivesAgree : Type 0
-LivesAgree = (least : ℕ) → 4 ≤ least → least ≤ 8 → (b : List ℕ) → Accepts least b → (k v x : ℕ) → k < keyLimit → v ≤ decode least b .current
-    → (lookupLent least b k v ≡ Value x) ↔ Lies v x (life (decode least b) k)
+LivesAgree = (b : List ℕ) → Accepts b → (k v x : ℕ) → k < keyLimit → v ≤ storeOf b .current
+    → (lookupAny b k v ≡ Value x) ↔ Lies v x (life (storeOf b) k)
 
 -- ---- "oldest first"; "neighbouring stretches with equal values are joined and unequal ones aren't"
 
@@ -58,18 +57,18 @@ EndsBy current [] = Unit {0}
 EndsBy current (a ∷ more) = ((a .end ≤ current) ⊎ (a .end ≡ alive)) × EndsBy current more
 
 pub record StretchesApart : Type 0 where
-  pub apart : (least : ℕ) (b : List ℕ) → Accepts least b → (k : ℕ) → Apart (life (decode least b) k)
-  pub ends : (least : ℕ) (b : List ℕ) (k : ℕ) → EndsBy (decode least b .current) (life (decode least b) k)
+  pub apart : (b : List ℕ) → Accepts b → (k : ℕ) → Apart (life (storeOf b) k)
+  pub ends : (b : List ℕ) (k : ℕ) → EndsBy (storeOf b .current) (life (storeOf b) k)
 
 -- ---- "an open update is not shown": opens, inserts, deletes and abandons leave what every life says; only a commit adds to it
 
 abbrev pub OpenUnshown : Type 0
-OpenUnshown = (least : ℕ) → 4 ≤ least → least ≤ 8 → (b : List ℕ) → Accepts least b → (ts : List Turn) → each fitting ts ≡ true → each uncommitting ts ≡ true
-    → (k : ℕ) (ns : List ℕ) → SaysSame (ended least (toLife k) (runBytes least b ts) ns) (ended least (toLife k) b ns)
+OpenUnshown = (b : List ℕ) → Accepts b → (ts : List Turn) → each fitting ts ≡ true → each uncommitting ts ≡ true
+    → (k : ℕ) (ns : List ℕ) → SaysSame (ended (toLife k) (runBytes b ts) ns) (ended (toLife k) b ns)
 
 -- ---- a commit that leaves the key alone leaves every stretch as it was, and the one that is still alive so
 
 abbrev pub LeftAlone : Type 0
-LeftAlone = (least : ℕ) → 4 ≤ least → least ≤ 8 → (b : List ℕ) → Accepts least b → (ms : List ℕ) → ended least toCommit b ms .number ≡ 0
-    → (k : ℕ) → lookupLent least b k (next (decode least b)) ≡ lookupLent least b k (decode least b .current)
-    → (ns : List ℕ) → SaysSame (ended least (toLife k) (ended least toCommit b ms .store) ns) (ended least (toLife k) b ns)
+LeftAlone = (b : List ℕ) → Accepts b → (ms : List ℕ) → ended toCommit b ms .number ≡ 0
+    → (k : ℕ) → lookupAny b k (next (storeOf b)) ≡ lookupAny b k (storeOf b .current)
+    → (ns : List ℕ) → SaysSame (ended (toLife k) (ended toCommit b ms .store) ns) (ended (toLife k) b ns)

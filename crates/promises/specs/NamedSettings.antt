@@ -17,12 +17,12 @@ use Rattle.model.specs.declared.Known.the-variants.{Is, Nothing}
 use Rattle.model.specs.declared.Kind.the-variants.{Level}
 use Rattle.model.specs.Store.{fresh, last}
 use Rattle.model.specs.Walk.{settings, between, find, keyLimit}
-use Rattle.model.specs.Layout.{encode, decode}
+use Rattle.model.specs.Layout.{encode}
 use Rattle.model.specs.Calls.{pairNumbers}
 use Rattle.model.specs.Ended.{Ended, Untouched}
 use Rattle.model.specs.Kinds.{rowAt, knownIn, allowed, rightKind, wrongRow}
 use Rattle.model.specs.Named.{allKnown, ByName, byOpen, byCommit, byAbandon, byInsert, byDelete, byLookup, byRange, endedNamed}
-use Rattle.promises.specs.Accepts.{Accepts}
+use Rattle.promises.specs.Accepts.{Accepts, storeOf, OfEdition}
 
 -- ---- calls by name, one after another
 
@@ -32,13 +32,13 @@ pub record NamedTurn : Type 0 where
   pub call : ByName
   pub list : List ℕ
 
-abbrev pub turnedNamed : ℕ → List ℕ → NamedTurn → Ended
-turnedNamed least b t = endedNamed least (t .table) (t .call) b (t .list)
+abbrev pub turnedNamed : List ℕ → NamedTurn → Ended
+turnedNamed b t = endedNamed (t .table) (t .call) b (t .list)
 
 -- the store's bytes after all of them
-abbrev pub runNamed : ℕ → List ℕ → List NamedTurn → List ℕ
-runNamed least b [] = b
-runNamed least b (t ∷ ts) = runNamed least (turnedNamed least b t .store) ts
+abbrev pub runNamed : List ℕ → List NamedTurn → List ℕ
+runNamed b [] = b
+runNamed b (t ∷ ts) = runNamed (turnedNamed b t .store) ts
 
 -- "a value is any 32 bits"
 abbrev pub fits : ByName → Bool
@@ -64,7 +64,7 @@ EachWithin table (t ∷ ts) = Within (t .table) table × EachWithin table ts
 -- ---- a number other than 0 leaves store and list as they were
 
 abbrev pub NamedRefused : Type 0
-NamedRefused = (least : ℕ) (table : List ℕ) (c : ByName) (b ns : List ℕ) → endedNamed least table c b ns .number ≢ 0 → Untouched b ns (endedNamed least table c b ns)
+NamedRefused = (table : List ℕ) (c : ByName) (b ns : List ℕ) → endedNamed table c b ns .number ≢ 0 → Untouched b ns (endedNamed table c b ns)
 
 -- ---- "It inserts only a value of the kind inside the limits": from a fresh store on, whatever is called by name, every setting of every version
 -- has a known key and an admitted value
@@ -73,20 +73,19 @@ NamedRefused = (least : ℕ) (table : List ℕ) (c : ByName) (b ns : List ℕ) �
 abbrev pub admitted : List ℕ → Pair → Bool
 admitted table x = eqb (allowed (knownIn table (x .key)) (x .value)) 0
 
--- a history of calls by name on a fresh store of n pages, by tables within one
+-- a history of calls by name on a fresh store of n pages, of the edition with that least, by tables within one
 pub record NamedHistory (least n : ℕ) (table : List ℕ) (ts : List NamedTurn) : Type 0 where
-  pub four : 4 ≤ least
-  pub eight : least ≤ 8
+  pub edition : OfEdition least
   pub six : 6 ≤ n
   pub most : n ≤ 4096
   pub values : eachFits ts ≡ true
   pub tables : EachWithin table ts
 
 abbrev pub shown : ℕ → ℕ → List NamedTurn → ℕ → List Pair
-shown least n ts v = settings (decode least (runNamed least (encode least (fresh n)) ts)) v
+shown least n ts v = settings (storeOf (runNamed (encode least (fresh n)) ts)) v
 
 abbrev pub lastShown : ℕ → ℕ → List NamedTurn → ℕ
-lastShown least n ts = last (decode least (runNamed least (encode least (fresh n)) ts))
+lastShown least n ts = last (storeOf (runNamed (encode least (fresh n)) ts))
 
 abbrev pub AdmittedOnly : Type 0
 AdmittedOnly = (least n : ℕ) (table : List ℕ) (ts : List NamedTurn) → NamedHistory least n table ts
@@ -99,16 +98,16 @@ NoNan = (least n : ℕ) (table : List ℕ) (ts : List NamedTurn) → NamedHistor
 
 -- ---- "never skipped": a range that is done shows every setting from lo to hi, and its program knows each of them
 
-pub record ShowsAll (least : ℕ) (table b : List ℕ) (lo hi v : ℕ) (ns : List ℕ) (xs : List Pair) : Type 0 where
-  pub accepted : Accepts least b
-  pub readable : v ≤ last (decode least b)
+pub record ShowsAll (table b : List ℕ) (lo hi v : ℕ) (ns : List ℕ) (xs : List Pair) : Type 0 where
+  pub accepted : Accepts b
+  pub readable : v ≤ last (storeOf b)
   pub known : allKnown table xs ≡ true
-  pub count : endedNamed least table (byRange lo hi v) b ns .results ≡ length xs ∷ []
-  pub list : endedNamed least table (byRange lo hi v) b ns .list ≡ flatMap pairNumbers xs ++ drop (length (flatMap pairNumbers xs)) ns
+  pub count : endedNamed table (byRange lo hi v) b ns .results ≡ length xs ∷ []
+  pub list : endedNamed table (byRange lo hi v) b ns .list ≡ flatMap pairNumbers xs ++ drop (length (flatMap pairNumbers xs)) ns
 
 abbrev pub NeverSkipped : Type 0
-NeverSkipped = (least : ℕ) → 4 ≤ least → least ≤ 8 → (table b : List ℕ) (lo hi v : ℕ) (ns : List ℕ)
-    → endedNamed least table (byRange lo hi v) b ns .number ≡ 0 → ShowsAll least table b lo hi v ns (between lo hi (settings (decode least b) v))
+NeverSkipped = (table b : List ℕ) (lo hi v : ℕ) (ns : List ℕ)
+    → endedNamed table (byRange lo hi v) b ns .number ≡ 0 → ShowsAll table b lo hi v ns (between lo hi (settings (storeOf b) v))
 
 -- ---- Going back is also a release. A newer program wrote a setting whose key the older one does not know: by name the older program gets 17 and
 -- nothing else, from its reading, from a range around it, and where it would write or end it.
@@ -117,15 +116,15 @@ NeverSkipped = (least : ℕ) → 4 ≤ least → least ≤ 8 → (table b : List
 abbrev pub seventeen : List ℕ → List ℕ → List ℕ → Ended
 seventeen results b ns = record { number = 17; results = results; store = b; list = ns }
 
-pub record Stopped (least : ℕ) (old b : List ℕ) (k v : ℕ) : Type 0 where
-  pub lookup : (ns : List ℕ) → endedNamed least old (byLookup k v) b ns ≡ seventeen (0 ∷ 0 ∷ []) b ns
-  pub range : (lo hi : ℕ) (ns : List ℕ) → lo ≤ k → k ≤ hi → hi < keyLimit → endedNamed least old (byRange lo hi v) b ns ≡ seventeen (0 ∷ []) b ns
-  pub insert : (x : ℕ) (ns : List ℕ) → endedNamed least old (byInsert k x) b ns ≡ seventeen [] b ns
-  pub delete : (ns : List ℕ) → endedNamed least old (byDelete k) b ns ≡ seventeen [] b ns
+pub record Stopped (old b : List ℕ) (k v : ℕ) : Type 0 where
+  pub lookup : (ns : List ℕ) → endedNamed old (byLookup k v) b ns ≡ seventeen (0 ∷ 0 ∷ []) b ns
+  pub range : (lo hi : ℕ) (ns : List ℕ) → lo ≤ k → k ≤ hi → hi < keyLimit → endedNamed old (byRange lo hi v) b ns ≡ seventeen (0 ∷ []) b ns
+  pub insert : (x : ℕ) (ns : List ℕ) → endedNamed old (byInsert k x) b ns ≡ seventeen [] b ns
+  pub delete : (ns : List ℕ) → endedNamed old (byDelete k) b ns ≡ seventeen [] b ns
 
 abbrev pub NeverSofter : Type 0
-NeverSofter = (least : ℕ) → 4 ≤ least → least ≤ 8 → (old b : List ℕ) → Accepts least b → (k x v : ℕ) → v ≤ last (decode least b)
-    → find k (settings (decode least b) v) ≡ some x → knownIn old k ≡ Nothing → Stopped least old b k v
+NeverSofter = (old b : List ℕ) → Accepts b → (k x v : ℕ) → v ≤ last (storeOf b)
+    → find k (settings (storeOf b) v) ≡ some x → knownIn old k ≡ Nothing → Stopped old b k v
 
 -- ---- a table that is right: each of its rows says what its key is, and no other row does
 

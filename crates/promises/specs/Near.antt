@@ -1,12 +1,13 @@
 -- 2026-04, "lookups judge only what they read": the numbers of lookup and range on any bytes, each exactly when; what they answer otherwise;
 -- that pages off their walk make no difference; and that on a sound store the answers stay.
--- `least` is 4 in edition 1, and these hold for 4 to 8.
+-- `least` is 4 in edition 1 and 8 in edition 2; the calls go by the edition that the bytes name.
 -- Assumes nothing.
 use Prim.Native.Nat.{ℕ, zero, suc, _*_, _≤_, _<_}
 use mathlib.Core.Bool.{Bool, true, false, _&&_}
 use mathlib.Core.Path.{_≡_}
 use mathlib.Core.Logic.{_≢_, _↔_, _⊎_}
 use mathlib.Core.List.{List, [], _∷_}
+use lib.Dec.{leb}
 use lib.ListN.{length, take}
 use Rattle.model.specs.declared.Pair.{Pair}
 use Rattle.model.specs.declared.Slot.{Slot}
@@ -15,12 +16,14 @@ use Rattle.model.specs.Store.{page, last}
 use Rattle.model.specs.Walk.{keyLimit, rootAt, heightOf, around, followed, lookup, lookupVisits, rangeOf, rangeVisits}
 use Rattle.model.specs.Sound.{isPage, pageOk, rule2}
 use Rattle.model.specs.Layout.{pageOf, decode}
+use Rattle.model.specs.Editions.{leastOf}
 use Rattle.model.specs.Clean.{cleanPage, cleanFront}
-use Rattle.model.specs.Judged.{lengthOk, magicOk, editionOk}
+use Rattle.model.specs.Judged.{lengthOk, magicOk}
 use Rattle.model.specs.Calls.{lookedAt, rangedBy, get, range}
 use Rattle.model.specs.Lent.{listed}
 use Rattle.model.specs.Ended.{toLookup, toRange, ended, ofLooked, ofListed}
-use Rattle.promises.specs.Accepts.{Accepts}
+use Rattle.promises.specs.Accepts.{Accepts, storeOf}
+use Rattle.promises.specs.Demand1.{editionKnown}
 use Rattle.promises.specs.Views.{SaysSame}
 
 -- a member of a list with a property; all of them
@@ -80,32 +83,33 @@ module _ (least : ℕ) (b : List ℕ) where
 
 -- ---- the numbers, each exactly when. "With 5 or 6 only the header and the slots are judged first."
 
-pub record ReadingNumbers (length magic edition : Bool) (front bad late walk : Type 0) (n : ℕ) : Type 0 where
-  pub one : n ≡ 1 ↔ (length ≡ false)
-  pub two : n ≡ 2 ↔ ((length ≡ true) × (magic ≡ false))
-  pub three : n ≡ 3 ↔ ((length ≡ true) × ((magic ≡ true) × (edition ≡ false)))
-  pub four : n ≡ 4 ↔ ((length ≡ true) × ((magic ≡ true) × ((edition ≡ true) × (front ⊎ ((bad → ⊥) × ((late → ⊥) × walk))))))
-  pub five : n ≡ 5 ↔ ((length ≡ true) × ((magic ≡ true) × ((edition ≡ true) × ((front → ⊥) × bad))))
-  pub six : n ≡ 6 ↔ ((length ≡ true) × ((magic ≡ true) × ((edition ≡ true) × ((front → ⊥) × ((bad → ⊥) × late)))))
+-- The first four tests are demand 1's: five bytes, the first four, the edition, the length by its page size.
+pub record ReadingNumbers (enough magic edition length : Bool) (front bad late walk : Type 0) (n : ℕ) : Type 0 where
+  pub one : n ≡ 1 ↔ ((enough ≡ false) ⊎ ((enough ≡ true) × ((magic ≡ true) × ((edition ≡ true) × (length ≡ false)))))
+  pub two : n ≡ 2 ↔ ((enough ≡ true) × (magic ≡ false))
+  pub three : n ≡ 3 ↔ ((enough ≡ true) × ((magic ≡ true) × (edition ≡ false)))
+  pub four : n ≡ 4 ↔ ((enough ≡ true) × ((magic ≡ true) × ((edition ≡ true) × ((length ≡ true) × (front ⊎ ((bad → ⊥) × ((late → ⊥) × walk)))))))
+  pub five : n ≡ 5 ↔ ((enough ≡ true) × ((magic ≡ true) × ((edition ≡ true) × ((length ≡ true) × ((front → ⊥) × bad)))))
+  pub six : n ≡ 6 ↔ ((enough ≡ true) × ((magic ≡ true) × ((edition ≡ true) × ((length ≡ true) × ((front → ⊥) × ((bad → ⊥) × late))))))
 
 -- any bytes and numbers
 pub record LookupJudges : Type 0 where
-  pub numbers : (least : ℕ) (b : List ℕ) (k v : ℕ) (ns : List ℕ)
-      → ReadingNumbers (lengthOk least b) (magicOk b) (editionOk least b) (FrontWrong least b) (keyLimit ≤ k) (last (decode least b) < v)
-      (WrongFrom least b v (λ up n. WrongDown least b v up k n)) (ended least (toLookup k v) b ns .number)
+  pub numbers : (b : List ℕ) (k v : ℕ) (ns : List ℕ)
+      → ReadingNumbers (leb 5 (length b)) (magicOk b) (editionKnown b) (lengthOk (leastOf b) b) (FrontWrong (leastOf b) b) (keyLimit ≤ k) (last (storeOf b) < v)
+      (WrongFrom (leastOf b) b v (λ up n. WrongDown (leastOf b) b v up k n)) (ended (toLookup k v) b ns .number)
   -- "Otherwise they answer by the entries alive on the walked pages in walk order, a lookup by the first with its key, whether or not the rest
   -- is sound."
-  pub answers : (least : ℕ) (b : List ℕ) (k v : ℕ) (ns : List ℕ) → ended least (toLookup k v) b ns .number ≡ 0
-      → ended least (toLookup k v) b ns ≡ ofLooked b ns (lookedAt (lookup (decode least b) k v))
+  pub answers : (b : List ℕ) (k v : ℕ) (ns : List ℕ) → ended (toLookup k v) b ns .number ≡ 0
+      → ended (toLookup k v) b ns ≡ ofLooked b ns (lookedAt (lookup (storeOf b) k v))
 
 pub record RangeJudges : Type 0 where
-  pub numbers : (least : ℕ) (b : List ℕ) (lo hi v : ℕ) (ns : List ℕ)
-      → ReadingNumbers (lengthOk least b) (magicOk b) (editionOk least b) (FrontWrong least b) ((keyLimit ≤ lo) ⊎ ((keyLimit ≤ hi) ⊎ (hi < lo))) (last (decode least b) < v)
-      (WrongFrom least b v (λ up n. WrongAcross least b v up hi lo n)) (ended least (toRange lo hi v) b ns .number)
+  pub numbers : (b : List ℕ) (lo hi v : ℕ) (ns : List ℕ)
+      → ReadingNumbers (leb 5 (length b)) (magicOk b) (editionKnown b) (lengthOk (leastOf b) b) (FrontWrong (leastOf b) b) ((keyLimit ≤ lo) ⊎ ((keyLimit ≤ hi) ⊎ (hi < lo))) (last (storeOf b) < v)
+      (WrongFrom (leastOf b) b v (λ up n. WrongAcross (leastOf b) b v up hi lo n)) (ended (toRange lo hi v) b ns .number)
   -- 0, or 14 where the list has not the room for two numbers a setting: all of its walk is judged before
-  pub answers : (least : ℕ) (b : List ℕ) (lo hi v : ℕ) (ns : List ℕ) → (ended least (toRange lo hi v) b ns .number ≡ 0) ⊎ (ended least (toRange lo hi v) b ns .number ≡ 14)
-      → ended least (toRange lo hi v) b ns ≡ ofListed b (listed ns (rangedBy 0 (length ns) (rangeOf (decode least b) lo hi v)))
-  pub fourteen : (least : ℕ) (b : List ℕ) (lo hi v : ℕ) (ns : List ℕ) → ended least (toRange lo hi v) b ns .number ≡ 14 → length ns < 2 * length (rangeOf (decode least b) lo hi v)
+  pub answers : (b : List ℕ) (lo hi v : ℕ) (ns : List ℕ) → (ended (toRange lo hi v) b ns .number ≡ 0) ⊎ (ended (toRange lo hi v) b ns .number ≡ 14)
+      → ended (toRange lo hi v) b ns ≡ ofListed b (listed ns (rangedBy 0 (length ns) (rangeOf (storeOf b) lo hi v)))
+  pub fourteen : (b : List ℕ) (lo hi v : ℕ) (ns : List ℕ) → ended (toRange lo hi v) b ns .number ≡ 14 → length ns < 2 * length (rangeOf (storeOf b) lo hi v)
 
 -- ---- "judge only what they read": bytes that differ only in pages off the walk give the same answer
 
@@ -119,14 +123,14 @@ abbrev pub SamePages : ℕ → List ℕ → List ℕ → List ℕ → Type 0
 SamePages least b c ns = Each (λ (n : ℕ). pageOf least b n ≡ pageOf least c n) ns
 
 pub record OffTheWalk : Type 0 where
-  pub lookup : (least : ℕ) → 1 ≤ least → (b c : List ℕ) → SameFront least b c → (k v : ℕ) → SamePages least b c (lookupVisits (decode least b) k v)
-      → (ns : List ℕ) → SaysSame (ended least (toLookup k v) c ns) (ended least (toLookup k v) b ns)
-  pub range : (least : ℕ) → 1 ≤ least → (b c : List ℕ) → SameFront least b c → (lo hi v : ℕ) → SamePages least b c (rangeVisits (decode least b) lo hi v)
-      → (ns : List ℕ) → SaysSame (ended least (toRange lo hi v) c ns) (ended least (toRange lo hi v) b ns)
+  pub lookup : (b c : List ℕ) → SameFront (leastOf b) b c → (k v : ℕ) → SamePages (leastOf b) b c (lookupVisits (storeOf b) k v)
+      → (ns : List ℕ) → SaysSame (ended (toLookup k v) c ns) (ended (toLookup k v) b ns)
+  pub range : (b c : List ℕ) → SameFront (leastOf b) b c → (lo hi v : ℕ) → SamePages (leastOf b) b c (rangeVisits (storeOf b) lo hi v)
+      → (ns : List ℕ) → SaysSame (ended (toRange lo hi v) c ns) (ended (toRange lo hi v) b ns)
 
 -- ---- "On a sound store the answers stay": what they were when every call judged the whole store
 
 pub record SoundSame : Type 0 where
-  pub lookup : (least : ℕ) → 4 ≤ least → least ≤ 8 → (b : List ℕ) → Accepts least b → (k v : ℕ) (ns : List ℕ) → ended least (toLookup k v) b ns ≡ ofLooked b ns (get (decode least b) k v)
-  pub range : (least : ℕ) → 4 ≤ least → least ≤ 8 → (b : List ℕ) → Accepts least b → (lo hi v : ℕ) (ns : List ℕ)
-      → ended least (toRange lo hi v) b ns ≡ ofListed b (listed ns (range (decode least b) lo hi v (length ns)))
+  pub lookup : (b : List ℕ) → Accepts b → (k v : ℕ) (ns : List ℕ) → ended (toLookup k v) b ns ≡ ofLooked b ns (get (storeOf b) k v)
+  pub range : (b : List ℕ) → Accepts b → (lo hi v : ℕ) (ns : List ℕ)
+      → ended (toRange lo hi v) b ns ≡ ofListed b (listed ns (range (storeOf b) lo hi v (length ns)))

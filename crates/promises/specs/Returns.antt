@@ -13,12 +13,11 @@ use Rattle.model.specs.declared.Delta.{Delta}
 use Rattle.model.specs.Field.{Bytes}
 use Rattle.model.specs.Store.{next}
 use Rattle.model.specs.Walk.{settings}
-use Rattle.model.specs.Layout.{decode}
 use Rattle.model.specs.Calls.{firstOf, benchLimit}
 use Rattle.model.specs.Return.{goes, comes, returnTests}
 use Rattle.model.specs.Histories.{Call, inserts, deletes}
 use Rattle.model.specs.Ended.{Asked, toAbandon, toReturn, toDifference, ended}
-use Rattle.promises.specs.Accepts.{Accepts}
+use Rattle.promises.specs.Accepts.{Accepts, storeOf}
 use Rattle.promises.specs.Runs.{Turn, turned, runBytes, fitting, inside, each}
 use Rattle.promises.specs.Answers.{Gives}
 use Rattle.promises.specs.Views.{SameView}
@@ -29,25 +28,25 @@ use Rattle.promises.specs.Replayed.{turnOf}
 -- ---- its number: 1 to 4 as every call's (`Judges`); then "6 for a version above the current one, and 7 .. with no update open"; else 0, 12 or 13
 
 abbrev pub ReturnGives : Type 0
-ReturnGives = (least : ℕ) → 4 ≤ least → least ≤ 8 → (b : List ℕ) → Accepts least b → (v : ℕ) (ns : List ℕ)
-    → Gives (firstOf (returnTests (decode least b .current) (decode least b .opened) v)) (ended least (toReturn v) b ns .number)
+ReturnGives = (b : List ℕ) → Accepts b → (v : ℕ) (ns : List ℕ)
+    → Gives (firstOf (returnTests (storeOf b .current) (storeOf b .opened) v)) (ended (toReturn v) b ns .number)
 
 -- ---- done: bytes b′ where b were
 
-pub record Returned (least : ℕ) (b : List ℕ) (v : ℕ) (b′ : List ℕ) : Type 0 where
+pub record Returned (b : List ℕ) (v : ℕ) (b′ : List ℕ) : Type 0 where
   -- the store is sound, and the update still open, at the same version
-  pub accepted : Accepts least b′
-  pub opened : decode least b′ .opened ≡ true
-  pub current : decode least b′ .current ≡ decode least b .current
+  pub accepted : Accepts b′
+  pub opened : storeOf b′ .opened ≡ true
+  pub current : storeOf b′ .current ≡ storeOf b .current
   -- "the open version's settings equal those of a committed version"
-  pub shows : settings (decode least b′) (next (decode least b′)) ≡ settings (decode least b) v
+  pub shows : settings (storeOf b′) (next (storeOf b′)) ≡ settings (storeOf b) v
   -- every committed version is as it was, pages and all
-  pub older : (u : ℕ) → u ≤ decode least b .current → SameView (decode least b) (decode least b′) u
+  pub older : (u : ℕ) → u ≤ storeOf b .current → SameView (storeOf b) (storeOf b′) u
   -- nothing differs (2026-03) from that version to the open one
-  pub nothing-differs : (ns : List ℕ) → ended least (toDifference v (next (decode least b′))) b′ ns ≡ record { number = 0; results = 0 ∷ []; store = b′; list = ns }
+  pub nothing-differs : (ns : List ℕ) → ended (toDifference v (next (storeOf b′))) b′ ns ≡ record { number = 0; results = 0 ∷ []; store = b′; list = ns }
 
 abbrev pub ReturnDone : Type 0
-ReturnDone = (least : ℕ) → 4 ≤ least → least ≤ 8 → (b : List ℕ) (v : ℕ) (ns : List ℕ) → ended least (toReturn v) b ns .number ≡ 0 → Returned least b v (ended least (toReturn v) b ns .store)
+ReturnDone = (b : List ℕ) (v : ℕ) (ns : List ℕ) → ended (toReturn v) b ns .number ≡ 0 → Returned b v (ended (toReturn v) b ns .store)
 
 -- ---- "first it deletes .., then it inserts .., each in rising key order and each exactly as the single call": done, it leaves the bytes that
 -- these calls leave, made one after the other. A bench key's insert would be refused, so there is none on either side.
@@ -59,46 +58,46 @@ abbrev pub NoBench : List Pair → Type 0
 NoBench us = all (λ (x : Pair). ltb (x .key) benchLimit) us ≡ true
 
 abbrev pub ReturnSingly : Type 0
-ReturnSingly = (least : ℕ) → 4 ≤ least → least ≤ 8 → (b : List ℕ) → Bytes b → (v : ℕ) (ns : List ℕ) → ended least (toReturn v) b ns .number ≡ 0
-    → NoBench (settings (decode least b) (next (decode least b))) → NoBench (settings (decode least b) v)
-    → runBytes least b (map turnOf (stepsOf (differences (decode least b) (next (decode least b)) v))) ≡ ended least (toReturn v) b ns .store
+ReturnSingly = (b : List ℕ) → Bytes b → (v : ℕ) (ns : List ℕ) → ended (toReturn v) b ns .number ≡ 0
+    → NoBench (settings (storeOf b) (next (storeOf b))) → NoBench (settings (storeOf b) v)
+    → runBytes b (map turnOf (stepsOf (differences (storeOf b) (next (storeOf b)) v))) ≡ ended (toReturn v) b ns .store
 
 -- ---- nothing to do is done, and changes no byte
 
 abbrev pub ReturnNothing : Type 0
-ReturnNothing = (least : ℕ) → 4 ≤ least → least ≤ 8 → (b : List ℕ) → Bytes b → Accepts least b → decode least b .opened ≡ true
-    → (v : ℕ) → v ≤ decode least b .current → settings (decode least b) (next (decode least b)) ≡ settings (decode least b) v
-    → (ns : List ℕ) → ended least (toReturn v) b ns ≡ record { number = 0; results = []; store = b; list = ns }
+ReturnNothing = (b : List ℕ) → Bytes b → Accepts b → storeOf b .opened ≡ true
+    → (v : ℕ) → v ≤ storeOf b .current → settings (storeOf b) (next (storeOf b)) ≡ settings (storeOf b) v
+    → (ns : List ℕ) → ended (toReturn v) b ns ≡ record { number = 0; results = []; store = b; list = ns }
 
 -- ---- "If any step gives 12 or 13, the whole update is abandoned, its earlier calls included, and the number returned"
 
 -- it leaves the bytes that an abandon leaves, which would have been accepted, and the list
-pub record Stopped (least : ℕ) (b : List ℕ) (v : ℕ) (ns : List ℕ) : Type 0 where
-  pub store : ended least (toReturn v) b ns .store ≡ ended least toAbandon b ns .store
-  pub list : ended least (toReturn v) b ns .list ≡ ns
-  pub abandons : ended least toAbandon b ns .number ≡ 0
+pub record Stopped (b : List ℕ) (v : ℕ) (ns : List ℕ) : Type 0 where
+  pub store : ended (toReturn v) b ns .store ≡ ended toAbandon b ns .store
+  pub list : ended (toReturn v) b ns .list ≡ ns
+  pub abandons : ended toAbandon b ns .number ≡ 0
 
 abbrev pub Stops : ℕ → Type 0
 Stops n = (n ≡ 12) ⊎ (n ≡ 13)
 
 abbrev pub ReturnStopped : Type 0
-ReturnStopped = (least : ℕ) → 4 ≤ least → least ≤ 8 → (b : List ℕ) (v : ℕ) (ns : List ℕ) → Stops (ended least (toReturn v) b ns .number) → Stopped least b v ns
+ReturnStopped = (b : List ℕ) (v : ℕ) (ns : List ℕ) → Stops (ended (toReturn v) b ns .number) → Stopped b v ns
 
 -- ---- demand 3: "one that ends in 12 or 13 is itself the abandon". An update opened on bytes b that held these calls, and then that return
 
 abbrev pub returning : ℕ → Turn
 returning v = record { call = toReturn v; list = [] }
 
-pub record Restored (least : ℕ) (b : List ℕ) (ts : List Turn) (v : ℕ) : Type 0 where
+pub record Restored (b : List ℕ) (ts : List Turn) (v : ℕ) : Type 0 where
   -- every byte of the store is what it was before the opening
-  pub bytes : runBytes least b (opening ∷ (ts ++ (returning v ∷ []))) ≡ b
+  pub bytes : runBytes b (opening ∷ (ts ++ (returning v ∷ []))) ≡ b
   -- each later call answers as if the update had never been
-  pub later : (c : Asked) (ns : List ℕ) → ended least c (runBytes least b (opening ∷ (ts ++ (returning v ∷ [])))) ns ≡ ended least c b ns
+  pub later : (c : Asked) (ns : List ℕ) → ended c (runBytes b (opening ∷ (ts ++ (returning v ∷ [])))) ns ≡ ended c b ns
 
 abbrev pub ReturnAbandons : Type 0
-ReturnAbandons = (least : ℕ) → 4 ≤ least → least ≤ 8 → (b : List ℕ) → Bytes b → turned least b opening .number ≡ 0
-    → (ts : List Turn) → each fitting ts ≡ true → inside least b (opening ∷ ts) ≡ true
-    → (v : ℕ) → Stops (turned least (runBytes least b (opening ∷ ts)) (returning v) .number) → Restored least b ts v
+ReturnAbandons = (b : List ℕ) → Bytes b → turned b opening .number ≡ 0
+    → (ts : List Turn) → each fitting ts ≡ true → inside b (opening ∷ ts) ≡ true
+    → (v : ℕ) → Stops (turned (runBytes b (opening ∷ ts)) (returning v) .number) → Restored b ts v
 
 pub record Returns : Type 0 where
   pub gives : ReturnGives

@@ -9,7 +9,7 @@ use Rattle.model.specs.Return.{lacking}
 use Rattle.model.specs.Histories.{Call, begins, commits, abandons, inserts, deletes, returns}
 use Rattle.model.specs.Settings
 use Rattle.model.specs.Lent.{Outcome}
-use Rattle.model.specs.Ended.{Asked, toFresh, toCheck, toOpen, toCommit, toAbandon, toInsert, toDelete, toReturn, toLookup, toRange, toLife, toDifference, toVisits, Ended, ended}
+use Rattle.model.specs.Ended.{Asked, toFresh, toFreshSecond, toCheck, toOpen, toCommit, toAbandon, toInsert, toDelete, toReturn, toLookup, toRange, toLife, toDifference, toVisits, Ended, ended}
 
 -- a call, and the list lent with it; each may bring another list
 pub record Turn : Type 0 where
@@ -17,18 +17,18 @@ pub record Turn : Type 0 where
   pub list : List ℕ
 
 -- what it gives and leaves
-abbrev pub turned : ℕ → List ℕ → Turn → Ended
-turned least b t = ended least (t .call) b (t .list)
+abbrev pub turned : List ℕ → Turn → Ended
+turned b t = ended (t .call) b (t .list)
 
 -- the store's bytes after all of them
-abbrev pub runBytes : ℕ → List ℕ → List Turn → List ℕ
-runBytes least b [] = b
-runBytes least b (t ∷ ts) = runBytes least (turned least b t .store) ts
+abbrev pub runBytes : List ℕ → List Turn → List ℕ
+runBytes b [] = b
+runBytes b (t ∷ ts) = runBytes (turned b t .store) ts
 
 -- and with them the number that the last one gave
-abbrev pub run : ℕ → Outcome → List Turn → Outcome
-run least o [] = o
-run least o (t ∷ ts) = run least (record { number = turned least (o .store) t .number; store = turned least (o .store) t .store }) ts
+abbrev pub run : Outcome → List Turn → Outcome
+run o [] = o
+run o (t ∷ ts) = run (record { number = turned (o .store) t .number; store = turned (o .store) t .store }) ts
 
 -- ---- what kind of call it is: it makes fresh, it may change the store, or it only reads
 
@@ -39,6 +39,7 @@ pub data Kind : Type 0 where
 
 abbrev pub kindOf : Asked → Kind
 kindOf toFresh = making
+kindOf toFreshSecond = making
 kindOf toCheck = reading
 kindOf toOpen = changing begins
 kindOf toCommit = changing commits
@@ -92,9 +93,9 @@ staying (changing c) n = not (givesUp (changing c) n) && (Settings.isInside c ||
 staying reading n = true
 
 -- each of a list of calls, made one after the other on bytes
-abbrev pub inside : ℕ → List ℕ → List Turn → Bool
-inside least b [] = true
-inside least b (t ∷ ts) = staying (kindOf (t .call)) (turned least b t .number) && inside least (turned least b t .store) ts
+abbrev pub inside : List ℕ → List Turn → Bool
+inside b [] = true
+inside b (t ∷ ts) = staying (kindOf (t .call)) (turned b t .number) && inside (turned b t .store) ts
 
 -- all but making fresh and commit: the committed versions are the same ones after it
 abbrev pub uncommitting : Kind → Bool

@@ -22,6 +22,6 @@ pub record SaysSame (e f : Ended) : Type 0 where
   pub list : e .list ≡ f .list
 
 -- readings of version v in bytes b′ say what they said in bytes b
-pub record SameAnswers (least : ℕ) (b b′ : List ℕ) (v : ℕ) : Type 0 where
-  pub lookup : (k : ℕ) (ns : List ℕ) → SaysSame (ended least (toLookup k v) b′ ns) (ended least (toLookup k v) b ns)
-  pub range : (lo hi : ℕ) (ns : List ℕ) → SaysSame (ended least (toRange lo hi v) b′ ns) (ended least (toRange lo hi v) b ns)
+pub record SameAnswers (b b′ : List ℕ) (v : ℕ) : Type 0 where
+  pub lookup : (k : ℕ) (ns : List ℕ) → SaysSame (ended (toLookup k v) b′ ns) (ended (toLookup k v) b ns)
+  pub range : (lo hi : ℕ) (ns : List ℕ) → SaysSame (ended (toRange lo hi v) b′ ns) (ended (toRange lo hi v) b ns)

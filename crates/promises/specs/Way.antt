@@ -6,44 +6,76 @@ use mathlib.Core.Path.{_≡_}
 use mathlib.Core.List.{List, [], _∷_}
 use lib.Dec.{leb, eqb}
 use lib.ListN.{length}
-use Rattle.model.specs.Basic.{all}
+use Rattle.model.specs.Basic.{all, pick}
 use Rattle.model.specs.Field.{Bytes}
 use Rattle.model.specs.Page.{pairsAt}
 use Rattle.model.specs.Store.{Store, page, fresh, last}
 use Rattle.model.specs.Walk.{Seen, seen, rootAt}
-use Rattle.model.specs.Layout.{encode}
-use Rattle.model.specs.Histories.{callBy, after}
-use Rattle.promises.specs.Runs.{Turn, Kind, making, changing, reading, kindOf}
+use Rattle.model.specs.Layout.{encode, sizeOf}
+use Rattle.model.specs.Judged.{lengthOk}
+use Rattle.model.specs.Editions.{leastOf}
+use Rattle.model.specs.Histories.{Call, begins, commits, abandons, inserts, deletes, returns, callBy, after}
+use Rattle.model.specs.Ended.{Asked, toFresh, toFreshSecond, toCheck, toOpen, toCommit, toAbandon, toInsert, toDelete, toReturn, toLookup, toRange, toVisits, toDifference, toLife}
+use Rattle.promises.specs.Accepts.{storeOf}
+use Rattle.promises.specs.Runs.{Turn}
 use Rattle.promises.specs.Beside.{Beside, onward}
 use Rattle.promises.specs.Answers.{Answers}
 
--- the store that the page rules (model's Rules, Climb and Calls) make of a call: a reading leaves it
-abbrev pub ruledBy : ℕ → Store → Kind → Store
-ruledBy least s making = fresh (length (s .pages))
-ruledBy least s (changing c) = after s (callBy least s c) .store
-ruledBy least s reading = s
+-- a store, and its edition by its least
+pub record Ruled : Type 0 where
+  pub least : ℕ
+  pub store : Store
 
--- every state on the way, the first and the last among them
-abbrev pub EachState : ℕ → (Beside → Store → Type 0) → Beside → Store → List Turn → Type 0
-EachState least P x s [] = P x s
-EachState least P x s (t ∷ ts) = P x s × EachState least P (onward least x t) (ruledBy least s (kindOf (t .call))) ts
+abbrev pub ruledOf : List ℕ → Ruled
+ruledOf b = record { least = leastOf b; store = storeOf b }
+
+-- ---- the store that the page rules (model's Rules, Climb and Calls) make of a call
+
+abbrev pub changedBy : Ruled → Call → Ruled
+changedBy r c = record { least = r .least; store = after (r .store) (callBy (r .least) (r .store) c) .store }
+
+-- making fresh: of the bytes only their length counts, which all calls leave
+abbrev pub remadeBy : ℕ → List ℕ → Ruled → Ruled
+remadeBy least b r = pick (lengthOk least b) (record { least = least; store = fresh (sizeOf least b) }) r
+
+abbrev pub ruledBy : List ℕ → Ruled → Asked → Ruled
+ruledBy b r toFresh = remadeBy 4 b r
+ruledBy b r toFreshSecond = remadeBy 8 b r
+ruledBy b r toCheck = r
+ruledBy b r toOpen = changedBy r begins
+ruledBy b r toCommit = changedBy r commits
+ruledBy b r toAbandon = changedBy r abandons
+ruledBy b r (toInsert k x) = changedBy r (inserts k x)
+ruledBy b r (toDelete k) = changedBy r (deletes k)
+ruledBy b r (toReturn v) = changedBy r (returns v)
+ruledBy b r (toLookup k v) = r
+ruledBy b r (toRange lo hi v) = r
+ruledBy b r (toVisits k v) = r
+ruledBy b r (toDifference u v) = r
+ruledBy b r (toLife k) = r
+
+-- ---- every state on the way, the first and the last among them
+
+abbrev pub EachState : (Beside → Ruled → Type 0) → Beside → Ruled → List Turn → Type 0
+EachState P x r [] = P x r
+EachState P x r (t ∷ ts) = P x r × EachState P (onward x t) (ruledBy (x .bytes) r (t .call)) ts
 
 -- "Every page that a version reaches, its root aside, holds at least four entries alive at that version."
-abbrev pub BalancedIn : ℕ → Store → Type 0
-BalancedIn least s = (v : ℕ) → v ≤ last s
-    → all (λ (x : Seen). eqb (x .number) (rootAt (s .slots) v) || leb least (length (pairsAt v (page (s .pages) (x .number))))) (seen s v) ≡ true
+abbrev pub BalancedIn : Ruled → Type 0
+BalancedIn r = (v : ℕ) → v ≤ last (r .store)
+    → all (λ (x : Seen). eqb (x .number) (rootAt (r .store .slots) v) || leb (r .least) (length (pairsAt v (page (r .store .pages) (x .number))))) (seen (r .store) v) ≡ true
 
 -- a state on the way from the lent bytes b
-pub record LentState (least : ℕ) (b : List ℕ) (x : Beside) (s : Store) : Type 0 where
-  pub answers : Answers least x
+pub record LentState (b : List ℕ) (x : Beside) (r : Ruled) : Type 0 where
+  pub answers : Answers x
   -- "After every call the pages are byte for byte what the published page rules, as fixed in document 01, produce."
-  pub bytes : Bytes b → x .bytes ≡ encode least s
-  pub balanced : BalancedIn least s
+  pub bytes : Bytes b → x .bytes ≡ encode (r .least) (r .store)
+  pub balanced : BalancedIn r
 
 -- a state on the way from a fresh store
-pub record FreshState (least : ℕ) (x : Beside) (s : Store) : Type 0 where
-  pub answers : Answers least x
-  pub bytes : x .bytes ≡ encode least s
-  pub balanced : BalancedIn least s
+pub record FreshState (x : Beside) (r : Ruled) : Type 0 where
+  pub answers : Answers x
+  pub bytes : x .bytes ≡ encode (r .least) (r .store)
+  pub balanced : BalancedIn r
   -- "Version 0 is empty."
   pub empty : x .machine .shows 0 ≡ []

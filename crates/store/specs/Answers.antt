@@ -58,19 +58,19 @@ name-other s k h ne = at (eqList (take 4 s) magic) refl
 
 -- ---- making fresh
 
-module _ (b : List ℕ) where
-  pub refused-number : lengthOk 4 b ≡ false → 1 ≡ freshLent 4 b .number
+module _ (least : ℕ) (b : List ℕ) where
+  pub refused-number : lengthOk least b ≡ false → 1 ≡ freshLent least b .number
   unfolding freshLent
   refused-number e = rw e
 
-  pub refused-store : lengthOk 4 b ≡ false → b ≡ freshLent 4 b .store
+  pub refused-store : lengthOk least b ≡ false → b ≡ freshLent least b .store
   unfolding freshLent
   refused-store e = rw e
 
-  pub done-number : lengthOk 4 b ≡ true → 0 ≡ freshLent 4 b .number
+  pub done-number : lengthOk least b ≡ true → 0 ≡ freshLent least b .number
   unfolding freshLent
   done-number e = rw e
 
-  pub done-store : lengthOk 4 b ≡ true → encode 4 (fresh (sizeOf 4 b)) ≡ freshLent 4 b .store
+  pub done-store : lengthOk least b ≡ true → encode least (fresh (sizeOf least b)) ≡ freshLent least b .store
   unfolding freshLent
   done-store e = rw e

@@ -12,3 +12,4 @@ pub mod Sure
 pub mod Fresh
 pub mod Answers
 pub mod Passes
+pub mod Editions

@@ -3,12 +3,15 @@ use model::Header;
 use model::Limits;
 use model::Slot;
 
+mod editions;
 mod make;
 
+pub use editions::Lent;
+pub use editions::edition_lent;
 ghost use mathlib.Core.Path.{_≡_};
 ghost use Prim.Native.Nat.{_+_, _*_, _^_, _≤_, _<_};
 ghost use lib.ListN.{length};
-ghost use Rattle.model.specs.Limits.{Edition};
+ghost use Rattle.model.specs.Limits.{Edition, editionOf};
 ghost use Rattle.model.specs.Field.{lay};
 ghost use Rattle.model.specs.Store.{fresh};
 ghost use Rattle.model.specs.Layout.{readHeader, readSlot, pageOf, sizeOf, bit};
@@ -135,14 +138,28 @@ pub fn put_slot(s: &mut [u8], l: Limits, i: usize, x: Slot)
     bits::put_field(s, o + 20, 12, x.root as u64);
 }
 
-// Making fresh: 1 for a length that is not 6 to 4,096 whole pages, and then not a byte changes.
-pub fn fresh(s: &mut [u8]) -> u32
-    ensures { λ r. ⌜ (r ≡ freshLent 4 (now (s .entry)) .number) × (now (s .exit) ≡ freshLent 4 (now (s .entry)) .store) ⌝ }
+// Making fresh, of an edition: 1 for a length that is not 6 to 4,096 whole pages, and then not a byte changes.
+fn fresh_in(s: &mut [u8], l: Limits, edition: u8) -> u32
+    requires { ⌜ Edition l × (edition ≡ editionOf (l .least)) ⌝ }
+    ensures { λ r. ⌜ (r ≡ freshLent (l .least) (now (s .entry)) .number) × (now (s .exit) ≡ freshLent (l .least) (now (s .entry)) .store) ⌝ }
 {
-    let l = model::edition_one();
     if !whole(s, l) {
         return 1;
     }
-    make::make(s, l, 1);
+    make::make(s, l, edition);
     0
+}
+
+// Making a fresh store of edition 1.
+pub fn fresh(s: &mut [u8]) -> u32
+    ensures { λ r. ⌜ (r ≡ freshLent 4 (now (s .entry)) .number) × (now (s .exit) ≡ freshLent 4 (now (s .entry)) .store) ⌝ }
+{
+    fresh_in(s, model::edition_one(), 1)
+}
+
+// Making a fresh store of edition 2.
+pub fn fresh_second(s: &mut [u8]) -> u32
+    ensures { λ r. ⌜ (r ≡ freshLent 8 (now (s .entry)) .number) × (now (s .exit) ≡ freshLent 8 (now (s .entry)) .store) ⌝ }
+{
+    fresh_in(s, model::edition_two(), 2)
 }

@@ -1,5 +1,5 @@
-// Makes a fresh store of six pages, writes the bytes that document 01 gives of it, and judges it: as it is, with a stray bit set, and
-// as a store of another edition.
+// Makes a fresh store of six pages, of either edition, writes the bytes that docs/FORMAT.md gives of it, and judges it: as it is, with a
+// stray bit set, and as a store of another edition.
 use libc::STDOUT_FILENO;
 
 fn wide(x: u8) -> u64 {
@@ -43,7 +43,7 @@ fn set(s: &mut [u8], at: usize, v: u8) {
     }
 }
 
-fn main() {
+fn first() {
     let mut s = [0xEE; 1536];
     store::fresh(&mut s);
     say_part(&s, 0, 11);
@@ -53,6 +53,25 @@ fn main() {
     set(&mut s, 12, 1);
     say_verdict(&s);
     set(&mut s, 12, 0);
-    set(&mut s, 4, 2);
+    set(&mut s, 4, 3);
     say_verdict(&s);
+}
+
+fn second() {
+    let mut s = [0xEE; 3072];
+    store::fresh_second(&mut s);
+    say_part(&s, 0, 11);
+    say_part(&s, 512, 516);
+    say_part(&s, 2560, 2567);
+    say_verdict(&s);
+    set(&mut s, 3071, 1);
+    say_verdict(&s);
+    set(&mut s, 3071, 0);
+    set(&mut s, 4, 1);
+    say_verdict(&s);
+}
+
+fn main() {
+    first();
+    second();
 }

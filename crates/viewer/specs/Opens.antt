@@ -10,11 +10,11 @@ use Rattle.model.specs.Layout.{decode}
 use Rattle.model.specs.Judged.{lengthOk, magicOk, editionOk}
 use Rattle.model.specs.Calls.{rule, firstOf}
 use Rattle.model.specs.Near.{frontRight}
-use Rattle.model.specs.Named.{viewed}
+use Rattle.model.specs.Named.{viewedBy}
 use Rattle.near.specs.Early.{guarded}
 
-pub viewed-is : (least : ℕ) (b : List ℕ) (v : ℕ) → guarded least b false v ≡ viewed least b v
-unfolding guarded viewed
+pub viewed-is : (least : ℕ) (b : List ℕ) (v : ℕ) → guarded least b false v ≡ viewedBy least b v
+unfolding guarded viewedBy
 viewed-is least b v = at (lengthOk least b) (magicOk b) (editionOk least b) (frontRight least b) (ltb (last (decode least b)) v)
   where
     at : (a m e f late : Bool)

@@ -13,6 +13,13 @@ pub mod settings;
 mod c {
     extern "C" {
         pub fn rcst_fresh(store: *mut u8, length: usize) -> u32;
+        pub fn rcst_fresh_second(store: *mut u8, length: usize) -> u32;
+        pub fn rcst_convert(
+            source: *const u8,
+            source_length: usize,
+            target: *mut u8,
+            target_length: usize,
+        ) -> u32;
         pub fn rcst_check(store: *const u8, length: usize, rule: *mut u32) -> u32;
         pub fn rcst_open(store: *mut u8, length: usize) -> u32;
         pub fn rcst_insert(store: *mut u8, length: usize, key: u32, value: u32) -> u32;
@@ -67,9 +74,27 @@ mod c {
     }
 }
 
-/// Makes a fresh store over any bytes of a fitting length.
+/// Makes a fresh store of edition 1 over any bytes of a fitting length.
 pub fn fresh(store: &mut [u8]) -> u32 {
     unsafe { c::rcst_fresh(store.as_mut_ptr(), store.len()) }
+}
+
+/// Makes a fresh store of edition 2 over any bytes of a fitting length.
+pub fn fresh_second(store: &mut [u8]) -> u32 {
+    unsafe { c::rcst_fresh_second(store.as_mut_ptr(), store.len()) }
+}
+
+/// Makes the target a store of edition 2 in which every committed version reads
+/// as in the source; with 12 or 13 it is a fresh one.
+pub fn convert(source: &[u8], target: &mut [u8]) -> u32 {
+    unsafe {
+        c::rcst_convert(
+            source.as_ptr(),
+            source.len(),
+            target.as_mut_ptr(),
+            target.len(),
+        )
+    }
 }
 
 /// The number and, with 4, the lowest number of a broken rule.
@@ -205,6 +230,7 @@ impl Engine for Proved {
     fn apply(&mut self, call: Call, store: &mut [u8], list: &mut [u32]) -> Answer {
         match call {
             Call::Fresh => Answer::of(fresh(store)),
+            Call::FreshSecond => Answer::of(fresh_second(store)),
             Call::Open => Answer::of(open(store)),
             Call::Commit => Answer::of(commit(store)),
             Call::Abandon => Answer::of(abandon(store)),
@@ -243,5 +269,9 @@ impl Engine for Proved {
                 Answer::counted((number, count as u64))
             }
         }
+    }
+
+    fn convert(&mut self, source: &[u8], target: &mut [u8]) -> u32 {
+        convert(source, target)
     }
 }

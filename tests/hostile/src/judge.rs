@@ -1,6 +1,8 @@
 //! The number and the rule of check, and what finding them took.
 
-use reference::layout::{at, EDITION, FEWEST_PAGES, FOUR_BYTES, MOST_PAGES, PAGE_BYTES};
+use reference::check::named_edition;
+use reference::edition::FIRST;
+use reference::layout::PAGE_BYTES;
 use reference::number;
 
 use crate::notes::{self, Work};
@@ -25,18 +27,13 @@ impl Taken {
     }
 }
 
-/// Numbers 1 to 3, if it is one of them.
+/// Numbers 1 to 3, if it is one of them. Stores of edition 1 alone are judged
+/// here.
 fn refused(store: &[u8]) -> Option<u32> {
-    let pages = store.len() / PAGE_BYTES;
-    let whole = store.len().is_multiple_of(PAGE_BYTES);
-    if !whole || !(FEWEST_PAGES..=MOST_PAGES).contains(&pages) {
-        Some(number::LENGTH)
-    } else if store[..4] != FOUR_BYTES {
-        Some(number::FOUR_BYTES)
-    } else if at::EDITION.get(store) != EDITION {
-        Some(number::EDITION)
-    } else {
-        None
+    match named_edition(store) {
+        Err(refusal) => Some(refusal),
+        Ok(edition) if *edition != FIRST => Some(number::EDITION),
+        Ok(edition) => (!edition.length_fits(store.len())).then_some(number::LENGTH),
     }
 }
 

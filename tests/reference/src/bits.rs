@@ -2,7 +2,7 @@
 
 /// A field that begins `at` bits into its bytes and is `width` bits wide.
 /// Bit 0 is the most significant bit of byte 0.
-#[derive(Clone, Copy, Debug)]
+#[derive(Clone, Copy, Debug, PartialEq, Eq)]
 pub struct Field {
     pub at: usize,
     pub width: usize,

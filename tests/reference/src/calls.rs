@@ -6,16 +6,48 @@
 //! and range judge the header and the slots first, and of the pages only those
 //! that they walk (2026-04).
 
+use crate::edition::{Edition, FIRST, SECOND};
 use crate::layout::HIGHEST_KEY;
-use crate::{check as judging, number, reading, store, unjudged};
+use crate::{check as judging, convert as converter, number, reading, store, unjudged};
 
-/// Makes a fresh store over any bytes of a fitting length.
+/// Makes a fresh store of edition 1 over any bytes of a fitting length.
 pub fn fresh(bytes: &mut [u8]) -> u32 {
-    if !store::length_fits(bytes.len()) {
+    make_fresh(&FIRST, bytes)
+}
+
+/// Makes a fresh store of edition 2 over any bytes of a fitting length.
+pub fn fresh_second(bytes: &mut [u8]) -> u32 {
+    make_fresh(&SECOND, bytes)
+}
+
+/// It "reads nothing of the lent bytes".
+fn make_fresh(edition: &'static Edition, bytes: &mut [u8]) -> u32 {
+    if !edition.length_fits(bytes.len()) {
         return number::LENGTH;
     }
-    store::write_fresh(bytes);
+    store::write_fresh(edition, bytes);
     number::DONE
+}
+
+/// Makes `target` a store of edition 2 in which every committed version reads
+/// as in `source`, which is of edition 1 and has no update open. With 12 and 13
+/// the target is a fresh store; every other refusal leaves it untouched.
+pub fn convert(source: &[u8], target: &mut [u8]) -> u32 {
+    match judging::named_edition(source) {
+        Err(refusal) => return refusal,
+        Ok(edition) if *edition != FIRST => return number::EDITION,
+        Ok(_) => {}
+    }
+    if !SECOND.length_fits(target.len()) {
+        return number::LENGTH;
+    }
+    if let Some(refusal) = judged(source) {
+        return refusal;
+    }
+    if store::header(source).open {
+        return number::ALREADY_OPEN;
+    }
+    converter::by_turning_points(source, target)
 }
 
 /// The number and, with 4, the lowest number of a broken rule.

@@ -6,7 +6,8 @@
 
 use std::collections::BTreeMap;
 
-use crate::layout::{Entry, Header, Page, Slot, Span, SLOTS};
+use crate::edition::Edition;
+use crate::layout::{Entry, Header, Page, Slot, Span};
 use crate::{number, store};
 
 pub struct Draft<'a> {
@@ -32,6 +33,10 @@ impl<'a> Draft<'a> {
             pages: BTreeMap::new(),
             new_slot: None,
         }
+    }
+
+    pub fn edition(&self) -> &'static Edition {
+        self.header.edition
     }
 
     pub fn open_version(&self) -> u32 {
@@ -111,7 +116,7 @@ impl<'a> Draft<'a> {
         } else {
             newest + 1
         };
-        if index == SLOTS {
+        if index == self.edition().slots {
             return Err(number::NO_FREE_SLOT);
         }
         self.header.roots = index + 1;

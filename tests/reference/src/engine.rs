@@ -6,7 +6,10 @@ use crate::calls;
 /// are lent beside it.
 #[derive(Clone, Copy, Debug, PartialEq, Eq)]
 pub enum Call {
+    /// Making fresh, of edition 1.
     Fresh,
+    /// Making fresh, of edition 2.
+    FreshSecond,
     Check,
     Open,
     /// Key and value.
@@ -98,6 +101,9 @@ pub trait Engine {
     /// Answers `call` on `store`. `list` holds as many numbers as the call
     /// says.
     fn apply(&mut self, call: Call, store: &mut [u8], list: &mut [u32]) -> Answer;
+
+    /// Converts `source`, of edition 1, into `target`, of edition 2.
+    fn convert(&mut self, source: &[u8], target: &mut [u8]) -> u32;
 }
 
 /// This program.
@@ -107,11 +113,16 @@ impl Engine for Reference {
     fn apply(&mut self, call: Call, store: &mut [u8], list: &mut [u32]) -> Answer {
         apply(call, store, list)
     }
+
+    fn convert(&mut self, source: &[u8], target: &mut [u8]) -> u32 {
+        calls::convert(source, target)
+    }
 }
 
 pub fn apply(call: Call, store: &mut [u8], list: &mut [u32]) -> Answer {
     match call {
         Call::Fresh => Answer::of(calls::fresh(store)),
+        Call::FreshSecond => Answer::of(calls::fresh_second(store)),
         Call::Open => Answer::of(calls::open(store)),
         Call::Insert(key, value) => Answer::of(calls::insert(store, key, value)),
         Call::Delete(key) => Answer::of(calls::delete(store, key)),

@@ -8,10 +8,7 @@ use std::collections::BTreeSet;
 
 use crate::draft::end_live;
 use crate::image::Image;
-use crate::layout::{
-    Entry, Header, Page, Slot, Span, FEWEST_LIVE, HIGHEST_KEY, HIGHEST_LEVEL, LEAF, MOST_ENTRIES,
-    SLOTS,
-};
+use crate::layout::{Entry, Header, Page, Slot, Span, HIGHEST_KEY, HIGHEST_LEVEL, LEAF};
 use crate::rng::Rng;
 use crate::store;
 
@@ -66,7 +63,7 @@ fn set_root(image: &mut Image, root: u32) -> bool {
     {
         image.slots.pop();
     }
-    let fits = image.slots.len() < SLOTS as usize;
+    let fits = image.slots.len() < image.edition().slots as usize;
     if fits {
         image.slots.push(Slot { version, root });
     }
@@ -75,7 +72,8 @@ fn set_root(image: &mut Image, root: u32) -> bool {
 
 fn has_room_for_root(image: &Image) -> bool {
     let open = image.header.last();
-    image.slots.len() < SLOTS as usize || image.slots.last().is_some_and(|s| s.version == open)
+    image.slots.len() < image.edition().slots as usize
+        || image.slots.last().is_some_and(|s| s.version == open)
 }
 
 /// The pages reached at the open version below and with `top`.
@@ -121,6 +119,7 @@ fn renew_router(image: &mut Image, rng: &mut Rng) -> bool {
     let Some(number) = some_reached_index_page(image, rng) else {
         return false;
     };
+    let most = image.edition().most_entries;
     let page = image.page_mut(number);
     let older: Vec<u32> = page
         .live(open)
@@ -128,7 +127,7 @@ fn renew_router(image: &mut Image, rng: &mut Rng) -> bool {
         .map(|router| router.key)
         .collect();
     match rng.pick(&older) {
-        Some(key) if page.entries.len() < MOST_ENTRIES => {
+        Some(key) if page.entries.len() < most => {
             rekey(page, *key, *key, open);
             true
         }
@@ -159,7 +158,7 @@ fn move_low_key(image: &mut Image, rng: &mut Rng) -> bool {
     let old = live[index].key;
     let new = rng.between(lowest, highest);
     let chain = first_pages(image, number, live[index].value);
-    let full = |page: &u32| image.page(*page).entries.len() >= MOST_ENTRIES;
+    let full = |page: &u32| image.page(*page).entries.len() >= image.edition().most_entries;
     if new == old || chain.iter().any(full) {
         return false;
     }
@@ -199,12 +198,13 @@ fn keys_below(image: &Image, top: u32) -> impl Iterator<Item = u32> + '_ {
 /// as it is, becomes the first child of a new root; the second child is new.
 fn root_to_child(image: &mut Image, _: &mut Rng) -> bool {
     let open = image.header.last();
+    let fewest = image.edition().fewest_live;
     let root = image.root(open);
     let level = image.page(root).level;
-    let filled = image.page(root).live(open).count() >= FEWEST_LIVE;
+    let filled = image.page(root).live(open).count() >= fewest;
     let low = keys_below(image, root).max().map_or(1, |key| key + 1);
-    let leaves = FEWEST_LIVE.pow(level - LEAF) as u32;
-    let keys_left = (HIGHEST_KEY + 1).saturating_sub(low) / FEWEST_LIVE as u32 >= leaves;
+    let leaves = fewest.pow(level - LEAF) as u32;
+    let keys_left = (HIGHEST_KEY + 1).saturating_sub(low) / fewest as u32 >= leaves;
     let free = image.numbered().filter(|(_, page)| page.is_free());
     // Less than twice the leaves is enough for them and the pages above.
     let pages_left = free.count() > 2 * leaves as usize;
@@ -218,11 +218,11 @@ fn root_to_child(image: &mut Image, _: &mut Rng) -> bool {
     set_root(image, above)
 }
 
-/// A page of `level` with four entries and all below it, keys from `next_key`
-/// on.
+/// A page of `level` with the fewest entries and all below it, keys from
+/// `next_key` on.
 fn new_subtree(image: &mut Image, level: u32, next_key: &mut u32) -> u32 {
     let mut pairs = Vec::new();
-    for _ in 0..FEWEST_LIVE {
+    for _ in 0..image.edition().fewest_live {
         let low = *next_key;
         if level == LEAF {
             pairs.push((low, low));

@@ -3,8 +3,9 @@
 //! A history is told each answer, so that it knows which keys are alive and
 //! how long a list must be, and can be driven by any program that answers.
 
+use crate::edition::{Edition, FIRST};
 use crate::engine::{Answer, Call, Engine, Reference};
-use crate::layout::{FIRST_BENCH_KEY, HIGHEST_KEY, PAGE_BYTES};
+use crate::layout::{FIRST_BENCH_KEY, HIGHEST_KEY};
 use crate::model::Model;
 use crate::number;
 use crate::rng::Rng;
@@ -40,6 +41,7 @@ enum Order {
 }
 
 pub struct History {
+    edition: &'static Edition,
     kind: Kind,
     rng: Rng,
     model: Model,
@@ -60,28 +62,47 @@ pub struct History {
 }
 
 impl History {
-    /// The history named by `seed` for a store of `pages` pages. It begins
-    /// with making the store fresh.
+    /// The history named by `seed` for a store of `pages` pages of edition 1.
+    /// It begins with making the store fresh.
     pub fn new(seed: u64, kind: Kind, pages: usize) -> History {
-        let history = History::on_store(seed, kind, pages, Model::fresh());
+        History::of(&FIRST, seed, kind, pages)
+    }
+
+    /// The same of any edition.
+    pub fn of(edition: &'static Edition, seed: u64, kind: Kind, pages: usize) -> History {
+        let model = Model::fresh();
+        let history = History::on_store_of(edition, seed, kind, pages, model);
         History {
             begun: false,
             ..history
         }
     }
 
-    /// A history that goes on from a store with these settings.
+    /// A history that goes on from a store of edition 1 with these settings.
     pub fn on_store(seed: u64, kind: Kind, pages: usize, model: Model) -> History {
+        History::on_store_of(&FIRST, seed, kind, pages, model)
+    }
+
+    /// The same of any edition. The larger its pages, the more keys it wants.
+    pub fn on_store_of(
+        edition: &'static Edition,
+        seed: u64,
+        kind: Kind,
+        pages: usize,
+        model: Model,
+    ) -> History {
         let mut rng = Rng::new(seed);
+        let full = edition.most_entries as u32;
         let count = match kind {
-            Kind::NewRoots => 16,
-            Kind::HotPage => rng.between(6, 40),
-            _ => rng.between(20, 20 + 6 * pages as u32),
+            Kind::NewRoots => edition.most_gathered as u32,
+            Kind::HotPage => rng.between(6, 2 * full),
+            _ => rng.between(full, full + full * 3 / 10 * pages as u32),
         };
         let order = *rng
             .pick(&[Order::Rising, Order::Falling, Order::Scattered])
             .unwrap_or(&Order::Scattered);
         History {
+            edition,
             kind,
             keys: some_keys(&mut rng, count),
             order,
@@ -106,7 +127,10 @@ impl History {
             self.begun = true;
             self.stuck = 0;
             self.left = 0;
-            return Call::Fresh;
+            return match self.edition == &FIRST {
+                true => Call::Fresh,
+                false => Call::FreshSecond,
+            };
         }
         match self.rng.below(24) {
             0 => self.bad_call(),
@@ -168,9 +192,10 @@ impl History {
     }
 
     fn length_of_update(&mut self) -> u32 {
+        let all = self.edition.most_gathered;
         match (self.kind, self.rng.below(4)) {
-            (Kind::NewRoots, _) if self.alive().len() < 16 => 16 - self.alive().len() as u32,
-            (Kind::NewRoots, _) => 10,
+            (Kind::NewRoots, _) if self.alive().len() < all => (all - self.alive().len()) as u32,
+            (Kind::NewRoots, _) => 2 * self.renewed() as u32,
             (_, 0) => self.rng.below(3),
             (Kind::HotPage, 1) => self.rng.between(20, 120),
             (_, 1) => self.rng.between(10, 60),
@@ -196,13 +221,20 @@ impl History {
         }
     }
 
-    /// Five of sixteen keys are deleted and inserted again: 21 entries of which
-    /// 16 live, so one new page, which is the new root.
+    /// As many keys as make a page of them overflow: one entry too many, of which
+    /// as many live as one page is filled with.
+    fn renewed(&self) -> usize {
+        self.edition.most_entries - self.edition.most_gathered + 1
+    }
+
+    /// Five of sixteen keys (in edition 2 nine of 32) are deleted and inserted
+    /// again: 21 entries of which 16 live, so one new page, which is the new root.
     fn renew(&mut self) -> Call {
         let alive = self.alive();
-        if alive.len() <= 11 {
+        let all = self.edition.most_gathered;
+        if alive.len() <= all - self.renewed() {
             self.growing = true;
-        } else if alive.len() >= 16 {
+        } else if alive.len() >= all {
             self.growing = false;
         }
         if self.growing {
@@ -385,11 +417,22 @@ fn some_keys(rng: &mut Rng, count: u32) -> Vec<u32> {
     (0..count).map(|index| first + index * step).collect()
 }
 
-/// The first `count` calls of the history named by `seed`, as this program's
-/// answers lead it, and the store they end with.
+/// The first `count` calls of the history of edition 1 named by `seed`, as this
+/// program's answers lead it, and the store they end with.
 pub fn calls(seed: u64, kind: Kind, pages: usize, count: usize) -> (Vec<Call>, Vec<u8>) {
-    let mut history = History::new(seed, kind, pages);
-    let mut store = vec![0; pages * PAGE_BYTES];
+    calls_of(&FIRST, seed, kind, pages, count)
+}
+
+/// The same of any edition.
+pub fn calls_of(
+    edition: &'static Edition,
+    seed: u64,
+    kind: Kind,
+    pages: usize,
+    count: usize,
+) -> (Vec<Call>, Vec<u8>) {
+    let mut history = History::of(edition, seed, kind, pages);
+    let mut store = vec![0; pages * edition.page_bytes];
     let mut calls = Vec::new();
     for _ in 0..count {
         let call = history.next_call();

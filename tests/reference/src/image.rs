@@ -3,7 +3,8 @@
 //! Judging reads each page many times, and the builders of stores change many
 //! fields at once; both are plainer on values than on bits.
 
-use crate::layout::{Header, Page, Slot, FIRST_PAGE, PAGE_BYTES};
+use crate::edition::Edition;
+use crate::layout::{Header, Page, Slot, FIRST_PAGE};
 use crate::store;
 
 #[derive(Clone, Debug, PartialEq, Eq)]
@@ -15,6 +16,10 @@ pub struct Image {
 }
 
 impl Image {
+    pub fn edition(&self) -> &'static Edition {
+        self.header.edition
+    }
+
     /// Wants a store in which rule 1 holds.
     pub fn read(bytes: &[u8]) -> Image {
         let header = store::header(bytes);
@@ -31,7 +36,7 @@ impl Image {
     /// `pages`.
     pub fn write(&self) -> Vec<u8> {
         let page_count = FIRST_PAGE as usize + self.pages.len();
-        let mut bytes = vec![0; page_count * PAGE_BYTES];
+        let mut bytes = vec![0; page_count * self.edition().page_bytes];
         let header = Header {
             page_count: page_count as u32,
             roots: self.slots.len() as u32,

@@ -1,6 +1,9 @@
 //! "The store, bit by bit": the fields, and the values read from them.
 
-/// Field positions, in bits from the start of the thing they belong to.
+use crate::edition::Edition;
+
+/// Field positions, in bits from the start of the thing they belong to. Those
+/// in which the editions differ are the edition's.
 pub mod at {
     use crate::bits::Field;
 
@@ -8,15 +11,11 @@ pub mod at {
     pub const PAGE_COUNT: Field = Field::new(40, 13);
     pub const CURRENT: Field = Field::new(53, 20);
     pub const OPEN_FLAG: Field = Field::new(73, 1);
-    pub const ROOT_COUNT: Field = Field::new(74, 9);
 
     pub const SLOT_VERSION: Field = Field::new(0, 20);
     pub const SLOT_ROOT: Field = Field::new(20, 12);
 
     pub const LEVEL: Field = Field::new(0, 4);
-    pub const ENTRY_COUNT: Field = Field::new(4, 5);
-    pub const PAGE_START: Field = Field::new(9, 20);
-    pub const PAGE_END: Field = Field::new(29, 20);
 
     pub const KEY: Field = Field::new(0, 24);
     pub const ENTRY_START: Field = Field::new(24, 20);
@@ -24,24 +23,23 @@ pub mod at {
     pub const VALUE: Field = Field::new(64, 32);
 }
 
-pub const PAGE_BYTES: usize = 256;
 pub const FEWEST_PAGES: usize = 6;
 pub const MOST_PAGES: usize = 4096;
 
 pub const FOUR_BYTES: [u8; 4] = [0x52, 0x43, 0x53, 0x54];
-pub const EDITION: u32 = 1;
 
 /// Page 0 is the header, pages 1 to 4 the root directory.
 pub const FIRST_PAGE: u32 = 5;
 pub const SLOT_BYTES: usize = 4;
-pub const SLOTS: u32 = 256;
 
-/// Level, entry count, start, end and 79 zero bits make 16 bytes.
+/// Level, entry count, start, end and zero bits make 16 bytes.
 pub const PAGE_HEAD_BYTES: usize = 16;
 pub const ENTRY_BYTES: usize = 12;
-/// 004's limits B, 4B/5 and B/5.
+
+/// Edition 1's, for what is made in that edition alone.
+pub const PAGE_BYTES: usize = 256;
+pub const SLOTS: u32 = 256;
 pub const MOST_ENTRIES: usize = 20;
-pub const MOST_GATHERED: usize = 16;
 pub const FEWEST_LIVE: usize = 4;
 
 pub const FREE: u32 = 0;
@@ -138,23 +136,23 @@ impl Page {
         Page::new(FREE, Span { start: 0, end: 0 }, Vec::new())
     }
 
-    /// Wants an entry count of at most 20.
-    pub fn read(bytes: &[u8]) -> Page {
-        let count = at::ENTRY_COUNT.get(bytes) as usize;
+    /// Wants an entry count that the edition allows.
+    pub fn read(edition: &Edition, bytes: &[u8]) -> Page {
+        let count = edition.entry_count.get(bytes) as usize;
         let entries = bytes[PAGE_HEAD_BYTES..].chunks_exact(ENTRY_BYTES);
         Page {
             level: at::LEVEL.get(bytes),
-            span: page_span(bytes),
+            span: page_span(edition, bytes),
             entries: entries.take(count).map(Entry::read).collect(),
         }
     }
 
-    pub fn write(&self, bytes: &mut [u8]) {
+    pub fn write(&self, edition: &Edition, bytes: &mut [u8]) {
         bytes.fill(0);
         at::LEVEL.set(bytes, self.level);
-        at::ENTRY_COUNT.set(bytes, self.entries.len() as u32);
-        at::PAGE_START.set(bytes, self.span.start);
-        at::PAGE_END.set(bytes, self.span.end);
+        edition.entry_count.set(bytes, self.entries.len() as u32);
+        edition.page_start.set(bytes, self.span.start);
+        edition.page_end.set(bytes, self.span.end);
         let places = bytes[PAGE_HEAD_BYTES..].chunks_exact_mut(ENTRY_BYTES);
         for (entry, place) in self.entries.iter().zip(places) {
             entry.write(place);
@@ -178,10 +176,10 @@ impl Page {
 }
 
 /// The span of the page with these bytes.
-pub fn page_span(bytes: &[u8]) -> Span {
+pub fn page_span(edition: &Edition, bytes: &[u8]) -> Span {
     Span {
-        start: at::PAGE_START.get(bytes),
-        end: at::PAGE_END.get(bytes),
+        start: edition.page_start.get(bytes),
+        end: edition.page_end.get(bytes),
     }
 }
 
@@ -206,9 +204,10 @@ impl Slot {
     }
 }
 
-/// The header's fields behind the four bytes and the edition.
+/// The header's fields behind the four bytes.
 #[derive(Clone, Copy, Debug, PartialEq, Eq)]
 pub struct Header {
+    pub edition: &'static Edition,
     pub page_count: u32,
     pub current: u32,
     pub open: bool,
@@ -216,22 +215,35 @@ pub struct Header {
 }
 
 impl Header {
-    pub fn read(bytes: &[u8]) -> Header {
+    /// A header whose counts are for the one to fill in who knows them.
+    pub fn uncounted(edition: &'static Edition, current: u32, open: bool) -> Header {
         Header {
+            edition,
+            page_count: 0,
+            current,
+            open,
+            roots: 0,
+        }
+    }
+
+    pub fn read(bytes: &[u8]) -> Header {
+        let edition = Edition::of(bytes);
+        Header {
+            edition,
             page_count: at::PAGE_COUNT.get(bytes),
             current: at::CURRENT.get(bytes),
             open: at::OPEN_FLAG.get(bytes) == 1,
-            roots: at::ROOT_COUNT.get(bytes),
+            roots: edition.root_count.get(bytes),
         }
     }
 
     pub fn write(&self, bytes: &mut [u8]) {
         bytes[..4].copy_from_slice(&FOUR_BYTES);
-        at::EDITION.set(bytes, EDITION);
+        at::EDITION.set(bytes, u32::from(self.edition.number));
         at::PAGE_COUNT.set(bytes, self.page_count);
         at::CURRENT.set(bytes, self.current);
         at::OPEN_FLAG.set(bytes, u32::from(self.open));
-        at::ROOT_COUNT.set(bytes, self.roots);
+        self.edition.root_count.set(bytes, self.roots);
     }
 
     /// "Last": the open version if one is open, else the current one.

@@ -4,11 +4,13 @@
 //! pages, allocate and sort; where a shorter way and a plainer way differ it
 //! takes the plainer. Read it in this order:
 //!
-//! - [`bits`], [`layout`], [`store`]: where each number stands in the bytes;
+//! - [`bits`], [`layout`], [`store`]: where each number stands in the bytes, by
+//!   the limits of an [`edition`];
 //! - [`check`]: when a store is sound, a module for each rule;
 //! - [`walk`]: lookups and ranges on a sound store; [`reading`]: the same on any
 //!   bytes, judged as they go; [`update`] over a [`draft`]: the page rules;
 //!   [`mod@abandon`]; [`mod@difference`]; [`mod@life`]; [`returning`];
+//!   [`convert`]: from edition 1 to edition 2;
 //! - [`unjudged`]: the calls on a store known to be sound, and [`calls`]: the
 //!   calls as the console has them, on any bytes; [`named`]: named settings and
 //!   the viewer above them;
@@ -34,9 +36,11 @@ pub mod bits;
 pub mod calls;
 pub mod check;
 pub mod console;
+pub mod convert;
 pub mod damage;
 pub mod difference;
 pub mod draft;
+pub mod edition;
 pub mod engine;
 pub mod foreign;
 pub mod history;

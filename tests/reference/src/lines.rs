@@ -93,7 +93,7 @@ impl Session {
 
     fn text(&self, call: Call) -> String {
         match call {
-            Call::Fresh => format!("store {}", self.pages),
+            Call::Fresh | Call::FreshSecond => format!("store {}", self.pages),
             // There is no line for these; a lookup stands for them.
             Call::Check | Call::Difference(..) | Call::Life(..) | Call::Return(_) => {
                 format!("get 0 {}", self.history.model().last())

@@ -81,7 +81,7 @@ impl Model {
     /// pages it knows only whether they are refused by 5 or 6.
     pub fn answer(&self, call: Call) -> Answer {
         match call {
-            Call::Fresh | Call::Check => Answer::default(),
+            Call::Fresh | Call::FreshSecond | Call::Check => Answer::default(),
             Call::Open => Answer::of(self.number_of_open()),
             Call::Commit if self.nothing_changed() => Answer::of(number::NOTHING_CHANGED),
             Call::Commit | Call::Abandon => Answer::of(self.number_unless_open()),
@@ -216,7 +216,7 @@ impl Model {
     /// Makes the change of a call that was accepted.
     pub fn record(&mut self, call: Call) {
         match call {
-            Call::Fresh => *self = Model::fresh(),
+            Call::Fresh | Call::FreshSecond => *self = Model::fresh(),
             Call::Open => self.open = Some(self.at(self.current).clone()),
             Call::Insert(key, value) => {
                 self.opened().insert(key, value);

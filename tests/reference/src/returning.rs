@@ -29,9 +29,14 @@ pub fn steps(here: &Settings, there: &Settings) -> Steps {
 /// call", up to the first that is refused; its number, or 0. Wants a sound
 /// store with an update open.
 pub fn make_steps(bytes: &mut [u8], version: u32) -> u32 {
-    let here = walk::settings(bytes, store::header(bytes).last());
     let there = walk::settings(bytes, version);
-    let Steps { deletes, inserts } = steps(&here, &there);
+    make_steps_to(bytes, &there)
+}
+
+/// The same to settings that may stand in another store.
+pub fn make_steps_to(bytes: &mut [u8], there: &Settings) -> u32 {
+    let here = walk::settings(bytes, store::header(bytes).last());
+    let Steps { deletes, inserts } = steps(&here, there);
     for key in deletes {
         let number = unjudged::delete(bytes, key);
         if number != number::DONE {

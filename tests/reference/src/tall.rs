@@ -5,13 +5,12 @@
 //! the spine, gets the entries asked for, and every page beside it the fewest
 //! that rule 5 allows.
 
+use crate::edition::{Edition, FIRST};
 use crate::image::Image;
-use crate::layout::{
-    Entry, Header, Page, Slot, Span, ALIVE, FEWEST_LIVE, FIRST_PAGE, LEAF, MOST_ENTRIES, MOST_PAGES,
-};
+use crate::layout::{Entry, Header, Page, Slot, Span, ALIVE, FIRST_PAGE, LEAF, MOST_PAGES};
 
-/// How a page of the spine is filled: `live` and `dead` entries, at most 20
-/// together. The dead ones are earlier lives of its first entry.
+/// How a page of the spine is filled: `live` and `dead` entries, together at
+/// most as many as a page holds. The dead ones are earlier lives of its first entry.
 #[derive(Clone, Copy, Debug, PartialEq, Eq)]
 pub struct Fill {
     pub live: usize,
@@ -50,13 +49,23 @@ struct Builder<'a> {
     spine_keys: Vec<u32>,
 }
 
-/// A store whose root has level `fills.len()`; `fills` are the spine's, the
-/// leaf first. The pages in use are followed by `free` free ones. None if that
-/// is more than 4,096 pages.
+/// A store of edition 1 whose root has level `fills.len()`; `fills` are the
+/// spine's, the leaf first. The pages in use are followed by `free` free ones.
+/// None if that is more than 4,096 pages.
 pub fn tall(fills: &[Fill], spine: Spine, free: usize) -> Option<Tall> {
+    tall_of(&FIRST, fills, spine, free)
+}
+
+/// The same of any edition.
+pub fn tall_of(
+    edition: &'static Edition,
+    fills: &[Fill],
+    spine: Spine,
+    free: usize,
+) -> Option<Tall> {
     let dead = fills.iter().map(|fill| fill.dead).max()?;
     let mut builder = Builder {
-        image: only_version_0(dead as u32 + 1),
+        image: only_version_0(edition, dead as u32 + 1),
         fills,
         spine,
         next_key: 0,
@@ -74,15 +83,10 @@ pub fn tall(fills: &[Fill], spine: Spine, free: usize) -> Option<Tall> {
 }
 
 /// Version 0 is empty: page 5, a leaf root that ends at 1.
-fn only_version_0(current: u32) -> Image {
+fn only_version_0(edition: &'static Edition, current: u32) -> Image {
     let empty = Page::new(LEAF, Span { start: 0, end: 1 }, Vec::new());
     Image {
-        header: Header {
-            page_count: 0,
-            current,
-            open: false,
-            roots: 0,
-        },
+        header: Header::uncounted(edition, current, false),
         slots: vec![Slot {
             version: 0,
             root: FIRST_PAGE,
@@ -95,11 +99,12 @@ impl Builder<'_> {
     /// Builds a page of `level` and all below it; gives its number and low
     /// key. The leftmost low key of the store is 0.
     fn subtree(&mut self, level: usize, on_spine: bool) -> Option<(u32, u32)> {
+        let edition = self.image.edition();
         let fill = match on_spine {
             true => self.fills[level - 1],
-            false => Fill::new(FEWEST_LIVE, 0),
+            false => Fill::new(edition.fewest_live, 0),
         };
-        if fill.live + fill.dead > MOST_ENTRIES || self.image.pages.len() > MOST_PAGES {
+        if fill.live + fill.dead > edition.most_entries || self.image.pages.len() > MOST_PAGES {
             return None;
         }
         let low = self.next_key;

@@ -1,11 +1,8 @@
 //! "The page rules for an update": from the leaf up, in a draft.
 
 use crate::draft::{end_live, Draft};
-use crate::layout::{Entry, Page, Span, FEWEST_LIVE, MOST_ENTRIES, MOST_GATHERED};
+use crate::layout::{Entry, Page, Span};
 use crate::walk::{self, Step};
-
-/// A page whose wanted list is shorter than this takes its neighbour along.
-const GATHERED_ALONE: usize = 8;
 
 /// What a page is asked to change: live entries to end, by key (a live key
 /// stands once in a page), and entries to add, which start at the open
@@ -55,9 +52,10 @@ impl Change {
 pub fn plan<'a>(bytes: &'a [u8], key: u32, change: Change) -> Result<Draft<'a>, u32> {
     let mut draft = Draft::new(bytes);
     let path = walk::path(bytes, key, draft.open_version());
+    let fewest = draft.edition().fewest_live;
     let mut change = change;
     for depth in (1..path.len()).rev() {
-        if change_in_place(&mut draft, path[depth].page, &change, FEWEST_LIVE) {
+        if change_in_place(&mut draft, path[depth].page, &change, fewest) {
             return Ok(draft);
         }
         change = restructure(&mut draft, path[depth - 1], path[depth], &change)?;
@@ -66,13 +64,14 @@ pub fn plan<'a>(bytes: &'a [u8], key: u32, change: Change) -> Result<Draft<'a>, 
     Ok(draft)
 }
 
-/// A page takes its change in place if it then has at most 20 entries, dead
-/// ones counted, and at least `fewest` live.
+/// A page takes its change in place if it then has at most 20 entries (40 in
+/// edition 2), dead ones counted, and at least `fewest` live.
 fn change_in_place(draft: &mut Draft, number: u32, change: &Change, fewest: usize) -> bool {
     let open = draft.open_version();
     let mut page = draft.page(number);
     page.entries = change.in_place(&page, open);
-    let fits = page.entries.len() <= MOST_ENTRIES && page.live(open).count() >= fewest;
+    let has_room = page.entries.len() <= draft.edition().most_entries;
+    let fits = has_room && page.live(open).count() >= fewest;
     if fits {
         draft.put(number, page);
     }
@@ -91,7 +90,7 @@ fn restructure(
     let page = draft.page(child.page);
     let mut entries = change.wanted(&page, open);
     let mut old = vec![child];
-    if entries.len() < GATHERED_ALONE {
+    if entries.len() < draft.edition().gathered_alone {
         let neighbour = neighbour(draft, parent.page, child);
         old.push(neighbour);
         entries.extend(draft.page(neighbour.page).live(open));
@@ -129,7 +128,7 @@ fn refill(
     old: &[Step],
     entries: &[Entry],
 ) -> Result<Vec<Step>, u32> {
-    let parts = if entries.len() <= MOST_GATHERED {
+    let parts = if entries.len() <= draft.edition().most_gathered {
         vec![entries]
     } else {
         // The lower half takes the odd one.
@@ -199,7 +198,8 @@ fn change_root(draft: &mut Draft, number: u32, change: &Change) -> Result<(), u3
     if new.len() == 1 {
         return draft.set_root(new[0].page);
     }
-    // No root of level 7 comes here: 4,096 pages are too few for one to split.
+    // No root of level 7 (edition 2: of level 5) comes here: 4,096 pages are too
+    // few for one to split.
     let above = draft.take(root.level + 1)?;
     let routers: Vec<Entry> = new.iter().map(|step| router(*step, open)).collect();
     draft.fill(above, root.level + 1, &routers);

@@ -3,6 +3,7 @@
 
 use std::collections::BTreeMap;
 
+use crate::edition::{Edition, FIRST};
 use crate::image::Image;
 use crate::layout::{
     Entry, Header, Page, Slot, Span, ALIVE, FIRST_PAGE, HIGHEST_KEY, HIGHEST_LEVEL, LEAF,
@@ -13,17 +14,19 @@ use crate::rng::Rng;
 const KEYS: u32 = 60;
 
 pub fn wild_store(rng: &mut Rng) -> Vec<u8> {
+    wild_store_of(&FIRST, rng)
+}
+
+pub fn wild_store_of(edition: &'static Edition, rng: &mut Rng) -> Vec<u8> {
     let last = rng.between(1, 9);
     let open = rng.once_in(3);
     let levels: Vec<u32> = (0..rng.between(1, 40)).map(|_| some_level(rng)).collect();
-    let pages = levels.iter().map(|level| page(*level, &levels, last, rng));
+    let most = edition.most_entries as u32;
+    let pages = levels
+        .iter()
+        .map(|level| page(*level, &levels, most, last, rng));
     let mut image = Image {
-        header: Header {
-            page_count: 0,
-            current: last - u32::from(open),
-            open,
-            roots: 0,
-        },
+        header: Header::uncounted(edition, last - u32::from(open), open),
         slots: Vec::new(),
         pages: pages.collect(),
     };
@@ -59,7 +62,7 @@ fn highest(levels: &[u32], rng: &mut Rng) -> u32 {
 
 /// A page of this level with entries of all sorts; its routers lead mostly to
 /// pages one level lower.
-fn page(level: u32, levels: &[u32], last: u32, rng: &mut Rng) -> Page {
+fn page(level: u32, levels: &[u32], most: u32, last: u32, rng: &mut Rng) -> Page {
     if level == 0 {
         return Page::free();
     }
@@ -68,7 +71,7 @@ fn page(level: u32, levels: &[u32], last: u32, rng: &mut Rng) -> Page {
         .collect();
     let fewest = if level == LEAF { 1 } else { 0 };
     // Low levels may be wide; the walk through high ones has to end.
-    let most = if level <= 3 { 20 } else { 6 };
+    let most = if level <= 3 { most } else { 6 };
     let mut entries = BTreeMap::new();
     for index in 0..rng.between(1, most) {
         let key = match rng.below(12) {

@@ -7,7 +7,7 @@ use common::rounds;
 use reference::beside::{compare, run};
 use reference::calls;
 use reference::engine::{apply, Answer, Call, Engine, Reference};
-use reference::history::{calls, History, KINDS};
+use reference::history::{self, History, KINDS};
 
 /// This program with a fault in the call that `fault` picks.
 struct Faulty {
@@ -19,6 +19,10 @@ impl Engine for Faulty {
         let mut answer = apply(call, store, list);
         (self.fault)(call, store, list, &mut answer);
         answer
+    }
+
+    fn convert(&mut self, source: &[u8], target: &mut [u8]) -> u32 {
+        calls::convert(source, target)
     }
 }
 
@@ -89,9 +93,12 @@ fn a_faulty_program_is_caught() {
 #[test]
 fn a_history_is_named_by_its_seed() {
     for (seed, kind) in (0..8).zip(KINDS.into_iter().cycle()) {
-        let (one, store) = calls(seed, kind, 30, 200);
-        assert_eq!((one.clone(), store.clone()), calls(seed, kind, 30, 200));
-        let (other, _) = calls(seed + 100, kind, 30, 200);
+        let (one, store) = history::calls(seed, kind, 30, 200);
+        assert_eq!(
+            (one.clone(), store.clone()),
+            history::calls(seed, kind, 30, 200)
+        );
+        let (other, _) = history::calls(seed + 100, kind, 30, 200);
         assert_ne!(one, other);
         // The calls alone lead another program to the same store.
         let (mut left, mut right) = (vec![0; 30 * 256], vec![0; 30 * 256]);

@@ -12,14 +12,29 @@ use common::*;
 use reference::calls;
 use reference::damage::tamper::{flip_bit, set_some_field};
 use reference::damage::{kinds, Damage};
+use reference::edition::{Edition, EDITIONS, FIRST, SECOND};
 use reference::engine::{apply, Answer, Call};
 use reference::rng::Rng;
-use reference::samples::sound_store;
+use reference::samples::sound_store_of;
 use reference::store;
 
-fn sound_stores() -> &'static [Vec<u8>] {
-    static STORES: OnceLock<Vec<Vec<u8>>> = OnceLock::new();
-    STORES.get_or_init(|| (0..400).map(sound_store).collect())
+const STORES: u64 = 400;
+
+fn sound_stores(edition: &'static Edition) -> &'static [Vec<u8>] {
+    static FIRSTS: OnceLock<Vec<Vec<u8>>> = OnceLock::new();
+    static SECONDS: OnceLock<Vec<Vec<u8>>> = OnceLock::new();
+    let stores = if edition == &FIRST { &FIRSTS } else { &SECONDS };
+    stores.get_or_init(|| {
+        (0..STORES)
+            .map(|seed| sound_store_of(edition, seed))
+            .collect()
+    })
+}
+
+/// A store of edition 2 once in three times.
+fn some_store(rng: &mut Rng) -> Vec<u8> {
+    let edition = if rng.once_in(3) { &SECOND } else { &FIRST };
+    rng.pick(sound_stores(edition)).unwrap().clone()
 }
 
 /// The literal judge says the same. It goes through every single version, so
@@ -71,8 +86,8 @@ fn all_calls_refuse(bytes: &[u8], number: u32, rule: u32, rng: &mut Rng) {
     assert_eq!(lent, bytes);
 }
 
-fn damage_once(damage: &Damage, seed: u64) -> bool {
-    let stores = sound_stores();
+fn damage_once(edition: &'static Edition, damage: &Damage, seed: u64) -> bool {
+    let stores = sound_stores(edition);
     let mut bytes = stores[seed as usize % stores.len()].clone();
     let mut rng = Rng::new(seed ^ 0xDA);
     if !damage.make(&mut bytes, &mut rng) {
@@ -87,12 +102,12 @@ fn damage_once(damage: &Damage, seed: u64) -> bool {
     true
 }
 
-#[test]
-fn each_rule_is_the_lowest_broken_one_hundreds_of_times() {
+fn each_rule_is_the_lowest_broken_one(edition: &'static Edition, rounds: u64) {
     let mut of_rule = BTreeMap::<u32, u64>::new();
     for damage in kinds() {
-        let seeds = 0..rounds(800);
-        let times = seeds.filter(|seed| damage_once(&damage, *seed)).count() as u64;
+        let seeds = 0..rounds;
+        let damaged = seeds.filter(|seed| damage_once(edition, &damage, *seed));
+        let times = damaged.count() as u64;
         println!("rule {} {:>5} times: {}", damage.rule, times, damage.name);
         assert!(times >= 20, "{} found a place {times} times", damage.name);
         *of_rule.entry(damage.rule).or_default() += times;
@@ -104,10 +119,23 @@ fn each_rule_is_the_lowest_broken_one_hundreds_of_times() {
 }
 
 #[test]
+fn each_rule_is_the_lowest_broken_one_hundreds_of_times() {
+    each_rule_is_the_lowest_broken_one(&FIRST, rounds(800));
+}
+
+#[test]
+fn each_rule_of_edition_2_too() {
+    each_rule_is_the_lowest_broken_one(&SECOND, rounds(400));
+}
+
+#[test]
 fn sound_stores_are_sound_to_both_judges() {
-    for bytes in sound_stores() {
-        assert_sound(bytes);
-        judges_agree(bytes, (0, 0));
+    for edition in EDITIONS {
+        for bytes in sound_stores(edition) {
+            assert_eq!(Edition::of(bytes), edition);
+            assert_sound(bytes);
+            judges_agree(bytes, (0, 0));
+        }
     }
 }
 
@@ -116,7 +144,7 @@ fn flipped_bits() {
     let mut met = BTreeMap::<(u32, u32), u64>::new();
     for seed in 0..rounds(3000) {
         let mut rng = Rng::new(seed);
-        let mut bytes = rng.pick(sound_stores()).unwrap().clone();
+        let mut bytes = some_store(&mut rng);
         for _ in 0..rng.between(1, 2) {
             flip_bit(&mut bytes, &mut rng);
         }
@@ -132,7 +160,7 @@ fn fields_set_to_likely_numbers() {
     let mut met = BTreeMap::<(u32, u32), u64>::new();
     for seed in 0..rounds(20_000) {
         let mut rng = Rng::new(seed);
-        let mut bytes = rng.pick(sound_stores()).unwrap().clone();
+        let mut bytes = some_store(&mut rng);
         for _ in 0..rng.between(1, 3) {
             set_some_field(&mut bytes, &mut rng);
         }
@@ -148,25 +176,36 @@ fn fields_set_to_likely_numbers() {
 
 #[test]
 fn lengths() {
-    for length in [
-        0,
-        1,
-        3,
-        4,
-        255,
-        256,
-        5 * 256,
-        6 * 256 - 1,
-        6 * 256 + 1,
-        4097 * 256,
+    for (fresh, call, page) in [
+        (fresh(6), Call::Fresh, 256),
+        (fresh_second(6), Call::FreshSecond, 512),
     ] {
-        let mut bytes = fresh(6);
-        bytes.resize(length, 0);
-        all_calls_refuse(&bytes, 1, 0, &mut Rng::new(length as u64));
-        assert_eq!(apply(Call::Fresh, &mut bytes.clone(), &mut []).number, 1);
+        for length in [
+            0,
+            1,
+            3,
+            4,
+            5,
+            page - 1,
+            page,
+            5 * page,
+            6 * page - 1,
+            6 * page + 1,
+            6 * page + 256 % page,
+            4097 * page,
+        ] {
+            let mut bytes = fresh.clone();
+            bytes.resize(length, 0);
+            let fits = length == 6 * page;
+            if !fits {
+                all_calls_refuse(&bytes, 1, 0, &mut Rng::new(length as u64));
+                assert_eq!(apply(call, &mut bytes, &mut []).number, 1);
+            }
+        }
     }
     for pages in [6, 7, 4095, 4096] {
         assert_sound(&fresh(pages));
+        assert_sound(&fresh_second(pages));
     }
 }
 
@@ -177,17 +216,46 @@ fn four_bytes_and_edition() {
         let mut bytes = fresh(6);
         bytes[bit / 8] ^= 1 << (bit % 8);
         all_calls_refuse(&bytes, 2, 0, &mut rng);
-        bytes[4] = 2;
-        all_calls_refuse(&bytes, 2, 0, &mut rng);
+        for edition in [0, 2, 3] {
+            bytes[4] = edition;
+            // The four bytes before the edition, and both before the length.
+            for length in [6 * 256, 6 * 256 - 1, 5] {
+                all_calls_refuse(&bytes[..length], 2, 0, &mut rng);
+            }
+        }
+        all_calls_refuse(&bytes[..4], 1, 0, &mut rng);
     }
-    for edition in (0..=255).filter(|edition| *edition != 1) {
+    for edition in (0..=255).filter(|edition| ![1, 2].contains(edition)) {
         let mut bytes = fresh(6);
         bytes[4] = edition;
         all_calls_refuse(&bytes, 3, 0, &mut rng);
         // The edition is judged before anything else in the store.
         bytes[100] = 1;
-        all_calls_refuse(&bytes, 3, 0, &mut rng);
+        for length in [6 * 256, 6 * 256 - 1, 5 * 256, 5] {
+            all_calls_refuse(&bytes[..length], 3, 0, &mut rng);
+        }
+        all_calls_refuse(&bytes[..4], 1, 0, &mut rng);
     }
+}
+
+/// The length is judged by the edition that the bytes name: 1,536 bytes are six
+/// pages of edition 1 and three of edition 2; 3,072 are twelve and six.
+#[test]
+fn an_edition_byte_exchanged() {
+    let mut rng = Rng::new(2);
+    let mut bytes = fresh(6);
+    bytes[4] = 2;
+    all_calls_refuse(&bytes, 1, 0, &mut rng);
+    let mut bytes = fresh(12);
+    bytes[4] = 2;
+    all_calls_refuse(&bytes, 4, 1, &mut rng);
+    let mut bytes = fresh_second(6);
+    bytes[4] = 1;
+    all_calls_refuse(&bytes, 4, 1, &mut rng);
+    let mut bytes = fresh_second(2049);
+    assert_sound(&bytes);
+    bytes[4] = 1;
+    all_calls_refuse(&bytes, 1, 0, &mut rng);
 }
 
 #[test]
@@ -196,8 +264,8 @@ fn any_bytes_at_all() {
     for round in 0..rounds(300) {
         let pages = 6 + rng.below(20) as usize;
         let mut bytes: Vec<u8> = (0..pages * 256).map(|_| rng.word() as u8).collect();
-        if round % 2 == 0 {
-            bytes[..5].copy_from_slice(&[0x52, 0x43, 0x53, 0x54, 1]);
+        if round % 3 > 0 {
+            bytes[..5].copy_from_slice(&[0x52, 0x43, 0x53, 0x54, round as u8 % 3]);
         }
         let (number, rule) = verdict(&bytes);
         all_calls_refuse(&bytes, number, rule, &mut rng);

@@ -5,6 +5,8 @@ mod common;
 use common::follow::follow;
 use common::*;
 use reference::calls;
+use reference::edition::SECOND;
+use reference::engine::{Answer, Call};
 use reference::history::{History, Kind, KINDS};
 use reference::layout::SLOTS;
 use reference::{store, unjudged};
@@ -114,6 +116,32 @@ fn thirteen_never_where_the_open_version_has_its_slot() {
     assert_eq!(store::header(&bytes).roots, 256);
     let (version, root) = slots(&bytes)[255];
     assert_eq!((version, store::level(&bytes, root)), (256, 2));
+}
+
+/// In edition 2 the 513th.
+#[test]
+fn thirteen_in_histories_of_edition_2() {
+    let mut history = History::of(&SECOND, 1, Kind::NewRoots, 540);
+    let mut bytes = vec![0; 540 * 512];
+    let mut given = 0;
+    for _ in 0..13_000 {
+        let call = history.next_call();
+        // Judging would take most of the time.
+        let answer = match call {
+            Call::Open => Answer::of(unjudged::open(&mut bytes)),
+            Call::Insert(key, value) => Answer::of(unjudged::insert(&mut bytes, key, value)),
+            Call::Delete(key) => Answer::of(unjudged::delete(&mut bytes, key)),
+            Call::Commit => Answer::of(unjudged::commit(&mut bytes)),
+            Call::FreshSecond => Answer::of(calls::fresh_second(&mut bytes)),
+            _ => continue,
+        };
+        history.observe(call, &answer);
+        if answer.number == 13 {
+            assert_eq!(store::header(&bytes).roots, 512);
+            given += 1;
+        }
+    }
+    assert!(given > 3, "{given}");
 }
 
 #[test]

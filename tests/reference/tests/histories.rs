@@ -6,12 +6,18 @@ use common::follow::{follow, Followed};
 use common::rounds;
 use reference::beside::Tally;
 use reference::calls;
+use reference::edition::SECOND;
 use reference::history::{History, Kind, KINDS};
 
 fn followed(seed: u64, kind: Kind, pages: usize, count: usize) -> Followed {
     let mut history = History::new(seed, kind, pages);
     // The first call makes the store fresh, whatever the bytes were.
     follow(&mut history, vec![seed as u8; pages * 256], count)
+}
+
+fn followed_second(seed: u64, kind: Kind, pages: usize, count: usize) -> Followed {
+    let mut history = History::of(&SECOND, seed, kind, pages);
+    follow(&mut history, vec![seed as u8; pages * 512], count)
 }
 
 /// How often each number was given over many histories, and what was met.
@@ -93,4 +99,36 @@ fn large_stores() {
     }
     println!("{met:?}");
     assert!(met.highest_level >= 2, "{met:?}");
+}
+
+#[test]
+fn small_stores_of_edition_2() {
+    let mut met = Met::default();
+    for seed in 0..rounds(900) {
+        let pages = 6 + (seed as usize * 7) % 42;
+        met.add(followed_second(seed, KINDS[seed as usize % 4], pages, 160));
+    }
+    println!("{met:?}");
+    for number in [0, 5, 6, 7, 8, 10, 11, 12, 14, 15] {
+        assert!(met.given(number) > 50, "{number}: {met:?}");
+    }
+    assert!(met.abandons > 50 && met.roots_that_went > 3, "{met:?}");
+    assert!(met.returns > 300 && met.stopped > 10, "{met:?}");
+}
+
+#[test]
+fn larger_stores_of_edition_2() {
+    let mut met = Met::default();
+    for seed in 0..rounds(30) {
+        let pages = 48 + (seed as usize * 13) % 209;
+        let kind = KINDS[seed as usize % 4];
+        met.add(followed_second(seed, kind, pages, 900));
+    }
+    for seed in 0..rounds(3) {
+        // Of these none returns to what was before it grew.
+        let kind = Kind::GrowThenShrink;
+        met.add(followed_second(seed, kind, 256, 4000));
+    }
+    println!("{met:?}");
+    assert!(met.highest_level >= 3 && met.roots_that_went > 2, "{met:?}");
 }

@@ -103,6 +103,53 @@ fn the_hash_is_of_all_bytes_after_the_line() {
     assert_eq!(answered(input), expected);
 }
 
+/// The source stays, the target is used up by a swap, and a swap without one
+/// does nothing.
+#[test]
+fn a_conversion_and_its_target() {
+    let hash = |bytes: &[u8]| format!("{:016x}", hash::of_bytes(bytes));
+    let mut source = vec![0; 6 * 256];
+    calls::fresh(&mut source);
+    let mut target = vec![0; 7 * 512];
+    calls::fresh_second(&mut target);
+    let (first, second) = (hash(&source), hash(&target));
+    let refused = hash(&[0xEE; 5 * 512]);
+    let input = "swap\nconvert 7\nstore 6\nswap\nconvert 7\ncheck\nconvert 5\nconvert 7\nswap\n\
+                 check\nconvert 7\nswap\nswap\ncheck\nstore2 7\nstore2 5\n";
+    let empty = "cbf29ce484222325";
+    let lent = hash(&[0xEE; 7 * 512]);
+    let expected = [
+        format!("1 0 {empty}"),
+        format!("2 1 target={lent} {empty}"),
+        format!("3 0 {first}"),
+        format!("4 0 {lent}"),
+        format!("5 2 target={lent} {lent}"),
+        format!("6 2 rule=0 {lent}"),
+        format!("7 2 target={refused} {lent}"),
+        format!("8 2 target={lent} {lent}"),
+        format!("9 0 {lent}"),
+        format!("10 2 rule=0 {lent}"),
+        format!("11 2 target={lent} {lent}"),
+        format!("12 0 {lent}"),
+        format!("13 0 {lent}"),
+        format!("14 2 rule=0 {lent}"),
+        format!("15 0 {second}"),
+        format!("16 1 {refused}"),
+    ];
+    assert_eq!(answered(input), expected);
+    let input = "store 6\nconvert 7\nconvert 5\nconvert 7\nswap\nswap\nconvert 7\n";
+    let expected = [
+        format!("1 0 {first}"),
+        format!("2 0 target={second} {first}"),
+        format!("3 1 target={refused} {first}"),
+        format!("4 0 target={second} {first}"),
+        format!("5 0 {second}"),
+        format!("6 0 {second}"),
+        format!("7 3 target={lent} {second}"),
+    ];
+    assert_eq!(answered(input), expected);
+}
+
 #[test]
 fn a_list_of_200000_numbers_at_first() {
     let hash = list_hash(&[], 200_000);
@@ -146,8 +193,8 @@ fn lines_there_and_back() {
     assert!(good > 1000);
 }
 
-const WORDS: &str = "store open insert delete commit abandon get range check visits list byte \
-                     cut rawinsert rawcommit diff life return";
+const WORDS: &str = "store store2 open insert delete commit abandon get range check visits list \
+                     byte cut rawinsert rawcommit diff life return convert swap";
 const NUMBERS: &str = "0 1 2 3 4 5 6 7 8 10 11 12 14 15 bad";
 
 /// How often each first word and each number stands in generated lines.
@@ -187,6 +234,10 @@ impl Engine for Faulty {
         let mut answer = apply(call, store, list);
         (self.0)(call, store, list, &mut answer);
         answer
+    }
+
+    fn convert(&mut self, source: &[u8], target: &mut [u8]) -> u32 {
+        calls::convert(source, target)
     }
 }
 

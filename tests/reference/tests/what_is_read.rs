@@ -12,10 +12,11 @@ use std::collections::{BTreeMap, BTreeSet};
 use common::{reader, rounds};
 use reference::calls;
 use reference::damage::{kinds, tamper};
+use reference::edition::{Edition, FIRST, SECOND};
 use reference::layout::{FIRST_PAGE, HIGHEST_KEY, PAGE_BYTES};
 use reference::rng::Rng;
-use reference::samples::sound_store;
-use reference::wild::wild_store;
+use reference::samples::sound_store_of;
+use reference::wild::wild_store_of;
 use reference::{store, walk};
 
 /// How often each number was given, by lookups and by ranges.
@@ -35,6 +36,14 @@ fn keys_in(bytes: &[u8], rng: &mut Rng) -> Vec<u32> {
         keys.extend(page.entries.last().map(|entry| entry.key));
     }
     keys
+}
+
+/// Edition 2 once in four.
+fn some_edition(seed: u64) -> &'static Edition {
+    match seed % 4 {
+        3 => &SECOND,
+        _ => &FIRST,
+    }
 }
 
 /// A lookup and some ranges, by this program and by the second reader; false
@@ -102,7 +111,7 @@ fn damaged_stores_beside_a_second_reader() {
     let mut too_long = 0;
     for seed in 0..rounds(400) {
         let mut rng = Rng::new(seed);
-        let sound = sound_store(seed);
+        let sound = sound_store_of(some_edition(seed), seed);
         for kind in &kinds {
             let mut bytes = sound.clone();
             if kind.make(&mut bytes, &mut rng) {
@@ -137,7 +146,7 @@ fn wild_stores_beside_a_second_reader() {
     let (mut too_long, mut repeated) = (0, 0);
     for seed in 0..rounds(20_000) {
         let mut rng = Rng::new(seed);
-        let bytes = wild_store(&mut rng);
+        let bytes = wild_store_of(some_edition(seed), &mut rng);
         too_long += u32::from(!read_alike(&bytes, &mut rng, &mut tally));
         let mut list = [0; 400];
         let last = store::header(&bytes).last();
@@ -175,7 +184,7 @@ fn damage_on_and_off_the_walk() {
     let mut compared = [0u64; 2];
     for seed in 0..rounds(500) {
         let mut rng = Rng::new(seed);
-        let sound = sound_store(seed);
+        let sound = sound_store_of(some_edition(seed), seed);
         let last = store::header(&sound).last();
         let keys: Vec<u32> = keys_in(&sound, &mut rng);
         let keys: Vec<u32> = keys.into_iter().filter(|key| *key <= HIGHEST_KEY).collect();
@@ -199,8 +208,13 @@ fn damage_on_and_off_the_walk() {
             compared[0] += 1;
             let walked: Vec<u32> = walked.into_iter().collect();
             let page = *rng.pick(&walked).unwrap() as usize;
-            let bit = rng.between(49, 127) as usize;
-            bytes[page * PAGE_BYTES + bit / 8] ^= 0x80 >> (bit % 8);
+            let Edition {
+                page_bytes,
+                page_end,
+                ..
+            } = *Edition::of(&sound);
+            let bit = rng.between(page_end.end() as u32, 127) as usize;
+            bytes[page * page_bytes + bit / 8] ^= 0x80 >> (bit % 8);
             assert_eq!(answers(&bytes).0, (4, 0));
             compared[1] += 1;
         }

@@ -7,7 +7,6 @@ use Rattle.host.proofs.rcst_lookup.Statement.{statement}
 use Rattle.host.proofs.rcst_lookup.Tie as tie
 use Rattle.host.proofs.rcst_lookup.Reads as reads
 use Rattle.host.proofs.rcst_lookup.Lts as lts
-use Rattle.calls.proofs.lookup.Reads as lookup-reads
 use Rattle.host.proofs.found_of.Reads as found-of-reads
 use Rattle.host.proofs.number_of.Reads as number-of-reads
 use Rattle.host.proofs.value_of.Reads as value-of-reads

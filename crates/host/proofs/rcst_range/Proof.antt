@@ -5,7 +5,6 @@ use Rattle.host.proofs.rcst_range.Statement.{statement}
 use Rattle.host.proofs.rcst_range.Tie as tie
 use Rattle.host.proofs.rcst_range.Reads as reads
 use Rattle.host.proofs.rcst_range.Lts as lts
-use Rattle.calls.proofs.range.Reads as range-reads
 
 -- src/lib.rt:104:9
 range-requires : tie.Need-range-requires

@@ -1,5 +1,6 @@
 use mathlib.Core.Path.{sym, _∙_}
-use Rattle.calls.specs.Guard.{edition}
+use native.Mathlib.Omega.{arith}
+use Rattle.page.specs.Editions.{edition-of}
 use Rattle.calls.specs.Reading.{reads}
 use borrow.Author.Needs.{needs}
 use Rattle.morning.proofs.morning_lookups.Statement.{statement}
@@ -16,7 +17,7 @@ edition-one-requires c κs = search needs
 
 -- src/lib.rt:37:8
 guard-reading-requires : tie.Need-guard-reading-requires
-guard-reading-requires c κs = edition (c .edition-one .result) (c .edition-one .ensures)
+guard-reading-requires c κs = edition-of 4 (c .edition-one .ensures) (omega arith) (omega arith)
 
 -- src/lib.rt:38:9
 returns : tie.Need-returns
@@ -26,7 +27,7 @@ returns c = search needs
 look-on-requires : tie.Need-look-on-requires
 look-on-requires c κs =
     let a = c .before .before .before .before .args in
-    let d = edition (c .before .before .edition-one .result) (c .before .before .edition-one .ensures) in
+    let d = edition-of 4 (c .before .before .edition-one .ensures) (omega arith) (omega arith) in
     reads d (a .s .now) _ (a .version) (sym (c .before .guard-reading .ensures) ∙ c .if1 .left)
 
 -- src/lib.rt:34:1

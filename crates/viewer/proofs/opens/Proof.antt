@@ -1,19 +1,37 @@
--- `opens` meets its contract. Assumes nothing.
+-- `opens` meets its contract: by the edition lent. Assumes nothing.
+use Prim.Native.Nat.{ℕ}
 use mathlib.Core.Path.{_∙_}
 use borrow.Author.Needs.{needs}
-use Rattle.calls.specs.Guard.{four-is, edition}
+use Rattle.model.specs.Named.{viewedBy, viewed}
+use Rattle.store.specs.Editions.{is-edition, refused-early, gone-on}
 use Rattle.viewer.specs.Opens.{viewed-is}
 use Rattle.viewer.proofs.opens.Statement.{statement}
 use Rattle.viewer.proofs.opens.Tie as tie
 
-edition-one-requires : tie.Need-edition-one-requires
-edition-one-requires c κs = search needs
-
-guard-requires : tie.Need-guard-requires
-guard-requires c κs = edition (c .edition-one .result) (c .edition-one .ensures)
+edition-lent-requires : tie.Need-edition-lent-requires
+edition-lent-requires c κs = search needs
 
 returns : tie.Need-returns
-returns c = rw (four-is (c .before .edition-one .result) (c .before .edition-one .ensures)) at (c .guard .ensures) ∙ viewed-is 4 _ _
+unfolding viewed
+returns c =
+    let a = c .before .before .before .before .args in
+    let b = a .store .now in
+    let e = c .before .before .edition-lent in
+    refused-early (e .result) b (e .ensures) (λ (n : ℕ). n) (λ (least : ℕ). viewedBy least b (a .version)) (c .if1 .taken)
+
+guard-requires : tie.Need-guard-requires
+guard-requires c κs = let e = c .before .before .edition-lent in is-edition (e .result) (c .before .before .before .before .args .store .now) (e .ensures)
+
+returns-2 : tie.Need-returns-2
+unfolding viewed
+returns-2 c =
+    let h = c .before in
+    let a = h .before .before .before .before .args in
+    let b = a .store .now in
+    let e = h .before .before .edition-lent in
+    c .guard .ensures
+    ∙ (viewed-is (e .result .limits .least) b (a .version)
+    ∙ gone-on (e .result) b (e .ensures) (λ (n : ℕ). n) (λ (least : ℕ). viewedBy least b (a .version)) (h .if1 .left))
 
 pub opens-spec : {M : Type 1} → statement M
-opens-spec = tie.close (tie.spec edition-one-requires guard-requires returns)
+opens-spec = tie.close (tie.spec edition-lent-requires returns guard-requires returns-2)

@@ -2,6 +2,7 @@
 //! compared. Cases that call these hold the library to the reference, call by
 //! call and byte by byte.
 
+use super::both_convert;
 use host::Proved;
 use reference::beside::compare;
 use reference::engine::{Answer, Call, Reference};
@@ -15,6 +16,16 @@ fn call(call: Call, bytes: &mut [u8]) -> Answer {
 
 pub fn fresh(bytes: &mut [u8]) -> u32 {
     call(Call::Fresh, bytes).number
+}
+
+pub fn fresh_second(bytes: &mut [u8]) -> u32 {
+    call(Call::FreshSecond, bytes).number
+}
+
+pub fn convert(source: &[u8], target: &mut [u8]) -> u32 {
+    let (number, after) = both_convert(source, target);
+    target.copy_from_slice(&after);
+    number
 }
 
 pub fn check(bytes: &[u8]) -> (u32, u32) {

@@ -8,7 +8,7 @@ pub mod stores;
 
 use host::Proved;
 use reference::beside::compare;
-use reference::engine::{Answer, Call, Reference};
+use reference::engine::{Answer, Call, Engine, Reference};
 
 /// How often a test goes round: `usual`, or twenty times that if `RCST_LONG` is
 /// set.
@@ -33,4 +33,21 @@ pub fn both(call: Call, store: &[u8]) -> (Answer, Vec<u8>) {
     let answer = compare(&mut Reference, &mut Proved, call, &mut left, &mut right)
         .unwrap_or_else(|difference| panic!("{difference:?}"));
     (answer, left)
+}
+
+/// A conversion by both programs, each into a copy of `target`: equal in number
+/// and in every byte of the target. The source is lent to be read alone.
+pub fn both_convert(source: &[u8], target: &[u8]) -> (u32, Vec<u8>) {
+    let (mut left, mut right) = (target.to_vec(), target.to_vec());
+    let numbers = (
+        Reference.convert(source, &mut left),
+        Proved.convert(source, &mut right),
+    );
+    assert_eq!(numbers.0, numbers.1);
+    let differing = left
+        .iter()
+        .zip(&right)
+        .position(|(one, other)| one != other);
+    assert_eq!(differing, None, "target of {} bytes", target.len());
+    (numbers.0, left)
 }

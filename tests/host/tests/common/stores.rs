@@ -1,16 +1,22 @@
 //! Bytes of every kind to lend: sound, damaged, and any at all.
 
 use reference::damage::{kinds, tamper};
+use reference::edition::{Edition, FIRST};
 use reference::layout::{FIRST_BENCH_KEY, HIGHEST_KEY, HIGHEST_VERSION};
 use reference::rng::Rng;
-use reference::samples::sound_store;
+use reference::samples::sound_store_of;
 use reference::{store, walk};
 
-/// A sound store, and what damage makes of it: one rule broken, a bit or a
-/// field changed, cut, or any bytes in its place.
+/// A sound store of edition 1, and what damage makes of it: one rule broken, a
+/// bit or a field changed, cut, or any bytes in its place.
 pub fn stores(seed: u64) -> Vec<Vec<u8>> {
+    stores_of(&FIRST, seed)
+}
+
+/// The same of any edition.
+pub fn stores_of(edition: &'static Edition, seed: u64) -> Vec<Vec<u8>> {
     let mut rng = Rng::new(seed);
-    let sound = sound_store(seed);
+    let sound = sound_store_of(edition, seed);
     let kinds = kinds();
     let mut broken = sound.clone();
     kinds[seed as usize % kinds.len()].make(&mut broken, &mut rng);

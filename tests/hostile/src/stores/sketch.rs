@@ -1,6 +1,7 @@
 //! A store as it is drawn: pages with their entries, and roots. What a page's span
 //! is to be follows from what leads to it, at the end.
 
+use reference::edition::FIRST;
 use reference::image::Image;
 use reference::layout::{
     Entry, Header, Page, Slot, Span, ALIVE, FIRST_PAGE, HIGHEST_VERSION, LEAF, MOST_ENTRIES,
@@ -108,12 +109,7 @@ impl Sketch {
                 entries.sort_by_key(Entry::order);
                 Page::new(level, span, entries)
             });
-        let header = Header {
-            page_count: 0,
-            current,
-            open: false,
-            roots: 0,
-        };
+        let header = Header::uncounted(&FIRST, current, false);
         let mut pages: Vec<Page> = pages.collect();
         // the fewest pages that a store has
         if pages.is_empty() {

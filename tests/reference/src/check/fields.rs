@@ -1,12 +1,13 @@
 //! Rule 1: sizes, levels, counts, zero bits, order and header fields.
 //!
-//! Tested on the bytes themselves, since a page with a count above 20 cannot
-//! be read into a value.
+//! Tested on the bytes themselves, since a page with a count above the
+//! edition's cannot be read into a value.
 
 use crate::bits::zero_from;
+use crate::edition::Edition;
 use crate::layout::{
     at, page_span, Entry, Header, Slot, Span, ALIVE, ENTRY_BYTES, FIRST_PAGE, FREE, HIGHEST_LEVEL,
-    HIGHEST_VERSION, LEAF, MOST_ENTRIES, PAGE_BYTES, PAGE_HEAD_BYTES, SLOTS,
+    HIGHEST_VERSION, LEAF, PAGE_HEAD_BYTES,
 };
 use crate::store;
 
@@ -16,17 +17,18 @@ pub fn hold(bytes: &[u8]) -> bool {
 
 /// The header and the slots, used and unused.
 pub fn front_holds(bytes: &[u8]) -> bool {
-    header_holds(bytes) && (0..SLOTS).all(|index| slot_holds(bytes, index))
+    let slots = Edition::of(bytes).slots;
+    header_holds(bytes) && (0..slots).all(|index| slot_holds(bytes, index))
 }
 
 fn header_holds(bytes: &[u8]) -> bool {
     let header = store::header(bytes);
     // While open, last is current plus 1, so this is also "current is at most
     // 1,048,573 while open".
-    header.page_count as usize == bytes.len() / PAGE_BYTES
+    header.page_count == store::page_count(bytes)
         && header.last() <= HIGHEST_VERSION
-        && header.roots <= SLOTS
-        && zero_from(store::page_bytes(bytes, 0), at::ROOT_COUNT.end())
+        && header.roots <= header.edition.slots
+        && zero_from(store::page_bytes(bytes, 0), header.edition.root_count.end())
 }
 
 fn slot_holds(bytes: &[u8], index: u32) -> bool {
@@ -47,18 +49,20 @@ pub fn page_holds(bytes: &[u8], number: u32) -> bool {
     if level == FREE {
         return zero_from(page, 0);
     }
-    let count = at::ENTRY_COUNT.get(page) as usize;
+    let edition = header.edition;
+    let count = edition.entry_count.get(page) as usize;
     level <= HIGHEST_LEVEL
-        && count <= MOST_ENTRIES
-        && zero_from(&page[..PAGE_HEAD_BYTES], at::PAGE_END.end())
+        && count <= edition.most_entries
+        && zero_from(&page[..PAGE_HEAD_BYTES], edition.page_end.end())
+        // In edition 2 sixteen bytes more stand behind the entries.
         && zero_from(&page[PAGE_HEAD_BYTES + count * ENTRY_BYTES..], 0)
-        && span_holds(page_span(page), header)
+        && span_holds(page_span(edition, page), header)
         && entries_hold(page, level, header)
 }
 
-/// Wants an entry count of at most 20.
+/// Wants an entry count that the edition allows.
 fn entries_hold(page: &[u8], level: u32, header: Header) -> bool {
-    let count = at::ENTRY_COUNT.get(page) as usize;
+    let count = header.edition.entry_count.get(page) as usize;
     let places = page[PAGE_HEAD_BYTES..].chunks_exact(ENTRY_BYTES);
     let mut before = None;
     places.take(count).map(Entry::read).all(|entry| {

@@ -1,7 +1,6 @@
 //! Rule 5: each reached page has enough live entries.
 
 use crate::image::Image;
-use crate::layout::FEWEST_LIVE;
 
 /// Whether the walk from the root of `version` finds rule 5 kept. Rule 4
 /// holds by now, so a page with live entries is met once (see `bounds`).
@@ -14,9 +13,10 @@ pub fn holds(image: &Image, version: u32) -> bool {
 fn holds_from(image: &Image, number: u32, fewest: usize, version: u32) -> bool {
     let page = image.page(number);
     let enough = page.live(version).count() >= fewest;
+    let fewest_below = image.edition().fewest_live;
     let children_hold = || {
         page.live(version)
-            .all(|router| holds_from(image, router.value, FEWEST_LIVE, version))
+            .all(|router| holds_from(image, router.value, fewest_below, version))
     };
     enough && (!page.is_index() || children_hold())
 }

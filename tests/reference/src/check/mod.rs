@@ -18,10 +18,10 @@ mod spans;
 
 pub use fields::page_holds;
 
+use crate::edition::{Edition, FIRST};
 use crate::image::Image;
-use crate::layout::{at, Slot, EDITION, FOUR_BYTES};
-use crate::number;
-use crate::store::{self, length_fits};
+use crate::layout::{Slot, FOUR_BYTES};
+use crate::{number, store};
 
 /// The number that judging gives for these bytes and, with 4, the lowest
 /// number of a broken rule (else 0).
@@ -35,15 +35,43 @@ pub fn judge(store: &[u8]) -> (u32, u32) {
     }
 }
 
-/// 1, 2 or 3 for bytes that are no store of this edition.
+/// 1, 2 or 3 for bytes that are no store. "Fewer than five bytes gives 1;
+/// otherwise 2, then 3, then 1 by the edition's page size" (2026-08).
 fn another_thing(store: &[u8]) -> Option<u32> {
-    if !length_fits(store.len()) {
-        return Some(number::LENGTH);
+    match named_edition(store) {
+        Err(refusal) => Some(refusal),
+        Ok(edition) => (!edition.length_fits(store.len())).then_some(number::LENGTH),
+    }
+}
+
+/// The edition that the bytes name, whatever their length above four; else the
+/// number of the refusal.
+pub fn named_edition(store: &[u8]) -> Result<&'static Edition, u32> {
+    if store.len() < 5 {
+        return Err(number::LENGTH);
     }
     if store[..4] != FOUR_BYTES {
-        return Some(number::FOUR_BYTES);
+        return Err(number::FOUR_BYTES);
     }
-    (at::EDITION.get(store) != EDITION).then_some(number::EDITION)
+    Edition::named(store[4]).ok_or(number::EDITION)
+}
+
+/// What judging gave before 2026-08, to which there was edition 1 alone:
+/// "programs of edition 1 give 1 or 3 and never an answer".
+pub fn judge_as_edition_1(store: &[u8]) -> (u32, u32) {
+    if !FIRST.length_fits(store.len()) {
+        return (number::LENGTH, 0);
+    }
+    if store[..4] != FOUR_BYTES {
+        return (number::FOUR_BYTES, 0);
+    }
+    if store[4] != FIRST.number {
+        return (number::EDITION, 0);
+    }
+    match lowest_broken_rule(store) {
+        None => (number::DONE, 0),
+        Some(rule) => (number::UNSOUND, rule),
+    }
 }
 
 /// The number by which a lookup or a range is refused before it looks at its

@@ -1,6 +1,7 @@
 //! Damage to rule 2: the directory's versions. Rule 1 says nothing of them.
 
 use super::{some_between, OnBytes};
+use crate::edition::Edition;
 use crate::layout::at;
 use crate::rng::Rng;
 use crate::store;
@@ -17,7 +18,7 @@ fn no_root(bytes: &mut [u8], _: &mut Rng) -> bool {
     for index in 0..store::header(bytes).roots {
         store::slot_bytes_mut(bytes, index).fill(0);
     }
-    at::ROOT_COUNT.set(bytes, 0);
+    Edition::of(bytes).root_count.set(bytes, 0);
     true
 }
 

@@ -2,8 +2,9 @@
 
 use super::{on_values, some_between, some_entry, some_free_page, some_page, OnBytes};
 use crate::bits::Field;
+use crate::edition::Edition;
 use crate::image::Image;
-use crate::layout::{at, Span, ALIVE, ENTRY_BYTES, HIGHEST_VERSION, LEAF, PAGE_HEAD_BYTES, SLOTS};
+use crate::layout::{at, Page, Span, ALIVE, ENTRY_BYTES, HIGHEST_VERSION, LEAF, PAGE_HEAD_BYTES};
 use crate::rng::Rng;
 use crate::store;
 
@@ -14,10 +15,10 @@ pub const KINDS: &[(&str, OnBytes)] = &[
     ("a bit of an unused entry", unused_entry_bit),
     ("a bit of a free page", free_page_bit),
     ("the page count", page_count),
-    ("more than 256 roots", too_many_roots),
+    ("more roots than slots", too_many_roots),
     ("a current version that cannot be", current_too_high),
     ("a level above 7", level_too_high),
-    ("a count above 20", count_too_high),
+    ("a count above the edition's", count_too_high),
     ("a count one too high", count_one_more),
     ("a slot's page number", slot_page_number),
     ("a router's page number", router_page_number),
@@ -39,13 +40,13 @@ fn set_some_bit(bytes: &mut [u8], rng: &mut Rng, from: usize) -> bool {
 }
 
 fn header_bit(bytes: &mut [u8], rng: &mut Rng) -> bool {
-    let header = store::page_bytes_mut(bytes, 0);
-    set_some_bit(header, rng, at::ROOT_COUNT.end())
+    let used = Edition::of(bytes).root_count.end();
+    set_some_bit(store::page_bytes_mut(bytes, 0), rng, used)
 }
 
 fn slot_bit(bytes: &mut [u8], rng: &mut Rng) -> bool {
     let roots = store::header(bytes).roots;
-    match some_between(rng, roots, SLOTS - 1) {
+    match some_between(rng, roots, Edition::of(bytes).slots - 1) {
         Some(index) => set_some_bit(store::slot_bytes_mut(bytes, index), rng, 0),
         None => false,
     }
@@ -54,16 +55,24 @@ fn slot_bit(bytes: &mut [u8], rng: &mut Rng) -> bool {
 fn head_bit(bytes: &mut [u8], rng: &mut Rng) -> bool {
     match some_page(&Image::read(bytes), rng, |_| true) {
         Some(number) => {
+            let used = Edition::of(bytes).page_end.end();
             let head = &mut store::page_bytes_mut(bytes, number)[..PAGE_HEAD_BYTES];
-            set_some_bit(head, rng, at::PAGE_END.end())
+            set_some_bit(head, rng, used)
         }
         None => false,
     }
 }
 
+/// A page that is not full.
+fn some_page_with_room(image: &Image, rng: &mut Rng) -> Option<u32> {
+    let most = image.edition().most_entries;
+    some_page(image, rng, |page: &Page| page.entries.len() < most)
+}
+
+/// In edition 2 a bit of the sixteen bytes behind the entries too.
 fn unused_entry_bit(bytes: &mut [u8], rng: &mut Rng) -> bool {
     let image = Image::read(bytes);
-    let Some(number) = some_page(&image, rng, |page| page.entries.len() < 20) else {
+    let Some(number) = some_page_with_room(&image, rng) else {
         return false;
     };
     let used = PAGE_HEAD_BYTES + image.page(number).entries.len() * ENTRY_BYTES;
@@ -86,8 +95,9 @@ fn page_count(bytes: &mut [u8], rng: &mut Rng) -> bool {
 }
 
 fn too_many_roots(bytes: &mut [u8], rng: &mut Rng) -> bool {
-    let roots = rng.between(SLOTS + 1, at::ROOT_COUNT.highest());
-    at::ROOT_COUNT.set(bytes, roots);
+    let edition = Edition::of(bytes);
+    let roots = rng.between(edition.slots + 1, edition.root_count.highest());
+    edition.root_count.set(bytes, roots);
     true
 }
 
@@ -104,8 +114,13 @@ fn level_too_high(bytes: &mut [u8], rng: &mut Rng) -> bool {
 }
 
 fn count_too_high(bytes: &mut [u8], rng: &mut Rng) -> bool {
-    let count = rng.between(21, 31);
-    set_in_some_page(bytes, rng, at::ENTRY_COUNT, count)
+    let Edition {
+        entry_count,
+        most_entries,
+        ..
+    } = *Edition::of(bytes);
+    let count = rng.between(most_entries as u32 + 1, entry_count.highest());
+    set_in_some_page(bytes, rng, entry_count, count)
 }
 
 fn set_in_some_page(bytes: &mut [u8], rng: &mut Rng, field: Field, number: u32) -> bool {
@@ -119,11 +134,12 @@ fn set_in_some_page(bytes: &mut [u8], rng: &mut Rng, field: Field, number: u32) 
 /// The all-zero entry that then counts has an empty span.
 fn count_one_more(bytes: &mut [u8], rng: &mut Rng) -> bool {
     let image = Image::read(bytes);
-    let Some(number) = some_page(&image, rng, |page| page.entries.len() < 20) else {
+    let Some(number) = some_page_with_room(&image, rng) else {
         return false;
     };
     let more = image.page(number).entries.len() as u32 + 1;
-    at::ENTRY_COUNT.set(store::page_bytes_mut(bytes, number), more);
+    let entry_count = image.edition().entry_count;
+    entry_count.set(store::page_bytes_mut(bytes, number), more);
     true
 }
 

@@ -3,11 +3,10 @@
 use super::{is_first_somewhere, root_outside_span, some_leaf_met, some_leaf_met_at};
 use super::{some_page, OnValues, Place};
 use crate::image::Image;
-use crate::layout::FEWEST_LIVE;
 use crate::rng::Rng;
 
 pub const KINDS: &[(&str, OnValues)] = &[
-    ("a leaf with fewer than four", thin_leaf),
+    ("a leaf with too few settings", thin_leaf),
     ("settings that end too early", ends_early),
     ("an index page with too few routers", thin_index_page),
     (
@@ -26,14 +25,15 @@ fn thin_leaf(image: &mut Image, rng: &mut Rng) -> Option<()> {
     if met.leaf == image.root(met.version) {
         return None;
     }
-    let left = rng.below(FEWEST_LIVE as u32) as usize;
+    let left = rng.below(image.edition().fewest_live as u32) as usize;
     keep_live(image, rng, met.leaf, met.version, left, |_, _| true)
 }
 
-/// The settings of a leaf end at last, all but three or fewer; often nothing
-/// else starts or ends there.
+/// The settings of a leaf end at last, all but too few; often nothing else
+/// starts or ends there.
 fn ends_early(image: &mut Image, rng: &mut Rng) -> Option<()> {
     let last = image.header.last();
+    let fewest = image.edition().fewest_live;
     let met = some_leaf_met_at(image, rng, last);
     if met.leaf == image.root(last) {
         return None;
@@ -41,7 +41,7 @@ fn ends_early(image: &mut Image, rng: &mut Rng) -> Option<()> {
     let entries = &mut image.page_mut(met.leaf).entries;
     let live = entries.iter().filter(|entry| entry.span.contains(last));
     let newest = live.filter(|entry| entry.span.start == last).count();
-    let mut left = rng.between(newest as u32, 3.max(newest as u32));
+    let mut left = rng.between(newest as u32, newest.max(fewest - 1) as u32);
     for entry in entries.iter_mut().filter(|e| e.span.contains(last)) {
         if entry.span.start == last {
             continue;
@@ -52,7 +52,7 @@ fn ends_early(image: &mut Image, rng: &mut Rng) -> Option<()> {
             entry.span.end = last;
         }
     }
-    (newest < FEWEST_LIVE).then_some(())
+    (newest < fewest).then_some(())
 }
 
 /// Removes entries of a page that `may_go` until `left` are live at `version`.
@@ -98,7 +98,7 @@ fn thin_index_page(image: &mut Image, rng: &mut Rng) -> Option<()> {
     let version = *rng.pick(&own)?;
     let fewest = match image.root(version) == number {
         true => 2,
-        false => FEWEST_LIVE,
+        false => image.edition().fewest_live,
     };
     let left = rng.between(1, fewest as u32 - 1) as usize;
     keep_live(image, rng, number, version, left, |image, place| {

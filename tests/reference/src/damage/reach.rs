@@ -5,9 +5,7 @@ use super::{is_first_somewhere, root_outside_span, some_between, some_free_page,
 use super::{some_router, OnValues, Place};
 use crate::draft::end_live;
 use crate::image::Image;
-use crate::layout::{
-    Entry, Page, Slot, Span, ABOVE_ALL_KEYS, ALIVE, FEWEST_LIVE, HIGHEST_LEVEL, LEAF,
-};
+use crate::layout::{Entry, Page, Slot, Span, ABOVE_ALL_KEYS, ALIVE, HIGHEST_LEVEL, LEAF};
 use crate::rng::Rng;
 
 pub const KINDS: &[(&str, OnValues)] = &[
@@ -82,7 +80,11 @@ fn router_lost(image: &mut Image, rng: &mut Rng) -> Option<()> {
         let own = versions.iter().filter(|version| span.contains(**version));
         own.copied().all(|version| {
             let is_root = image.root(version) == place.page;
-            let fewest = if is_root { 2 } else { FEWEST_LIVE };
+            let fewest = if is_root {
+                2
+            } else {
+                image.edition().fewest_live
+            };
             place.page_in(image).live(version).count() > fewest
         })
     };

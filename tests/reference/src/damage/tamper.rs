@@ -1,6 +1,7 @@
 //! Damage at random. Which rule it breaks, if any, is for two judges to say.
 
-use crate::layout::{at, ALIVE, ENTRY_BYTES, PAGE_BYTES, PAGE_HEAD_BYTES, SLOT_BYTES};
+use crate::edition::Edition;
+use crate::layout::{at, ALIVE, ENTRY_BYTES, PAGE_HEAD_BYTES, SLOT_BYTES};
 use crate::rng::Rng;
 use crate::store;
 
@@ -19,24 +20,26 @@ pub fn flip_bit(bytes: &mut [u8], rng: &mut Rng) {
 /// stands in such a field elsewhere, or to one beside it.
 pub fn set_some_field(bytes: &mut [u8], rng: &mut Rng) {
     let header = store::header(bytes);
-    let pages = (bytes.len() / PAGE_BYTES) as u32;
+    let edition = header.edition;
+    let pages = store::page_count(bytes);
     let version = match rng.below(4) {
         0 => ALIVE,
         _ => near(rng.between(0, header.last()), rng),
     };
     let number = near(rng.between(5, pages - 1), rng);
-    let slot_at = PAGE_BYTES + SLOT_BYTES * rng.below(header.roots.clamp(1, 256)) as usize;
+    let slot = rng.below(header.roots.clamp(1, edition.slots));
+    let slot_at = edition.page_bytes + SLOT_BYTES * slot as usize;
     let other_at = some_entry_at(bytes, rng);
     let key = near(at::KEY.get(&bytes[other_at..]), rng);
     let entry_at = some_entry_at(bytes, rng);
-    let page_at = entry_at / PAGE_BYTES * PAGE_BYTES;
+    let page_at = entry_at / edition.page_bytes * edition.page_bytes;
     let (field, value, at) = match rng.below(16) {
         0 => (at::CURRENT, version, 0),
         1 => (at::OPEN_FLAG, rng.below(2), 0),
         2 => (at::SLOT_VERSION, version, slot_at),
         3 => (at::SLOT_ROOT, number, slot_at),
-        4 => (at::PAGE_START, version, page_at),
-        5 => (at::PAGE_END, version, page_at),
+        4 => (edition.page_start, version, page_at),
+        5 => (edition.page_end, version, page_at),
         6 | 7 => (at::ENTRY_START, version, entry_at),
         8 | 9 => (at::ENTRY_END, version, entry_at),
         10 => (at::VALUE, number, entry_at),
@@ -47,13 +50,14 @@ pub fn set_some_field(bytes: &mut [u8], rng: &mut Rng) {
 
 /// Where some used entry begins; page 5's first place if there is none.
 fn some_entry_at(bytes: &[u8], rng: &mut Rng) -> usize {
-    let count = |number: u32| at::ENTRY_COUNT.get(store::page_bytes(bytes, number));
+    let edition = Edition::of(bytes);
+    let count = |number: u32| edition.entry_count.get(store::page_bytes(bytes, number));
     let used: Vec<u32> = store::page_numbers(bytes)
         .filter(|number| count(*number) > 0)
         .collect();
     let number = *rng.pick(&used).unwrap_or(&5);
-    let index = rng.below(count(number).clamp(1, 20));
-    number as usize * PAGE_BYTES + PAGE_HEAD_BYTES + ENTRY_BYTES * index as usize
+    let index = rng.below(count(number).clamp(1, edition.most_entries as u32));
+    number as usize * edition.page_bytes + PAGE_HEAD_BYTES + ENTRY_BYTES * index as usize
 }
 
 /// The number, or one beside it.

@@ -12,14 +12,20 @@ pub const LONGEST_LIST: u32 = 1_000_000;
 
 #[derive(Clone, Copy, Debug, PartialEq, Eq)]
 pub enum Line {
-    /// Lends this many pages and makes a fresh store in them.
+    /// Lends this many pages and makes a fresh store of edition 1 in them.
     Store(u32),
+    /// The same of edition 2.
+    StoreSecond(u32),
     /// A call on the lent bytes; how long its list is, the session says.
     Call(Call),
     /// Insert as before 2026-06: key and value.
     RawInsert(u32, u32),
     /// Commit as before 2026-05.
     RawCommit,
+    /// Converts the store into a target of this many pages.
+    Convert(u32),
+    /// The last target becomes the store.
+    Swap,
     /// The caller's list holds this many numbers from now on.
     List(u32),
     /// A byte's place and what it becomes.
@@ -42,6 +48,9 @@ pub fn parse(text: &[u8]) -> Option<Line> {
 fn own_line(word: &[u8], numbers: &[u32]) -> Option<Line> {
     match (word, numbers) {
         (b"store", [pages]) => (*pages <= MOST_PAGES).then_some(Line::Store(*pages)),
+        (b"store2", [pages]) => (*pages <= MOST_PAGES).then_some(Line::StoreSecond(*pages)),
+        (b"convert", [pages]) => (*pages <= MOST_PAGES).then_some(Line::Convert(*pages)),
+        (b"swap", []) => Some(Line::Swap),
         (b"rawinsert", [key, value]) => Some(Line::RawInsert(*key, *value)),
         (b"rawcommit", []) => Some(Line::RawCommit),
         (b"list", [length]) => (*length <= LONGEST_LIST).then_some(Line::List(*length)),
@@ -74,6 +83,9 @@ impl fmt::Display for Line {
     fn fmt(&self, to: &mut fmt::Formatter) -> fmt::Result {
         match *self {
             Line::Store(pages) => write!(to, "store {pages}"),
+            Line::StoreSecond(pages) => write!(to, "store2 {pages}"),
+            Line::Convert(pages) => write!(to, "convert {pages}"),
+            Line::Swap => write!(to, "swap"),
             Line::RawInsert(key, value) => write!(to, "rawinsert {key} {value}"),
             Line::RawCommit => write!(to, "rawcommit"),
             Line::List(length) => write!(to, "list {length}"),
@@ -88,6 +100,7 @@ fn write_call(call: Call, to: &mut fmt::Formatter) -> fmt::Result {
     match call {
         // Lending bytes and making them fresh is one line, with their length.
         Call::Fresh => write!(to, "store"),
+        Call::FreshSecond => write!(to, "store2"),
         Call::Open => write!(to, "open"),
         Call::Commit => write!(to, "commit"),
         Call::Abandon => write!(to, "abandon"),

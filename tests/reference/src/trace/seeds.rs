@@ -5,11 +5,13 @@ use super::line::{Line, MOST_PAGES};
 use super::session::LIST_AT_FIRST;
 use super::writer::Writer;
 use crate::damage::{kinds, tamper};
+use crate::edition::{Edition, EDITIONS, FIRST};
 use crate::engine::Call;
 use crate::history::{History, Kind, KINDS};
-use crate::layout::{FIRST_BENCH_KEY, HIGHEST_KEY, PAGE_BYTES};
+use crate::layout::{FIRST_BENCH_KEY, HIGHEST_KEY};
 use crate::model::Model;
-use crate::samples::sound_store;
+use crate::samples::sound_store_of;
+use crate::store;
 
 /// At least `count` lines, named by `seed`. They end with the history at hand.
 pub fn lines(seed: u64, count: usize) -> Vec<u8> {
@@ -28,7 +30,8 @@ impl Writer {
         }
         if self.rng.once_in(8) {
             // Once with the list as it is at first.
-            self.write(Line::Store(6));
+            let edition = self.some_edition();
+            self.write_fresh(edition, 6);
             self.write(Line::Call(Call::Range(0, HIGHEST_KEY, 0, LIST_AT_FIRST)));
         }
         self.write(Line::List(40));
@@ -45,18 +48,57 @@ impl Writer {
                 _ => self.go_on(&mut history),
             }
         }
-        match self.rng.below(3) {
+        match self.rng.below(4) {
             0 => self.cut_off(),
             1 => self.wrong_length(),
+            2 => self.converted(&mut history),
             _ => {}
         }
+    }
+
+    fn some_edition(&mut self) -> &'static Edition {
+        self.rng.pick(&EDITIONS).copied().unwrap_or(&FIRST)
+    }
+
+    /// The store as edition 2, if it is one of edition 1 and its update is
+    /// committed, and the history on it.
+    fn converted(&mut self, history: &mut History) {
+        if self.rng.once_in(3) {
+            self.write(Line::Swap);
+            self.write(Line::Convert(8));
+        }
+        if history.model().is_open() {
+            self.write(Line::RawCommit);
+        }
+        let pages = match self.rng.below(6) {
+            0 => self.rng.below(6),
+            1 => self.rng.between(4096, 4098),
+            2 => self.rng.between(6, 10),
+            _ => store::page_count(&self.store).max(6),
+        };
+        let number = self.write(Line::Convert(pages)).number;
+        self.write(Line::Swap);
+        self.write(Line::Call(Call::Check));
+        if number == 0 {
+            let model = Model::of_store(&self.store);
+            let (edition, seed) = (Edition::of(&self.store), self.rng.draw());
+            let mut history =
+                History::on_store_of(edition, seed, Kind::Mixed, pages as usize, model);
+            for _ in 0..40 {
+                self.go_on(&mut history);
+            }
+        }
+        self.write(Line::Swap);
     }
 
     /// The next call of the history.
     fn go_on(&mut self, history: &mut History) {
         let call = history.next_call();
         let answer = match call {
-            Call::Fresh => self.write(Line::Store((self.store.len() / PAGE_BYTES) as u32)),
+            Call::Fresh | Call::FreshSecond => {
+                let edition = Edition::of(&self.store);
+                self.write_fresh(edition, store::page_count(&self.store))
+            }
             _ => self.write_call(call),
         };
         history.observe(call, &answer);
@@ -82,19 +124,21 @@ impl Writer {
 
     fn begin(&mut self) -> History {
         let kind = *self.rng.pick(&KINDS).unwrap_or(&Kind::Mixed);
+        let edition = self.some_edition();
         let seed = self.rng.draw();
         if self.rng.once_in(4) {
-            self.write_bytes(sound_store(seed));
-            let pages = self.store.len() / PAGE_BYTES;
-            return History::on_store(seed, kind, pages, Model::of_store(&self.store));
+            self.write_bytes(sound_store_of(edition, seed));
+            let pages = store::page_count(&self.store) as usize;
+            let model = Model::of_store(&self.store);
+            return History::on_store_of(edition, seed, kind, pages, model);
         }
         let pages = match self.rng.below(4) {
             0 => self.rng.between(6, 10),
             1 => self.rng.between(60, 130),
             _ => self.rng.between(10, 48),
         };
-        self.write(Line::Store(pages));
-        History::on_store(seed, kind, pages as usize, Model::fresh())
+        self.write_fresh(edition, pages);
+        History::on_store_of(edition, seed, kind, pages as usize, Model::fresh())
     }
 
     /// Damage, some calls on it, and the bytes as they were.
@@ -121,12 +165,15 @@ impl Writer {
 
     fn cut_off(&mut self) {
         let length = self.store.len() as u32;
-        let pages = length / PAGE_BYTES as u32;
-        let length = match self.rng.below(4) {
+        let page_bytes = Edition::of(&self.store).page_bytes as u32;
+        let pages = length / page_bytes;
+        let length = match self.rng.below(5) {
             0 => self.rng.below(8),
             1 => self.rng.below(length + 2),
             2 => length - 1,
-            _ => self.rng.below(pages + 1) * PAGE_BYTES as u32,
+            // Of an edition 2 store also a length that is edition 1's alone.
+            3 => self.rng.below(2 * pages + 1) * page_bytes / 2,
+            _ => self.rng.below(pages + 1) * page_bytes,
         };
         self.write(Line::Cut(length));
         for _ in 0..6 {
@@ -142,7 +189,8 @@ impl Writer {
             1 => 4097,
             _ => self.rng.between(4097, MOST_PAGES),
         };
-        self.write(Line::Store(pages));
+        let edition = self.some_edition();
+        self.write_fresh(edition, pages);
         for _ in 0..2 {
             self.any_call();
         }
@@ -220,6 +268,14 @@ pub const MALFORMED: &[&str] = &[
     "store",
     "store 5001",
     "store 6 6",
+    "store2",
+    "store2 5001",
+    "store2 6 6",
+    "store3 6",
+    "convert",
+    "convert 5001",
+    "convert 6 6",
+    "swap 1",
     "list",
     "list 1000001",
     "byte 1",

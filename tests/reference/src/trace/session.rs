@@ -5,14 +5,14 @@ use std::io::{self, BufRead, Write};
 use super::hash;
 use super::line::{self, Line};
 use crate::calls;
+use crate::edition::{Edition, FIRST, SECOND};
 use crate::engine::{Answer, Call, Engine};
-use crate::layout::PAGE_BYTES;
 use crate::number;
 
 /// How many numbers the caller's list holds at first.
 pub const LIST_AT_FIRST: usize = 200_000;
 /// What lent pages, and a lent list, are filled with.
-pub const LENT_BYTE: u8 = 0xEE;
+const LENT_BYTE: u8 = 0xEE;
 const LENT_NUMBER: u32 = 0xAAAA_AAAA;
 
 /// Answers each line of `input` on `output`, by `engine`.
@@ -43,6 +43,8 @@ pub fn answers(engine: &mut dyn Engine, input: &[u8]) -> Vec<u8> {
 pub struct Session<'a> {
     engine: &'a mut dyn Engine,
     store: Vec<u8>,
+    /// The last target of a conversion, until it is used up.
+    target: Option<Vec<u8>>,
     list_length: usize,
     lines: u64,
 }
@@ -53,6 +55,7 @@ impl<'a> Session<'a> {
         Session {
             engine,
             store: Vec::new(),
+            target: None,
             list_length: LIST_AT_FIRST,
             lines: 0,
         }
@@ -74,8 +77,18 @@ impl<'a> Session<'a> {
         match line {
             Line::Call(call) => return self.call(call),
             Line::Store(pages) => {
-                self.store = vec![LENT_BYTE; pages as usize * PAGE_BYTES];
+                self.store = lent_pages(&FIRST, pages);
                 return self.call(Call::Fresh);
+            }
+            Line::StoreSecond(pages) => {
+                self.store = lent_pages(&SECOND, pages);
+                return self.call(Call::FreshSecond);
+            }
+            Line::Convert(pages) => return self.convert(pages),
+            Line::Swap => {
+                if let Some(target) = self.target.take() {
+                    self.store = target;
+                }
             }
             // Whoever answers: this program makes stores from before.
             Line::RawInsert(key, value) => {
@@ -93,12 +106,26 @@ impl<'a> Session<'a> {
         number::DONE.to_string()
     }
 
+    /// The source is the store, which stays.
+    fn convert(&mut self, pages: u32) -> String {
+        let mut target = lent_pages(&SECOND, pages);
+        let number = self.engine.convert(&self.store, &mut target);
+        let hash = hash::of_bytes(&target);
+        self.target = Some(target);
+        format!("{number} target={hash:016x}")
+    }
+
     fn call(&mut self, call: Call) -> String {
         let call = call.with_list(self.list_length);
         let mut list = vec![LENT_NUMBER; call.list_length()];
         let answer = self.engine.apply(call, &mut self.store, &mut list);
         format!("{}{}", answer.number, results(call, answer, &list))
     }
+}
+
+/// So many pages of an edition's size, as they are lent.
+pub fn lent_pages(edition: &Edition, pages: u32) -> Vec<u8> {
+    vec![LENT_BYTE; pages as usize * edition.page_bytes]
 }
 
 /// What a call gives besides its number, each result after a space.

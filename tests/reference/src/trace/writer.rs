@@ -1,11 +1,12 @@
 //! The lines of a trace as they are written, each made on the store at once.
 
 use super::line::Line;
-use super::session::{LENT_BYTE, LIST_AT_FIRST};
+use super::session::{lent_pages, LIST_AT_FIRST};
 use crate::calls;
+use crate::edition::{Edition, FIRST, SECOND};
 use crate::engine::{apply, Answer, Call};
-use crate::layout::PAGE_BYTES;
 use crate::rng::Rng;
+use crate::store;
 
 /// The lines so far, and what they make of bytes and list.
 pub struct Writer {
@@ -13,6 +14,7 @@ pub struct Writer {
     pub text: Vec<u8>,
     pub count: usize,
     pub store: Vec<u8>,
+    target: Option<Vec<u8>>,
     list_length: usize,
 }
 
@@ -23,6 +25,7 @@ impl Writer {
             text: Vec::new(),
             count: 0,
             store: Vec::new(),
+            target: None,
             list_length: LIST_AT_FIRST,
         }
     }
@@ -33,8 +36,23 @@ impl Writer {
         match line {
             Line::Call(call) => return self.make(call),
             Line::Store(pages) => {
-                self.store = vec![LENT_BYTE; pages as usize * PAGE_BYTES];
+                self.store = lent_pages(&FIRST, pages);
                 return self.make(Call::Fresh);
+            }
+            Line::StoreSecond(pages) => {
+                self.store = lent_pages(&SECOND, pages);
+                return self.make(Call::FreshSecond);
+            }
+            Line::Convert(pages) => {
+                let mut target = lent_pages(&SECOND, pages);
+                let number = calls::convert(&self.store, &mut target);
+                self.target = Some(target);
+                return Answer::of(number);
+            }
+            Line::Swap => {
+                if let Some(target) = self.target.take() {
+                    self.store = target;
+                }
             }
             Line::RawInsert(key, value) => {
                 return Answer::of(calls::raw_insert(&mut self.store, key, value));
@@ -71,9 +89,17 @@ impl Writer {
         self.write(Line::Call(call.with_list(self.list_length)))
     }
 
+    /// Lends pages and makes a fresh store in them.
+    pub fn write_fresh(&mut self, edition: &Edition, pages: u32) -> Answer {
+        match edition == &FIRST {
+            true => self.write(Line::Store(pages)),
+            false => self.write(Line::StoreSecond(pages)),
+        }
+    }
+
     /// Lends a store from elsewhere: a fresh one, and each byte that differs.
     pub fn write_bytes(&mut self, bytes: Vec<u8>) {
-        self.write(Line::Store((bytes.len() / PAGE_BYTES) as u32));
+        self.write_fresh(Edition::of(&bytes), store::page_count(&bytes));
         self.write_differing(&bytes);
     }
 

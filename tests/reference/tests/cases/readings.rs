@@ -4,6 +4,7 @@
 use crate::calls;
 use crate::common::build::*;
 use crate::common::*;
+use reference::edition::FIRST;
 use reference::image::Image;
 use reference::layout::{at, Page, Slot, Span, ALIVE, HIGHEST_VERSION};
 use reference::store::{self, page, page_bytes_mut, slot_bytes_mut};
@@ -34,11 +35,11 @@ fn written(image: &Image) -> Vec<u8> {
 #[test]
 fn reading_01_no_root_is_rule_2_too_many_rule_1() {
     let mut bytes = fresh(6);
-    at::ROOT_COUNT.set(&mut bytes, 0);
+    FIRST.root_count.set(&mut bytes, 0);
     slot_bytes_mut(&mut bytes, 0).fill(0);
     assert_eq!(rule(&bytes), 2);
     let mut bytes = fresh(6);
-    at::ROOT_COUNT.set(&mut bytes, 257);
+    FIRST.root_count.set(&mut bytes, 257);
     assert_eq!(rule(&bytes), 1);
 }
 

@@ -484,14 +484,20 @@ fn one_two_three_before_four() {
     bytes[255] = 1;
     let cut = bytes.len() - 1;
     assert_eq!(calls::lookup(&bytes, u32::MAX, 9), UNSOUND);
-    bytes[4] = 2;
-    assert_eq!(calls::lookup(&bytes, u32::MAX, 9), (3, false, 0));
-    assert_eq!(range_refused(&bytes, 0, 1, 1), 3);
-    bytes[0] = 2;
-    assert_eq!(calls::lookup(&bytes, u32::MAX, 9), (2, false, 0));
-    assert_eq!(range_refused(&bytes, 0, 1, 1), 2);
     assert_eq!(calls::lookup(&bytes[..cut], u32::MAX, 9), (1, false, 0));
     assert_eq!(range_refused(&bytes[..5 * 256], 0, 1, 1), 1);
+    // 2026-08: 3, and before it 2, come before the length.
+    bytes[4] = 3;
+    for length in [5, 5 * 256, cut, cut + 1] {
+        assert_eq!(calls::lookup(&bytes[..length], u32::MAX, 9), (3, false, 0));
+        assert_eq!(range_refused(&bytes[..length], 0, 1, 1), 3);
+    }
+    bytes[0] = 2;
+    for length in [5, 5 * 256, cut, cut + 1] {
+        assert_eq!(calls::lookup(&bytes[..length], u32::MAX, 9), (2, false, 0));
+        assert_eq!(range_refused(&bytes[..length], 0, 1, 1), 2);
+    }
+    assert_eq!(calls::lookup(&bytes[..4], u32::MAX, 9), (1, false, 0));
     assert_eq!(calls::lookup(&[], 0, 0), (1, false, 0));
 }
 

@@ -1,21 +1,28 @@
 //! Stores put together page by page, for what no short history leads to.
 
 use super::{entry, value_of};
+use reference::edition::{Edition, FIRST};
 use reference::image::Image;
 use reference::layout::{Entry, Header, Page, Slot, Span, ALIVE};
 
-/// A store of which page 5 is the empty root of version 0; `pages` are those
-/// from 6 on.
+/// A store of edition 1 of which page 5 is the empty root of version 0; `pages`
+/// are those from 6 on.
 pub fn image(current: u32, open: bool, slots: &[(u32, u32)], pages: Vec<Page>) -> Image {
+    image_of(&FIRST, current, open, slots, pages)
+}
+
+/// The same of any edition.
+pub fn image_of(
+    edition: &'static Edition,
+    current: u32,
+    open: bool,
+    slots: &[(u32, u32)],
+    pages: Vec<Page>,
+) -> Image {
     let slot = |&(version, root): &(u32, u32)| Slot { version, root };
     let empty = Page::new(1, Span { start: 0, end: 1 }, Vec::new());
     Image {
-        header: Header {
-            page_count: 0,
-            current,
-            open,
-            roots: 0,
-        },
+        header: Header::uncounted(edition, current, open),
         slots: [(0, 5)].iter().chain(slots).map(slot).collect(),
         pages: [empty].into_iter().chain(pages).collect(),
     }

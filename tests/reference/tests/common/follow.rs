@@ -3,6 +3,7 @@
 use super::roomier;
 use crate::calls;
 use reference::beside::Tally;
+use reference::edition::Edition;
 use reference::engine::{apply, Answer, Call};
 use reference::history::History;
 use reference::layout::HIGHEST_KEY;
@@ -129,7 +130,7 @@ impl Follower {
                 self.settings.1 = model.at(version).len() as i64 - self.settings.0;
                 self.followed.returns += 1;
             }
-            Call::Fresh => self.settings = (0, 0),
+            Call::Fresh | Call::FreshSecond => self.settings = (0, 0),
             Call::Check | Call::Lookup(..) | Call::Range(..) => return,
             Call::Visits(..) | Call::Difference(..) | Call::Life(..) => return,
         }
@@ -146,7 +147,7 @@ impl Follower {
     }
 
     /// "Every page that a version reaches, its root aside, holds at least four
-    /// entries alive at that version", at last.
+    /// entries alive at that version" (in edition 2 eight), at last.
     fn every_reached_page_is_filled(&mut self) {
         let bytes = &self.followed.store;
         let last = store::header(bytes).last();
@@ -157,7 +158,8 @@ impl Follower {
         while let Some(number) = met.pop() {
             let page = store::page(bytes, number);
             let live = page.live(last).count();
-            assert!(number == root || live >= 4, "page {number} has {live}");
+            let fewest = Edition::of(bytes).fewest_live;
+            assert!(number == root || live >= fewest, "page {number} has {live}");
             if page.is_index() {
                 met.extend(page.live(last).map(|router| router.value));
             }
@@ -197,7 +199,7 @@ fn pages_on_the_way(bytes: &[u8], key: u32, version: u32) -> Vec<u32> {
 /// page and none is free": with more room the same update uses a page that
 /// this store does not have, just if it is refused here.
 fn lacks_exactly_when_needed(call: Call, given: u32, before: &[u8], after: &[u8]) {
-    let own = (before.len() / 256) as u32;
+    let own = store::page_count(before);
     let more = 16.min(4096 - own as usize);
     if more < 16 || given == number::NO_FREE_SLOT {
         return;
@@ -215,7 +217,8 @@ fn lacks_exactly_when_needed(call: Call, given: u32, before: &[u8], after: &[u8]
     } else {
         assert!(!beyond, "{call:?} found a page");
         let own_bytes = after.len();
-        assert_eq!(roomy[256..own_bytes], after[256..], "{call:?}");
+        let header = Edition::of(before).page_bytes;
+        assert_eq!(roomy[header..own_bytes], after[header..], "{call:?}");
     }
 }
 

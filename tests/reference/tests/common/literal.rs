@@ -1,4 +1,5 @@
-//! Document 01's soundness read off word by word, over every single version.
+//! Document 01's soundness read off word by word, over every single version,
+//! with edition 2's numbers as document 02 gives them.
 //!
 //! A second judge for small stores. It shares no code with the package: it
 //! reads bits one at a time, tests all versions rather than the turning
@@ -21,12 +22,45 @@ pub struct Page {
 }
 
 struct Store {
+    fewest: usize,
     last: u64,
     slots: Vec<(u64, usize)>,
     pages: Vec<Page>,
 }
 
 const ALIVE: u64 = 1_048_575;
+
+/// The numbers in which the editions differ.
+#[derive(Clone, Copy)]
+pub struct Numbers {
+    pub page: usize,
+    entries: usize,
+    count_bits: usize,
+    fewest: usize,
+    slots: usize,
+    roots_bits: usize,
+}
+
+pub fn numbers(bytes: &[u8]) -> Numbers {
+    match bytes[4] {
+        2 => Numbers {
+            page: 512,
+            entries: 40,
+            count_bits: 6,
+            fewest: 8,
+            slots: 512,
+            roots_bits: 10,
+        },
+        _ => Numbers {
+            page: 256,
+            entries: 20,
+            count_bits: 5,
+            fewest: 4,
+            slots: 256,
+            roots_bits: 9,
+        },
+    }
+}
 
 fn bits(bytes: &[u8], from: usize, width: usize) -> u64 {
     let bit = |at: usize| u64::from(bytes[at / 8] >> (7 - at % 8) & 1);
@@ -55,40 +89,55 @@ pub fn verdict(bytes: &[u8]) -> (u32, u32) {
 
 /// 1, 2 or 3, or 0 for what may be a store.
 pub fn no_store(bytes: &[u8]) -> u32 {
-    if !bytes.len().is_multiple_of(256) || bytes.len() < 6 * 256 || bytes.len() > 4096 * 256 {
-        1
-    } else if bits(bytes, 0, 32) != 0x5243_5354 {
-        2
-    } else if bytes[4] != 1 {
-        3
-    } else {
+    if bytes.len() < 5 {
+        return 1;
+    }
+    if bits(bytes, 0, 32) != 0x5243_5354 {
+        return 2;
+    }
+    if bytes[4] != 1 && bytes[4] != 2 {
+        return 3;
+    }
+    let page = numbers(bytes).page;
+    let whole = bytes.len().is_multiple_of(page);
+    if whole && bytes.len() >= 6 * page && bytes.len() <= 4096 * page {
         0
+    } else {
+        1
     }
 }
 
 /// The store, if rule 1 holds.
 fn rule_1(bytes: &[u8]) -> Option<Store> {
     let (last, slots) = front(bytes)?;
-    let count = bytes.len() / 256;
-    let page = |number: usize| page(&bytes[256 * number..256 * number + 256], last, count);
+    let own = numbers(bytes);
+    let count = bytes.len() / own.page;
+    let page = |number: usize| page(&bytes[own.page * number..][..own.page], own, last, count);
     // Pages 0 to 4 stand in as free ones, so that numbers are indices.
     let empty = (0..5).map(|_| Some(free()));
     let pages: Option<Vec<Page>> = empty.chain((5..count).map(page)).collect();
-    pages.map(|pages| Store { last, slots, pages })
+    pages.map(|pages| Store {
+        fewest: own.fewest,
+        last,
+        slots,
+        pages,
+    })
 }
 
 /// The last version and the slots, if rule 1 holds of the header and of them.
 pub fn front(bytes: &[u8]) -> Option<(u64, Vec<(u64, usize)>)> {
-    let count = bytes.len() / 256;
-    let (current, open, roots) = (bits(bytes, 53, 20), bits(bytes, 73, 1), bits(bytes, 74, 9));
+    let own = numbers(bytes);
+    let count = bytes.len() / own.page;
+    let (current, open) = (bits(bytes, 53, 20), bits(bytes, 73, 1));
+    let roots = bits(bytes, 74, own.roots_bits);
     let last = current + open;
-    let header = bits(bytes, 40, 13) == count as u64 && last < ALIVE && roots <= 256;
-    if !header || !zero(bytes, 83, 2048) {
+    let header = bits(bytes, 40, 13) == count as u64 && last < ALIVE && roots <= own.slots as u64;
+    if !header || !zero(bytes, 74 + own.roots_bits, 8 * own.page) {
         return None;
     }
-    let slot = |index: usize| &bytes[256 + 4 * index..260 + 4 * index];
+    let slot = |index: usize| &bytes[own.page + 4 * index..][..4];
     let mut slots = Vec::new();
-    for index in 0..256 {
+    for index in 0..own.slots {
         let (version, root) = (bits(slot(index), 0, 20), bits(slot(index), 20, 12) as usize);
         if index as u64 >= roots {
             if !zero(slot(index), 0, 32) {
@@ -115,18 +164,21 @@ fn span_fits(span: Span, last: u64) -> bool {
     span.0 <= last && (span.1 <= last || span.1 == ALIVE) && span.0 < span.1
 }
 
-pub fn page(bytes: &[u8], last: u64, count: usize) -> Option<Page> {
+pub fn page(bytes: &[u8], own: Numbers, last: u64, count: usize) -> Option<Page> {
     let level = bits(bytes, 0, 4);
     if level == 0 {
-        return zero(bytes, 0, 2048).then(free);
+        return zero(bytes, 0, 8 * own.page).then(free);
     }
-    let entry_count = bits(bytes, 4, 5) as usize;
-    let span = (bits(bytes, 9, 20), bits(bytes, 29, 20));
-    if level > 7 || entry_count > 20 || !span_fits(span, last) || !zero(bytes, 49, 128) {
+    let entry_count = bits(bytes, 4, own.count_bits) as usize;
+    let start_at = 4 + own.count_bits;
+    let span = (bits(bytes, start_at, 20), bits(bytes, start_at + 20, 20));
+    let behind = 16 + 12 * own.entries;
+    let spare = zero(bytes, start_at + 40, 128) && zero(bytes, 8 * behind, 8 * own.page);
+    if level > 7 || entry_count > own.entries || !span_fits(span, last) || !spare {
         return None;
     }
     let mut entries: Vec<Entry> = Vec::new();
-    for index in 0..20 {
+    for index in 0..own.entries {
         let place = &bytes[16 + 12 * index..28 + 12 * index];
         if index < entry_count {
             let entry = entry(place, &entries)?;
@@ -264,7 +316,7 @@ fn rule_5(store: &Store) -> bool {
             let fewest = match (number == root, page.level) {
                 (true, 1) => 0,
                 (true, _) => 2,
-                (false, _) => 4,
+                (false, _) => store.fewest,
             };
             !reached[number] || alive(page, version).len() >= fewest
         })

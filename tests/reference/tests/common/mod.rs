@@ -8,6 +8,7 @@ pub mod literal;
 pub mod reader;
 
 use crate::calls;
+use reference::edition::Edition;
 use reference::image::Image;
 use reference::layout::{Entry, Header, Page, Slot, Span};
 use reference::store;
@@ -17,6 +18,13 @@ use reference::tall::{tall, Fill, Spine};
 pub fn fresh(pages: usize) -> Vec<u8> {
     let mut bytes = vec![0xA5; pages * 256];
     assert_eq!(calls::fresh(&mut bytes), 0);
+    bytes
+}
+
+/// The same of edition 2.
+pub fn fresh_second(pages: usize) -> Vec<u8> {
+    let mut bytes = vec![0xA5; pages * 512];
+    assert_eq!(calls::fresh_second(&mut bytes), 0);
     bytes
 }
 
@@ -110,9 +118,9 @@ pub fn rounds(short: u64) -> u64 {
 /// is not refused for lack of a page.
 pub fn roomier(bytes: &[u8], more: usize) -> Vec<u8> {
     let mut bytes = bytes.to_vec();
-    bytes.resize(bytes.len() + more * 256, 0);
+    bytes.resize(bytes.len() + more * Edition::of(&bytes).page_bytes, 0);
     let header = Header {
-        page_count: (bytes.len() / 256) as u32,
+        page_count: store::page_count(&bytes),
         ..store::header(&bytes)
     };
     store::write_header(&mut bytes, header);

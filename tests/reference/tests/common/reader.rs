@@ -4,7 +4,7 @@
 //! pages it goes, it shares no code with the package; nothing that it met once
 //! is remembered.
 
-use super::literal::{alive, directory, front, no_store, page};
+use super::literal::{alive, directory, front, no_store, numbers, page};
 
 struct Reader<'a> {
     bytes: &'a [u8],
@@ -68,9 +68,10 @@ impl Reader<'_> {
         lookup: bool,
     ) -> Result<(), Stopped> {
         self.left = self.left.checked_sub(1).ok_or(Stopped::TooLong)?;
-        let count = self.bytes.len() / 256;
-        let bytes = &self.bytes[256 * number..256 * number + 256];
-        let page = page(bytes, self.last, count).ok_or(Stopped::Unsound)?;
+        let own = numbers(self.bytes);
+        let count = self.bytes.len() / own.page;
+        let bytes = &self.bytes[own.page * number..][..own.page];
+        let page = page(bytes, own, self.last, count).ok_or(Stopped::Unsound)?;
         if page.level == 0 || due.is_some_and(|due| page.level != due) {
             return Err(Stopped::Unsound);
         }

@@ -1,36 +1,34 @@
 -- A lookup is answered. Assumes nothing.
-use mathlib.Core.Path.{ap, _∙_}
+use mathlib.Core.Path.{_≡_, ap, _∙_}
 use Rattle.lines.specs.Session.{looked}
 use native.Mathlib.Omega.{arith}
+use Rattle.model.specs.declared.Limits.{Limits}
+use Rattle.page.specs.Editions.{edition-of}
 use Rattle.console.proofs.Keeping.{front}
 use borrow.Author.Needs.{needs}
 use Rattle.console.proofs.reading.get.Statement.{statement}
 use Rattle.console.proofs.reading.get.Tie as tie
-use Rattle.console.proofs.reading.get.Reads as reads
-use Rattle.console.proofs.reading.get.Lts as lts
-use Rattle.calls.proofs.lookup.Reads as lookup-reads
-use Rattle.console.proofs.reading.looked.Reads as looked-reads
 
--- src/reading.rt:27:13
+edition-one-requires : tie.Need-edition-one-requires
+edition-one-requires c κs = search needs
+
 mul-e : tie.Need-mul-e
 mul-e c = search needs
 
--- src/reading.rt:28:26
 slice-aggregate-lookup : tie.Need-slice-aggregate-lookup
-slice-aggregate-lookup c = front (c .before .before .args .bytes .now) (c .before .before .args .pages) (omega arith) (omega arith)
+slice-aggregate-lookup c = let a = c .before .before .before .args in front (a .bytes .now) (a .pages) (omega arith) (omega arith)
 
--- src/reading.rt:28:12
 lookup-requires : tie.Need-lookup-requires
-lookup-requires c κs = search needs
+lookup-requires c κs = edition-of 4 (c .before .edition-one .ensures) (omega arith) (omega arith)
 
--- src/reading.rt:28:5
 looked-requires : tie.Need-looked-requires
 looked-requires c κs = search needs
 
--- src/reading.rt:23:1
 returns : tie.Need-returns
-returns c = c .looked .ensures ∙ ap looked (c .before .lookup .ensures)
+returns c =
+    let d = c .before .before .before in
+    let four : d .edition-one .result .least ≡ 4 = ap (λ (l : Limits). l .least) (d .edition-one .ensures) in
+    c .looked .ensures ∙ ap looked (rw four at (c .before .lookup .ensures))
 
 pub get-spec : {M : Type 1} → statement M
-get-spec =
-    tie.close (tie.spec mul-e slice-aggregate-lookup lookup-requires looked-requires returns)
+get-spec = tie.close (tie.spec edition-one-requires mul-e slice-aggregate-lookup lookup-requires looked-requires returns)

@@ -1,63 +1,68 @@
 -- A range is answered: refused, or its count and the settings in the list. Assumes nothing.
 use Prim.Native.Nat.{_*_, _≤_}
+use mathlib.Core.Path.{_≡_, ap}
+use Rattle.model.specs.declared.Limits.{Limits}
+use Rattle.page.specs.Editions.{edition-of}
 use Rattle.console.proofs.Ranging.{count-fits, range-refused, range-done}
 use native.Mathlib.Omega.{arith}
 use Rattle.console.proofs.Keeping.{front}
 use borrow.Author.Needs.{needs}
 use Rattle.console.proofs.reading.range.Statement.{statement}
 use Rattle.console.proofs.reading.range.Tie as tie
-use Rattle.console.proofs.reading.range.Reads as reads
-use Rattle.console.proofs.reading.range.Lts as lts
-use Rattle.calls.proofs.range.Reads as range-reads
 
--- src/reading.rt:43:13
+edition-one-requires : tie.Need-edition-one-requires
+edition-one-requires c κs = search needs
+
 mul-e : tie.Need-mul-e
 mul-e c = search needs
 
--- src/reading.rt:44:26
 slice-aggregate-range : tie.Need-slice-aggregate-range
-slice-aggregate-range c = front (c .before .before .before .args .bytes .now) (c .before .before .before .args .pages) (omega arith) (omega arith)
+slice-aggregate-range c = let a = c .before .before .before .before .args in front (a .bytes .now) (a .pages) (omega arith) (omega arith)
 
--- src/reading.rt:44:9
 range-requires : tie.Need-range-requires
-range-requires c κs = search needs
+range-requires c κs = edition-of 4 (c .before .before .edition-one .ensures) (omega arith) (omega arith)
 
--- src/reading.rt:46:9
 same-length : tie.Need-same-length
 same-length c = search needs
 
--- src/reading.rt:46:9
 returns : tie.Need-returns
 returns c =
-    let a = c .before .before .before .before .before .before .before .before .before .args in
-    range-refused (a .bytes .now) (a .pages) (a .low) (a .high) (a .v) (a .list .now) (c .before .before .before .before .range .last .1 .1 .1 .1 .0) (c .before .before .before .before .range .result) (omega arith) (omega arith) (c .before .before .before .before .range .ensures) (c .if1 .taken)
-
--- src/reading.rt:54:31
-cast-t15 : tie.Need-cast-t15
-cast-t15 c =
     let a = c .before .before .before .before .before .before .before .before .before .before .args in
-    let few : 2 * c .before .before .before .before .before .range .result .count ≤ 10040 = count-fits (a .bytes .now) (a .pages) (a .low) (a .high) (a .v) (a .list .now) (c .before .before .before .before .before .range .last .1 .1 .1 .1 .0) (c .before .before .before .before .before .range .result) (omega arith) (omega arith) (c .before .before .before .before .before .range .ensures) (c .before .if1 .left) in
+    let r = c .before .before .before .before .range in
+    let l = c .before .before .before .before .before .before .before .edition-one in
+    let four : l .result .least ≡ 4 = ap (λ (x : Limits). x .least) (l .ensures) in
+    range-refused (a .bytes .now) (a .pages) (a .low) (a .high) (a .v) (a .list .now) (r .last .1 .1 .1 .1 .1 .0) (r .result) (omega arith) (omega arith) (rw four at (r .ensures)) (c .if1 .taken)
+
+cast-t16 : tie.Need-cast-t16
+cast-t16 c =
+    let a = c .before .before .before .before .before .before .before .before .before .before .before .args in
+    let r = c .before .before .before .before .before .range in
+    let l = c .before .before .before .before .before .before .before .before .edition-one in
+    let four : l .result .least ≡ 4 = ap (λ (x : Limits). x .least) (l .ensures) in
+    let few : 2 * r .result .count ≤ 10040 = count-fits (a .bytes .now) (a .pages) (a .low) (a .high) (a .v) (a .list .now) (r .last .1 .1 .1 .1 .1 .0) (r .result) (omega arith) (omega arith) (rw four at (r .ensures)) (c .before .if1 .left) in
     omega arith
 
--- src/reading.rt:32:1
 same-length-2 : tie.Need-same-length-2
 same-length-2 c = search needs
 
--- src/reading.rt:32:1
 returns-2 : tie.Need-returns-2
 returns-2 c =
-    let a = c .before .before .before .before .before .before .before .before .before .before .args in
-    range-done (a .bytes .now) (a .pages) (a .low) (a .high) (a .v) (a .list .now) (c .before .before .before .before .before .range .last .1 .1 .1 .1 .0) (c .before .before .before .before .before .range .result) (omega arith) (omega arith) (c .before .before .before .before .before .range .ensures) (c .before .if1 .left)
+    let a = c .before .before .before .before .before .before .before .before .before .before .before .args in
+    let r = c .before .before .before .before .before .range in
+    let l = c .before .before .before .before .before .before .before .before .edition-one in
+    let four : l .result .least ≡ 4 = ap (λ (x : Limits). x .least) (l .ensures) in
+    range-done (a .bytes .now) (a .pages) (a .low) (a .high) (a .v) (a .list .now) (r .last .1 .1 .1 .1 .1 .0) (r .result) (omega arith) (omega arith) (rw four at (r .ensures)) (c .before .if1 .left)
 
 pub range-spec : {M : Type 1} → statement M
 range-spec =
     tie.close
     (tie.spec
+    edition-one-requires
     mul-e
     slice-aggregate-range
     range-requires
     same-length
     returns
-    cast-t15
+    cast-t16
     same-length-2
     returns-2)

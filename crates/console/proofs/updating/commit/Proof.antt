@@ -1,55 +1,53 @@
 -- `commit` is answered, and the store kept. Assumes nothing.
 use Prim.Native.Nat.{_*_}
-use mathlib.Core.Path.{sym, _∙_}
+use mathlib.Core.Path.{_≡_, ap, sym, _∙_}
 use lib.ListN.{drop}
+use Rattle.model.specs.declared.Limits.{Limits}
+use Rattle.page.specs.Editions.{edition-of}
 use Rattle.console.proofs.Keeping.{front, updated}
 use native.Mathlib.Omega.{arith}
 use borrow.Author.Needs.{needs}
 use Rattle.console.proofs.updating.commit.Statement.{statement}
 use Rattle.console.proofs.updating.commit.Tie as tie
-use Rattle.console.proofs.updating.commit.Reads as reads
-use Rattle.console.proofs.updating.commit.Lts as lts
-use Rattle.calls.proofs.commit.Reads as commit-reads
-use Rattle.console.proofs.updating.answer.Reads as answer-reads
 
--- src/updating.rt:65:13
+edition-one-requires : tie.Need-edition-one-requires
+edition-one-requires c κs = search needs
+
 mul-e : tie.Need-mul-e
 mul-e c = search needs
 
--- src/updating.rt:66:27
-slice-relend-prefix-commit : tie.Need-slice-relend-prefix-commit
-slice-relend-prefix-commit c = search needs
+slice-relend-prefix-commit-in : tie.Need-slice-relend-prefix-commit-in
+slice-relend-prefix-commit-in c = search needs
 
--- src/updating.rt:66:27
-slice-aggregate-commit : tie.Need-slice-aggregate-commit
-slice-aggregate-commit c = front (c .before .before .args .bytes .now) (c .before .before .args .pages) (omega arith) (omega arith)
+slice-aggregate-commit-in : tie.Need-slice-aggregate-commit-in
+slice-aggregate-commit-in c = let a = c .before .before .before .args in front (a .bytes .now) (a .pages) (omega arith) (omega arith)
 
--- src/updating.rt:66:9
-commit-requires : tie.Need-commit-requires
-commit-requires c κs = search needs
+commit-in-requires : tie.Need-commit-in-requires
+commit-in-requires c κs = edition-of 4 (c .before .edition-one .ensures) (omega arith) (omega arith)
 
--- src/updating.rt:69:17
 answer-requires : tie.Need-answer-requires
 answer-requires c κs = search needs
 
--- src/updating.rt:61:1
 same-length : tie.Need-same-length
 same-length c = search needs
 
--- src/updating.rt:61:1
 returns : tie.Need-returns
 returns c =
-    let a = c .before .before .before .before .before .before .args in
-    updated _ (c .before .before .before .commit .result) (a .pages) (c .before .before .before .commit .last .0) (drop (a .pages * 256) (a .bytes .now)) (c .answer .result) (c .before .before .before .commit .ensures) (c .answer .ensures) (front (a .bytes .now) (a .pages) (omega arith) (omega arith) ∙ sym (c .before .before .bytes .given .0)) (omega arith)
+    let a = c .before .before .before .before .before .before .before .args in
+    let r = c .before .before .before .commit-in in
+    let four : c .before .before .before .before .before .edition-one .result .least ≡ 4 = ap (λ (l : Limits). l .least) (c .before .before .before .before .before .edition-one .ensures) in
+    updated _ (r .result) (a .pages) (r .last .0) (drop (a .pages * 256) (a .bytes .now)) (c .answer .result) (rw four at (r .ensures)) (c .answer .ensures)
+    (front (a .bytes .now) (a .pages) (omega arith) (omega arith) ∙ sym (c .before .before .bytes .given .0)) (omega arith)
 
 pub commit-spec : {M : Type 1} → statement M
 commit-spec =
     tie.close
     (tie.spec
+    edition-one-requires
     mul-e
-    slice-relend-prefix-commit
-    slice-aggregate-commit
-    commit-requires
+    slice-relend-prefix-commit-in
+    slice-aggregate-commit-in
+    commit-in-requires
     answer-requires
     same-length
     returns)

@@ -1,55 +1,53 @@
 -- `delete` is answered, and the store kept. Assumes nothing.
 use Prim.Native.Nat.{_*_}
-use mathlib.Core.Path.{sym, _∙_}
+use mathlib.Core.Path.{_≡_, ap, sym, _∙_}
 use lib.ListN.{drop}
+use Rattle.model.specs.declared.Limits.{Limits}
+use Rattle.page.specs.Editions.{edition-of}
 use Rattle.console.proofs.Keeping.{front, updated}
 use native.Mathlib.Omega.{arith}
 use borrow.Author.Needs.{needs}
 use Rattle.console.proofs.updating.delete.Statement.{statement}
 use Rattle.console.proofs.updating.delete.Tie as tie
-use Rattle.console.proofs.updating.delete.Reads as reads
-use Rattle.console.proofs.updating.delete.Lts as lts
-use Rattle.calls.proofs.delete.Reads as delete-reads
-use Rattle.console.proofs.updating.answer.Reads as answer-reads
 
--- src/updating.rt:52:13
+edition-one-requires : tie.Need-edition-one-requires
+edition-one-requires c κs = search needs
+
 mul-e : tie.Need-mul-e
 mul-e c = search needs
 
--- src/updating.rt:53:26
-slice-relend-prefix-delete : tie.Need-slice-relend-prefix-delete
-slice-relend-prefix-delete c = search needs
+slice-relend-prefix-delete-in : tie.Need-slice-relend-prefix-delete-in
+slice-relend-prefix-delete-in c = search needs
 
--- src/updating.rt:53:26
-slice-aggregate-delete : tie.Need-slice-aggregate-delete
-slice-aggregate-delete c = front (c .before .before .args .bytes .now) (c .before .before .args .pages) (omega arith) (omega arith)
+slice-aggregate-delete-in : tie.Need-slice-aggregate-delete-in
+slice-aggregate-delete-in c = let a = c .before .before .before .args in front (a .bytes .now) (a .pages) (omega arith) (omega arith)
 
--- src/updating.rt:53:9
-delete-requires : tie.Need-delete-requires
-delete-requires c κs = search needs
+delete-in-requires : tie.Need-delete-in-requires
+delete-in-requires c κs = edition-of 4 (c .before .edition-one .ensures) (omega arith) (omega arith)
 
--- src/updating.rt:56:17
 answer-requires : tie.Need-answer-requires
 answer-requires c κs = search needs
 
--- src/updating.rt:48:1
 same-length : tie.Need-same-length
 same-length c = search needs
 
--- src/updating.rt:48:1
 returns : tie.Need-returns
 returns c =
-    let a = c .before .before .before .before .before .before .args in
-    updated _ (c .before .before .before .delete .result) (a .pages) (c .before .before .before .delete .last .0) (drop (a .pages * 256) (a .bytes .now)) (c .answer .result) (c .before .before .before .delete .ensures) (c .answer .ensures) (front (a .bytes .now) (a .pages) (omega arith) (omega arith) ∙ sym (c .before .before .bytes .given .0)) (omega arith)
+    let a = c .before .before .before .before .before .before .before .args in
+    let r = c .before .before .before .delete-in in
+    let four : c .before .before .before .before .before .edition-one .result .least ≡ 4 = ap (λ (l : Limits). l .least) (c .before .before .before .before .before .edition-one .ensures) in
+    updated _ (r .result) (a .pages) (r .last .0) (drop (a .pages * 256) (a .bytes .now)) (c .answer .result) (rw four at (r .ensures)) (c .answer .ensures)
+    (front (a .bytes .now) (a .pages) (omega arith) (omega arith) ∙ sym (c .before .before .bytes .given .0)) (omega arith)
 
 pub delete-spec : {M : Type 1} → statement M
 delete-spec =
     tie.close
     (tie.spec
+    edition-one-requires
     mul-e
-    slice-relend-prefix-delete
-    slice-aggregate-delete
-    delete-requires
+    slice-relend-prefix-delete-in
+    slice-aggregate-delete-in
+    delete-in-requires
     answer-requires
     same-length
     returns)

@@ -1,55 +1,53 @@
 -- `insert` is answered, and the store kept. Assumes nothing.
 use Prim.Native.Nat.{_*_}
-use mathlib.Core.Path.{sym, _∙_}
+use mathlib.Core.Path.{_≡_, ap, sym, _∙_}
 use lib.ListN.{drop}
+use Rattle.model.specs.declared.Limits.{Limits}
+use Rattle.page.specs.Editions.{edition-of}
 use Rattle.console.proofs.Keeping.{front, updated}
 use native.Mathlib.Omega.{arith}
 use borrow.Author.Needs.{needs}
 use Rattle.console.proofs.updating.insert.Statement.{statement}
 use Rattle.console.proofs.updating.insert.Tie as tie
-use Rattle.console.proofs.updating.insert.Reads as reads
-use Rattle.console.proofs.updating.insert.Lts as lts
-use Rattle.calls.proofs.insert.Reads as insert-reads
-use Rattle.console.proofs.updating.answer.Reads as answer-reads
 
--- src/updating.rt:39:13
+edition-one-requires : tie.Need-edition-one-requires
+edition-one-requires c κs = search needs
+
 mul-e : tie.Need-mul-e
 mul-e c = search needs
 
--- src/updating.rt:40:26
-slice-relend-prefix-insert : tie.Need-slice-relend-prefix-insert
-slice-relend-prefix-insert c = search needs
+slice-relend-prefix-insert-in : tie.Need-slice-relend-prefix-insert-in
+slice-relend-prefix-insert-in c = search needs
 
--- src/updating.rt:40:26
-slice-aggregate-insert : tie.Need-slice-aggregate-insert
-slice-aggregate-insert c = front (c .before .before .args .bytes .now) (c .before .before .args .pages) (omega arith) (omega arith)
+slice-aggregate-insert-in : tie.Need-slice-aggregate-insert-in
+slice-aggregate-insert-in c = let a = c .before .before .before .args in front (a .bytes .now) (a .pages) (omega arith) (omega arith)
 
--- src/updating.rt:40:9
-insert-requires : tie.Need-insert-requires
-insert-requires c κs = search needs
+insert-in-requires : tie.Need-insert-in-requires
+insert-in-requires c κs = edition-of 4 (c .before .edition-one .ensures) (omega arith) (omega arith)
 
--- src/updating.rt:43:17
 answer-requires : tie.Need-answer-requires
 answer-requires c κs = search needs
 
--- src/updating.rt:35:1
 same-length : tie.Need-same-length
 same-length c = search needs
 
--- src/updating.rt:35:1
 returns : tie.Need-returns
 returns c =
-    let a = c .before .before .before .before .before .before .args in
-    updated _ (c .before .before .before .insert .result) (a .pages) (c .before .before .before .insert .last .0) (drop (a .pages * 256) (a .bytes .now)) (c .answer .result) (c .before .before .before .insert .ensures) (c .answer .ensures) (front (a .bytes .now) (a .pages) (omega arith) (omega arith) ∙ sym (c .before .before .bytes .given .0)) (omega arith)
+    let a = c .before .before .before .before .before .before .before .args in
+    let r = c .before .before .before .insert-in in
+    let four : c .before .before .before .before .before .edition-one .result .least ≡ 4 = ap (λ (l : Limits). l .least) (c .before .before .before .before .before .edition-one .ensures) in
+    updated _ (r .result) (a .pages) (r .last .0) (drop (a .pages * 256) (a .bytes .now)) (c .answer .result) (rw four at (r .ensures)) (c .answer .ensures)
+    (front (a .bytes .now) (a .pages) (omega arith) (omega arith) ∙ sym (c .before .before .bytes .given .0)) (omega arith)
 
 pub insert-spec : {M : Type 1} → statement M
 insert-spec =
     tie.close
     (tie.spec
+    edition-one-requires
     mul-e
-    slice-relend-prefix-insert
-    slice-aggregate-insert
-    insert-requires
+    slice-relend-prefix-insert-in
+    slice-aggregate-insert-in
+    insert-in-requires
     answer-requires
     same-length
     returns)

@@ -1,72 +1,41 @@
-use mathlib.Core.Path.{sym, _∙_}
-use borrow.Author.Tests.{not-true, not-false}
+-- `range` meets its contract: by the edition lent. Assumes nothing.
+use Prim.Native.Nat.{ℕ}
+use mathlib.Core.Path.{_∙_}
 use borrow.Author.Needs.{needs}
-use Rattle.calls.specs.Guard.{four-is, edition}
-use Rattle.calls.specs.Reading.{reads, keys-right}
-use Rattle.named.specs.Answers.{keys-low, named-refused, named-unknown, named-done}
+use Rattle.model.specs.Lent.{Listed}
+use Rattle.model.specs.Named.{rangeNamedBy, rangeNamed}
+use Rattle.store.specs.Editions.{is-edition, refused-early, gone-on}
 use Rattle.named.proofs.ranging.range.Statement.{statement}
 use Rattle.named.proofs.ranging.range.Tie as tie
 
-edition-one-requires : tie.Need-edition-one-requires
-edition-one-requires c κs = search needs
-
-bad-range-requires : tie.Need-bad-range-requires
-bad-range-requires c κs = search needs
-
-guard-reading-requires : tie.Need-guard-reading-requires
-guard-reading-requires c κs = edition (c .before .edition-one .result) (c .before .edition-one .ensures)
+edition-lent-requires : tie.Need-edition-lent-requires
+edition-lent-requires c κs = search needs
 
 returns : tie.Need-returns
+unfolding rangeNamed
 returns c =
-    let a = c .before .before .before .before .before .before .before .args in
-    let q = four-is (c .before .before .before .edition-one .result) (c .before .before .before .edition-one .ensures) in
-    let n = c .before .guard-reading .result in
-    let e = rw (q, c .before .before .bad-range .ensures) at (c .before .guard-reading .ensures) in
-    named-refused 4 (a .table .now) (a .s .now) (a .low) (a .high) (a .v) n (a .list .now) e (c .if1 .taken)
+    let a = c .before .before .before .before .before .before .args in
+    let b = a .s .now in
+    let e = c .before .before .edition-lent in
+    refused-early (e .result) b (e .ensures) {A = Listed} (λ (n : ℕ). record { number = n; count = 0; list = a .list .now })
+    (λ (least : ℕ). rangeNamedBy least (a .table .now) b (a .low) (a .high) (a .v) (a .list .now)) (c .if1 .taken)
 
-all-known-requires : tie.Need-all-known-requires
-all-known-requires c κs =
-    let a = c .before .before .before .before .before .before .before .args in
-    let d = edition (c .before .before .before .edition-one .result) (c .before .before .before .edition-one .ensures) in
-    let z = sym (c .before .guard-reading .ensures) ∙ c .if1 .left in
-    let right = sym (c .before .before .bad-range .ensures) ∙ keys-right d (a .s .now) _ (a .v) z in
-    let (low, high) = keys-low (a .low) (a .high) right in
-    (reads d (a .s .now) _ (a .v) z, low, high)
-
-returns-2 : tie.Need-returns-2
-returns-2 c =
-    let a = c .before .before .before .before .before .before .before .before .before .args in
-    let q = four-is (c .before .before .before .before .before .edition-one .result) (c .before .before .before .before .before .edition-one .ensures) in
-    let n = c .before .before .before .guard-reading .result in
-    let e = rw (q, c .before .before .before .before .bad-range .ensures) at (c .before .before .before .guard-reading .ensures) in
-    let k = rw q at (c .before .all-known .ensures) in
-    named-unknown 4 (a .table .now) (a .s .now) (a .low) (a .high) (a .v) n (a .list .now) e (c .before .before .if1 .left) (sym k ∙ not-true _ (c .if2 .taken))
-
-range-requires : tie.Need-range-requires
-range-requires c κs = search needs
+range-in-requires : tie.Need-range-in-requires
+range-in-requires c κs = let e = c .before .before .before .edition-lent in is-edition (e .result) (c .before .before .before .before .before .before .before .args .s .now) (e .ensures)
 
 same-length : tie.Need-same-length
 same-length c = search needs
 
-returns-3 : tie.Need-returns-3
-returns-3 c =
-    let a = c .before .before .before .before .before .before .before .before .before .before .before .before .before .args in
-    let q = four-is (c .before .before .before .before .before .before .before .before .before .edition-one .result) (c .before .before .before .before .before .before .before .before .before .edition-one .ensures) in
-    let n = c .before .before .before .before .before .before .before .guard-reading .result in
-    let e = rw (q, c .before .before .before .before .before .before .before .before .bad-range .ensures) at (c .before .before .before .before .before .before .before .guard-reading .ensures) in
-    let k = rw q at (c .before .before .before .before .before .all-known .ensures) in
-    c .before .before .range .ensures ∙ named-done 4 (a .table .now) (a .s .now) (a .low) (a .high) (a .v) n (a .list .now) e (c .before .before .before .before .before .before .if1 .left) (sym k ∙ not-false _ (c .before .before .before .before .if2 .left))
+returns-2 : tie.Need-returns-2
+unfolding rangeNamed
+returns-2 c =
+    let h = c .before .before .before .before in
+    let a = h .before .before .before .before .before .before .args in
+    let b = a .s .now in
+    let e = h .before .before .edition-lent in
+    c .before .before .range-in .ensures
+    ∙ gone-on (e .result) b (e .ensures) {A = Listed} (λ (n : ℕ). record { number = n; count = 0; list = a .list .now })
+    (λ (least : ℕ). rangeNamedBy least (a .table .now) b (a .low) (a .high) (a .v) (a .list .now)) (h .if1 .left)
 
 pub range-spec : {M : Type 1} → statement M
-range-spec =
-    tie.close
-    (tie.spec
-    edition-one-requires
-    bad-range-requires
-    guard-reading-requires
-    returns
-    all-known-requires
-    returns-2
-    range-requires
-    same-length
-    returns-3)
+range-spec = tie.close (tie.spec edition-lent-requires returns range-in-requires same-length returns-2)

@@ -1,0 +1,66 @@
+-- `convert_in` meets its contract. Assumes nothing.
+use mathlib.Core.Path.{refl, sym, _∙_}
+use borrow.Author.Needs.{needs}
+use Rattle.convert.specs.Whole.{fresh-made, starts, all-done, one-stops}
+use Rattle.convert.proofs.call.convert_in.Statement.{statement}
+use Rattle.convert.proofs.call.convert_in.Tie as tie
+
+fresh-second-requires : tie.Need-fresh-second-requires
+fresh-second-requires c κs = search needs
+
+edition-one-requires : tie.Need-edition-one-requires
+edition-one-requires c κs = search needs
+
+edition-two-requires : tie.Need-edition-two-requires
+edition-two-requires c κs = search needs
+
+replay-requires : tie.Need-replay-requires
+replay-requires c κs =
+    let a = c .before .before .before .before .before .before .before .before .before .args in
+    let p = c .before .before .before .before .before .before .before .before .before .pre in
+    let f = c .before .before .before .before .before .fresh-second .ensures .1 ∙ fresh-made (a .t .now) (a .t .now) refl (p .1) in
+    let k = c .before .before .edition-one .ensures in
+    let l = c .edition-two .ensures in
+    starts (a .s .now) (a .t .now) (p .0) (p .1) _ _ k l _ f
+
+same-length : tie.Need-same-length
+same-length c = search needs
+
+returns : tie.Need-returns
+returns c =
+    let a = c .before .before .before .before .before .before .before .before .before .before .before .before .before .args in
+    let p = c .before .before .before .before .before .before .before .before .before .before .before .before .before .pre in
+    let f = c .before .before .before .before .before .before .before .before .before .fresh-second .ensures .1 ∙ fresh-made (a .t .now) (a .t .now) refl (p .1) in
+    let k = c .before .before .before .before .before .before .edition-one .ensures in
+    let l = c .before .before .before .before .edition-two .ensures in
+    all-done (a .s .now) (a .t .now) (p .0) (p .1) _ _ k l _ f _ _ (c .before .before .before .replay .ensures) (c .if1 .taken) (λ i. c .before .slice-known3 .given i .fits)
+
+fresh-second-requires-2 : tie.Need-fresh-second-requires-2
+fresh-second-requires-2 c κs = search needs
+
+same-length-2 : tie.Need-same-length-2
+same-length-2 c = search needs
+
+returns-2 : tie.Need-returns-2
+returns-2 c =
+    let a = c .before .before .before .before .before .before .before .before .before .before .before .before .before .before .before .before .before .args in
+    let p = c .before .before .before .before .before .before .before .before .before .before .before .before .before .before .before .before .before .pre in
+    let f = c .before .before .before .before .before .before .before .before .before .before .before .before .before .fresh-second .ensures .1 ∙ fresh-made (a .t .now) (a .t .now) refl (p .1) in
+    let k = c .before .before .before .before .before .before .before .before .before .before .edition-one .ensures in
+    let l = c .before .before .before .before .before .before .before .before .edition-two .ensures in
+    one-stops (a .s .now) (a .t .now) (p .0) (p .1) _ _ k l _ f _ _ (c .before .before .before .before .before .before .before .replay .ensures) (c .before .before .before .before .if1 .left) _
+    (c .before .before .fresh-second2 .ensures .1 ∙ fresh-made _ (a .t .now) (c .before .before .before .before .before .before .before .replay .kept .1 .1 .0 ∙ c .before .before .before .before .before .before .before .before .before .before .before .before .before .fresh-second .kept .0) (p .1))
+
+pub convert-in-spec : {M : Type 1} → statement M
+convert-in-spec =
+    tie.close
+    (tie.spec
+    fresh-second-requires
+    edition-one-requires
+    edition-two-requires
+    replay-requires
+    same-length
+    returns
+    fresh-second-requires-2
+    same-length-2
+    returns-2)

@@ -1,0 +1,143 @@
+-- `replay` meets its contract. Assumes nothing.
+use lib.ListN.{length}
+use Rattle.model.specs.declared.Header.{Header}
+use Rattle.model.specs.Layout.{decode}
+use Rattle.model.specs.Convert.{replay}
+use Rattle.store.specs.Read.{current-of}
+use Rattle.convert.specs.Version.{Replaying, header-right, version-low, on-start, on-stops, on-goes, on-more, on-end}
+use mathlib.Core.Path.{_≡_, refl, ap, sym, _∙_}
+use native.Mathlib.Omega.{arith}
+use Prim.Native.Nat.{_-_, _≤_, _<_}
+use borrow.Author.Needs.{needs}
+use Rattle.convert.proofs.replay.Statement.{statement}
+use Rattle.convert.proofs.replay.Tie as tie
+
+abbrev Inv-loop : tie.InvT-loop
+Inv-loop s k t₀ l h v₀ t v =
+    (v ≤ decode (k .least) s .current) × Replaying k s l t v
+    × (replay (l .least) (decode (k .least) s) 0 (decode (k .least) s .current) (decode (l .least) t₀)
+    ≡ replay (l .least) (decode (k .least) s) v (decode (k .least) s .current - v) (decode (l .least) t))
+    × (length t ≡ length t₀)
+
+abbrev μ-loop : tie.MeasureT-loop
+μ-loop s k t₀ l h v₀ t v = decode (k .least) s .current - v
+
+header-requires : tie.Need-header-requires Inv-loop μ-loop
+header-requires c κs = header-right (c .before .before .pre)
+
+loop-holds : tie.Need-loop-holds Inv-loop μ-loop
+loop-holds c =
+    let p = c .before .before .before .pre in
+    (omega arith, p, on-start p, refl)
+
+skip-requires : tie.Need-skip-requires Inv-loop μ-loop
+skip-requires c κs =
+    let i = c .before .before .before .loop in
+    let a = c .before .before .before .before .before .before .before .args in
+    let same = ap (λ (y : Header). y .current) (c .before .before .before .before .header .ensures) ∙ sym (current-of (a .k .least) (a .s .now)) in
+    (i .inv .1, same, omega (arith, c .before .if1 .taken))
+
+same-length : tie.Need-same-length Inv-loop μ-loop
+same-length c = search needs
+
+returns : tie.Need-returns Inv-loop μ-loop
+returns c =
+    let i = c .before .before .before .before .before .before .before .before .loop in
+    let x = c .before .before .before .before .skip .ensures in
+    let a = c .before .before .before .before .before .before .before .before .before .before .before .before .args in
+    let same = ap (λ (y : Header). y .current) (c .before .before .before .before .before .before .before .before .before .header .ensures) ∙ sym (current-of (a .k .least) (a .s .now)) in
+    record {
+      sound = x .now-at .target;
+      goes = λ z. i .inv .2 ∙ x .same ∙ on-end (x .now-at) (omega (arith, c .if2 .taken, same));
+      stops = λ z. absurd (z refl);
+    }
+
+one-version-requires : tie.Need-one-version-requires Inv-loop μ-loop
+one-version-requires c κs =
+    let x = c .before .before .before .before .before .skip .ensures in
+    let a = c .before .before .before .before .before .before .before .before .before .before .before .before .before .args in
+    let same = ap (λ (y : Header). y .current) (c .before .before .before .before .before .before .before .before .before .before .header .ensures) ∙ sym (current-of (a .k .least) (a .s .now)) in
+    let less : c .before .before .before .before .before .skip .result < decode (a .k .least) (a .s .now) .current = omega (arith, c .before .if2 .left, x .high, same) in
+    (x .now-at, less)
+
+same-length-2 : tie.Need-same-length-2 Inv-loop μ-loop
+same-length-2 c = search needs
+
+returns-2 : tie.Need-returns-2 Inv-loop μ-loop
+returns-2 c =
+    let i = c .before .before .before .before .before .before .before .before .before .before .before .before .before .loop in
+    let x = c .before .before .before .before .before .before .before .before .before .skip .ensures in
+    let a = c .before .before .before .before .before .before .before .before .before .before .before .before .before .before .before .before .before .args in
+    let same = ap (λ (y : Header). y .current) (c .before .before .before .before .before .before .before .before .before .before .before .before .before .before .header .ensures) ∙ sym (current-of (a .k .least) (a .s .now)) in
+    let less : c .before .before .before .before .before .before .before .before .before .skip .result < decode (a .k .least) (a .s .now) .current = omega (arith, c .before .before .before .before .before .if2 .left, x .high, same) in
+    let q = c .before .before .before .one-version .ensures in
+    record {
+      sound = q .sound;
+      goes = λ z. absurd (c .if3 .taken z);
+      stops = λ z. i .inv .2 ∙ x .same ∙ on-stops (x .now-at) less _ _ q z;
+    }
+
+add-v : tie.Need-add-v Inv-loop μ-loop
+add-v c =
+    let x = c .before .before .before .before .before .before .before .before .before .skip .ensures in
+    let a = c .before .before .before .before .before .before .before .before .before .before .before .before .before .before .before .before .before .args in
+    let same = ap (λ (y : Header). y .current) (c .before .before .before .before .before .before .before .before .before .before .before .before .before .before .header .ensures) ∙ sym (current-of (a .k .least) (a .s .now)) in
+    let less : c .before .before .before .before .before .before .before .before .before .skip .result < decode (a .k .least) (a .s .now) .current = omega (arith, c .before .before .before .before .before .if2 .left, x .high, same) in
+    omega (arith, version-low (x .now-at) less)
+
+loop-less : tie.Need-loop-less Inv-loop μ-loop
+loop-less c =
+    let x = c .before .before .before .before .before .before .before .before .before .skip .ensures in
+    let a = c .before .before .before .before .before .before .before .before .before .before .before .before .before .before .before .before .before .args in
+    let same = ap (λ (y : Header). y .current) (c .before .before .before .before .before .before .before .before .before .before .before .before .before .before .header .ensures) ∙ sym (current-of (a .k .least) (a .s .now)) in
+    let less : c .before .before .before .before .before .before .before .before .before .skip .result < decode (a .k .least) (a .s .now) .current = omega (arith, c .before .before .before .before .before .if2 .left, x .high, same) in
+    omega (arith, less, x .low)
+
+loop-again : tie.Need-loop-again Inv-loop μ-loop
+loop-again c =
+    let i = c .before .before .before .before .before .before .before .before .before .before .before .before .before .loop in
+    let x = c .before .before .before .before .before .before .before .before .before .skip .ensures in
+    let a = c .before .before .before .before .before .before .before .before .before .before .before .before .before .before .before .before .before .args in
+    let same = ap (λ (y : Header). y .current) (c .before .before .before .before .before .before .before .before .before .before .before .before .before .before .header .ensures) ∙ sym (current-of (a .k .least) (a .s .now)) in
+    let less : c .before .before .before .before .before .before .before .before .before .skip .result < decode (a .k .least) (a .s .now) .current = omega (arith, c .before .before .before .before .before .if2 .left, x .high, same) in
+    let q = c .before .before .before .one-version .ensures in
+    let z = c .if3 .left in (
+      omega (arith, less),
+      on-more (x .now-at) less _ _ q z,
+      i .inv .2 ∙ x .same ∙ on-goes (x .now-at) less _ _ q z,
+      c .before .before .before .one-version .kept .1 .1 .0 ∙ c .before .before .before .before .before .before .before .before .before .skip .kept .1 .1 .0 ∙ i .inv .3,
+    )
+
+same-length-3 : tie.Need-same-length-3 Inv-loop μ-loop
+same-length-3 c = search needs
+
+returns-3 : tie.Need-returns-3 Inv-loop μ-loop
+returns-3 c =
+    let i = c .before .before .loop in
+    let a = c .before .before .before .before .before .before .args in
+    let same = ap (λ (y : Header). y .current) (c .before .before .before .header .ensures) ∙ sym (current-of (a .k .least) (a .s .now)) in
+    record {
+      sound = i .inv .1 .target;
+      goes = λ z. i .inv .2 ∙ on-end (i .inv .1) (omega (arith, c .if1 .left, same));
+      stops = λ z. absurd (z refl);
+    }
+
+pub replay-spec : {M : Type 1} → statement M
+replay-spec =
+    tie.close
+    (tie.spec
+    Inv-loop
+    μ-loop
+    header-requires
+    loop-holds
+    skip-requires
+    same-length
+    returns
+    one-version-requires
+    same-length-2
+    returns-2
+    add-v
+    loop-less
+    loop-again
+    same-length-3
+    returns-3)

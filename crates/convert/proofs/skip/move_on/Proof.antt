@@ -1,0 +1,42 @@
+-- `move_on` meets its contract. Assumes nothing.
+use native.Mathlib.Omega.{arith}
+use mathlib.Core.Path.{_∙_}
+use borrow.Author.Needs.{needs}
+use Rattle.store.specs.Sure.{few, front}
+use Rattle.store.specs.Header.{header-fits}
+use Rattle.turn.specs.Turned.{kept}
+use Rattle.convert.specs.Skip.{moved-bytes}
+use Rattle.convert.proofs.skip.move_on.Statement.{statement}
+use Rattle.convert.proofs.skip.move_on.Tie as tie
+
+header-requires : tie.Need-header-requires
+header-requires c κs =
+    let a = c .before .before .args in
+    let p = c .before .before .pre in
+    (p .0, omega (arith, front (p .0) (a .t .now) (p .1)), few (p .0) (a .t .now) (p .1))
+
+with-version-requires : tie.Need-with-version-requires
+with-version-requires c κs = search needs
+
+with-flag-requires : tie.Need-with-flag-requires
+with-flag-requires c κs = search needs
+
+put-header-requires : tie.Need-put-header-requires
+put-header-requires c κs =
+    let a = c .before .before .before .before .before .before .args in
+    let p = c .before .before .before .before .before .before .pre in
+    let f = header-fits (a .l .least) (a .t .now) in
+    (p .0, rw (c .with-flag .ensures, c .before .with-version .ensures, c .before .before .before .header .ensures) (record { pages = f .pages; current = p .2; roots = f .roots }), omega (arith, front (p .0) (a .t .now) (p .1)), few (p .0) (a .t .now) (p .1))
+
+same-length : tie.Need-same-length
+same-length c = search needs
+
+returns : tie.Need-returns
+returns c =
+    let e = c .before .before .before .before .before .before .before .before .before in
+    let p = e .pre in
+    rw (c .before .before .before .with-flag .ensures, c .before .before .before .before .with-version .ensures, c .before .before .before .before .before .before .header .ensures) at (c .before .before .put-header .ensures)
+    ∙ moved-bytes (e .args .l .least) (p .0 .four) (p .0 .eight) (e .args .t .now) (kept (p .0) (e .args .t .now) (p .1) (λ i. c .before .before .before .before .before .before .before .before .slice-known .given i .fits)) (e .args .w) (p .2)
+
+pub move-on-spec : {M : Type 1} → statement M
+move-on-spec = tie.close (tie.spec header-requires with-version-requires with-flag-requires put-header-requires same-length returns)
