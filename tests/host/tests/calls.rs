@@ -103,8 +103,13 @@ fn every_call_on_damaged_and_foreign_bytes() {
         tamper::flip_bit(&mut store, &mut rng);
         try_all(&store, &mut rng, &mut tally);
         let length = 128 * rng.below(60) as usize;
-        let any: Vec<u8> = (0..length).map(|_| rng.word() as u8).collect();
+        let mut any: Vec<u8> = (0..length).map(|_| rng.word() as u8).collect();
         try_all(&any, &mut rng, &mut tally);
+        if length > 0 {
+            let named = &sound_store(seed)[..5];
+            any[..5].copy_from_slice(named);
+            try_all(&any, &mut rng, &mut tally);
+        }
     }
     println!("numbers given, times: {tally:?}");
     for number in [1, 2, 4] {

@@ -14,6 +14,7 @@ use std::collections::BTreeMap;
 
 use beside::{calls, rounds};
 use reference::damage::{kinds, tamper};
+use reference::edition::Edition;
 use reference::layout::{FIRST_PAGE, HIGHEST_KEY, PAGE_BYTES};
 use reference::rng::Rng;
 use reference::samples::sound_store;
@@ -80,7 +81,7 @@ impl Read {
 /// Keys that stand somewhere in the bytes, and their neighbours.
 fn keys_in(bytes: &[u8], rng: &mut Rng) -> Vec<u32> {
     let mut keys = vec![0, HIGHEST_KEY, HIGHEST_KEY + 1, rng.below(HIGHEST_KEY)];
-    let pages = (bytes.len() / PAGE_BYTES) as u32;
+    let pages = (bytes.len() / Edition::of(bytes).page_bytes) as u32;
     for _ in 0..6 {
         if pages <= FIRST_PAGE {
             break;
