@@ -46,10 +46,10 @@
  *
  * A call takes at most RCST_STACK_BYTES of the stack of the thread that makes it;
  * the default of some systems for a thread is less. That is measured and rounded
- * up, not proved (tests/c/stack.c, x86-64): rcst_range and rcst_view_range took 692
- * kB, on any store, since the compiler puts into their frame what they need on bytes
- * made to keep them busy; rcst_check 203 kB, every other call up to 116 kB, on stores
- * made to keep them busy too.
+ * up, not proved (tests/c/stack.c, x86-64): rcst_range and rcst_view_range took 1.35
+ * MB, on any store, since the compiler puts into their frame what they need on bytes
+ * of edition 2 made to keep them busy; rcst_check 203 kB, every other call up to 116
+ * kB, on stores made to keep them busy too.
  *
  * A program that ends between two calls of an update leaves it open, and the next
  * commit would publish the half of it. On start check the store, and abandon: 0
@@ -92,7 +92,7 @@ extern "C" {
 #define RCST_ALIVE 1048575u
 
 /* The stack that a call finds enough. */
-#define RCST_STACK_BYTES 786432u
+#define RCST_STACK_BYTES 1572864u
 
 /* The numbers that calls give. What each is given for, rcst_words says. */
 enum rcst_number {

@@ -15,7 +15,7 @@
 #include <stdlib.h>
 #include <string.h>
 
-enum { STACK = 1 << 20, PAGES = 40, CALLS = 13 };
+enum { STACK = 1 << 21, PAGES = 40, CALLS = 13 };
 
 #define PAINT 0xA5A5A5A5A5A5A5A5u
 
