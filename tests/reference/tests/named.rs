@@ -129,7 +129,8 @@ fn a_viewer_opens_on_a_store_and_one_version() {
     open(&mut bytes);
     assert_eq!(named::open_viewer(&bytes, 1), 0);
     assert_eq!(named::open_viewer(&bytes, 2), 6);
-    assert_eq!(named::open_viewer(&bytes[1..], 2), 1);
+    assert_eq!(named::open_viewer(&bytes[1..], 2), 2);
+    assert_eq!(named::open_viewer(&bytes[..6 * 256 - 1], 2), 1);
     let sound = bytes.clone();
     bytes[5 * 256 + 200] ^= 1;
     assert_eq!(calls::check(&bytes).0, 4);
