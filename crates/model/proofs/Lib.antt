@@ -61,6 +61,7 @@ pub mod Lives
 pub mod Telling
 pub mod Sampled
 pub mod Rising
+pub mod Counted
 pub mod Judging
 pub mod Quiet
 pub mod Parents

@@ -21,6 +21,7 @@ pub mod Field
 pub mod Layout
 pub mod Clean
 pub mod Quick
+pub mod Counted
 pub mod Judged
 pub mod Near
 pub mod Lent
