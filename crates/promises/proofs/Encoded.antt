@@ -16,6 +16,7 @@ use Rattle.model.proofs.Given.{Sound, from-tests}
 use Rattle.model.proofs.Judging.{Accepted, accepted as judged-zero}
 use Rattle.store.specs.Exactly.{encode-decode}
 use Rattle.store.specs.Tested.{whole-length, exactly}
+use Rattle.store.specs.Counted.{counted}
 use Rattle.written.specs.Encoded.{encoded-accepted, encoded-are-bytes, encoded-held}
 use Rattle.promises.specs.Accepts.{Accepts, Written, Exact}
 
@@ -38,5 +39,5 @@ module _ (least : ℕ) (four : 4 ≤ least) (eight : least ≤ 8) where
       let (pages, one) = both-true (cleanPages least b 5 (sizeOf least b - 5)) (rule1 least (decode least b)) rest in
       record {
         is-sound = true-holds (sound least (decode least b)) (a .is-sound);
-        same = encode-decode least four eight b (sizeOf least b) (exactly least b bytes (whole-length least b (a .length-ok)) (a .magic-ok) (a .edition-ok) front pages);
+        same = encode-decode least four eight b (sizeOf least b) (exactly least eight b bytes (whole-length least b (a .length-ok)) (counted least eight b a) (a .magic-ok) (a .edition-ok) front pages);
       }

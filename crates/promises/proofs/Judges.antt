@@ -14,6 +14,7 @@ use Rattle.model.specs.Walk.{keyLimit, settings, lookupVisits}
 use Rattle.model.specs.Sound.{sound}
 use Rattle.model.specs.Layout.{sizeOf, encode, decode}
 use Rattle.model.specs.Clean.{clean}
+use Rattle.model.specs.Counted.{rule8}
 use Rattle.model.specs.Judged
 use Rattle.model.specs.Judged.{lengthOk, magicOk, editionOk, brokenIn, judged, verdict, ruled}
 use Rattle.model.specs.Climb.{Result, done, refused}
@@ -31,7 +32,7 @@ use Rattle.model.specs.Lent.{left, leftBy, judgedFirst, listed, returnLent, lif
 use Rattle.model.specs.Ended.{Asked, toFresh, toCheck, toOpen, toCommit, toAbandon, toInsert, toDelete, toReturn, toLookup, toRange, toLife, toDifference, toVisits, ofOutcome, ended}
 use Rattle.model.proofs.Lists.{both-true, both-intro}
 use Rattle.model.proofs.Members.{bool-cases, not-both}
-use Rattle.model.proofs.Judging.{unbroken, whole}
+use Rattle.model.proofs.Judging.{unbroken, unbroken-all, whole, broken-none}
 use Rattle.model.proofs.Lacking.{judged-low}
 use Rattle.model.proofs.Unique.{refused as leaves}
 use Rattle.promises.specs.Accepts.{Accepts}
@@ -173,7 +174,7 @@ zero-accepts least c b ns m e = at (judged least b .number) (ended least c b ns 
 
 module _ (least : ℕ) (b : List ℕ) where
   abbrev good : Bool
-  good = clean least b && sound least (decode least b)
+  good = clean least b && (sound least (decode least b) && rule8 least b)
 
   clash : {A : Type 0} → true ≡ false → A
   clash e = absurd (not-both true refl e)
@@ -201,10 +202,13 @@ module _ (least : ℕ) (b : List ℕ) where
   check-first = at (lengthOk least b) (magicOk b) (editionOk least b)
     where
       up : (r : ℕ) → brokenIn least b ≡ r → r ≡ 0 → good ≡ true
-      up r e z = let u = unbroken least b (e ∙ z) in both-intro _ _ (u .0) (u .1)
+      up r e z = let (low, eight) = unbroken-all least b (e ∙ z) in let u = unbroken least b low in both-intro _ _ (u .0) (both-intro _ _ (u .1) eight)
 
       down : good ≡ true → brokenIn least b ≡ 0
-      down e = let u = both-true (clean least b) (sound least (decode least b)) e in whole least b (u .0) (u .1)
+      down e =
+          let u = both-true (clean least b) (sound least (decode least b) && rule8 least b) e in
+          let v = both-true (sound least (decode least b)) (rule8 least b) (u .1) in
+          broken-none least b (whole least b (u .0) (v .0)) (v .1)
 
       at : (x y z : Bool) → FirstNumbers x y z good (pick x (pick y (pick z (ruled (brokenIn least b)) (verdict 3 0)) (verdict 2 0)) (verdict 1 0) .number)
       at true true true = ruled-first (brokenIn least b) (up (brokenIn least b) refl) down

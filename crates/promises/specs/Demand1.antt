@@ -12,6 +12,7 @@ use Rattle.model.specs.Store.{fresh}
 use Rattle.model.specs.Sound.{sound}
 use Rattle.model.specs.Layout.{sizeOf, encode, decode}
 use Rattle.model.specs.Clean.{clean}
+use Rattle.model.specs.Counted.{rule8}
 use Rattle.model.specs.Judged.{lengthOk, magicOk, editionOk}
 use Rattle.model.specs.Ended.{Asked, toFresh, toCheck, toOpen, toCommit, toAbandon, toInsert, toDelete, toReturn, toLookup, toRange, toVisits, toDifference, toLife, Ended, ended, Meets, Untouched, Excepted, Named, Zeros}
 use Rattle.promises.specs.Accepts.{Accepts}
@@ -32,7 +33,7 @@ Blank = (least : ℕ) (c : Asked) (b ns : List ℕ) (e : Ended) → Meets least 
 
 -- ---- "judges the store itself before it trusts it": the numbers 1 to 4, each exactly when
 
--- what the four tests found: the length is right, the first four bytes, the edition, the store is sound
+-- what the four tests found: the length is right, the first four bytes, the edition, the store is sound, its live counts with it
 pub record FirstNumbers (length magic edition rules : Bool) (n : ℕ) : Type 0 where
   pub one : n ≡ 1 ↔ (length ≡ false)
   pub two : n ≡ 2 ↔ ((length ≡ true) × (magic ≡ false))
@@ -59,7 +60,7 @@ judgesAll (toLife k) = true
 -- these, on any bytes
 abbrev pub Judges : Type 0
 Judges = (least : ℕ) (c : Asked) (b ns : List ℕ) → judgesAll c ≡ true
-    → FirstNumbers (lengthOk least b) (magicOk b) (editionOk least b) (clean least b && sound least (decode least b)) (ended least c b ns .number)
+    → FirstNumbers (lengthOk least b) (magicOk b) (editionOk least b) (clean least b && (sound least (decode least b) && rule8 least b)) (ended least c b ns .number)
 
 -- so none of them touches bytes that check does not accept; lookup and range touch no store's (`ReadsOnly`)
 pub record TurnedAway (b ns : List ℕ) (e : Ended) : Type 0 where

@@ -8,7 +8,7 @@ pub mod Holds
 pub mod Inside
 pub mod Set
 pub mod Tested
+pub mod Counted
 pub mod Sure
 pub mod Fresh
 pub mod Answers
-pub mod Passes
