@@ -20,6 +20,7 @@ use Rattle.model.specs.Clean.{clean}
 use Rattle.model.specs.Counted.{countedPage, countedPages, rule8}
 use Rattle.model.proofs.Lists.{both-true}
 use Rattle.model.proofs.Local.{those-append}
+use Rattle.model.proofs.PlanSizes.{few-those}
 use Rattle.model.proofs.Counted.{those-last}
 use Rattle.page.specs.Head.{readHead}
 use Rattle.page.specs.Read.{level-of, entries-of, entries-step, entries-end}
@@ -34,6 +35,9 @@ liveFrom p i n = length (those lives (readEntries p (128 + 96 * i) (n - i)))
 
 live-cons : (e : Entry) (es : List Entry) → length (those lives (e ∷ es)) ≡ liveOne e + length (those lives es)
 live-cons e es = ap length (those-append lives (e ∷ []) es) ∙ length-append (those lives (e ∷ [])) (those lives es)
+
+pub live-most : (e : Entry) → liveOne e ≤ 1
+live-most e = few-those lives (e ∷ [])
 
 pub live-start : (p : List ℕ) (n : ℕ) → length (those lives (readEntries p 128 n)) ≡ liveFrom p 0 n
 live-start p n = let e : n - 0 ≡ n = omega arith in let f : 128 + 96 * 0 ≡ 128 = omega arith in rw (e, f)
