@@ -136,7 +136,10 @@ fn squeeze(page: &mut [u8], l: Limits, count: usize, rule: Rule, w: u32) -> Kept
         }
         i += 1;
     }
-    Kept { count: j, live: live }
+    Kept {
+        count: j,
+        live: live,
+    }
 }
 
 // A page under a rule.

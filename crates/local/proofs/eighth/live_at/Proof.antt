@@ -6,14 +6,14 @@ use Rattle.model.specs.Layout.{readEntry}
 use Rattle.local.proofs.eighth.live_at.Statement.{statement}
 use Rattle.local.proofs.eighth.live_at.Tie as tie
 
-mul-end : tie.Need-mul-end
-mul-end c = search needs
+mul-field : tie.Need-mul-field
+mul-field c = search needs
 
-add-end : tie.Need-add-end
-add-end c = search needs
+add-field : tie.Need-add-field
+add-field c = search needs
 
-add-end-2 : tie.Need-add-end-2
-add-end-2 c = search needs
+add-field-2 : tie.Need-add-field-2
+add-field-2 c = search needs
 
 field-requires : tie.Need-field-requires
 field-requires c κs = search needs
@@ -27,4 +27,4 @@ unfolding readEntry
 returns-2 c = simp (ne-eqb _ _ (λ q. c .if1 .left (c .before .field .ensures ∙ q)))
 
 pub live-at-spec : {M : Type 1} → statement M
-live-at-spec = tie.close (tie.spec mul-end add-end add-end-2 field-requires returns returns-2)
+live-at-spec = tie.close (tie.spec mul-field add-field add-field-2 field-requires returns returns-2)
