@@ -100,9 +100,10 @@ fn refusals() {
     for seed in 0..rounds(60) {
         let mut rng = Rng::new(seed);
         let mut sources = stores(seed);
+        sources.push(closed(sources[0].clone()));
         sources.extend(stores_of(&SECOND, seed));
         for mut source in sources {
-            if source.len() >= 5 && rng.once_in(3) {
+            if source.len() >= 5 && rng.once_in(4) {
                 let edition = *rng.pick(&[0, 1, 1, 1, 2, 3, 255]).unwrap_or(&1);
                 source[..4].copy_from_slice(b"RCST");
                 source[4] = edition;
