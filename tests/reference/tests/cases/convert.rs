@@ -123,6 +123,26 @@ fn inserts_rise() {
     assert_eq!(counts, [21, 21, 3, 40]);
 }
 
+/// Deletes in rising key order: of leaves of 21, 21 and 40 the first runs low
+/// before the second does, and takes it along; the third stays.
+#[test]
+fn deletes_rise() {
+    let mut source = fresh(64);
+    open(&mut source);
+    insert_all(&mut source, 1..=82);
+    commit(&mut source);
+    open(&mut source);
+    delete_all(&mut source, (1..=14).chain(22..=35));
+    commit(&mut source);
+    let target = converted(&source, 16);
+    let root = page(&target, walk::root(&target, 2));
+    let leaves: Vec<usize> = root
+        .live(2)
+        .map(|router| page(&target, router.value).live(2).count())
+        .collect();
+    assert_eq!(leaves, [14, 40]);
+}
+
 /// A key with another value is deleted and inserted, one with the same value
 /// stays.
 #[test]

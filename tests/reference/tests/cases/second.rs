@@ -318,6 +318,10 @@ fn the_512th_slot_and_the_513th() {
     // Of current 511 the last bit, the flag, and 512 in ten bits.
     assert_eq!(bytes[9..11], [0xE0, 0x00]);
     assert_eq!(slots(&bytes)[511], (512, 516));
+    // All slots are used, and one more is told.
+    let mut damaged = bytes.clone();
+    SECOND.root_count.set(&mut damaged, 513);
+    assert_eq!(calls::check(&damaged), (4, 1));
     // The slot of the open version is replaced where it stands.
     commit_as_before(&mut bytes);
     open(&mut bytes);
