@@ -98,7 +98,7 @@ fn the_hash_is_of_all_bytes_after_the_line() {
         format!("9 0 {first}"),
         format!("10 0 {empty}"),
         format!("11 1 {refused}"),
-        format!("12 1 {refused}"),
+        format!("12 2 {refused}"),
     ];
     assert_eq!(answered(input), expected);
 }

@@ -548,8 +548,10 @@ fn judged_before_all_else() {
             let before = damaged.clone();
             assert_eq!(calls::return_to(&mut damaged, version), number);
             assert_eq!(damaged, before);
+            // 2 and 3 come before the length (2026-08).
+            let number = if number < 4 { number } else { 1 };
             let cut = &mut damaged[..40 * 256 - 1];
-            assert_eq!(calls::return_to(cut, version), 1);
+            assert_eq!(calls::return_to(cut, version), number);
         }
     }
     assert_eq!(calls::return_to(&mut [], 0), 1);
