@@ -18,23 +18,23 @@ head-of-requires c κs = (c .before .pre .0, omega (arith, c .before .pre .1, c 
 
 returns : tie.Need-returns
 returns c =
-    let a = c .before .before .before .args in
-    sym (count-free (a .l .least) (a .page .now) (ap (λ (h : Head). h .level) (sym (c .before .head-of .ensures)) ∙ c .if1 .taken))
+    let a = c .before .before .before .before .args in
+    sym (count-free (a .l .least) (a .page .now) (ap (λ (h : Head). h .level) (sym (c .before .before .head-of .ensures)) ∙ c .if1 .taken))
 
 live-among-requires : tie.Need-live-among-requires
 live-among-requires c κs =
-    let e = c .before .before .before in
-    let n = ap (λ (h : Head). h .count) (c .before .head-of .ensures) in
+    let e = c .before .before .before .before in
+    let n = ap (λ (h : Head). h .count) (c .before .before .head-of .ensures) in
     (omega (arith, n, e .pre .1, e .pre .2, e .pre .0 .four), omega (arith, e .pre .1, e .pre .0 .eight))
 
 live-of-requires : tie.Need-live-of-requires
-live-of-requires c κs = let e = c .before .before .before .before in (e .pre .0, omega (arith, e .pre .1, e .pre .0 .four), omega (arith, e .pre .1, e .pre .0 .eight))
+live-of-requires c κs = let e = c .before .before .before .before .before in (e .pre .0, omega (arith, e .pre .1, e .pre .0 .four), omega (arith, e .pre .1, e .pre .0 .eight))
 
 returns-2 : tie.Need-returns-2
 returns-2 c =
-    let a = c .before .before .before .before .before .args in
+    let a = c .before .before .before .before .before .before .args in
     let p : List ℕ = a .page .now in
-    let h = c .before .before .before .head-of .ensures in
+    let h = c .before .before .before .before .head-of .ensures in
     let n : c .before .live-among .result ≡ length (those lives (readEntries p 128 (readHead (a .l .least) p .count)))
     = c .before .live-among .ensures ∙ ap (λ (x : Head). length (those lives (readEntries p 128 (x .count)))) h in
     (λ i. eqb (c .live-of .ensures i) (n i)) ∙ sym (count-used (a .l .least) p (λ q. c .before .before .if1 .left (ap (λ (x : Head). x .level) h ∙ q)))
