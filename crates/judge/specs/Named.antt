@@ -16,7 +16,8 @@ use Rattle.model.specs.Quick.{spansMet, slotsFine, quick}
 use Rattle.model.proofs.Members.{bool-cases, not-both, all-in, in-count}
 use Rattle.model.proofs.Lists.{both-true}
 use Rattle.model.proofs.Quick.{quick-rules}
-use Rattle.model.proofs.Judging.{lowerIn, clean-first, lower-four, lower-five, lower-six, lower-none}
+use Rattle.model.specs.Inner.{lowerIn}
+use Rattle.model.proofs.Judging.{clean-first, lower-four, lower-five, lower-six, lower-none}
 use Rattle.notes.specs.Pass.{told}
 use Rattle.notes.specs.Six.{six-by}
 use Rattle.judge.specs.Versions.{versionOk}

@@ -14,7 +14,7 @@ ghost use mathlib.Core.Path.{_≡_};
 ghost use Rattle.model.specs.Limits.{Edition};
 ghost use Rattle.model.specs.Judged.{brokenIn, judged};
 ghost use Rattle.model.specs.Any.{judgedAny};
-ghost use Rattle.model.proofs.Judging.{lowerIn};
+ghost use Rattle.model.specs.Inner.{lowerIn};
 ghost use Rattle.local.specs.Local.{Sized};
 
 pub(crate) fn wide(x: u32) -> usize

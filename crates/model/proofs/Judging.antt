@@ -21,6 +21,7 @@ use Rattle.model.specs.Sound.{isPage, spanOk, entryOk, pageOk, pageFine,
 use Rattle.model.specs.Layout.{decode, sizeOf}
 use Rattle.model.specs.Clean.{cleanFront, cleanPages, clean}
 use Rattle.model.specs.Counted.{rule8}
+use Rattle.model.specs.Inner.{lowerIn}
 use Rattle.model.specs.Judged.{lengthOk, magicOk, editionOk, brokenIn, verdict, ruled, judged}
 use Rattle.model.proofs.Lists.{both-true, both-intro}
 use Rattle.model.proofs.Members.{all-in, all-by}
@@ -79,12 +80,6 @@ seventh-by least s one three = at (s .opened) refl
         (all-in (pageFine least (last s) (length (s .pages))) p (drop 5 (s .pages)) fine i) (all-in (λ (q : Page). isFree q || spansWell s q) p (drop 5 (s .pages)) spans i))
 
 -- ---- the lowest broken rule
-
--- of rules 1 to 7; rule 8 "is tested last"
-unfoldable pub lowerIn : ℕ → List ℕ → ℕ
-lowerIn least b =
-    let s = decode least b in
-    firstBroken 1 (clean least b ∷ rule2 s ∷ rule3 s ∷ rule4 s ∷ rule5 least s ∷ rule6 s ∷ rule7 s ∷ [])
 
 module _ (least : ℕ) (b : List ℕ) where
   pub clean-first : clean least b ≡ true → rule1 least (decode least b) ≡ true

@@ -13,7 +13,8 @@ use Rattle.model.specs.Clean.{clean}
 use Rattle.model.specs.Counted.{rule8}
 use Rattle.model.specs.Judged.{lengthOk, magicOk, editionOk, brokenIn, verdict, ruled, judged}
 use Rattle.model.specs.Quick.{quick, quickIn}
-use Rattle.model.proofs.Judging.{clean-first, lowerIn, lower-one, lower-two, lower-three, lower-four, lower-five, lower-six, lower-none, broken-lower, broken-eight, broken-none}
+use Rattle.model.specs.Inner.{lowerIn}
+use Rattle.model.proofs.Judging.{clean-first, lower-one, lower-two, lower-three, lower-four, lower-five, lower-six, lower-none, broken-lower, broken-eight, broken-none}
 use Rattle.model.proofs.Quick.{quick-rules}
 
 module _ (least : ℕ) (two : 2 ≤ least) (b : List ℕ) where

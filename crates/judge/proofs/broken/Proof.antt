@@ -1,7 +1,8 @@
 -- `judge::broken` meets its contract: rules 1 to 7, and rule 8 where they hold. Assumes nothing.
 use mathlib.Core.Path.{_≡_, sym, _∙_}
 use borrow.Author.Tests.{not-true, not-false}
-use Rattle.model.proofs.Judging.{lowerIn, unbroken, broken-lower, broken-eight, broken-none}
+use Rattle.model.specs.Inner.{lowerIn}
+use Rattle.model.proofs.Judging.{unbroken, broken-lower, broken-eight, broken-none}
 use Rattle.judge.proofs.broken.Statement.{statement}
 use Rattle.judge.proofs.broken.Tie as tie
 
