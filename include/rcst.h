@@ -156,7 +156,8 @@ uint32_t rcst_fresh_second(uint8_t *store, size_t length);
 
 /*
  * Judges the store: 0 if it is sound, else 1 to 4. With 4, *rule is the lowest
- * number of a rule of the format that the store breaks (1 to 6), else 0.
+ * number of a rule of the format that the store breaks (1 to 6, and in edition
+ * 2 also 8: a page's live count is wrong), else 0.
  */
 uint32_t rcst_check(const uint8_t *store, size_t length, uint32_t *rule);
 

@@ -10,13 +10,15 @@ use Rattle.model.specs.declared.Pair.{Pair}
 use Rattle.model.specs.declared.Entry.{Entry}
 use Rattle.model.specs.Entry.{born, alive}
 use Rattle.model.specs.Field.{lay, zeros}
-use Rattle.model.specs.Page.{free, filled}
-use Rattle.model.specs.Layout.{entryParts, encodePage, countOf}
+use Rattle.model.specs.Page.{Page, free, filled}
+use Rattle.model.specs.Basic.{those}
+use Rattle.model.specs.Limits.{liveShown}
+use Rattle.model.specs.Layout.{lives, liveIn, liveOf, entryParts, encodePage, countOf}
 use Rattle.page.specs.declared.Head.{Head}
-use Rattle.page.specs.Head.{putHead}
+use Rattle.page.specs.Head.{putHead, putLive}
 use Rattle.page.specs.Read.{Sized}
 use Rattle.page.specs.Editions.{count-bits}
-use Rattle.page.specs.Exact.{Exact, free-zeros, encode-exact, encode-count, valid-free}
+use Rattle.page.specs.Exact.{Exact, encodeWith, live-right, free-zeros, encode-exact, encode-count, valid-free}
 use Rattle.page.specs.Stage.{staged, staged-from, staged-put, staged-end}
 
 -- what stands past the end of a list of pairs
@@ -35,6 +37,11 @@ length-map f (x ∷ l) = ap suc (length-map f l)
 map-append : (f : Pair → Entry) (a b : List Pair) → map f (a ++ b) ≡ map f a ++ map f b
 map-append f [] b = refl
 map-append f (x ∷ a) b = ap (λ (y : List Entry). f x ∷ y) (map-append f a b)
+
+-- pairs that are born live
+born-live : (w : ℕ) (l : List Pair) → those lives (map (born w) l) ≡ map (born w) l
+born-live w [] = refl
+born-live w (x ∷ l) = ap (λ (y : List Entry). born w x ∷ y) (born-live w l)
 
 -- the stages of `fill`: the first k pairs over a page of zeros
 unfoldable pub filling : ℕ → ℕ → List Pair → ℕ → List ℕ
@@ -72,9 +79,18 @@ module _ (least : ℕ) (four : 4 ≤ least) (eight : least ≤ 8) where
         = sym (rw (add-one, take-suc l k nil h, map-append (born w) (take k l) (getD l k nil ∷ []), e)) in
         rw (← m) (rw b at (staged-put least four eight p clear-exact (map (born w) (take k l)) (born w x) (omega arith) z))
 
-    pub filling-end : (level n : ℕ) → level < 2 ^ 4 → n ≤ length l → n ≤ 5 * least → putHead least (filling least w l n) (fillHead level w n) ≡ encodePage least (filled w level (take n l))
+    pub filling-end : (level n : ℕ) → level < 2 ^ 4 → n ≤ length l → n ≤ 5 * least
+        → putHead least (filling least w l n) (fillHead level w n) ≡ encodeWith least (filled w level (take n l)) (liveOf least p)
     unfolding filling
     filling-end level n hl h h2 =
         let b : length (map (born w) (take n l)) ≡ n = born-length n h in
         staged-end least four eight p clear-exact (map (born w) (take n l)) (fillHead level w n) (omega (arith, clear-count)) (omega arith)
         (record { level = hl; count = omega (arith, count-bits least eight); start = small; end = omega arith }) (sym b)
+
+    -- and all of them live
+    pub filling-live : (level n m : ℕ) → n ≤ length l → n ≤ 5 * least → putLive least (encodeWith least (filled w level (take n l)) m) (liveShown least n) ≡ encodePage least (filled w level (take n l))
+    unfolding liveIn
+    filling-live level n m h h2 =
+        let q : Page = filled w level (take n l) in
+        let e : liveIn least (q .entries) ≡ liveShown least n = ap (liveShown least) (ap length (born-live w (take n l)) ∙ born-length n h) in
+        ap (putLive least (encodeWith least q m)) (sym e) ∙ live-right least q m eight (omega (arith, born-length n h))

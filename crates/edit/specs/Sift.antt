@@ -9,15 +9,18 @@ use native.Mathlib.Numerals.{add-one}
 use native.Mathlib.Omega.{arith}
 use Rattle.model.specs.declared.Entry.{Entry}
 use Rattle.model.specs.Page.{Page}
-use Rattle.model.specs.Basic.{keep}
+use Rattle.model.specs.Basic.{keep, those}
+use Rattle.model.specs.Limits.{liveShown}
 use Rattle.model.specs.Field.{lay}
-use Rattle.model.specs.Layout.{unused, entryParts, countOf, encodePage, decodePage, readEntry, readEntries}
+use Rattle.model.specs.Layout.{lives, liveIn, liveOf, unused, entryParts, countOf, encodePage, decodePage, readEntry, readEntries}
+use Rattle.model.proofs.Local.{those-append}
+use Rattle.model.proofs.PlanSizes.{few-those}
 use Rattle.page.specs.declared.Head.{Head}
-use Rattle.page.specs.Head.{readHead, putHead, HeadFits}
+use Rattle.page.specs.Head.{readHead, putHead, putLive, HeadFits}
 use Rattle.page.specs.Read.{Sized, count-of, entries-of, level-of, start-of, end-of, length-entries}
 use Rattle.page.specs.Front.{read-fits}
 use Rattle.page.specs.Editions.{count-bits}
-use Rattle.page.specs.Exact.{Exact}
+use Rattle.page.specs.Exact.{Exact, encodeWith, live-right}
 use Rattle.page.specs.Stage.{staged, blanked, entriesIn, staged-from, staged-put, staged-read, staged-shut}
 use Rattle.edit.specs.declared.sift.Rule.{Rule}
 use Rattle.edit.specs.declared.sift.Fate.{Fate}
@@ -76,12 +79,33 @@ module _ (least : ℕ) (four : 4 ≤ least) (eight : least ≤ 8) (p : List ℕ)
       record { level = f .level; count = omega (arith, fewer, x .room, count-bits least eight); start = f .start; end = end-fits r w (readHead least p .end) (f .end) small }
 
   pub sift-end : putHead least (blanked (staged least p (sifted r w (entriesIn least p))) (length (sifted r w (entriesIn least p))) (countOf least p - length (sifted r w (entriesIn least p))))
-      (siftedHead r w (readHead least p) (length (sifted r w (entriesIn least p)))) ≡ encodePage least (siftedPage r w (decodePage least p))
+      (siftedHead r w (readHead least p) (length (sifted r w (entriesIn least p)))) ≡ encodeWith least (siftedPage r w (decodePage least p)) (liveOf least p)
   unfolding siftedPage
   sift-end =
       let es : entriesIn least p ≡ decodePage least p .entries = sym (entries-of least p ∙ ap (readEntries p 128) (sym (count-of least p))) in
       staged-shut least four eight p x out (siftedHead r w (readHead least p) (length out)) fewer head-fits refl
-      ∙ ap (encodePage least) (λ i. record { level = sym (level-of least p) i; start = sym (start-of least p) i; end = endOf r w (sym (end-of least p) i); entries = sifted r w (es i) })
+      ∙ ap (λ (q : Page). encodeWith least q (liveOf least p)) (λ i. record { level = sym (level-of least p) i; start = sym (start-of least p) i; end = endOf r w (sym (end-of least p) i); entries = sifted r w (es i) })
+
+  -- with the number of those that live
+  pub sift-live : putLive least (encodeWith least (siftedPage r w (decodePage least p)) (liveOf least p)) (liveShown least (length (those lives (sifted r w (entriesIn least p)))))
+      ≡ encodePage least (siftedPage r w (decodePage least p))
+  unfolding siftedPage liveIn
+  sift-live =
+      let q : Page = siftedPage r w (decodePage least p) in
+      let es : entriesIn least p ≡ decodePage least p .entries = sym (entries-of least p ∙ ap (readEntries p 128) (sym (count-of least p))) in
+      ap (λ (l : List Entry). putLive least (encodeWith least q (liveOf least p)) (liveShown least (length (those lives (sifted r w l))))) es
+      ∙ live-right least q (liveOf least p) eight (rw (← es) (omega (arith, fewer, x .room)))
+
+  pub sift-low : length (those lives (sifted r w (entriesIn least p))) < 64
+  sift-low = omega (arith, few-those lives (sifted r w (entriesIn least p)), fewer, x .room)
+
+-- one fate leaves one at most
+pub live-one-most : (f : Fate) → length (those lives (left f)) ≤ 1
+live-one-most f = omega (arith, few-those lives (left f), length-left f)
+
+-- the live ones with one fate more
+pub live-more : (out : List Entry) (f : Fate) → length (those lives (out ++ left f)) ≡ length (those lives out) + length (those lives (left f))
+live-more out f = ap length (those-append lives out (left f)) ∙ length-append (those lives out) (those lives (left f))
 
 -- ---- the stages of its loop
 

@@ -124,4 +124,5 @@ pub fn fill(page: &mut [u8], l: Limits, level: u32, w: u32, list: [Pair; 56], fr
             end: page::ALIVE,
         },
     );
+    page::put_live(page, l, n);
 }

@@ -6,10 +6,11 @@ ghost use mathlib.Core.Path.{_≡_};
 ghost use Prim.Native.Nat.{_^_, _<_};
 ghost use lib.ListN.{length};
 ghost use Rattle.model.specs.Limits.{Edition};
-ghost use Rattle.model.specs.Layout.{countOf, encodePage, decodePage};
+ghost use Rattle.model.specs.Basic.{those};
+ghost use Rattle.model.specs.Layout.{lives, countOf, encodePage, decodePage};
 ghost use Rattle.page.specs.Exact.{Exact};
 ghost use Rattle.page.specs.Stage.{staged, entriesIn};
-ghost use Rattle.edit.specs.Fate.{fateOf, endIf, backIf, amongOf, endOf};
+ghost use Rattle.edit.specs.Fate.{fateOf, endIf, backIf, amongOf, endOf, left};
 ghost use Rattle.edit.specs.Sift.{sifted, siftedPage};
 
 // Which entries of a page end, or come back, at a version.
@@ -26,6 +27,12 @@ pub enum Rule {
 pub struct Fate {
     pub kept: bool,
     pub entry: Entry,
+}
+
+// What is left of a page's entries: how many, and how many of them live.
+pub struct Kept {
+    pub count: usize,
+    pub live: usize,
 }
 
 // Whether k is among the first n of a and b.
@@ -102,22 +109,37 @@ fn end_of(rule: Rule, w: u32, end: u32) -> u32
     }
 }
 
-// The entries of a page under a rule, closed up; how many there are.
-fn squeeze(page: &mut [u8], l: Limits, count: usize, rule: Rule, w: u32) -> usize
-    requires { ⌜ Edition l × Exact (l .least) (now page) × (count ≡ countOf (l .least) (now page)) × (w < 2 ^ 20) ⌝ }
-    ensures { λ r. ⌜ (now (page .exit) ≡ staged (l .least) (now (page .entry)) (sifted rule w (entriesIn (l .least) (now (page .entry))))) × (r ≡ length (sifted rule w (entriesIn (l .least) (now (page .entry))))) ⌝ }
+// What a fate leaves for the live count.
+fn live_left(f: Fate) -> usize
+    ensures { λ r. ⌜ r ≡ length (those lives (left f)) ⌝ }
 {
+    if f.kept {
+        return page::live_one(f.entry);
+    }
+    0
+}
+
+// The entries of a page under a rule, closed up; the live ones are counted as they pass.
+fn squeeze(page: &mut [u8], l: Limits, count: usize, rule: Rule, w: u32) -> Kept
+    requires { ⌜ Edition l × Exact (l .least) (now page) × (count ≡ countOf (l .least) (now page)) × (w < 2 ^ 20) ⌝ }
+    ensures { λ r. ⌜ (now (page .exit) ≡ staged (l .least) (now (page .entry)) (sifted rule w (entriesIn (l .least) (now (page .entry))))) × (r .count ≡ length (sifted rule w (entriesIn (l .least) (now (page .entry))))) × (r .live ≡ length (those lives (sifted rule w (entriesIn (l .least) (now (page .entry)))))) ⌝ }
+{
+    let mut live = 0;
     let mut j = 0;
     let mut i = 0;
     while i < count {
         let f = meet(rule, w, page::entry_at(page, i));
+        live += live_left(f);
         if f.kept {
             page::put_entry(page, j, f.entry);
             j += 1;
         }
         i += 1;
     }
-    j
+    Kept {
+        count: j,
+        live: live,
+    }
 }
 
 // A page under a rule.
@@ -126,16 +148,17 @@ pub fn sift(page: &mut [u8], l: Limits, rule: Rule, w: u32)
     ensures { λ _. ⌜ now (page .exit) ≡ encodePage (l .least) (siftedPage rule w (decodePage (l .least) (now (page .entry)))) ⌝ }
 {
     let h = page::head_of(page, l);
-    let j = squeeze(page, l, h.count, rule, w);
-    page::blank(page, j, h.count);
+    let k = squeeze(page, l, h.count, rule, w);
+    page::blank(page, k.count, h.count);
     page::put_head(
         page,
         l,
         Head {
             level: h.level,
-            count: j,
+            count: k.count,
             start: h.start,
             end: end_of(rule, w, h.end),
         },
     );
+    page::put_live(page, l, k.live);
 }

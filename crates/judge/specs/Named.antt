@@ -13,11 +13,11 @@ use Rattle.model.specs.Sound.{rule2, rule3, rule4, rule5, rule6}
 use Rattle.model.specs.Layout.{decode, readHeader}
 use Rattle.model.specs.Clean.{clean}
 use Rattle.model.specs.Quick.{spansMet, slotsFine, quick}
-use Rattle.model.specs.Judged.{brokenIn}
 use Rattle.model.proofs.Members.{bool-cases, not-both, all-in, in-count}
 use Rattle.model.proofs.Lists.{both-true}
 use Rattle.model.proofs.Quick.{quick-rules}
-use Rattle.model.proofs.Judging.{clean-first, broken-four, broken-five, broken-six, broken-none}
+use Rattle.model.specs.Inner.{lowerIn}
+use Rattle.model.proofs.Judging.{clean-first, lower-four, lower-five, lower-six, lower-none}
 use Rattle.notes.specs.Pass.{told}
 use Rattle.notes.specs.Six.{six-by}
 use Rattle.judge.specs.Versions.{versionOk}
@@ -25,22 +25,22 @@ use Rattle.judge.specs.Rules.{six-is}
 
 -- ---- none
 
-pub named-sound : (least : ℕ) (b : List ℕ) → 2 ≤ least → clean least b ≡ true → rule2 (decode least b) ≡ true → rule3 (decode least b) ≡ true → quick least (decode least b) ≡ true → 0 ≡ brokenIn least b
+pub named-sound : (least : ℕ) (b : List ℕ) → 2 ≤ least → clean least b ≡ true → rule2 (decode least b) ≡ true → rule3 (decode least b) ≡ true → quick least (decode least b) ≡ true → 0 ≡ lowerIn least b
 named-sound least b two r1 r2 r3 h =
     let s = decode least b in
     let (r45, r6) = both-true (rule4 s && rule5 least s) (rule6 s) (sym (quick-rules least two s (clean-first least b r1) r2 r3) ∙ h) in
     let (r4, r5) = both-true (rule4 s) (rule5 least s) r45 in
-    sym (broken-none least b r1 r2 r3 r4 r5 r6)
+    sym (lower-none least b r1 r2 r3 r4 r5 r6)
 
 -- ---- rules 4 and 5
 
 module _ (least : ℕ) (b : List ℕ) (r1 : clean least b ≡ true) (r2 : rule2 (decode least b) ≡ true) (r3 : rule3 (decode least b) ≡ true) (r : ℕ) (e : r ≡ told (rule4 (decode least b)) (rule5 least (decode least b))) where
-  pub named-some : (r ≡ 0 → ⊥) → r ≡ brokenIn least b
+  pub named-some : (r ≡ 0 → ⊥) → r ≡ lowerIn least b
   named-some n = at (rule4 (decode least b)) refl (rule5 least (decode least b)) refl e
     where
-      at : (x : Bool) → rule4 (decode least b) ≡ x → (y : Bool) → rule5 least (decode least b) ≡ y → r ≡ told x y → r ≡ brokenIn least b
-      at false p y q g = g ∙ sym (broken-four least b r1 r2 r3 p)
-      at true p false q g = g ∙ sym (broken-five least b r1 r2 r3 p q)
+      at : (x : Bool) → rule4 (decode least b) ≡ x → (y : Bool) → rule5 least (decode least b) ≡ y → r ≡ told x y → r ≡ lowerIn least b
+      at false p y q g = g ∙ sym (lower-four least b r1 r2 r3 p)
+      at true p false q g = g ∙ sym (lower-five least b r1 r2 r3 p q)
       at true p true q g = absurd (n g)
 
   pub named-none : r ≡ 0 → (rule4 (decode least b) ≡ true) × (rule5 least (decode least b) ≡ true)
@@ -54,8 +54,8 @@ module _ (least : ℕ) (b : List ℕ) (r1 : clean least b ≡ true) (r2 : rule2 
   -- ---- rule 6
 
   module _ (z : r ≡ 0) where
-    pub six-last : (h : Header) (v : ℕ) → h ≡ readHeader least b → v ≡ lastOf (h .opened) (h .current) → versionOk least 6 b v ≡ false → 6 ≡ brokenIn least b
-    six-last h v q k f = let (r4, r5) = named-none z in sym (broken-six least b r1 r2 r3 r4 r5 (at (bool-cases (rule6 (decode least b)))))
+    pub six-last : (h : Header) (v : ℕ) → h ≡ readHeader least b → v ≡ lastOf (h .opened) (h .current) → versionOk least 6 b v ≡ false → 6 ≡ lowerIn least b
+    six-last h v q k f = let (r4, r5) = named-none z in sym (lower-six least b r1 r2 r3 r4 r5 (at (bool-cases (rule6 (decode least b)))))
       where
         at : (rule6 (decode least b) ≡ true) ⊎ (rule6 (decode least b) ≡ false) → rule6 (decode least b) ≡ false
         at (inl t) = absurd (not-both (versionOk least 6 b v) (all-in (versionOk least 6 b) v (count 0 (lastOf (h .opened) (h .current) + 1)) (sym (six-is least b h q) ∙ t) (in-count v 0 (lastOf (h .opened) (h .current) + 1) (omega arith) (omega arith))) f)
@@ -65,8 +65,8 @@ module _ (least : ℕ) (b : List ℕ) (r1 : clean least b ≡ true) (r2 : rule2 
       sixth : rule6 (decode least b) ≡ d
       sixth = let (r4, r5) = named-none z in six-by least two (decode least b) (clean-first least b r1) r2 r3 r4 r5 ∙ sym q
 
-      pub six-led : d ≡ false → 6 ≡ brokenIn least b
-      six-led f = let (r4, r5) = named-none z in sym (broken-six least b r1 r2 r3 r4 r5 (sixth ∙ f))
+      pub six-led : d ≡ false → 6 ≡ lowerIn least b
+      six-led f = let (r4, r5) = named-none z in sym (lower-six least b r1 r2 r3 r4 r5 (sixth ∙ f))
 
-      pub six-none : d ≡ true → 0 ≡ brokenIn least b
-      six-none f = let (r4, r5) = named-none z in sym (broken-none least b r1 r2 r3 r4 r5 (sixth ∙ f))
+      pub six-none : d ≡ true → 0 ≡ lowerIn least b
+      six-none f = let (r4, r5) = named-none z in sym (lower-none least b r1 r2 r3 r4 r5 (sixth ∙ f))

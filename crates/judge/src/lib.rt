@@ -14,6 +14,7 @@ ghost use mathlib.Core.Path.{_≡_};
 ghost use Rattle.model.specs.Limits.{Edition};
 ghost use Rattle.model.specs.Judged.{brokenIn, judged};
 ghost use Rattle.model.specs.Any.{judgedAny};
+ghost use Rattle.model.specs.Inner.{lowerIn};
 ghost use Rattle.local.specs.Local.{Sized};
 
 pub(crate) fn wide(x: u32) -> usize
@@ -22,11 +23,11 @@ pub(crate) fn wide(x: u32) -> usize
     x as usize
 }
 
-// The lowest rule that the bytes break, or 0. Where `quick` does not find rules 4 to 6 to hold, rules 4 and 5 are named by the notes, in one
+// The lowest rule from 1 to 7 that the bytes break, or 0. Where `quick` does not find rules 4 to 6 to hold, rules 4 and 5 are named by the notes, in one
 // pass. Rule 6 is first looked for at the last version, by the reach walk, and then at every other by the sums and the slots. Rule 7 follows from rules 1 and 3 (model/proofs/Judging, `seventh-by`), so it is not tested.
-fn broken(s: &[u8], l: Limits, size: usize) -> u32
+fn lower(s: &[u8], l: Limits, size: usize) -> u32
     requires { ⌜ Edition l × Sized (l .least) (now s) size ⌝ }
-    ensures { λ r. ⌜ r ≡ brokenIn (l .least) (now (s .entry)) ⌝ }
+    ensures { λ r. ⌜ r ≡ lowerIn (l .least) (now (s .entry)) ⌝ }
 {
     if !local::first_rule(s, l, size) {
         return 1;
@@ -51,6 +52,21 @@ fn broken(s: &[u8], l: Limits, size: usize) -> u32
     }
     if !fit {
         return 6;
+    }
+    0
+}
+
+// The lowest rule that the bytes break, or 0: rule 8 is tested last.
+fn broken(s: &[u8], l: Limits, size: usize) -> u32
+    requires { ⌜ Edition l × Sized (l .least) (now s) size ⌝ }
+    ensures { λ r. ⌜ r ≡ brokenIn (l .least) (now (s .entry)) ⌝ }
+{
+    let n = lower(s, l, size);
+    if n != 0 {
+        return n;
+    }
+    if !local::eighth_rule(s, l, size) {
+        return 8;
     }
     0
 }

@@ -7,5 +7,6 @@ pub mod Ruled
 pub mod Second
 pub mod Third
 pub mod Linked
+pub mod Eighth
 pub mod Front
 pub mod Right

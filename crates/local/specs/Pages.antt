@@ -10,17 +10,19 @@ use lib.Dec.{leb, eqb}
 use borrow.Author.Tests.{eq-eqb, ne-eqb, lt-leb, le-leb, lt-ltb, leb-true}
 use Rattle.bits.specs.Laws.{field-split}
 use Rattle.model.specs.declared.Entry.{Entry}
-use Rattle.model.specs.Basic.{all, isEmpty, inOrder}
+use Rattle.model.specs.Basic.{all, isEmpty, inOrder, pick}
 use Rattle.model.specs.Entry.{before}
-use Rattle.model.specs.Limits.{countBits}
 use Rattle.model.specs.Page.{Page}
 use Rattle.model.specs.Sound.{spanOk, entryOk, pageFine, isPage}
 use Rattle.model.specs.Field.{field}
 use Rattle.model.specs.Layout.{pageOf, readEntry, readEntries, decodePage, readPages}
-use Rattle.model.specs.Clean.{zeroFrom, cleanPage, cleanPages}
+use Rattle.model.specs.Clean.{zeroFrom, spareAt, cleanPage, cleanPages}
 use Rattle.model.specs.Inner.{firstOk}
 use Rattle.model.proofs.Lists.{both-true}
 use Rattle.model.proofs.Rising.{in-order-step, before-carries}
+use Rattle.model.specs.Limits.{countBits, liveBits, Edition}
+use Rattle.model.specs.declared.Limits.{Limits}
+use Rattle.page.specs.Editions.{count-bits, live-bits, counter-is}
 use Rattle.page.specs.Head.{readHead}
 use Rattle.page.specs.Read.{Sized as SizedEntry, level-of, start-of, end-of, count-of, entries-of, length-entries, entries-step, entries-end}
 use Rattle.local.specs.Local.{entriesOk, pagesFine}
@@ -43,6 +45,39 @@ zero-not s a b w h e =
     let p : 0 < 2 ^ m = pow-pos m in
     let q : 1 * 2 ^ m ≤ field s a w * 2 ^ m = mul-le-mul-right (2 ^ m) (omega arith) in
     rw (n, field-split s a w (b - (a + w))) (ne-eqb (field s a w * 2 ^ m + field s (a + w) m) 0 (λ k. omega (arith, one-mul (2 ^ m))))
+
+-- ---- the level in the front
+
+level-read : (least : ℕ) (p : List ℕ) → field p 0 4 ≡ readHead least p .level
+unfolding readHead
+level-read least p = refl
+
+-- where they begin, as the code finds it
+module _ {l : Limits} (d : Edition l) (n : ℕ) where
+  pub spare-free : n ≡ 0 → 44 + l .counter ≡ spareAt (l .least) n
+  spare-free e = rw (eq-eqb n 0 e) (omega (arith, counter-is d))
+
+  pub spare-none : l .least ≤ 4 → 44 + l .counter ≡ spareAt (l .least) n
+  spare-none h = at (eqb n 0)
+    where
+      bits : liveBits (l .least) ≡ 0
+      bits = rw (le-leb (l .least) 4 h)
+
+      at : (b : Bool) → 44 + l .counter ≡ 44 + countBits (l .least) + pick b 0 (liveBits (l .least))
+      at true = omega (arith, counter-is d)
+      at false = omega (arith, counter-is d, bits)
+
+  pub spare-six : (n ≡ 0 → ⊥) → 4 < l .least → 50 + l .counter ≡ spareAt (l .least) n
+  spare-six e h =
+      let bits : liveBits (l .least) ≡ 6 = rw (lt-leb (l .least) 4 h) in
+      rw (ne-eqb n 0 e) (omega (arith, counter-is d, bits))
+
+pub spare-most : (least : ℕ) → least ≤ 8 → (n : ℕ) → spareAt least n ≤ 128
+spare-most least eight n = at (eqb n 0)
+  where
+    at : (b : Bool) → 44 + countBits least + pick b 0 (liveBits least) ≤ 128
+    at true = omega (arith, count-bits least eight)
+    at false = omega (arith, count-bits least eight, live-bits least)
 
 -- ---- entries
 
@@ -123,17 +158,17 @@ module _ (least l size : ℕ) (p : List ℕ) where
   clean-room h = rw (count-of least p, lt-leb (readHead least p .count) (5 * least) h)
 
   module _ (h : readHead least p .count ≤ 5 * least) where
-    pub clean-spare : zeroFrom p (44 + countBits least) 128 ≡ false → cleanPage least p ≡ false
+    pub clean-spare : zeroFrom p (spareAt least (readHead least p .level)) 128 ≡ false → cleanPage least p ≡ false
     unfolding cleanPage
-    clean-spare e = rw (count-of least p, le-leb (readHead least p .count) (5 * least) h, e)
+    clean-spare e = rw (count-of least p, level-read least p, le-leb (readHead least p .count) (5 * least) h, e)
 
-    pub clean-rest : zeroFrom p (44 + countBits least) 128 ≡ true → cleanPage least p ≡ zeroFrom p (128 + 96 * readHead least p .count) (512 * least)
+    pub clean-rest : zeroFrom p (spareAt least (readHead least p .level)) 128 ≡ true → cleanPage least p ≡ zeroFrom p (128 + 96 * readHead least p .count) (512 * least)
     unfolding cleanPage
-    clean-rest e = rw (count-of least p, le-leb (readHead least p .count) (5 * least) h, e)
+    clean-rest e = rw (count-of least p, level-read least p, le-leb (readHead least p .count) (5 * least) h, e)
 
 pub clean-count : (least : ℕ) (p : List ℕ) → cleanPage least p ≡ true → readHead least p .count ≤ 5 * least
 unfolding cleanPage
-clean-count least p e = leb-true (readHead least p .count) (5 * least) (both-true (leb (readHead least p .count) (5 * least)) (zeroFrom p (44 + countBits least) 128 && zeroFrom p (128 + 96 * readHead least p .count) (512 * least)) (rw (count-of least p) at e) .0)
+clean-count least p e = leb-true (readHead least p .count) (5 * least) (both-true (leb (readHead least p .count) (5 * least)) (zeroFrom p (spareAt least (field p 0 4)) 128 && zeroFrom p (128 + 96 * readHead least p .count) (512 * least)) (rw (count-of least p) at e) .0)
 
 -- ---- all pages
 

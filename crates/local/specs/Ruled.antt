@@ -63,7 +63,7 @@ module _ (least : ℕ) (s : List ℕ) (size : ℕ) (z : Sized least s size) (r :
     abbrev p : List ℕ
     p = pageOf least s n
 
-    fine : pageFine least l size (decodePage least p) ≡ true
+    pub fine : pageFine least l size (decodePage least p) ≡ true
     fine = page-of-all least s (pageFine least l size) 5 (size - 5) n (parts .1) (h .0) (omega (arith, h .1, z .is))
 
     room : countAt least s n ≤ 5 * least

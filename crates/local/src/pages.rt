@@ -7,7 +7,7 @@ ghost use Rattle.model.specs.Entry.{before};
 ghost use Rattle.model.specs.Limits.{Edition};
 ghost use Rattle.model.specs.Sound.{pageFine};
 ghost use Rattle.model.specs.Layout.{readEntry, readEntries, decodePage};
-ghost use Rattle.model.specs.Clean.{zeroFrom, cleanPage};
+ghost use Rattle.model.specs.Clean.{zeroFrom, spareAt, cleanPage};
 ghost use Rattle.page.specs.Head.{readHead};
 ghost use Rattle.local.specs.Local.{Sized, entriesOk, pagesFine};
 ghost use Rattle.model.specs.Near.{pageRight};
@@ -29,6 +29,20 @@ pub(crate) fn zero_from(s: &[u8], a: usize, b: usize) -> bool
     bits::field(s, k, b - k) == 0
 }
 
+// Where the zero bits of a page's front begin: at the live count of a free page, behind it in a used one.
+fn spare_at(l: Limits, level: u32) -> usize
+    requires { ⌜ Edition l ⌝ }
+    ensures { λ r. ⌜ r ≡ spareAt (l .least) level ⌝ }
+{
+    if level == 0 {
+        return 44 + l.counter;
+    }
+    if l.least <= 4 {
+        return 44 + l.counter;
+    }
+    50 + l.counter
+}
+
 // "79 zero bits"; "unused [entries] are all zero"
 fn clean_page(page: &[u8], l: Limits) -> bool
     requires { ⌜ Edition l × (length (now page) ≡ 64 * l .least) ⌝ }
@@ -39,7 +53,7 @@ fn clean_page(page: &[u8], l: Limits) -> bool
     if l.room < n {
         return false;
     }
-    if !zero_from(page, 44 + l.counter, 128) {
+    if !zero_from(page, spare_at(l, h.level), 128) {
         return false;
     }
     zero_from(page, 128 + 96 * n, 8 * l.bytes)

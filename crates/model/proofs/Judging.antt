@@ -1,4 +1,5 @@
--- What the numbers of check say: rule 7 follows from rules 1 and 3, and the number 0 means clean bytes that hold a sound store.
+-- What the numbers of check say: rule 7 follows from rules 1 and 3, and the number 0 means clean bytes that hold a sound store, with right
+-- live counts.
 -- Assumes nothing.
 use Prim.Native.Nat.{ℕ, zero, suc, _*_, _-_, _≤_, _<_}
 use native.Mathlib.Omega.{arith}
@@ -8,7 +9,7 @@ use mathlib.Core.Logic.{_⊎_, inl, inr}
 use mathlib.Core.List.{List, [], _∷_}
 use lib.Dec.{leb, ltb, eqb}
 use lib.ListN.{length, take, drop}
-use borrow.Author.Tests.{leb-true, eqb-true, eq-eqb}
+use borrow.Author.Tests.{leb-true, eqb-true, eq-eqb, ne-eqb}
 use Rattle.model.specs.Basic.{all, pick, inOrder}
 use Rattle.model.specs.declared.Entry.{Entry}
 use Rattle.model.specs.declared.Slot.{Slot}
@@ -19,6 +20,8 @@ use Rattle.model.specs.Walk.{keyLimit}
 use Rattle.model.specs.Sound.{isPage, spanOk, entryOk, pageOk, pageFine, zeroed, inside, leadsWell, firstBroken, sound, rule1, rule2, rule3, rule4, rule5, rule6, rule7}
 use Rattle.model.specs.Layout.{decode, sizeOf}
 use Rattle.model.specs.Clean.{cleanFront, cleanPages, clean}
+use Rattle.model.specs.Counted.{rule8}
+use Rattle.model.specs.Inner.{lowerIn}
 use Rattle.model.specs.Judged.{lengthOk, magicOk, editionOk, brokenIn, verdict, ruled, judged}
 use Rattle.model.proofs.Lists.{both-true, both-intro}
 use Rattle.model.proofs.Members.{all-in, all-by}
@@ -85,44 +88,44 @@ module _ (least : ℕ) (b : List ℕ) where
       both-true (cleanPages least b 5 (sizeOf least b - 5)) (rule1 least (decode least b))
       (both-true (cleanFront least b) (cleanPages least b 5 (sizeOf least b - 5) && rule1 least (decode least b)) h .1) .1
 
-  -- what `brokenIn` is, one rule after the other
-  pub broken-one : clean least b ≡ false → brokenIn least b ≡ 1
-  unfolding brokenIn
-  broken-one r1 = rw r1
+  -- what `lowerIn` is, one rule after the other
+  pub lower-one : clean least b ≡ false → lowerIn least b ≡ 1
+  unfolding lowerIn
+  lower-one r1 = rw r1
 
   module _ (r1 : clean least b ≡ true) where
-    pub broken-two : rule2 (decode least b) ≡ false → brokenIn least b ≡ 2
-    unfolding brokenIn
-    broken-two r2 = rw (r1, r2)
+    pub lower-two : rule2 (decode least b) ≡ false → lowerIn least b ≡ 2
+    unfolding lowerIn
+    lower-two r2 = rw (r1, r2)
 
     module _ (r2 : rule2 (decode least b) ≡ true) where
-      pub broken-three : rule3 (decode least b) ≡ false → brokenIn least b ≡ 3
-      unfolding brokenIn
-      broken-three r3 = rw (r1, r2, r3)
+      pub lower-three : rule3 (decode least b) ≡ false → lowerIn least b ≡ 3
+      unfolding lowerIn
+      lower-three r3 = rw (r1, r2, r3)
 
       module _ (r3 : rule3 (decode least b) ≡ true) where
-        pub broken-four : rule4 (decode least b) ≡ false → brokenIn least b ≡ 4
-        unfolding brokenIn
-        broken-four r4 = rw (r1, r2, r3, r4)
+        pub lower-four : rule4 (decode least b) ≡ false → lowerIn least b ≡ 4
+        unfolding lowerIn
+        lower-four r4 = rw (r1, r2, r3, r4)
 
         module _ (r4 : rule4 (decode least b) ≡ true) where
-          pub broken-five : rule5 least (decode least b) ≡ false → brokenIn least b ≡ 5
-          unfolding brokenIn
-          broken-five r5 = rw (r1, r2, r3, r4, r5)
+          pub lower-five : rule5 least (decode least b) ≡ false → lowerIn least b ≡ 5
+          unfolding lowerIn
+          lower-five r5 = rw (r1, r2, r3, r4, r5)
 
           module _ (r5 : rule5 least (decode least b) ≡ true) where
-            pub broken-six : rule6 (decode least b) ≡ false → brokenIn least b ≡ 6
-            unfolding brokenIn
-            broken-six r6 = rw (r1, r2, r3, r4, r5, r6)
+            pub lower-six : rule6 (decode least b) ≡ false → lowerIn least b ≡ 6
+            unfolding lowerIn
+            lower-six r6 = rw (r1, r2, r3, r4, r5, r6)
 
-            -- check never answers 7
-            pub broken-none : rule6 (decode least b) ≡ true → brokenIn least b ≡ 0
-            unfolding brokenIn
-            broken-none r6 = rw (r1, r2, r3, r4, r5, r6, seventh-by least (decode least b) (clean-first r1) r3)
+            -- 7 is never the lowest
+            pub lower-none : rule6 (decode least b) ≡ true → lowerIn least b ≡ 0
+            unfolding lowerIn
+            lower-none r6 = rw (r1, r2, r3, r4, r5, r6, seventh-by least (decode least b) (clean-first r1) r3)
 
   -- 0 is given exactly for clean bytes that hold a sound store
-  pub unbroken : brokenIn least b ≡ 0 → (clean least b ≡ true) × (sound least (decode least b) ≡ true)
-  unfolding brokenIn sound
+  pub unbroken : lowerIn least b ≡ 0 → (clean least b ≡ true) × (sound least (decode least b) ≡ true)
+  unfolding lowerIn sound
   unbroken h = at (clean least b) (rule2 s) (rule3 s) (rule4 s) (rule5 least s) (rule6 s) (rule7 s) refl h
     where
       s : Store
@@ -141,8 +144,8 @@ module _ (least : ℕ) (b : List ℕ) where
       at true true true true true true false e q = absurd (wrong 6 q)
       at true true true true true true true e q = (refl, rw (clean-first e))
 
-  pub whole : clean least b ≡ true → sound least (decode least b) ≡ true → brokenIn least b ≡ 0
-  unfolding brokenIn sound
+  pub whole : clean least b ≡ true → sound least (decode least b) ≡ true → lowerIn least b ≡ 0
+  unfolding lowerIn sound
   whole c h = at (rule1 least s) (rule2 s) (rule3 s) (rule4 s) (rule5 least s) (rule6 s) (rule7 s) h
     where
       s : Store
@@ -157,6 +160,53 @@ module _ (least : ℕ) (b : List ℕ) where
           let (q2, a3) = both-true (r1 && r2) r3 q3 in
           rw (c, both-true r1 r2 q2 .1, a3, a4, a5, a6, a7)
 
+  -- ---- rule 8
+
+  last-of : brokenIn least b ≡ pick (eqb (lowerIn least b) 0) (pick (rule8 least b) 0 8) (lowerIn least b)
+  unfolding brokenIn lowerIn
+  last-of = at (clean least b) (rule2 s) (rule3 s) (rule4 s) (rule5 least s) (rule6 s) (rule7 s) (rule8 least b)
+    where
+      s : Store
+      s = decode least b
+
+      seven : Bool → Bool → Bool → Bool → Bool → Bool → Bool → ℕ
+      seven c r2 r3 r4 r5 r6 r7 = firstBroken 1 (c ∷ r2 ∷ r3 ∷ r4 ∷ r5 ∷ r6 ∷ r7 ∷ [])
+
+      at : (c r2 r3 r4 r5 r6 r7 r8 : Bool)
+          → firstBroken 1 (c ∷ r2 ∷ r3 ∷ r4 ∷ r5 ∷ r6 ∷ r7 ∷ r8 ∷ []) ≡ pick (eqb (seven c r2 r3 r4 r5 r6 r7) 0) (pick r8 0 8) (seven c r2 r3 r4 r5 r6 r7)
+      at false r2 r3 r4 r5 r6 r7 r8 = refl
+      at true false r3 r4 r5 r6 r7 r8 = refl
+      at true true false r4 r5 r6 r7 r8 = refl
+      at true true true false r5 r6 r7 r8 = refl
+      at true true true true false r6 r7 r8 = refl
+      at true true true true true false r7 r8 = refl
+      at true true true true true true false r8 = refl
+      at true true true true true true true false = refl
+      at true true true true true true true true = refl
+
+  -- a lower rule is broken
+  pub broken-lower : (lowerIn least b ≡ 0 → ⊥) → brokenIn least b ≡ lowerIn least b
+  broken-lower n = last-of ∙ rw (ne-eqb (lowerIn least b) 0 n)
+
+  module _ (r7 : lowerIn least b ≡ 0) where
+    pub broken-eight : rule8 least b ≡ false → brokenIn least b ≡ 8
+    broken-eight r8 = last-of ∙ rw (eq-eqb (lowerIn least b) 0 r7, r8)
+
+    pub broken-none : rule8 least b ≡ true → brokenIn least b ≡ 0
+    broken-none r8 = last-of ∙ rw (eq-eqb (lowerIn least b) 0 r7, r8)
+
+  -- 0 is given exactly where no rule from 1 to 7 is broken, nor rule 8
+  pub unbroken-all : brokenIn least b ≡ 0 → (lowerIn least b ≡ 0) × (rule8 least b ≡ true)
+  unbroken-all h = at (lowerIn least b) (rule8 least b) (sym last-of ∙ h)
+    where
+      wrong : (n : ℕ) → suc n ≡ 0 → ⊥
+      wrong n e = omega arith
+
+      at : (n : ℕ) (r : Bool) → pick (eqb n 0) (pick r 0 8) n ≡ 0 → (n ≡ 0) × (r ≡ true)
+      at zero true q = (refl, refl)
+      at zero false q = absurd (omega arith)
+      at (suc n) r q = absurd (wrong n (sym (ap (λ (b : Bool). pick b (pick r 0 8) (suc n)) (ne-eqb (suc n) 0 (λ z. omega arith))) ∙ q))
+
 -- ---- the number
 
 -- bytes for which check gives 0
@@ -166,6 +216,7 @@ pub record Accepted (least : ℕ) (b : List ℕ) : Type 0 where
   pub edition-ok : editionOk least b ≡ true
   pub is-clean : clean least b ≡ true
   pub is-sound : sound least (decode least b) ≡ true
+  pub is-counted : rule8 least b ≡ true
 
 ruled-zero : (r : ℕ) → ruled r .number ≡ 0 → r ≡ 0
 ruled-zero zero e = refl
@@ -181,11 +232,13 @@ accepted least b h = at (lengthOk least b) refl (magicOk b) refl (editionOk leas
     at true x false y r z e = absurd (omega arith)
     at true x true y false z e = absurd (omega arith)
     at true x true y true z e =
-        let u = unbroken least b (ruled-zero (brokenIn least b) e) in record { length-ok = x; magic-ok = y; edition-ok = z; is-clean = u .0; is-sound = u .1 }
+        let (low, eight) = unbroken-all least b (ruled-zero (brokenIn least b) e) in
+        let u = unbroken least b low in
+        record { length-ok = x; magic-ok = y; edition-ok = z; is-clean = u .0; is-sound = u .1; is-counted = eight }
 
 pub judged-accepted : (least : ℕ) (b : List ℕ) → Accepted least b → judged least b ≡ verdict 0 0
 unfolding judged
-judged-accepted least b a = rw (a .length-ok, a .magic-ok, a .edition-ok, whole least b (a .is-clean) (a .is-sound))
+judged-accepted least b a = rw (a .length-ok, a .magic-ok, a .edition-ok, broken-none least b (whole least b (a .is-clean) (a .is-sound)) (a .is-counted))
 
 -- the rules by name
 pub accepted-sound : (least : ℕ) (b : List ℕ) → Accepted least b → Sound least (decode least b)

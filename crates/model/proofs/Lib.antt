@@ -65,6 +65,7 @@ pub mod Readings
 pub mod Telling
 pub mod Sampled
 pub mod Rising
+pub mod Counted
 pub mod Judging
 pub mod Converting
 pub mod Quiet

@@ -4,7 +4,8 @@ use Prim.Native.Nat.{ℕ, zero, suc, _+_, _*_, _-_}
 use mathlib.Core.Bool.{Bool, true, _&&_}
 use mathlib.Core.List.{List}
 use lib.Dec.{leb, eqb}
-use Rattle.model.specs.Limits.{countBits, rootBits}
+use Rattle.model.specs.Basic.{pick}
+use Rattle.model.specs.Limits.{countBits, liveBits, rootBits}
 use Rattle.model.specs.Field.{field}
 use Rattle.model.specs.Layout.{countOf, pageOf, sizeOf, readHeader, decode}
 use Rattle.model.specs.Sound.{rule1}
@@ -17,10 +18,14 @@ zeroBits s at n = eqb (field s at n) 0
 abbrev pub zeroFrom : List ℕ → ℕ → ℕ → Bool
 zeroFrom s a b = zeroBits s a (b - a)
 
+-- where the zero bits of a page's front begin: "free pages are all zero", those of the live count too
+abbrev pub spareAt : ℕ → ℕ → ℕ
+spareAt least level = 44 + countBits least + pick (eqb level 0) 0 (liveBits least)
+
 -- "79 zero bits"; "unused [entries] are all zero"
 unfoldable pub cleanPage : ℕ → List ℕ → Bool
 cleanPage least p =
-    leb (countOf least p) (5 * least) && (zeroFrom p (44 + countBits least) 128 && zeroFrom p (128 + 96 * countOf least p) (512 * least))
+    leb (countOf least p) (5 * least) && (zeroFrom p (spareAt least (field p 0 4)) 128 && zeroFrom p (128 + 96 * countOf least p) (512 * least))
 
 -- so many pages from page n on
 unfoldable pub cleanPages : ℕ → List ℕ → ℕ → ℕ → Bool

@@ -12,6 +12,9 @@ use Rattle.model.specs.Basic.{inOrder}
 use Rattle.model.specs.declared.Pair.{Pair}
 use Rattle.model.specs.declared.Entry.{Entry}
 use Rattle.model.specs.declared.Slot.{Slot}
+use Rattle.model.specs.Sound.{firstBroken, rule2, rule3, rule4, rule5, rule6, rule7}
+use Rattle.model.specs.Layout.{decode}
+use Rattle.model.specs.Clean.{clean}
 
 -- ---- neighbours (laws: proofs/Rising)
 
@@ -45,3 +48,10 @@ pub record Lasts (c : ℕ) (f : ℕ → Option ℕ) (v r : ℕ) : Type 0 where
   pub below : r ≤ suc c
   pub same : (w : ℕ) → v ≤ w → w < r → f w ≡ f v
   pub other : r ≤ c → f r ≢ f v
+
+-- ---- the lowest broken rule of 1 to 7: rule 8 is tested last (laws: proofs/Judging)
+
+unfoldable pub lowerIn : ℕ → List ℕ → ℕ
+lowerIn least b =
+    let s = decode least b in
+    firstBroken 1 (clean least b ∷ rule2 s ∷ rule3 s ∷ rule4 s ∷ rule5 least s ∷ rule6 s ∷ rule7 s ∷ [])

@@ -10,6 +10,7 @@ use Rattle.model.specs.Limits.{editionOf}
 use Rattle.model.specs.Field.{field}
 use Rattle.model.specs.Layout.{magic, sizeOf, decode}
 use Rattle.model.specs.Clean.{clean}
+use Rattle.model.specs.Counted.{rule8}
 use Rattle.model.specs.Sound.{rule2, rule3, rule4, rule5, rule6, rule7, firstBroken}
 use Rattle.model.specs.declared.Verdict.{Verdict}
 
@@ -29,7 +30,7 @@ editionOk least b = eqb (field b 32 8) (editionOf least)
 unfoldable pub brokenIn : ℕ → List ℕ → ℕ
 brokenIn least b =
     let s = decode least b in
-    firstBroken 1 (clean least b ∷ rule2 s ∷ rule3 s ∷ rule4 s ∷ rule5 least s ∷ rule6 s ∷ rule7 s ∷ [])
+    firstBroken 1 (clean least b ∷ rule2 s ∷ rule3 s ∷ rule4 s ∷ rule5 least s ∷ rule6 s ∷ rule7 s ∷ rule8 least b ∷ [])
 
 abbrev pub verdict : ℕ → ℕ → Verdict
 verdict n r = record { number = n; rule = r }

@@ -9,7 +9,9 @@ use lib.ListN.{length, take, drop, replicate}
 use Rattle.model.specs.declared.Entry.{Entry}
 use Rattle.model.specs.declared.Slot.{Slot}
 use Rattle.model.specs.declared.Header.{Header}
-use Rattle.model.specs.Limits.{countBits, rootBits, editionOf}
+use Rattle.model.specs.Basic.{those}
+use Rattle.model.specs.Entry.{alive}
+use Rattle.model.specs.Limits.{countBits, liveBits, liveShown, rootBits, editionOf}
 use Rattle.model.specs.Page.{Page, free}
 use Rattle.model.specs.Store.{Store}
 use Rattle.model.specs.Field.{field, Part, _bits_, zeros, packed}
@@ -42,20 +44,36 @@ unused = record { key = 0; start = 0; end = 0; value = 0 }
 unfoldable pub padded : ℕ → List Entry → List Entry
 padded least es = es ++ replicate (5 * least - length es) unused
 
--- ---- pages: "level 4 bits, entry count 5, start 20, end 20, 79 zero bits, then 20 entries"; in edition 2 zero bytes follow
+-- ---- the live count: "the six zero bits right after a page's end field become the number of entries alive at the last version"
 
-abbrev pub headParts : ℕ → ℕ → ℕ → ℕ → ℕ → List Part
-headParts least level count start end = 4 bits level ∷ countBits least bits count ∷ 20 bits start ∷ 20 bits end ∷ []
+-- "End 1,048,575 means alive.": of a store for which rule 1 holds these are the entries alive at last (proofs/Counted)
+abbrev pub lives : Entry → Bool
+lives e = eqb (e .end) alive
 
-unfoldable pub headBytes : ℕ → ℕ → ℕ → ℕ → ℕ → List ℕ
-headBytes least level count start end = packed 16 (headParts least level count start end)
+-- what the live count of a page with these entries shows
+unfoldable pub liveIn : ℕ → List Entry → ℕ
+liveIn least es = liveShown least (length (those lives es))
+
+-- ---- pages: "level 4 bits, entry count 5, start 20, end 20, 79 zero bits, then 20 entries"; in edition 2 the live count stands behind the
+-- end, and zero bytes follow the entries
+
+abbrev pub headParts : ℕ → ℕ → ℕ → ℕ → ℕ → ℕ → List Part
+headParts least level count start end live =
+    4 bits level ∷ countBits least bits count ∷ 20 bits start ∷ 20 bits end ∷ liveBits least bits live ∷ []
+
+unfoldable pub headBytes : ℕ → ℕ → ℕ → ℕ → ℕ → ℕ → List ℕ
+headBytes least level count start end live = packed 16 (headParts least level count start end live)
 
 unfoldable pub encodePage : ℕ → Page → List ℕ
 encodePage least p =
-    headBytes least (p .level) (length (p .entries)) (p .start) (p .end) ++ (entriesBytes (padded least (p .entries)) ++ zeros (4 * least - 16))
+    headBytes least (p .level) (length (p .entries)) (p .start) (p .end) (liveIn least (p .entries))
+    ++ (entriesBytes (padded least (p .entries)) ++ zeros (4 * least - 16))
 
 unfoldable pub countOf : ℕ → List ℕ → ℕ
 countOf least p = field p 4 (countBits least)
+
+unfoldable pub liveOf : ℕ → List ℕ → ℕ
+liveOf least p = field p (44 + countBits least) (liveBits least)
 
 unfoldable pub decodePage : ℕ → List ℕ → Page
 decodePage least p = record {

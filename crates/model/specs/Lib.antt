@@ -22,6 +22,7 @@ pub mod Field
 pub mod Layout
 pub mod Clean
 pub mod Quick
+pub mod Counted
 pub mod Inner
 pub mod Judged
 pub mod Near

@@ -10,6 +10,14 @@ use Rattle.model.specs.declared.Limits.{Limits}
 abbrev pub countBits : ℕ → ℕ
 countBits least = pick (leb least 4) 5 6
 
+-- bits of a page's live count (2026-09): "the six zero bits right after a page's end field"; "Edition 1 stays as it is", and has none
+abbrev pub liveBits : ℕ → ℕ
+liveBits least = pick (leb least 4) 0 6
+
+-- what those bits show of a number: where there are none, they show 0
+abbrev pub liveShown : ℕ → ℕ → ℕ
+liveShown least n = pick (leb least 4) 0 n
+
 -- bits of the header's number of roots: "number of roots 9"
 abbrev pub rootBits : ℕ → ℕ
 rootBits least = pick (leb least 4) 9 10

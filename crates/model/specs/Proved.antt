@@ -3,6 +3,7 @@
 use lib.Dec.{T}
 use mathlib.Core.Path.{_≡_, refl}
 use mathlib.Core.List.{map, _++_}
+use lib.ListN.{take}
 use Rattle.model.specs.Basic.{all}
 use Rattle.model.specs.Store.{fresh}
 use Rattle.model.specs.Rules
@@ -15,7 +16,7 @@ use Rattle.model.specs.Sound
 use Rattle.model.specs.Sound.{sound}
 use Rattle.model.specs.Field
 use Rattle.model.specs.Layout
-use Rattle.model.specs.Layout.{encode, decode, entryBytes}
+use Rattle.model.specs.Layout.{encode, decode, encodePage, entryBytes}
 use Rattle.model.specs.Replay.{History, holds, soundWay, readBack}
 use Rattle.model.specs.Table.{table}
 use Rattle.model.specs.AlsoRun.{alsoRun}
@@ -24,7 +25,7 @@ use Rattle.model.specs.Bench.{benchRun}
 use Rattle.model.specs.Releases.{releases}
 use Rattle.model.specs.Return
 use Rattle.model.specs.GoingBack.{goingBack}
-use Rattle.model.specs.Vectors.{freshBytes, freshSecondBytes, entryForty, fortyBytes}
+use Rattle.model.specs.Vectors.{freshBytes, freshSecondBytes, entryForty, fortyBytes, fortyPage, fortyHead, fortySecondHead}
 use Rattle.model.specs.Figures.{Figure, made, figures}
 use Rattle.model.specs.Samples.{twoLevels, fromElsewhere, served, visited, visitedPages}
 use Rattle.model.specs.Differ
@@ -46,7 +47,7 @@ unfolding Sound.sound Sound.rule1 Sound.rule2 Sound.rule3 Sound.rule4 Sound.rule
 judging = tt
 
 writing : Unit {0}
-unfolding Layout.encode Layout.headerBytes Layout.slotsBytes Layout.slotBytes Layout.pagesBytes Layout.encodePage Layout.headBytes Layout.entriesBytes Layout.entryBytes Layout.padded Field.packed Field.lay Field.zeros Field.putField Field.setBit Field.putBit
+unfolding Layout.encode Layout.headerBytes Layout.slotsBytes Layout.slotBytes Layout.pagesBytes Layout.encodePage Layout.headBytes Layout.liveIn Layout.entriesBytes Layout.entryBytes Layout.padded Field.packed Field.lay Field.zeros Field.putField Field.setBit Field.putBit
 writing = tt
 
 reading : Unit {0}
@@ -142,6 +143,15 @@ fresh-second-bytes = refl
 pub forty-bytes : entryBytes entryForty ≡ fortyBytes
 unfolding writing
 forty-bytes = refl
+
+-- 2026-09
+pub live-count-none : take 8 (encodePage 4 fortyPage) ≡ fortyHead
+unfolding writing
+live-count-none = refl
+
+pub live-count-bytes : take 8 (encodePage 8 fortyPage) ≡ fortySecondHead
+unfolding writing
+live-count-bytes = refl
 
 -- document 004's figures
 pub figures-drawn : map made figures ≡ map (λ (f : Figure). f .shows) figures

@@ -1,10 +1,11 @@
--- The bytes that document 01 writes out, and those of a fresh store of edition 2.
+-- The bytes that document 01 writes out, those of a fresh store of edition 2, and the head of a page with a live count.
 -- Assumes nothing.
 use Prim.Native.Nat.{ℕ}
 use mathlib.Core.List.{List, [], _∷_, _++_}
 use lib.ListN.{replicate}
 use Rattle.model.specs.declared.Entry.{Entry}
-use Rattle.model.specs.Entry.{pair, born}
+use Rattle.model.specs.Entry.{alive, pair, born}
+use Rattle.model.specs.Page.{Page}
 
 -- "header `52 43 53 54 01 00 30 00 00 00 20`"
 abbrev pub headerBytes : List ℕ
@@ -38,3 +39,19 @@ entryForty = born 1 (pair 40 7)
 
 abbrev pub fortyBytes : List ℕ
 fortyBytes = 0x00 ∷ 0x00 ∷ 0x28 ∷ 0x00 ∷ 0x00 ∷ 0x1f ∷ 0xff ∷ 0xff ∷ 0x00 ∷ 0x00 ∷ 0x00 ∷ 0x07 ∷ []
+
+-- page 5 with that entry and, behind it, key 41 inserted in version 1 and ended in 2: two entries, one of them alive at last
+abbrev pub fortyPage : Page
+fortyPage = record {
+  level = 1;
+  start = 0;
+  end = alive;
+  entries = entryForty ∷ record { key = 41; start = 1; end = 2; value = 9 } ∷ [];
+}
+
+-- how it begins in edition 1, which has no live count, and in edition 2: "the six zero bits right after a page's end field" are 000001
+abbrev pub fortyHead : List ℕ
+fortyHead = 0x11 ∷ 0x00 ∷ 0x00 ∷ 0x07 ∷ 0xff ∷ 0xff ∷ 0x80 ∷ 0x00 ∷ []
+
+abbrev pub fortySecondHead : List ℕ
+fortySecondHead = 0x10 ∷ 0x80 ∷ 0x00 ∷ 0x03 ∷ 0xff ∷ 0xff ∷ 0xc1 ∷ 0x00 ∷ []

@@ -1,5 +1,5 @@
 -- Laws of the limits: what a struct of limits holds, and how wide its counts are. Assumes nothing.
-use Prim.Native.Nat.{ℕ, _*_, _^_, _≤_, _<_}
+use Prim.Native.Nat.{ℕ, _+_, _*_, _^_, _≤_, _<_}
 use mathlib.Core.Bool.{Bool, true, false}
 use mathlib.Core.Path.{_≡_, refl, ap, sym, _∙_}
 use native.Mathlib.Omega.{arith}
@@ -7,7 +7,7 @@ use lib.Dec.{leb}
 use borrow.Author.Tests.{leb-true}
 use Rattle.model.specs.Basic.{pick}
 use Rattle.model.specs.declared.Limits.{Limits}
-use Rattle.model.specs.Limits.{countBits, rootBits, limits, Edition}
+use Rattle.model.specs.Limits.{countBits, liveBits, liveShown, rootBits, limits, Edition}
 
 -- ---- the widths
 
@@ -29,6 +29,44 @@ count-bits least h = at (leb least 4) (leb-true least 4)
     at : (b : Bool) → (b ≡ true → least ≤ 4) → Counts least (pick b 5 6)
     at true f = let g : least ≤ 4 = f refl in record { five = omega arith; six = omega arith; fits = omega arith }
     at false f = record { five = omega arith; six = omega arith; fits = omega arith }
+
+-- the live count's bits: none, or six
+pub live-bits : (least : ℕ) → liveBits least ≤ 6
+live-bits least = at (leb least 4)
+  where
+    at : (b : Bool) → pick b 0 6 ≤ 6
+    at true = omega arith
+    at false = omega arith
+
+-- what they show of a number under 64 fits
+pub shown-fits : (least n : ℕ) → n < 64 → liveShown least n < 2 ^ liveBits least
+shown-fits least n h = at (leb least 4)
+  where
+    at : (b : Bool) → pick b 0 n < 2 ^ pick b 0 6
+    at true = omega arith
+    at false = omega arith
+
+pub shown-none : (least : ℕ) → liveShown least 0 ≡ 0
+shown-none least = at (leb least 4)
+  where
+    at : (b : Bool) → _≡_ {A = ℕ} (pick b 0 0) 0
+    at true = refl
+    at false = refl
+
+-- a number that is carried on
+pub shown-add : (least m n : ℕ) → liveShown least (liveShown least m + n) ≡ liveShown least (m + n)
+shown-add least m n = at (leb least 4)
+  where
+    at : (b : Bool) → _≡_ {A = ℕ} (pick b 0 (pick b 0 m + n)) (pick b 0 (m + n))
+    at true = refl
+    at false = refl
+
+pub shown-most : (least n : ℕ) → liveShown least n ≤ n
+shown-most least n = at (leb least 4)
+  where
+    at : (b : Bool) → pick b 0 n ≤ n
+    at true = omega arith
+    at false = omega arith
 
 pub root-bits : (least : ℕ) → least ≤ 8 → Rooted least (rootBits least)
 root-bits least h = at (leb least 4) (leb-true least 4)

@@ -1,6 +1,6 @@
 -- A page that its bytes can hold comes back from them. Assumes nothing.
 use Prim.Native.Nat.{ℕ, _+_, _*_, _-_, _^_, _<_, _≤_}
-use mathlib.Core.Path.{_≡_, refl, ap, _∙_}
+use mathlib.Core.Path.{_≡_, refl, ap, sym, _∙_}
 use mathlib.Core.List.{List, _++_}
 use native.Mathlib.Omega.{arith}
 use lib.ListN.{length, getD, length-append}
@@ -10,13 +10,16 @@ use Rattle.bits.specs.Over.{zeros-append, packed-zeros}
 use Rattle.model.specs.declared.Entry.{Entry}
 use Rattle.model.specs.Field.{zeros}
 use Rattle.model.specs.Page.{Page, free}
-use Rattle.model.specs.Layout.{entriesBytes, readEntry, readEntries, unused, padded, headBytes, encodePage, decodePage, countOf}
+use Rattle.model.specs.Basic.{those}
+use Rattle.model.specs.Limits.{liveBits}
+use Rattle.model.specs.Layout.{lives, liveIn, liveOf, entriesBytes, readEntry, readEntries, unused, padded, headBytes, encodePage, decodePage, countOf}
+use Rattle.model.proofs.PlanSizes.{few-those}
 use Rattle.page.specs.declared.Head.{Head}
-use Rattle.page.specs.Editions.{count-bits}
-use Rattle.page.specs.Head.{readHead, headOf, frontBytes, partsOf, HeadFits}
+use Rattle.page.specs.Editions.{count-bits, live-bits, shown-fits, shown-none}
+use Rattle.page.specs.Head.{readHead, headOf, frontBytes, partsOf, putLive, HeadFits}
 use Rattle.page.specs.Read.{Sized, sized-unused, sized-entries, length-entries, entries-at, level-of, start-of, end-of, count-of, entries-of, level-lt, start-lt, end-lt}
 use Rattle.page.specs.Entries.{entries-length, entry-get, length-padded, padded-get, padded-sized, unused-zeros}
-use Rattle.page.specs.Front.{head-length, head-read}
+use Rattle.page.specs.Front.{head-length, head-read, live-read, live-put}
 
 -- a page that its bytes can hold
 pub record Valid (least : ℕ) (p : Page) : Type 0 where
@@ -26,7 +29,7 @@ pub record Valid (least : ℕ) (p : Page) : Type 0 where
   pub room : length (p .entries) ≤ 5 * least
   pub sized : (k : ℕ) → Sized (getD (p .entries) k unused)
 
--- bytes of a page with nothing beside the page that they show: spare bits and unused entries are zero
+-- bytes of a page with nothing beside the page that they show: spare bits and unused entries are zero, the live count is right
 pub record Exact (least : ℕ) (p : List ℕ) : Type 0 where
   pub size : length p ≡ 64 * least
   pub room : countOf least p ≤ 5 * least
@@ -56,9 +59,30 @@ head-is least p =
 abbrev pub bodyBytes : ℕ → List Entry → List ℕ
 bodyBytes least l = entriesBytes l ++ zeros (4 * least - 16)
 
-pub encode-is : (least : ℕ) (p : Page) → encodePage least p ≡ frontBytes least (headOf p) ++ bodyBytes least (padded least (p .entries))
+pub encode-is : (least : ℕ) (p : Page) → encodePage least p ≡ frontBytes least (headOf p) (liveIn least (p .entries)) ++ bodyBytes least (padded least (p .entries))
 unfolding encodePage
 encode-is least p = refl
+
+-- the bytes of a page with a live count that may be another's
+unfoldable pub encodeWith : ℕ → Page → ℕ → List ℕ
+encodeWith least p n = frontBytes least (headOf p) n ++ bodyBytes least (padded least (p .entries))
+
+-- ---- the live count
+
+pub live-none : (least : ℕ) → liveIn least (free .entries) ≡ 0
+unfolding liveIn
+live-none least = shown-none least
+
+-- of entries that a page has room for
+pub live-fits : (least : ℕ) (es : List Entry) → least ≤ 8 → length es ≤ 5 * least → liveIn least es < 2 ^ liveBits least
+unfolding liveIn
+live-fits least es eight h = shown-fits least (length (those lives es)) (omega (arith, few-those lives es))
+
+-- the right one laid over
+pub live-right : (least : ℕ) (p : Page) (m : ℕ) → least ≤ 8 → length (p .entries) ≤ 5 * least → putLive least (encodeWith least p m) (liveIn least (p .entries)) ≡ encodePage least p
+unfolding encodeWith
+live-right least p m eight h =
+    live-put least eight (headOf p) m (liveIn least (p .entries)) (bodyBytes least (padded least (p .entries))) (live-fits least (p .entries) eight h) ∙ sym (encode-is least p)
 
 module _ (least : ℕ) (four : 4 ≤ least) where
   pub body-length : (l : List Entry) → length l ≡ 5 * least → length (bodyBytes least l) ≡ 64 * least - 16
@@ -66,8 +90,8 @@ module _ (least : ℕ) (four : 4 ≤ least) where
 
   pub encode-length : (p : Page) → length (p .entries) ≤ 5 * least → length (encodePage least p) ≡ 64 * least
   encode-length p h =
-      ap length (encode-is least p) ∙ length-append (frontBytes least (headOf p)) (bodyBytes least (padded least (p .entries)))
-      ∙ omega (arith, head-length least (headOf p), body-length (padded least (p .entries)) (length-padded least (p .entries) h))
+      ap length (encode-is least p) ∙ length-append (frontBytes least (headOf p) (liveIn least (p .entries))) (bodyBytes least (padded least (p .entries)))
+      ∙ omega (arith, head-length least (headOf p) (liveIn least (p .entries)), body-length (padded least (p .entries)) (length-padded least (p .entries) h))
 
   module _ (eight : least ≤ 8) where
     -- "free pages, are all zero"
@@ -77,7 +101,7 @@ module _ (least : ℕ) (four : 4 ≤ least) where
         let n : 5 * least - 0 ≡ 5 * least = omega arith in
         let e : 16 + (12 * (5 * least) + (4 * least - 16)) ≡ 64 * least = omega arith in
         rw (
-          packed-zeros 16 (partsOf least (headOf free)) (omega (arith, count-bits least eight)) (refl, (refl, (refl, (refl, refl)))),
+          packed-zeros 16 (partsOf least (headOf free) (liveIn least (free .entries))) (omega (arith, count-bits least eight, live-bits least)) (refl, (refl, (refl, (refl, (live-none least, refl))))),
           n,
           unused-zeros (5 * least),
           zeros-append (12 * (5 * least)) (4 * least - 16),
@@ -89,7 +113,14 @@ module _ (least : ℕ) (four : 4 ≤ least) where
     head-valid p v = record { level = v .level; count = omega (arith, v .room, count-bits least eight); start = v .start; end = v .end }
 
     pub encode-head : (p : Page) → Valid least p → readHead least (encodePage least p) ≡ headOf p
-    encode-head p v = rw (encode-is least p) (head-read least eight (headOf p) (bodyBytes least (padded least (p .entries))) (head-valid p v))
+    encode-head p v =
+        rw (encode-is least p)
+        (head-read least eight (headOf p) (liveIn least (p .entries)) (bodyBytes least (padded least (p .entries))) (head-valid p v) (live-fits least (p .entries) eight (v .room)))
+
+    pub encode-live : (p : Page) → Valid least p → liveOf least (encodePage least p) ≡ liveIn least (p .entries)
+    encode-live p v =
+        rw (encode-is least p)
+        (live-read least eight (headOf p) (liveIn least (p .entries)) (bodyBytes least (padded least (p .entries))) (head-valid p v) (live-fits least (p .entries) eight (v .room)))
 
     pub decode-encode : (p : Page) → Valid least p → decodePage least (encodePage least p) ≡ p
     decode-encode p v =
@@ -101,7 +132,7 @@ module _ (least : ℕ) (four : 4 ≤ least) where
         let read : (k : ℕ) → k < n → readEntry b (128 + 96 * k) ≡ getD (p .entries) k unused
         = λ k lt.
         rw (encode-is least p)
-        (entry-get (frontBytes least (headOf p)) (zeros (4 * least - 16)) l k (head-length least (headOf p)) (omega (arith, v .room)) (padded-sized least (p .entries) (v .sized) k)
+        (entry-get (frontBytes least (headOf p) (liveIn least (p .entries))) (zeros (4 * least - 16)) l k (head-length least (headOf p) (liveIn least (p .entries))) (omega (arith, v .room)) (padded-sized least (p .entries) (v .sized) k)
         ∙ padded-get least (p .entries) k) in
         let es : readEntries b 128 n ≡ p .entries
         = ext-getD unused (readEntries b 128 n) (p .entries) (length-entries b 128 n) λ k lt.
@@ -118,3 +149,7 @@ module _ (least : ℕ) (four : 4 ≤ least) where
 
     pub encode-exact : (p : Page) → Valid least p → Exact least (encodePage least p)
     encode-exact p v = record { size = encode-length p (v .room); room = omega (arith, encode-count p v, v .room); same = ap (encodePage least) (decode-encode p v) }
+
+    -- exact bytes have the right live count
+    pub exact-live : (p : List ℕ) → Exact least p → liveOf least p ≡ liveIn least (decodePage least p .entries)
+    exact-live p x = ap (liveOf least) (sym (x .same)) ∙ encode-live (decodePage least p) (valid-read least p (x .room))

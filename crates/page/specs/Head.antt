@@ -1,9 +1,9 @@
 -- The front of a page as one value: read, and written. Assumes nothing.
 use Prim.Native.Nat.{ℕ, _+_, _^_, _<_}
-use mathlib.Core.List.{List}
+use mathlib.Core.List.{List, [], _∷_}
 use lib.ListN.{length}
-use Rattle.model.specs.Limits.{countBits}
-use Rattle.model.specs.Field.{field, Part, lay}
+use Rattle.model.specs.Limits.{countBits, liveBits}
+use Rattle.model.specs.Field.{field, putField, Part, _bits_, lay}
 use Rattle.model.specs.Page.{Page}
 use Rattle.model.specs.Layout.{countOf, headParts, headBytes}
 use Rattle.page.specs.declared.Head.{Head}
@@ -20,15 +20,24 @@ readHead least p = record {
 abbrev pub headOf : Page → Head
 headOf p = record { level = p .level; count = length (p .entries); start = p .start; end = p .end }
 
-abbrev pub partsOf : ℕ → Head → List Part
-partsOf least h = headParts least (h .level) (h .count) (h .start) (h .end)
+-- with a live count behind it
+abbrev pub partsOf : ℕ → Head → ℕ → List Part
+partsOf least h n = headParts least (h .level) (h .count) (h .start) (h .end) n
 
-abbrev pub frontBytes : ℕ → Head → List ℕ
-frontBytes least h = headBytes least (h .level) (h .count) (h .start) (h .end)
+abbrev pub frontBytes : ℕ → Head → ℕ → List ℕ
+frontBytes least h n = headBytes least (h .level) (h .count) (h .start) (h .end) n
 
--- bytes with this front laid over them
+-- the fields of a front alone
+abbrev pub headOnly : ℕ → Head → List Part
+headOnly least h = 4 bits h .level ∷ countBits least bits h .count ∷ 20 bits h .start ∷ 20 bits h .end ∷ []
+
+-- bytes with this front laid over them: the live count stays
 unfoldable pub putHead : ℕ → List ℕ → Head → List ℕ
-putHead least p h = lay p 0 (partsOf least h)
+putHead least p h = lay p 0 (headOnly least h)
+
+-- bytes with this live count laid over them
+unfoldable pub putLive : ℕ → List ℕ → ℕ → List ℕ
+putLive least p n = putField p (44 + countBits least) (liveBits least) n
 
 -- each field fits its bits
 pub record HeadFits (least : ℕ) (h : Head) : Type 0 where

@@ -4,18 +4,22 @@ use mathlib.Core.Path.{_≡_, refl, ap, sym, _∙_}
 use mathlib.Core.List.{List, [], _∷_, _++_}
 use native.Mathlib.Numerals.{add-one}
 use native.Mathlib.Omega.{arith}
-use lib.ListN.{length, getD, take, drop, length-append, length-take, length-drop}
+use lib.ListN.{length, getD, take, drop, length-append, length-take, length-drop, take-append-drop}
 use lib.Seq.{take-suc, length-take-le, take-all, take-at}
 use Rattle.model.specs.declared.Entry.{Entry}
 use Rattle.model.specs.Field.{lay}
 use Rattle.model.specs.Page.{Page}
-use Rattle.model.specs.Layout.{entryParts, unused, countOf, decodePage, encodePage, readEntries}
+use Rattle.model.specs.Basic.{those}
+use Rattle.model.specs.Limits.{liveShown}
+use Rattle.model.specs.Layout.{lives, liveIn, liveOf, entryParts, unused, countOf, decodePage, encodePage, readEntries}
+use Rattle.model.proofs.Local.{those-append}
+use Rattle.model.proofs.PlanSizes.{few-those}
 use Rattle.page.specs.declared.Head.{Head}
-use Rattle.page.specs.Head.{readHead, putHead, HeadFits}
-use Rattle.page.specs.Read.{Sized, sized-unused, sized-entries, count-of, entries-of, level-of, start-of, end-of}
-use Rattle.page.specs.Editions.{count-bits}
+use Rattle.page.specs.Head.{readHead, putHead, putLive, HeadFits}
+use Rattle.page.specs.Read.{Sized, sized-unused, sized-entries, length-entries, count-of, entries-of, level-of, start-of, end-of}
+use Rattle.page.specs.Editions.{count-bits, shown-add, shown-most}
 use Rattle.page.specs.Front.{read-fits}
-use Rattle.page.specs.Exact.{Exact}
+use Rattle.page.specs.Exact.{Exact, encodeWith, live-right, exact-live}
 use Rattle.page.specs.Stage.{staged, staged-from, staged-put, staged-end, entriesIn, count}
 
 unfoldable pub insertAt : ℕ → Entry → List Entry → List Entry
@@ -77,7 +81,7 @@ module _ (least : ℕ) (four : 4 ≤ least) (eight : least ≤ 8) (p : List ℕ)
       let t : take (k + 1) wanted ≡ take k wanted ++ getD wanted k unused ∷ [] = ap (λ (j : ℕ). take j wanted) (add-one k) ∙ take-suc wanted k unused (omega (arith, wanted-length)) in
       rw t (rw n at (staged-put least four eight p x (take k wanted) (getD wanted k unused) (omega (arith, n)) (wanted-sized k)))
 
-  pub insert-end : putHead least (staged least p (take (countOf least p + 1) wanted)) (more (readHead least p)) ≡ encodePage least (withEntry i e (decodePage least p))
+  pub insert-end : putHead least (staged least p (take (countOf least p + 1) wanted)) (more (readHead least p)) ≡ encodeWith least (withEntry i e (decodePage least p)) (liveOf least p)
   unfolding withEntry
   insert-end =
       let all : take (countOf least p + 1) wanted ≡ wanted = take-all (countOf least p + 1) wanted (omega (arith, wanted-length)) in
@@ -85,4 +89,44 @@ module _ (least : ℕ) (four : 4 ≤ least) (eight : least ≤ 8) (p : List ℕ)
       let g : HeadFits least (more (readHead least p)) = record { level = f .level; count = omega (arith, count-of least p, count-bits least eight); start = f .start; end = f .end } in
       let es : entriesIn least p ≡ decodePage least p .entries = sym (entries-of least p ∙ ap (readEntries p 128) (sym (count-of least p))) in
       rw all (staged-end least four eight p x wanted (more (readHead least p)) (omega (arith, wanted-length)) (omega (arith, wanted-length)) g (omega (arith, wanted-length, count-of least p)))
-      ∙ ap (λ (q : Page). encodePage least q) (λ j. record { level = sym (level-of least p) j; start = sym (start-of least p) j; end = sym (end-of least p) j; entries = insertAt i e (es j) })
+      ∙ ap (λ (q : Page). encodeWith least q (liveOf least p)) (λ j. record { level = sym (level-of least p) j; start = sym (start-of least p) j; end = sym (end-of least p) j; entries = insertAt i e (es j) })
+
+-- ---- the live count of a page with one entry more
+
+-- of one entry: 1 if it lives, else 0
+abbrev pub liveOne : Entry → ℕ
+liveOne e = length (those lives (e ∷ []))
+
+live-insert : (i : ℕ) (e : Entry) (l : List Entry) → length (those lives (insertAt i e l)) ≡ length (those lives l) + liveOne e
+unfolding insertAt
+live-insert i e l =
+    let a : List Entry = take i l in
+    let b : List Entry = drop i l in
+    let whole : length (those lives l) ≡ length (those lives a) + length (those lives b)
+    = ap (λ (x : List Entry). length (those lives x)) (sym (take-append-drop i l)) ∙ ap length (those-append lives a b) ∙ length-append (those lives a) (those lives b) in
+    let rest : length (those lives (e ∷ b)) ≡ liveOne e + length (those lives b)
+    = ap length (those-append lives (e ∷ []) b) ∙ length-append (those lives (e ∷ [])) (those lives b) in
+    ap length (those-append lives a (e ∷ b)) ∙ length-append (those lives a) (those lives (e ∷ b)) ∙ omega arith
+
+module _ (least : ℕ) (four : 4 ≤ least) (eight : least ≤ 8) (p : List ℕ) (x : Exact least p) (i : ℕ) (e : Entry) (room : countOf least p < 5 * least) (le : i ≤ countOf least p) where
+  shows : liveOf least p ≡ liveIn least (decodePage least p .entries)
+  shows = exact-live least four eight p x
+
+  counted : length (decodePage least p .entries) ≡ countOf least p
+  counted = ap length (entries-of least p) ∙ length-entries p 128 (readHead least p .count) ∙ sym (count-of least p)
+
+  -- the number that is carried on fits its bits
+  pub live-low : liveOf least p + liveOne e < 64
+  unfolding liveIn
+  live-low =
+      omega (arith, shows, shown-most least (length (those lives (decodePage least p .entries))), few-those lives (decodePage least p .entries), counted, few-those lives (e ∷ []))
+
+  pub live-end : putLive least (encodeWith least (withEntry i e (decodePage least p)) (liveOf least p)) (liveShown least (liveOf least p + liveOne e))
+      ≡ encodePage least (withEntry i e (decodePage least p))
+  unfolding withEntry liveIn
+  live-end =
+      let es : List Entry = decodePage least p .entries in
+      let n : liveShown least (liveOf least p + liveOne e) ≡ liveIn least (insertAt i e es)
+      = ap (λ (k : ℕ). liveShown least (k + liveOne e)) shows ∙ shown-add least (length (those lives es)) (liveOne e) ∙ ap (liveShown least) (sym (live-insert i e es)) in
+      ap (putLive least (encodeWith least (withEntry i e (decodePage least p)) (liveOf least p))) n
+      ∙ live-right least (withEntry i e (decodePage least p)) (liveOf least p) eight (omega (arith, length-insert i e es, counted))

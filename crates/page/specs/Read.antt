@@ -6,8 +6,8 @@ use lib.ListN.{length, getD}
 use native.Mathlib.Omega.{arith}
 use Rattle.bits.specs.Laws.{field-lt}
 use Rattle.model.specs.declared.Entry.{Entry}
-use Rattle.model.specs.Limits.{countBits}
-use Rattle.model.specs.Layout.{readEntry, readEntries, countOf, decodePage, unused}
+use Rattle.model.specs.Limits.{countBits, liveBits}
+use Rattle.model.specs.Layout.{readEntry, readEntries, countOf, liveOf, decodePage, unused}
 use Rattle.page.specs.Head.{readHead}
 
 -- ---- the page's fields, by its front
@@ -48,6 +48,10 @@ module _ (least : ℕ) (p : List ℕ) where
   pub count-lt : countOf least p < 2 ^ countBits least
   unfolding countOf
   count-lt = field-lt p 4 (countBits least)
+
+  pub live-lt : liveOf least p < 2 ^ liveBits least
+  unfolding liveOf
+  live-lt = field-lt p (44 + countBits least) (liveBits least)
 
 -- ---- entries
 

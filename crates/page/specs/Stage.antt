@@ -8,22 +8,22 @@ use lib.Seq.{take-append-le}
 use Rattle.model.specs.declared.Entry.{Entry}
 use Rattle.model.specs.Field.{lay, zeros}
 use Rattle.model.specs.Page.{Page}
-use Rattle.model.specs.Layout.{entryParts, readEntry, readEntries, unused, padded, encodePage, decodePage, countOf}
+use Rattle.model.specs.Layout.{entryParts, readEntry, readEntries, unused, padded, encodePage, decodePage, countOf, liveOf, liveIn}
 use Rattle.page.specs.declared.Head.{Head}
 use Rattle.page.specs.Head.{readHead, frontBytes, putHead, HeadFits}
-use Rattle.page.specs.Read.{Sized, sized-unused, sized-entries, length-entries, entries-of, count-of}
+use Rattle.page.specs.Read.{Sized, sized-unused, sized-entries, length-entries, entries-of, count-of, live-lt}
 use Rattle.page.specs.Entries.{entry-put, entry-get, length-padded, padded-get}
-use Rattle.page.specs.Front.{head-length, head-put}
+use Rattle.page.specs.Front.{head-length, head-put, read-fits}
 use Rattle.page.specs.Over.{over, length-over, over-put, over-high, over-own, over-padded, padded-unused, length-blank}
-use Rattle.page.specs.Exact.{Exact, bodyBytes, body-length, encode-is, head-is}
+use Rattle.page.specs.Exact.{Exact, bodyBytes, body-length, encode-is, head-is, encodeWith, exact-live}
 
 -- the entries of a page that are in use
 abbrev pub entriesIn : ℕ → List ℕ → List Entry
 entriesIn least p = readEntries p 128 (countOf least p)
 
--- a page whose first entries are these, its front and its other entries as they were
+-- a page whose first entries are these, its front, its live count and its other entries as they were
 unfoldable pub staged : ℕ → List ℕ → List Entry → List ℕ
-staged least p out = frontBytes least (readHead least p) ++ bodyBytes least (over out (padded least (entriesIn least p)))
+staged least p out = frontBytes least (readHead least p) (liveOf least p) ++ bodyBytes least (over out (padded least (entriesIn least p)))
 
 -- so many entries from j on made unused
 unfoldable pub blanked : List ℕ → ℕ → ℕ → List ℕ
@@ -61,11 +61,11 @@ module _ (least : ℕ) (four : 4 ≤ least) (eight : least ≤ 8) (p : List ℕ)
   full = length-padded least es (omega (arith, count, x .room))
 
   hd : List ℕ
-  hd = frontBytes least (readHead least p)
+  hd = frontBytes least (readHead least p) (liveOf least p)
 
   sixteen : length hd ≡ 16
   unfolding hd
-  sixteen = head-length least (readHead least p)
+  sixteen = head-length least (readHead least p) (liveOf least p)
 
   pub staged-length : (out : List Entry) → length out ≤ 5 * least → length (staged least p out) ≡ 64 * least
   unfolding staged hd
@@ -86,8 +86,9 @@ module _ (least : ℕ) (four : 4 ≤ least) (eight : least ≤ 8) (p : List ℕ)
   staged-from i h =
       let own : over (take i es) l ≡ l = over-first i h in
       let e : decodePage least p .entries ≡ es = entries-of least p ∙ ap (readEntries p 128) (sym (count-of least p)) in
-      sym (x .same) ∙ encode-is least (decodePage least p) ∙ ap (λ (h : Head). frontBytes least h ++ bodyBytes least (padded least (decodePage least p .entries))) (head-is least p)
-      ∙ ap (λ (y : List Entry). frontBytes least (readHead least p) ++ bodyBytes least y) (ap (padded least) e ∙ sym own)
+      sym (x .same) ∙ encode-is least (decodePage least p) ∙ ap (λ (h : Head). frontBytes least h (liveIn least (decodePage least p .entries)) ++ bodyBytes least (padded least (decodePage least p .entries))) (head-is least p)
+      ∙ ap (λ (n : ℕ). frontBytes least (readHead least p) n ++ bodyBytes least (padded least (decodePage least p .entries))) (sym (exact-live least four eight p x))
+      ∙ ap (λ (y : List Entry). frontBytes least (readHead least p) (liveOf least p) ++ bodyBytes least y) (ap (padded least) e ∙ sym own)
 
   pub staged-put : (out : List Entry) (e : Entry) → length out < 5 * least → Sized e
       → lay (staged least p out) (128 + 96 * length out) (entryParts e) ≡ staged least p (out ++ e ∷ [])
@@ -115,27 +116,25 @@ module _ (least : ℕ) (four : 4 ≤ least) (eight : least ≤ 8) (p : List ℕ)
       snoc zero = refl
       snoc (suc n) = ap (λ (x : List Entry). unused ∷ x) (snoc n)
 
-  -- and a front for them
+  -- and a front for them: the live count is left as it was
   pub staged-end : (out : List Entry) (h : Head) → countOf least p ≤ length out → length out ≤ 5 * least → HeadFits least h → h .count ≡ length out
-      → putHead least (staged least p out) h ≡ encodePage least (pageWith h out)
-  unfolding staged
+      → putHead least (staged least p out) h ≡ encodeWith least (pageWith h out) (liveOf least p)
+  unfolding staged encodeWith
   staged-end out h le most f n =
-      head-put least eight (readHead least p) h (bodyBytes least (over out l)) f
-      ∙ ap (λ (y : List Entry). frontBytes least h ++ bodyBytes least y) (over-padded least out es (omega (arith, count)) most)
-      ∙ ap (λ (k : ℕ). frontBytes least (record { level = h .level; count = k; start = h .start; end = h .end }) ++ bodyBytes least (padded least out)) n
-      ∙ sym (encode-is least (pageWith h out))
+      head-put least eight (readHead least p) h (liveOf least p) (bodyBytes least (over out l)) (read-fits least p) (live-lt least p) f
+      ∙ ap (λ (y : List Entry). frontBytes least h (liveOf least p) ++ bodyBytes least y) (over-padded least out es (omega (arith, count)) most)
+      ∙ ap (λ (k : ℕ). frontBytes least (record { level = h .level; count = k; start = h .start; end = h .end }) (liveOf least p) ++ bodyBytes least (padded least out)) n
 
   -- the same where fewer are left, and the others made unused
   pub staged-shut : (out : List Entry) (h : Head) → length out ≤ countOf least p → HeadFits least h → h .count ≡ length out
-      → putHead least (blanked (staged least p out) (length out) (countOf least p - length out)) h ≡ encodePage least (pageWith h out)
-  unfolding staged
+      → putHead least (blanked (staged least p out) (length out) (countOf least p - length out)) h ≡ encodeWith least (pageWith h out) (liveOf least p)
+  unfolding staged encodeWith
   staged-shut out h le f n =
       let k : ℕ = countOf least p - length out in
       let m : List Entry = out ++ replicate k unused in
       let lm : length m ≡ countOf least p = length-blank out k ∙ omega arith in
       rw (staged-blank out k (omega (arith, x .room)))
-      (head-put least eight (readHead least p) h (bodyBytes least (over m l)) f
-      ∙ ap (λ (y : List Entry). frontBytes least h ++ bodyBytes least y)
+      (head-put least eight (readHead least p) h (liveOf least p) (bodyBytes least (over m l)) (read-fits least p) (live-lt least p) f
+      ∙ ap (λ (y : List Entry). frontBytes least h (liveOf least p) ++ bodyBytes least y)
       (over-padded least m es (omega (arith, count)) (omega (arith, x .room)) ∙ padded-unused least out k (omega (arith, x .room)))
-      ∙ ap (λ (c : ℕ). frontBytes least (record { level = h .level; count = c; start = h .start; end = h .end }) ++ bodyBytes least (padded least out)) n
-      ∙ sym (encode-is least (pageWith h out)))
+      ∙ ap (λ (c : ℕ). frontBytes least (record { level = h .level; count = c; start = h .start; end = h .end }) (liveOf least p) ++ bodyBytes least (padded least out)) n)

@@ -4,14 +4,14 @@ use model::Limits;
 ghost use mathlib.Core.Path.{_≡_};
 ghost use Prim.Native.Nat.{_+_, _*_, _-_, _^_, _≤_, _<_};
 ghost use lib.ListN.{length};
-ghost use Rattle.model.specs.Limits.{Edition};
+ghost use Rattle.model.specs.Limits.{Edition, liveShown};
 ghost use Rattle.model.specs.Field.{lay, zeros};
-ghost use Rattle.model.specs.Layout.{entryParts, readEntry, countOf, encodePage, decodePage};
-ghost use Rattle.page.specs.Head.{readHead, putHead, HeadFits};
+ghost use Rattle.model.specs.Layout.{entryParts, readEntry, countOf, liveOf, encodePage, decodePage};
+ghost use Rattle.page.specs.Head.{readHead, putHead, putLive, HeadFits};
 ghost use Rattle.page.specs.Read.{Sized};
-ghost use Rattle.page.specs.Exact.{Exact};
+ghost use Rattle.page.specs.Exact.{Exact, encodeWith};
 ghost use Rattle.page.specs.Stage.{blanked};
-ghost use Rattle.page.specs.Insert.{withEntry};
+ghost use Rattle.page.specs.Insert.{withEntry, liveOne};
 
 // "End 1,048,575 means alive."
 pub const ALIVE: u32 = 1048575;
@@ -44,6 +44,27 @@ pub fn head_of(page: &[u8], l: Limits) -> Head
     }
 }
 
+// The live count of a page: where the edition has no bits for it, 0.
+pub fn live_of(page: &[u8], l: Limits) -> usize
+    requires { ⌜ Edition l × (16 ≤ length (now page)) × (length (now page) ≤ 2 ^ 40) ⌝ }
+    ensures { λ r. ⌜ r ≡ liveOf (l .least) (now (page .entry)) ⌝ }
+{
+    if l.least <= 4 {
+        return 0;
+    }
+    wide(bits::field(page, 44 + l.counter, 6))
+}
+
+// What an entry adds to its page's live count.
+pub fn live_one(e: Entry) -> usize
+    ensures { λ r. ⌜ r ≡ liveOne e ⌝ }
+{
+    if e.end == ALIVE {
+        return 1;
+    }
+    0
+}
+
 // Entry i of a page.
 pub fn entry_at(page: &[u8], i: usize) -> Entry
     requires { ⌜ (16 + 12 * i + 12 ≤ length (now page)) × (length (now page) ≤ 2 ^ 40) ⌝ }
@@ -70,7 +91,7 @@ pub fn clear(page: &mut [u8])
     }
 }
 
-// Writes the front of a page.
+// Writes the front of a page: its live count is for `put_live`.
 pub fn put_head(page: &mut [u8], l: Limits, h: Head)
     requires { ⌜ Edition l × HeadFits (l .least) h × (16 ≤ length (now page)) × (length (now page) ≤ 2 ^ 40) ⌝ }
     ensures { λ _. ⌜ now (page .exit) ≡ putHead (l .least) (now (page .entry)) h ⌝ }
@@ -80,6 +101,17 @@ pub fn put_head(page: &mut [u8], l: Limits, h: Head)
     bits::put_field(page, 4, w, h.count as u64);
     bits::put_field(page, 4 + w, 20, h.start as u64);
     bits::put_field(page, 24 + w, 20, h.end as u64);
+}
+
+// Writes the live count of a page, where the edition has bits for it.
+pub fn put_live(page: &mut [u8], l: Limits, n: usize)
+    requires { ⌜ Edition l × (n < 64) × (16 ≤ length (now page)) × (length (now page) ≤ 2 ^ 40) ⌝ }
+    ensures { λ _. ⌜ now (page .exit) ≡ putLive (l .least) (now (page .entry)) (liveShown (l .least) n) ⌝ }
+{
+    if l.least <= 4 {
+        return;
+    }
+    bits::put_field(page, 44 + l.counter, 6, n as u64);
 }
 
 // Writes entry i of a page.
@@ -115,10 +147,10 @@ pub fn blank(page: &mut [u8], j: usize, n: usize)
     }
 }
 
-// Inserts e at place i of a page with room, in place: those from i on move up by one.
-pub fn insert_entry(page: &mut [u8], l: Limits, i: usize, e: Entry)
+// Puts e at place i of a page with room: those from i on move up by one. The live count is left as it was.
+fn slip_in(page: &mut [u8], l: Limits, i: usize, e: Entry)
     requires { ⌜ Edition l × Exact (l .least) (now page) × (countOf (l .least) (now page) < 5 * l .least) × (i ≤ countOf (l .least) (now page)) × Sized e ⌝ }
-    ensures { λ _. ⌜ now (page .exit) ≡ encodePage (l .least) (withEntry i e (decodePage (l .least) (now (page .entry)))) ⌝ }
+    ensures { λ _. ⌜ now (page .exit) ≡ encodeWith (l .least) (withEntry i e (decodePage (l .least) (now (page .entry)))) (liveOf (l .least) (now (page .entry))) ⌝ }
 {
     let h = head_of(page, l);
     let count = h.count;
@@ -142,4 +174,14 @@ pub fn insert_entry(page: &mut [u8], l: Limits, i: usize, e: Entry)
             end: h.end,
         },
     );
+}
+
+// Inserts e at place i of a page with room, in place.
+pub fn insert_entry(page: &mut [u8], l: Limits, i: usize, e: Entry)
+    requires { ⌜ Edition l × Exact (l .least) (now page) × (countOf (l .least) (now page) < 5 * l .least) × (i ≤ countOf (l .least) (now page)) × Sized e ⌝ }
+    ensures { λ _. ⌜ now (page .exit) ≡ encodePage (l .least) (withEntry i e (decodePage (l .least) (now (page .entry)))) ⌝ }
+{
+    let live = live_of(page, l);
+    slip_in(page, l, i, e);
+    put_live(page, l, live + live_one(e));
 }

@@ -18,6 +18,7 @@ use Rattle.model.proofs.Judging.{Accepted}
 use Rattle.model.proofs.Editions.{edition-four, edition-eight}
 use Rattle.store.specs.Exactly.{encode-decode}
 use Rattle.store.specs.Tested.{whole-length, exactly}
+use Rattle.store.specs.Counted.{counted}
 use Rattle.written.specs.Encoded.{encoded-accepted, encoded-are-bytes, encoded-held}
 use Rattle.promises.specs.Accepts.{Accepts, storeOf, OfEdition, Written, Exact}
 use Rattle.promises.proofs.Known.{four, eight, taken, of-edition}
@@ -49,5 +50,5 @@ accepted b bytes ok =
     let (pages, one) = both-true (cleanPages l b 5 (sizeOf l b - 5)) (rule1 l (storeOf b)) rest in
     record {
       is-sound = true-holds (sound l (storeOf b)) (a .is-sound);
-      same = encode-decode l (four b) (eight b) b (sizeOf l b) (exactly l b bytes (whole-length l b (a .length-ok)) (a .magic-ok) (a .edition-ok) front pages);
+      same = encode-decode l (four b) (eight b) b (sizeOf l b) (exactly l (eight b) b bytes (whole-length l b (a .length-ok)) (counted l (eight b) b a) (a .magic-ok) (a .edition-ok) front pages);
     }

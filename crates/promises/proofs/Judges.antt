@@ -15,6 +15,7 @@ use Rattle.model.specs.Walk.{keyLimit, settings, lookupVisits}
 use Rattle.model.specs.Sound.{sound}
 use Rattle.model.specs.Layout.{encode, decode}
 use Rattle.model.specs.Clean.{clean}
+use Rattle.model.specs.Counted.{rule8}
 use Rattle.model.specs.Judged
 use Rattle.model.specs.Judged.{lengthOk, magicOk, editionOk, brokenIn, judged, verdict, ruled}
 use Rattle.model.specs.Editions.{lentNumber, leastOf}
@@ -35,7 +36,7 @@ use Rattle.model.specs.Lent.{left, leftBy, judgedFirst, listed, freshLent, retu
 use Rattle.model.specs.Ended.{Asked, toFresh, toFreshSecond, toCheck, toOpen, toCommit, toAbandon, toInsert, toDelete, toReturn, toLookup, toRange, toLife, toDifference, toVisits, Ended, ofOutcome, ended, endedBy, makes}
 use Rattle.model.proofs.Lists.{both-true, both-intro}
 use Rattle.model.proofs.Members.{bool-cases, not-both}
-use Rattle.model.proofs.Judging.{unbroken, whole}
+use Rattle.model.proofs.Judging.{unbroken, unbroken-all, whole, broken-none}
 use Rattle.model.proofs.Lacking.{judged-low}
 use Rattle.model.proofs.Unique.{refused as leaves}
 use Rattle.model.proofs.Editions.{ended-goes, ended-refuses}
@@ -219,7 +220,7 @@ clash e = absurd (not-both true refl e)
 
 module _ (b : List ℕ) where
   abbrev good : ℕ → Bool
-  good least = clean least b && sound least (decode least b)
+  good least = clean least b && (sound least (decode least b) && rule8 least b)
 
   -- none of 1 to 3, by the number of the first broken rule
   ruled-first : (g : Bool) (r : ℕ) → (r ≡ 0 → g ≡ true) → (g ≡ true → r ≡ 0) → FirstNumbers true true true true g (ruled r .number)
@@ -254,10 +255,13 @@ module _ (b : List ℕ) where
   edition-first least m e = rw (m, e) (at (lengthOk least b))
     where
       up : (r : ℕ) → brokenIn least b ≡ r → r ≡ 0 → good least ≡ true
-      up r e z = let u = unbroken least b (e ∙ z) in both-intro _ _ (u .0) (u .1)
+      up r e z = let (low, eight) = unbroken-all least b (e ∙ z) in let u = unbroken least b low in both-intro _ _ (u .0) (both-intro _ _ (u .1) eight)
 
       down : good least ≡ true → brokenIn least b ≡ 0
-      down e = let u = both-true (clean least b) (sound least (decode least b)) e in whole least b (u .0) (u .1)
+      down e =
+          let u = both-true (clean least b) (sound least (decode least b) && rule8 least b) e in
+          let v = both-true (sound least (decode least b)) (rule8 least b) (u .1) in
+          broken-none least b (whole least b (u .0) (v .0)) (v .1)
 
       at : (x : Bool) → FirstNumbers true true true x (good least) (pick x (ruled (brokenIn least b)) (verdict 1 0) .number)
       at true = ruled-first (good least) (brokenIn least b) (up (brokenIn least b) refl) down

@@ -22,6 +22,7 @@ pub mod Lives
 pub mod Restored
 pub mod KeptOut
 pub mod Converting
+pub mod LiveCounts
 pub mod NamedSettings
 pub mod Tables
 pub mod Replaying

@@ -1,5 +1,5 @@
 -- The promises, each under its name: what it says stands in specs/Demand1, Demand2, Levels, Room, Demand3, in a file for each request of
--- document 02 (OldReadings, Near, Bench, Differences, Lives, Releases, Returns, Apart, Converts, NamedSettings), in Replayed and Fakes.
+-- document 02 (OldReadings, Near, Bench, Differences, Lives, Releases, Returns, Apart, Converts, LiveCounts, NamedSettings), in Replayed and Fakes.
 -- Assumes nothing.
 use Prim.Native.Nat.{ℕ}
 use native.Mathlib.Omega.{arith}
@@ -36,6 +36,7 @@ use Rattle.promises.specs.Bench.{KeptOut}
 use Rattle.promises.specs.Releases.{EmptyReleases}
 use Rattle.promises.specs.Returns.{Returns}
 use Rattle.promises.specs.Converts.{Converts}
+use Rattle.promises.specs.LiveCounts.{LiveCounts}
 use Rattle.promises.specs.NamedSettings.{NamedRefused, AdmittedOnly, NoNan, NeverSkipped, NeverSofter, RightTable}
 use Rattle.promises.specs.Fakes.{FakesStopped}
 use Rattle.promises.proofs.Known.{four}
@@ -56,6 +57,7 @@ use Rattle.promises.proofs.Lives as lives
 use Rattle.promises.proofs.Restored as restored
 use Rattle.promises.proofs.KeptOut as bench
 use Rattle.promises.proofs.Converting as converting
+use Rattle.promises.proofs.LiveCounts as live
 use Rattle.promises.proofs.NamedSettings as named
 use Rattle.promises.proofs.Tables as tables
 use Rattle.promises.proofs.Replaying as replaying
@@ -267,6 +269,11 @@ returns = record {
 
 pub converts : Converts
 converts = converting.converts
+
+-- ---- 2026-09, the live count
+
+pub live-counts : LiveCounts
+live-counts = live.live-counts
 
 -- ---- 2026-14, named settings
 

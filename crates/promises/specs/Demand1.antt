@@ -14,6 +14,7 @@ use Rattle.model.specs.Store.{fresh}
 use Rattle.model.specs.Sound.{sound}
 use Rattle.model.specs.Layout.{sizeOf, encode}
 use Rattle.model.specs.Clean.{clean}
+use Rattle.model.specs.Counted.{rule8}
 use Rattle.model.specs.Judged.{lengthOk, magicOk, editionOk}
 use Rattle.model.specs.Editions.{leastOf}
 use Rattle.model.specs.Ended.{Asked, toFresh, toFreshSecond, toCheck, toOpen, toCommit, toAbandon, toInsert, toDelete, toReturn, toLookup, toRange, toVisits, toDifference, toLife, Ended, ended, Meets, Untouched, Excepted, Named, Zeros}
@@ -36,7 +37,7 @@ Blank = (c : Asked) (b ns : List ℕ) (e : Ended) → Meets c b ns e → e .numb
 -- ---- "judges the store itself before it trusts it": the numbers 1 to 4, each exactly when
 
 -- What the five tests found: there are five bytes, the first four are right, the edition is 1 or 2, the length is right by that edition's
--- page size, the store is sound. 2026-08: "fewer than five bytes gives 1; otherwise 2, then 3, then 1 by the edition's page size, then the
+-- page size, the store is sound, its live counts with it (rule 8). 2026-08: "fewer than five bytes gives 1; otherwise 2, then 3, then 1 by the edition's page size, then the
 -- rest as before".
 pub record FirstNumbers (enough magic edition length rules : Bool) (n : ℕ) : Type 0 where
   pub one : n ≡ 1 ↔ ((enough ≡ false) ⊎ ((enough ≡ true) × ((magic ≡ true) × ((edition ≡ true) × (length ≡ false)))))
@@ -69,7 +70,7 @@ judgesAll (toLife k) = true
 -- these, on any bytes
 abbrev pub Judges : Type 0
 Judges = (c : Asked) (b ns : List ℕ) → judgesAll c ≡ true
-    → FirstNumbers (leb 5 (length b)) (magicOk b) (editionKnown b) (lengthOk (leastOf b) b) (clean (leastOf b) b && sound (leastOf b) (storeOf b)) (ended c b ns .number)
+    → FirstNumbers (leb 5 (length b)) (magicOk b) (editionKnown b) (lengthOk (leastOf b) b) (clean (leastOf b) b && (sound (leastOf b) (storeOf b) && rule8 (leastOf b) b)) (ended c b ns .number)
 
 -- so none of them touches bytes that check does not accept; lookup and range touch no store's (`ReadsOnly`)
 pub record TurnedAway (b ns : List ℕ) (e : Ended) : Type 0 where

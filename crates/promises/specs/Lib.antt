@@ -19,5 +19,6 @@ pub mod Replayed
 pub mod Bench
 pub mod Returns
 pub mod Converts
+pub mod LiveCounts
 pub mod NamedSettings
 pub mod Fakes

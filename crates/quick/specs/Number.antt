@@ -11,6 +11,8 @@ use Rattle.model.specs.Store.{Store}
 use Rattle.model.specs.Sound.{rule2, rule3, pagesPass}
 use Rattle.model.specs.Layout.{decode}
 use Rattle.model.specs.Clean.{clean}
+use Rattle.model.specs.Counted.{rule8}
+use Rattle.model.proofs.Lists.{both-true}
 use Rattle.model.specs.Judged.{lengthOk, magicOk, editionOk, judged}
 use Rattle.model.proofs.QuickLent.{number-quickly}
 use Rattle.model.specs.Quick.{apart, childrenFine, slotsFine, spansMet, quick, quickIn}
@@ -48,13 +50,19 @@ module _ (least : ℕ) (b : List ℕ) where
       unfolding quickIn
       in-rest z = rw (x, y, z)
 
-  -- ---- the number
+  pub in-clean : quickIn least b ≡ true → clean least b ≡ true
+  unfolding quickIn
+  in-clean e =
+      let s = decode least b in
+      both-true (clean least b) (rule2 s) (both-true (clean least b && rule2 s) (rule3 s) (both-true (clean least b && rule2 s && rule3 s) (quick least s) e .0) .0) .0
+
+  -- ---- the number, with rule 8
 
   module _ (n : ℕ) (q : n ≡ refusedBy (lengthOk least b) (magicOk b) (editionOk least b)) where
     pub refused-number : 2 ≤ least → (n ≡ 0 → ⊥) → n ≡ judged least b .number
     refused-number two u = at (lengthOk least b) (magicOk b) (editionOk least b) q ∙ sym (number-quickly least two b)
       where
-        at : (x y z : Bool) → n ≡ refusedBy x y z → n ≡ pick x (pick y (pick z (pick (quickIn least b) 0 4) 3) 2) 1
+        at : (x y z : Bool) → n ≡ refusedBy x y z → n ≡ pick x (pick y (pick z (pick (quickIn least b && rule8 least b) 0 4) 3) 2) 1
         at false y z e = e
         at true false z e = e
         at true true false e = e
@@ -69,5 +77,5 @@ module _ (least : ℕ) (b : List ℕ) where
         at true true false f g h e = absurd (omega arith)
         at true true true f g h e = (f, g, h)
 
-    pub ruled-number : 2 ≤ least → n ≡ 0 → judged least b .number ≡ pick (quickIn least b) 0 4
+    pub ruled-number : 2 ≤ least → n ≡ 0 → judged least b .number ≡ pick (quickIn least b && rule8 least b) 0 4
     ruled-number two u = let (f, g, h) = not-refused u in number-quickly least two b ∙ rw (f, g, h)

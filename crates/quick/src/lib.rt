@@ -143,5 +143,8 @@ pub fn number(s: &[u8], l: Limits) -> u32
     if !rules_hold(s, l, size) {
         return 4;
     }
+    if !local::eighth_rule(s, l, size) {
+        return 4;
+    }
     0
 }

@@ -15,12 +15,12 @@ use Rattle.model.specs.Entry.{alive}
 use Rattle.model.specs.Field.{Bytes, putField, lay, zeros}
 use Rattle.model.specs.Page.{Page, free, filled}
 use Rattle.model.specs.Store.{fresh}
-use Rattle.model.specs.Layout.{pageOf, withPage, encodePage, slotsBytes, pagesBytes, headerOf, padded, encode}
+use Rattle.model.specs.Layout.{pageOf, withPage, encodePage, slotsBytes, pagesBytes, headerOf, padded, encode, liveIn}
 use Rattle.page.specs.declared.Head.{Head}
 use Rattle.page.specs.Head.{headOf, putHead}
 use Rattle.page.specs.Editions.{count-bits, root-bits}
 use Rattle.page.specs.Front.{head-put}
-use Rattle.page.specs.Exact.{valid-free, free-zeros, bodyBytes}
+use Rattle.page.specs.Exact.{valid-free, free-zeros, bodyBytes, head-valid, live-fits}
 use Rattle.page.specs.Exact as page
 use Rattle.store.specs.Slots.{slotParts, directory, directory-bytes, directory-length}
 use Rattle.store.specs.Header.{namedBy, nameParts, valueParts, putHeader, header-is}
@@ -93,7 +93,7 @@ module _ (least : ℕ) (four : 4 ≤ least) (eight : least ≤ 8) where
   root-put : putHead least (encodePage least free) rootHead ≡ encodePage least (filled 0 1 [])
   root-put =
       ap (λ (b : List ℕ). putHead least b rootHead) (page.encode-is least free)
-      ∙ head-put least eight (headOf free) rootHead (bodyBytes least (padded least [])) (record { level = omega arith; count = omega (arith, count-bits least eight); start = omega arith; end = omega arith })
+      ∙ head-put least eight (headOf free) rootHead (liveIn least []) (bodyBytes least (padded least [])) (head-valid least four eight free (valid-free least)) (live-fits least [] eight (omega arith)) (record { level = omega arith; count = omega (arith, count-bits least eight); start = omega arith; end = omega arith })
       ∙ sym (page.encode-is least (filled 0 1 []))
 
   module _ (size : ℕ) (six : 6 ≤ size) (most : size ≤ 4096) where

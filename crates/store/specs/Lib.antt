@@ -8,8 +8,8 @@ pub mod Holds
 pub mod Inside
 pub mod Set
 pub mod Tested
+pub mod Counted
 pub mod Sure
 pub mod Fresh
 pub mod Answers
-pub mod Passes
 pub mod Editions

@@ -24,6 +24,7 @@ use Rattle.store.specs.Parts.{page-fits}
 use Rattle.store.specs.Exactly.{Exactly, encode-decode}
 use Rattle.store.specs.Holds.{Holds}
 use Rattle.store.specs.Tested.{Whole, whole-length, exactly, holds}
+use Rattle.store.specs.Counted.{counted}
 
 module _ {l : Limits} (d : Edition l) (b : List ℕ) (h : isSound (l .least) b ≡ true) where
   pub taken : Accepted (l .least) b
@@ -56,7 +57,7 @@ module _ {l : Limits} (d : Edition l) (b : List ℕ) (h : isSound (l .least) b �
     exact =
         let x = both-true (cleanFront (l .least) b) (cleanPages (l .least) b 5 (sizeOf (l .least) b - 5) && rule1 (l .least) (decode (l .least) b)) (taken .is-clean) in
         let y = both-true (cleanPages (l .least) b 5 (sizeOf (l .least) b - 5)) (rule1 (l .least) (decode (l .least) b)) (x .1) in
-        exactly (l .least) b bytes whole (taken .magic-ok) (taken .edition-ok) (x .0) (y .0)
+        exactly (l .least) (d .eight) b bytes whole (counted (l .least) (d .eight) b taken) (taken .magic-ok) (taken .edition-ok) (x .0) (y .0)
 
     pub held : Holds (l .least) (decode (l .least) b)
     held = holds (l .least) (d .four) (d .eight) b (sizeOf (l .least) b) exact

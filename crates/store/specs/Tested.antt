@@ -1,4 +1,5 @@
--- Bytes that pass the tests of length, name, edition and zero bits are exactly a store's, and that store can be held. Assumes nothing.
+-- Bytes that pass the tests of length, name, edition and zero bits, with right live counts, are exactly a store's, and that store can be held.
+-- Assumes nothing.
 use Prim.Native.Nat.{ℕ, zero, suc, _+_, _*_, _-_, _%_, _<_, _≤_, _^_}
 use mathlib.Core.Bool.{Bool, true, _&&_}
 use mathlib.Core.Path.{_≡_, refl, ap, sym, _∙_}
@@ -18,12 +19,12 @@ use Rattle.model.specs.Limits.{rootBits, editionOf}
 use Rattle.model.specs.Field.{field, Bytes}
 use Rattle.model.specs.Page.{free}
 use Rattle.model.specs.Store.{page}
-use Rattle.model.specs.Layout.{pageOf, readHeader, decode, sizeOf, magic}
+use Rattle.model.specs.Layout.{pageOf, readHeader, decodePage, decode, sizeOf, magic, liveOf, liveIn}
 use Rattle.model.specs.Clean.{cleanPage, cleanPages, cleanFront, clean}
 use Rattle.model.specs.Judged.{lengthOk, magicOk, editionOk}
 use Rattle.model.proofs.Lists.{both-true}
 use Rattle.page.specs.Exact.{Valid, valid-free, valid-read}
-use Rattle.page.specs.Clean.{Clean, clean-page}
+use Rattle.page.specs.Clean.{Clean, clean-page, passed}
 use Rattle.store.specs.Read.{size-is, front-free, front-five, count-pages, page-at, current-of, current-lt, slots-of, length-slots, pages-lt}
 use Rattle.store.specs.Parts.{page-fits, length-page, page-take}
 use Rattle.store.specs.Slots.{slots-fit}
@@ -78,10 +79,15 @@ pages-clean least s n (suc k) e m l h =
     let x = both-true (cleanPage least (pageOf least s n)) (cleanPages least s (n + 1) k) e in
     ⊎-elim (λ q. pages-clean least s (n + 1) k (x .1) m (omega arith) (omega arith)) (λ q. let i : m ≡ n = omega arith in rw i (x .0)) (less n m)
 
-module _ (least : ℕ) (s : List ℕ) (b : Bytes s) (w : Whole least s) where
-  pub page-clean : (n : ℕ) → n < sizeOf least s → cleanPage least (pageOf least s n) ≡ true → Clean least (pageOf least s n)
-  page-clean n lt e =
-      clean-page least (pageOf least s n) (length-page least s n (page-fits least (sizeOf least s) n s (w .whole) lt)) (λ i. rw (page-take least s n) (part-bytes s (n * (64 * least)) (64 * least) b i)) e
+-- the live count of each page is that of its entries
+abbrev pub Counted : ℕ → List ℕ → Type 0
+Counted least s = (n : ℕ) → 5 ≤ n → n < sizeOf least s → liveOf least (pageOf least s n) ≡ liveIn least (decodePage least (pageOf least s n) .entries)
+
+module _ (least : ℕ) (eight : least ≤ 8) (s : List ℕ) (b : Bytes s) (w : Whole least s) (c8 : Counted least s) where
+  page-clean : (n : ℕ) → 5 ≤ n → n < sizeOf least s → cleanPage least (pageOf least s n) ≡ true → Clean least (pageOf least s n)
+  page-clean n five lt e =
+      clean-page least (pageOf least s n) eight (length-page least s n (page-fits least (sizeOf least s) n s (w .whole) lt)) (λ i. rw (page-take least s n) (part-bytes s (n * (64 * least)) (64 * least) b i))
+      (passed least (pageOf least s n) e) (c8 n five lt)
 
   pub exactly : magicOk s ≡ true → editionOk least s ≡ true → cleanFront least s ≡ true → cleanPages least s 5 (sizeOf least s - 5) ≡ true → Exactly least s (sizeOf least s)
   unfolding cleanFront
@@ -101,7 +107,7 @@ module _ (least : ℕ) (s : List ℕ) (b : Bytes s) (w : Whole least s) where
         spare = eqb-true _ _ (y .0);
         roots = leb-true _ _ (z .0);
         rest = eqb-true _ _ (z .1);
-        clean = λ n l h. page-clean n h (pages-clean least s 5 (sizeOf least s - 5) c n l (omega (arith, w .six)));
+        clean = λ n l h. page-clean n l h (pages-clean least s 5 (sizeOf least s - 5) c n l (omega (arith, w .six)));
       }
 
 -- ---- what is shown can be held

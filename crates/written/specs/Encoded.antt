@@ -5,7 +5,7 @@ use native.Mathlib.Omega.{arith}
 use native.Mathlib.Nat.{mul-mod-left, mul-le-mul-right}
 use mathlib.Core.Bool.{Bool, true, false, _&&_}
 use mathlib.Core.Path.{_≡_, refl, ap, sym, _∙_}
-use mathlib.Core.List.{List, append-assoc}
+use mathlib.Core.List.{List, [], append-assoc}
 use lib.Dec.{leb}
 use lib.ListN.{length, getD, take}
 use lib.Seq.{ext-getD, getD-take, length-take-le}
@@ -16,7 +16,8 @@ use Rattle.bits.specs.Lay.{Shows, packed-shows}
 use Rattle.model.specs.Basic.{pick, eqList}
 use Rattle.model.specs.Limits.{editionOf}
 use Rattle.model.specs.Field.{field, Bytes}
-use Rattle.model.specs.Store.{Store}
+use Rattle.model.specs.Page.{Page}
+use Rattle.model.specs.Store.{Store, page}
 use Rattle.model.specs.Layout.{bit, magic, headerParts, headerBytes, headerOf, sizeOf, encode, decode}
 use Rattle.model.specs.Clean.{clean}
 use Rattle.model.specs.Sound.{sound, rule1, rule2, rule3, rule4, rule5, rule6, rule7}
@@ -30,6 +31,7 @@ use Rattle.store.specs.Header.{header-length}
 use Rattle.store.specs.Exactly.{encode-is}
 use Rattle.store.specs.Holds.{Holds, header-holds, encoded-length, decode-encoded}
 use Rattle.written.specs.Holding.{holds}
+use Rattle.written.specs.Counted.{all-counted}
 use Rattle.written.specs.Spare.{front-clean, all-clean, encoded-size, encoded-bytes, total-is}
 
 edition-small : (least : ℕ) → editionOf least < 2 ^ 8
@@ -93,10 +95,10 @@ module _ (least : ℕ) (four : 4 ≤ least) (eight : least ≤ 8) (s : Store) (v
       let whole : length b % (64 * least) ≡ 0 = ap (λ (x : ℕ). x % (64 * least)) (encoded-length least four eight s v) ∙ mul-mod-left (length (s .pages)) (64 * least) in
       both-intro _ _ (both-intro _ _ (eq-eqb _ 0 whole) (le-leb 6 (sizeOf least b) (omega (arith, encoded-size least four eight s v)))) (le-leb (sizeOf least b) 4096 (omega (arith, encoded-size least four eight s v)))
 
-  pub is-clean : rule1 least s ≡ true → clean least b ≡ true
+  pub is-clean : rule1 least s ≡ true → ((m : ℕ) → page (s .pages) m .level ≡ 0 → page (s .pages) m .entries ≡ []) → clean least b ≡ true
   unfolding clean
-  is-clean one =
-      both-intro _ _ (front-clean least four eight s v) (both-intro _ _ (all-clean least four eight s v) (ap (rule1 least) (decode-encoded least four eight s v) ∙ one))
+  is-clean one none =
+      both-intro _ _ (front-clean least four eight s v) (both-intro _ _ (all-clean least four eight s v none) (ap (rule1 least) (decode-encoded least four eight s v) ∙ one))
 
 rule-one : (least : ℕ) (s : Store) → sound least s ≡ true → rule1 least s ≡ true
 unfolding sound
@@ -115,8 +117,9 @@ module _ (least : ℕ) (four : 4 ≤ least) (eight : least ≤ 8) where
         length-ok = length-ok least four eight s v (d .long) (d .short);
         magic-ok = magic-ok least four eight s v;
         edition-ok = edition-ok least four eight s v;
-        is-clean = is-clean least four eight s v (rule-one least s h);
+        is-clean = is-clean least four eight s v (rule-one least s h) (λ m e. ap (λ (p : Page). p .entries) (d .zeros m (eq-eqb (page (s .pages) m .level) 0 e)));
         is-sound = ap (sound least) (decode-encoded least four eight s v) ∙ h;
+        is-counted = all-counted least four eight s d v;
       }
 
   module _ (s : Store) (d : Sound least s) where

@@ -1,3 +1,4 @@
 pub mod Holding
 pub mod Spare
+pub mod Counted
 pub mod Encoded

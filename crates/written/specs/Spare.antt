@@ -9,84 +9,24 @@ use lib.ListN.{length, drop, length-append}
 use borrow.Author.Tests.{le-leb, eq-eqb}
 use Rattle.bits.specs.Append.{field-left, field-right}
 use Rattle.bits.specs.Lay.{total, zero-field, zeros-bit, length-zeros, bytes-zeros, bytes-append, bytes-packed, packed-rest}
-use Rattle.bits.specs.Over.{zeros-append}
-use Rattle.model.specs.declared.Entry.{Entry}
 use Rattle.model.specs.declared.Slot.{Slot}
-use Rattle.model.specs.Limits.{countBits, rootBits}
+use Rattle.model.specs.Limits.{rootBits}
 use Rattle.model.specs.Field.{field, Bytes, zeros}
 use Rattle.model.specs.Page.{Page}
 use Rattle.model.specs.Store.{Store, page}
-use Rattle.model.specs.Layout.{pageOf, encodePage, entryBytes, entriesBytes, padded, headBytes, slotBytes, slotsBytes, headerBytes, headerParts, headerOf, pagesBytes, sizeOf, encode}
+use Rattle.model.specs.Layout.{pageOf, encodePage, slotBytes, slotsBytes, headerBytes, headerParts, headerOf, pagesBytes, sizeOf, encode}
 use Rattle.model.specs.Clean.{cleanPage, cleanPages, cleanFront}
-use Rattle.page.specs.Editions.{count-bits, root-bits}
-use Rattle.page.specs.Head.{headOf, partsOf, frontBytes}
-use Rattle.page.specs.Front.{head-length, head-bytes}
-use Rattle.page.specs.Entries.{entry-bytes, entries-length, padded-bytes}
-use Rattle.page.specs.Exact.{Valid, bodyBytes, encode-is, encode-count}
+use Rattle.page.specs.Editions.{root-bits}
+use Rattle.page.specs.Passes.{encode-bytes, encode-clean}
 use Rattle.store.specs.Read.{size-is}
 use Rattle.store.specs.Slots.{slotParts, slots-length, directory-bytes}
 use Rattle.store.specs.Header.{header-length}
-use Rattle.store.specs.Pages.{AllValid}
 use Rattle.store.specs.Exactly.{encode-is as store-is}
-use Rattle.store.specs.Holds.{Holds, header-encoded, page-encoded, encoded-length, behind-valid}
+use Rattle.store.specs.Holds.{Holds, header-encoded, page-encoded, encoded-length}
 use Rattle.model.proofs.Lists.{both-intro}
 
 field-zeros : (m at n : ℕ) → field (zeros m) at n ≡ 0
 field-zeros m at n = zero-field (zeros m) at n (λ i l h. zeros-bit m i)
-
--- ---- a page
-
-entries-bytes : (es : List Entry) → Bytes (entriesBytes es)
-unfolding entriesBytes
-entries-bytes [] = λ i. omega arith
-entries-bytes (e ∷ es) = bytes-append (entryBytes e) (entriesBytes es) (entry-bytes e) (entries-bytes es)
-
-module _ (least : ℕ) (four : 4 ≤ least) (eight : least ≤ 8) (p : Page) (v : Valid least p) where
-  abbrev front : List ℕ
-  front = frontBytes least (headOf p)
-
-  abbrev used : ℕ
-  used = length (p .entries)
-
-  -- "79 zero bits"
-  page-spare : field (encodePage least p) (44 + countBits least) (128 - (44 + countBits least)) ≡ 0
-  unfolding headBytes
-  page-spare =
-      let w = count-bits least eight in
-      let t : total (partsOf least (headOf p)) ≡ 44 + countBits least = omega arith in
-      ap (λ (b : List ℕ). field b (44 + countBits least) (128 - (44 + countBits least))) (encode-is least p)
-      ∙ field-left front (bodyBytes least (padded least (p .entries))) (44 + countBits least) (128 - (44 + countBits least)) (omega (arith, head-length least (headOf p)))
-      ∙ zero-field front (44 + countBits least) (128 - (44 + countBits least)) (λ i l h. packed-rest 16 (partsOf least (headOf p)) i (omega arith) (omega arith))
-
-  -- what stands behind the entries in use
-  page-is : encodePage least p ≡ (front ++ entriesBytes (p .entries)) ++ zeros (12 * (5 * least - used) + (4 * least - 16))
-  page-is =
-      let es : List ℕ = entriesBytes (p .entries) in
-      let a : ℕ = 12 * (5 * least - used) in
-      let b : ℕ = 4 * least - 16 in
-      encode-is least p ∙ ap (λ (x : List ℕ). front ++ (x ++ zeros b)) (padded-bytes least (p .entries))
-      ∙ ap (λ (x : List ℕ). front ++ x) (append-assoc es (zeros a) (zeros b) ∙ ap (λ (x : List ℕ). es ++ x) (zeros-append a b))
-      ∙ sym (append-assoc front es (zeros (a + b)))
-
-  -- "unused ones are all zero"
-  page-rest : field (encodePage least p) (128 + 96 * used) (512 * least - (128 + 96 * used)) ≡ 0
-  page-rest =
-      let a : List ℕ = front ++ entriesBytes (p .entries) in
-      let n : length a ≡ 16 + 12 * used = length-append front (entriesBytes (p .entries)) ∙ omega (arith, head-length least (headOf p), entries-length (p .entries)) in
-      let o : 128 + 96 * used ≡ 8 * length a + 0 = omega arith in
-      rw (page-is, o) (field-right a (zeros (12 * (5 * least - used) + (4 * least - 16))) 0 _ ∙ field-zeros _ 0 _)
-
-  pub page-clean : cleanPage least (encodePage least p) ≡ true
-  unfolding cleanPage
-  page-clean =
-      rw (encode-count least four eight p v)
-      (both-intro _ _ (le-leb used (5 * least) (v .room)) (both-intro _ _ (eq-eqb _ 0 page-spare) (eq-eqb _ 0 page-rest)))
-
-  pub page-bytes : Bytes (encodePage least p)
-  page-bytes =
-      subst Bytes (sym page-is)
-      (bytes-append (front ++ entriesBytes (p .entries)) (zeros (12 * (5 * least - used) + (4 * least - 16)))
-      (bytes-append front (entriesBytes (p .entries)) (head-bytes least eight (headOf p)) (entries-bytes (p .entries))) (bytes-zeros _))
 
 -- ---- the front
 
@@ -152,15 +92,16 @@ module _ (least : ℕ) (four : 4 ≤ least) (eight : least ≤ 8) (s : Store) (v
       (both-intro _ _ (eq-eqb (length (s .pages)) (length (s .pages)) refl)
       (both-intro _ _ (eq-eqb _ 0 header-spare) (both-intro _ _ (le-leb r (64 * least) (v .few)) (eq-eqb _ 0 slots-rest))))
 
-  pub all-clean : cleanPages least (encode least s) 5 (sizeOf least (encode least s) - 5) ≡ true
-  all-clean =
+  -- where free pages have no entries
+  pub all-clean : ((m : ℕ) → page (s .pages) m .level ≡ 0 → page (s .pages) m .entries ≡ []) → cleanPages least (encode least s) 5 (sizeOf least (encode least s) - 5) ≡ true
+  all-clean none =
       pages-clean least (encode least s) 5 (sizeOf least (encode least s) - 5)
-      (λ m l h. ap (cleanPage least) (page-encoded least four eight s v m l (omega (arith, encoded-size, v .five))) ∙ page-clean least four eight (page (s .pages) m) (v .pages m))
+      (λ m l h. ap (cleanPage least) (page-encoded least four eight s v m l (omega (arith, encoded-size, v .five))) ∙ encode-clean least four eight (page (s .pages) m) (v .pages m) (none m))
 
-  pages-bytes : (qs : List Page) → AllValid least qs → Bytes (pagesBytes least qs)
+  pages-bytes : (qs : List Page) → Bytes (pagesBytes least qs)
   unfolding pagesBytes
-  pages-bytes [] h = λ i. omega arith
-  pages-bytes (q ∷ qs) h = bytes-append (encodePage least q) (pagesBytes least qs) (page-bytes least four eight q (h 0)) (pages-bytes qs (λ k. h (suc k)))
+  pages-bytes [] = λ i. omega arith
+  pages-bytes (q ∷ qs) = bytes-append (encodePage least q) (pagesBytes least qs) (encode-bytes least four eight q) (pages-bytes qs)
 
   header-bytes : Bytes header
   unfolding headerBytes
@@ -172,4 +113,4 @@ module _ (least : ℕ) (four : 4 ≤ least) (eight : least ≤ 8) (s : Store) (v
       subst Bytes (sym store-parts)
       (bytes-append (header ++ slotsBytes (s .slots)) (zeros (4 * (64 * least - r)) ++ pagesBytes least ps)
       (bytes-append header (slotsBytes (s .slots)) header-bytes (slots-bytes (s .slots)))
-      (bytes-append (zeros (4 * (64 * least - r))) (pagesBytes least ps) (bytes-zeros _) (pages-bytes ps (behind-valid least four eight s v))))
+      (bytes-append (zeros (4 * (64 * least - r))) (pagesBytes least ps) (bytes-zeros _) (pages-bytes ps)))

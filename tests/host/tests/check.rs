@@ -19,7 +19,7 @@ fn judged(store: &[u8]) -> (u32, u32) {
 #[test]
 fn each_kind_of_damage() {
     let kinds = kinds();
-    let mut times = [0u64; 8];
+    let mut times = [0u64; 9];
     for seed in 0..rounds(500) {
         let sound = sound_store(seed);
         assert_eq!(judged(&sound), (0, 0), "seed {seed}");

@@ -162,7 +162,7 @@ fn damage() {
         }
     }
     println!("number and rule, times: {times:?}");
-    for rule in 1..=6 {
+    for rule in [1, 2, 3, 4, 5, 6, 8] {
         assert!(times[&(4, rule)] >= 100, "{times:?}");
     }
 }

@@ -17,6 +17,9 @@ pub struct Edition {
     pub entry_count: Field,
     pub page_start: Field,
     pub page_end: Field,
+    /// The number of entries alive at the last version, right after the page's
+    /// end (2026-09). Edition 1 has none.
+    pub live_count: Option<Field>,
     /// 004's limits B, 4B/5 and B/5.
     pub most_entries: usize,
     pub most_gathered: usize,
@@ -33,6 +36,7 @@ pub static FIRST: Edition = Edition {
     entry_count: Field::new(4, 5),
     page_start: Field::new(9, 20),
     page_end: Field::new(29, 20),
+    live_count: None,
     most_entries: 20,
     most_gathered: 16,
     fewest_live: 4,
@@ -47,6 +51,7 @@ pub static SECOND: Edition = Edition {
     entry_count: Field::new(4, 6),
     page_start: Field::new(10, 20),
     page_end: Field::new(30, 20),
+    live_count: Some(Field::new(50, 6)),
     most_entries: 40,
     most_gathered: 32,
     fewest_live: 8,
@@ -68,6 +73,11 @@ impl Edition {
     pub fn of(store: &[u8]) -> &'static Edition {
         let number = store.get(4).copied().unwrap_or(0);
         Edition::named(number).unwrap_or(&FIRST)
+    }
+
+    /// The bit behind the last field of a page's 16 bytes.
+    pub fn head_end(&self) -> usize {
+        self.live_count.unwrap_or(self.page_end).end()
     }
 
     /// Whether a lent length is 6 to 4,096 whole pages.

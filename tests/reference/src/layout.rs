@@ -153,6 +153,9 @@ impl Page {
         edition.entry_count.set(bytes, self.entries.len() as u32);
         edition.page_start.set(bytes, self.span.start);
         edition.page_end.set(bytes, self.span.end);
+        if let Some(live_count) = edition.live_count {
+            live_count.set(bytes, self.live_at_last());
+        }
         let places = bytes[PAGE_HEAD_BYTES..].chunks_exact_mut(ENTRY_BYTES);
         for (entry, place) in self.entries.iter().zip(places) {
             entry.write(place);
@@ -165,6 +168,13 @@ impl Page {
 
     pub fn is_index(&self) -> bool {
         self.level > LEAF
+    }
+
+    /// How many entries are alive at the last version: those that have not
+    /// ended, since by rule 1 no end lies above last.
+    pub fn live_at_last(&self) -> u32 {
+        let live = self.entries.iter().filter(|e| e.span.end == ALIVE);
+        live.count() as u32
     }
 
     /// The entries alive at `version`, in key order.

@@ -109,13 +109,25 @@ fn each_rule_is_the_lowest_broken_one(edition: &'static Edition, rounds: u64) {
         let damaged = seeds.filter(|seed| damage_once(edition, &damage, *seed));
         let times = damaged.count() as u64;
         println!("rule {} {:>5} times: {}", damage.rule, times, damage.name);
-        assert!(times >= 20, "{} found a place {times} times", damage.name);
+        let fewest = if damage.rule == 8 && edition == &FIRST {
+            0
+        } else {
+            20
+        };
+        assert!(
+            times >= fewest,
+            "{} found a place {times} times",
+            damage.name
+        );
         *of_rule.entry(damage.rule).or_default() += times;
     }
     println!("{of_rule:?}");
     for rule in 1..=6 {
         assert!(of_rule[&rule] >= 500, "{of_rule:?}");
     }
+    // Rule 8 is edition 2's.
+    let fewest = if edition == &SECOND { 500 } else { 0 };
+    assert!(of_rule[&8] >= fewest, "{of_rule:?}");
 }
 
 #[test]
@@ -169,7 +181,7 @@ fn fields_set_to_likely_numbers() {
         *met.entry(judged).or_default() += 1;
     }
     println!("{met:?}");
-    for rule in 1..=6 {
+    for rule in [1, 2, 3, 4, 5, 6, 8] {
         assert!(met[&(4, rule)] > 50, "{met:?}");
     }
 }

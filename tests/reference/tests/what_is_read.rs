@@ -208,13 +208,9 @@ fn damage_on_and_off_the_walk() {
             compared[0] += 1;
             let walked: Vec<u32> = walked.into_iter().collect();
             let page = *rng.pick(&walked).unwrap() as usize;
-            let Edition {
-                page_bytes,
-                page_end,
-                ..
-            } = *Edition::of(&sound);
-            let bit = rng.between(page_end.end() as u32, 127) as usize;
-            bytes[page * page_bytes + bit / 8] ^= 0x80 >> (bit % 8);
+            let edition = Edition::of(&sound);
+            let bit = rng.between(edition.head_end() as u32, 127) as usize;
+            bytes[page * edition.page_bytes + bit / 8] ^= 0x80 >> (bit % 8);
             assert_eq!(answers(&bytes).0, (4, 0));
             compared[1] += 1;
         }

@@ -4,9 +4,12 @@ use mathlib.Core.Path.{_≡_, ap, _∙_}
 use mathlib.Core.List.{List}
 use native.Mathlib.Omega.{arith}
 use Rattle.model.specs.Field.{zeros}
-use Rattle.page.specs.Head.{putHead}
+use Rattle.model.specs.declared.Pair.{Pair}
+use Rattle.model.specs.Limits.{liveShown}
+use Rattle.model.specs.Layout.{liveOf}
+use Rattle.page.specs.Head.{putHead, putLive}
 use Rattle.page.specs.Editions.{count-bits}
-use Rattle.edit.specs.Fill.{nil, Fitting, filling, fillHead, filling-start, filling-step, filling-end}
+use Rattle.edit.specs.Fill.{nil, Fitting, filling, fillHead, filling-start, filling-step, filling-end, filling-live}
 use lib.Seq.{getD-drop}
 use lib.ListN.{length, getD, drop, length-drop}
 use borrow.Author.Needs.{needs}
@@ -64,17 +67,29 @@ put-head-requires c κs =
     let a = c .before .before .before .before .before .before .before .before .args in let d = c .before .before .before .before .before .before .before .before .pre .0 in
     (d, record { level = c .before .before .before .before .before .before .before .before .pre .2; count = omega (arith, c .before .before .before .before .before .before .before .before .pre .4, count-bits (a .l .least) (d .eight)); start = c .before .before .before .before .before .before .before .before .pre .3; end = omega arith }, omega (arith, d .four), omega (arith, d .eight))
 
+put-live-requires : tie.Need-put-live-requires Inv-loop μ-loop
+put-live-requires c κs =
+    let e = c .before .before .before .before .before .before .before .before .before .before .before .before in
+    let d = e .pre .0 in
+    (d, omega (arith, e .pre .4, d .eight), omega (arith, c .before .before .before .put-head .kept .0, c .before .before .before .before .before .before .loop .inv .1, d .four), omega (arith, c .before .before .before .put-head .kept .0, c .before .before .before .before .before .before .loop .inv .1, d .eight))
+
 same-length : tie.Need-same-length Inv-loop μ-loop
-same-length c = omega (arith, c .before .before .put-head .kept .0, c .before .before .before .before .before .before .before .before .before .before .before .pre .1)
+same-length c = omega (arith, c .before .before .put-live .kept .0, c .before .before .before .before .before .before .put-head .kept .0, c .before .before .before .before .before .before .before .before .before .loop .inv .1, c .before .before .before .before .before .before .before .before .before .before .before .before .before .before .before .pre .1)
 
 returns : tie.Need-returns Inv-loop μ-loop
 returns c =
-    let a = c .before .before .before .before .before .before .before .before .before .before .before .args in let d = c .before .before .before .before .before .before .before .before .before .before .before .pre .0 in let l = c .before .before .before .before .before .loop in
-    let len : length (a .t5) ≡ 56 = c .before .before .before .before .before .before .before .before .before .before .before .good .1 .1 .1 .1 .0 .1 .0 .1 in
+    let s = c .before .before .before .before .before .before .before .before .before .before .before .before .before .before .before in
+    let a = s .args in let d = s .pre .0 in let l = c .before .before .before .before .before .before .before .before .before .loop in
+    let least = a .l .least in
+    let ps : List Pair = drop (a .from) (a .t5) in
+    let len : length (a .t5) ≡ 56 = s .good .1 .1 .1 .1 .0 .1 .0 .1 in
     let e : l .k ≡ a .n = omega arith in
-    c .before .before .put-head .ensures
-    ∙ ap (λ (q : List ℕ). putHead (a .l .least) q (fillHead (a .level) (a .w) (a .n))) (l .inv .2 ∙ ap (filling (a .l .least) (a .w) (drop (a .from) (a .t5))) e)
-    ∙ filling-end (a .l .least) (d .four) (d .eight) (a .w) (drop (a .from) (a .t5)) (c .before .before .before .before .before .before .before .before .before .before .before .pre .3) (a .level) (a .n) (c .before .before .before .before .before .before .before .before .before .before .before .pre .2) (omega (arith, c .before .before .before .before .before .before .before .before .before .before .before .pre .5, length-drop (a .from) (a .t5))) (c .before .before .before .before .before .before .before .before .before .before .before .pre .4)
+    let many : a .n ≤ length ps = omega (arith, s .pre .5, length-drop (a .from) (a .t5)) in
+    c .before .before .put-live .ensures
+    ∙ ap (λ (q : List ℕ). putLive least q (liveShown least (a .n)))
+    (c .before .before .before .before .before .before .put-head .ensures ∙ ap (λ (q : List ℕ). putHead least q (fillHead (a .level) (a .w) (a .n))) (l .inv .2 ∙ ap (filling least (a .w) ps) e)
+    ∙ filling-end least (d .four) (d .eight) (a .w) ps (s .pre .3) (a .level) (a .n) (s .pre .2) many (s .pre .4))
+    ∙ filling-live least (d .four) (d .eight) (a .w) ps (s .pre .3) (a .level) (a .n) (liveOf least (zeros (64 * least))) many (s .pre .4)
 
 pub fill-spec : {M : Type 1} → statement M
 fill-spec =
@@ -92,5 +107,6 @@ fill-spec =
     loop-less
     loop-again
     put-head-requires
+    put-live-requires
     same-length
     returns)

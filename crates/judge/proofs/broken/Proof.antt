@@ -1,133 +1,37 @@
--- `judge::broken` meets its contract: the rules that hold so far give what the next one asks. Assumes nothing.
+-- `judge::broken` meets its contract: rules 1 to 7, and rule 8 where they hold. Assumes nothing.
 use mathlib.Core.Path.{_≡_, sym, _∙_}
-use mathlib.Core.Bool.{true}
-use native.Mathlib.Omega.{arith}
 use borrow.Author.Tests.{not-true, not-false}
-use Rattle.local.specs.Linked.{held}
-use Rattle.notes.specs.Given.{ready}
-use Rattle.judge.specs.Named.{named-sound, named-some, six-last, six-led, six-none}
-use Rattle.quick.specs.Given.{good}
-use Rattle.quick.specs.Slots.{good-slots}
-use Rattle.store.specs.Read.{current-lt}
-use Rattle.notes.specs.Ready.{Ready}
-use Rattle.local.specs.Local.{Held}
-use Rattle.model.proofs.Judging.{broken-one, broken-two, broken-three}
-use Rattle.model.specs.Clean.{clean}
-use Rattle.model.specs.Layout.{decode}
-use Rattle.model.specs.Sound.{rule2, rule3}
+use Rattle.model.specs.Inner.{lowerIn}
+use Rattle.model.proofs.Judging.{unbroken, broken-lower, broken-eight, broken-none}
 use Rattle.judge.proofs.broken.Statement.{statement}
 use Rattle.judge.proofs.broken.Tie as tie
 
-first-rule-requires : tie.Need-first-rule-requires
-first-rule-requires c κs = (c .before .pre .0, c .before .pre .1)
+lower-requires : tie.Need-lower-requires
+lower-requires c κs = (c .before .pre .0, c .before .pre .1)
 
 returns : tie.Need-returns
-returns c = let a = c .before .before .before .args in sym (broken-one (a .l .least) (a .s .now) (sym (c .before .first-rule .ensures) ∙ not-true (c .before .first-rule .result) (c .if1 .taken)))
+returns c =
+    let a = c .before .before .before .args in
+    c .before .lower .ensures ∙ sym (broken-lower (a .l .least) (a .s .now) (λ z. c .if1 .taken (c .before .lower .ensures ∙ z)))
 
-header-requires : tie.Need-header-requires
-header-requires c κs = (c .before .before .before .pre .0, omega (arith, c .before .before .before .pre .1 .front), omega (arith, c .before .before .before .pre .1 .long))
+-- no rule from 1 to 7 is broken
+none : (c : tie.Else1) → let a = c .before .before .before .args in lowerIn (a .l .least) (a .s .now) ≡ 0
+none c = sym (c .before .lower .ensures) ∙ c .if1 .left
 
--- the rules that hold so far, and what they give
-one : (c : tie.Else1) → let a = c .before .before .before .args in clean (a .l .least) (a .s .now) ≡ true
-one c = sym (c .before .first-rule .ensures) ∙ not-false (c .before .first-rule .result) (c .if1 .left)
-
-is-held : (c : tie.After-header) → let a = c .before .before .before .before .args in Held (a .l .least) (a .s .now) (c .header .result)
-is-held c = let e = c .before .before .before .before in held (e .args .l .least) (e .args .s .now) (e .args .size) (c .header .result) (e .pre .1) (c .header .ensures) (one (c .before))
-
-two : (c : tie.Else2) → let a = c .before .before .before .before .before .before .args in rule2 (decode (a .l .least) (a .s .now)) ≡ true
-two c = sym (c .before .second-rule .ensures) ∙ not-false (c .before .second-rule .result) (c .if2 .left)
-
-three : (c : tie.Else3) → let a = c .before .before .before .before .before .before .before .before .args in rule3 (decode (a .l .least) (a .s .now)) ≡ true
-three c = sym (c .before .third-rule .ensures) ∙ not-false (c .before .third-rule .result) (c .if3 .left)
-
-is-ready : (c : tie.Else3) → let a = c .before .before .before .before .before .before .before .before .args in Ready (a .l .least) (a .s .now) (c .before .before .before .before .header .result)
-is-ready c =
-    let h = c .before .before .before .before in let a = h .before .before .before .before .args in
-    ready (a .l .least) (a .s .now) (h .header .result) (is-held h) (two (c .before .before)) (three c)
-
-second-rule-requires : tie.Need-second-rule-requires
-second-rule-requires c κs = (c .before .before .before .before .pre .0, is-held ((c)))
+eighth-rule-requires : tie.Need-eighth-rule-requires
+eighth-rule-requires c κs =
+    let e = c .before .before .before in
+    (e .pre .0, e .pre .1, unbroken (e .args .l .least) (e .args .s .now) (none (c)) .0)
 
 returns-2 : tie.Need-returns-2
-returns-2 c = let a = c .before .before .before .before .before .before .args in sym (broken-two (a .l .least) (a .s .now) (one ((c .before .before .before))) (sym (c .before .second-rule .ensures) ∙ not-true (c .before .second-rule .result) (c .if2 .taken)))
-
-third-rule-requires : tie.Need-third-rule-requires
-third-rule-requires c κs = (c .before .before .before .before .before .before .pre .0, is-held ((c .before .before)))
+returns-2 c =
+    let a = c .before .before .before .before .before .args in
+    sym (broken-eight (a .l .least) (a .s .now) (none (c .before .before)) (sym (c .before .eighth-rule .ensures) ∙ not-true (c .before .eighth-rule .result) (c .if2 .taken)))
 
 returns-3 : tie.Need-returns-3
-returns-3 c = let a = c .before .before .before .before .before .before .before .before .args in sym (broken-three (a .l .least) (a .s .now) (one ((c .before .before .before .before .before))) (two ((c .before .before))) (sym (c .before .third-rule .ensures) ∙ not-true (c .before .third-rule .result) (c .if3 .taken)))
-
-led-requires : tie.Need-led-requires
-led-requires c κs =
-    let e = c .before .before .before .before .before .before .before .before in
-    let a = e .args in
-    (e .pre .0, good (a .l .least) (a .s .now) (a .size) (e .pre .1) (one (c .before .before .before .before .before)) (three c), good-slots (a .l .least) (a .s .now) (a .size) (e .pre .1) (one (c .before .before .before .before .before)))
-
-surely-requires : tie.Need-surely-requires
-surely-requires c κs =
-    let e = c .before .before .before .before .before .before .before .before .before in
-    let a = e .args in
-    (e .pre .0, good (a .l .least) (a .s .now) (a .size) (e .pre .1) (one (c .before .before .before .before .before .before)) (three (c .before)), c .led .ensures)
-
-returns-4 : tie.Need-returns-4
-returns-4 c =
-    let at = c .before .before .before in
-    let e = at .before .before .before .before .before .before .before .before in
-    named-sound (e .args .l .least) (e .args .s .now) (omega (arith, e .pre .0 .four)) (one (at .before .before .before .before .before)) (two (at .before .before)) (three at) (c .before .surely .ensures (c .if4 .taken))
-
-broken-requires : tie.Need-broken-requires
-broken-requires c κs = (c .before .before .before .before .before .before .before .before .before .before .before .pre .0, is-ready (c .before .before .before))
-
-returns-5 : tie.Need-returns-5
-returns-5 c =
-    let at = c .before .before .before .before .before in
-    let a = c .before .before .before .before .before .before .before .before .before .before .before .before .before .args in
-    named-some (a .l .least) (a .s .now) (one (at .before .before .before .before .before)) (two (at .before .before)) (three at) (c .before .broken .result) (c .before .broken .ensures) (c .if5 .taken)
-
-last-requires : tie.Need-last-requires
-last-requires c κs = rw (c .before .before .before .before .before .before .before .before .before .header .ensures) (current-lt (c .before .before .before .before .before .before .before .before .before .before .before .before .before .args .l .least) (c .before .before .before .before .before .before .before .before .before .before .before .before .before .args .s .now))
-
-version-ok-requires : tie.Need-version-ok-requires
-version-ok-requires c κs = let y = is-ready (c .before .before .before .before .before .before) in (c .before .before .before .before .before .before .before .before .before .before .before .before .before .before .pre .0, y, omega (arith, c .last .ensures, y .last))
-
-returns-6 : tie.Need-returns-6
-returns-6 c =
-    let at = c .before .before .before .before .before .before .before .before in
-    let a = c .before .before .before .before .before .before .before .before .before .before .before .before .before .before .before .before .args in
-    six-last (a .l .least) (a .s .now) (one (at .before .before .before .before .before)) (two (at .before .before)) (three at) (c .before .before .before .before .broken .result) (c .before .before .before .before .broken .ensures) (c .before .before .before .if5 .left) (c .before .before .before .before .before .before .before .before .before .before .before .before .header .result) (c .before .before .last .result) (c .before .before .before .before .before .before .before .before .before .before .before .before .header .ensures) (c .before .before .last .ensures) (sym (c .before .version-ok .ensures) ∙ not-true (c .before .version-ok .result) (c .if6 .taken))
-
-returns-7 : tie.Need-returns-7
-returns-7 c =
-    let at = c .before .before .before .before .before .before .before .before .before in
-    let e = c .before .before .before .before .before .before .before .before .before .before .before .before .before .before .before .before .before in
-    let a = e .args in
-    six-led (a .l .least) (a .s .now) (one (at .before .before .before .before .before)) (two (at .before .before)) (three at) (c .before .before .before .before .before .broken .result) (c .before .before .before .before .before .broken .ensures) (c .before .before .before .before .if5 .left) (omega (arith, e .pre .0 .four)) (c .before .before .before .before .before .before .before .before .led .result) (c .before .before .before .before .before .before .before .before .led .ensures) (not-true (c .before .before .before .before .before .before .before .before .led .result) (c .if7 .taken))
-
-returns-8 : tie.Need-returns-8
-returns-8 c =
-    let at = c .before .before .before .before .before .before .before .before .before in
-    let e = c .before .before .before .before .before .before .before .before .before .before .before .before .before .before .before .before .before in
-    let a = e .args in
-    six-none (a .l .least) (a .s .now) (one (at .before .before .before .before .before)) (two (at .before .before)) (three at) (c .before .before .before .before .before .broken .result) (c .before .before .before .before .before .broken .ensures) (c .before .before .before .before .if5 .left) (omega (arith, e .pre .0 .four)) (c .before .before .before .before .before .before .before .before .led .result) (c .before .before .before .before .before .before .before .before .led .ensures) (not-false (c .before .before .before .before .before .before .before .before .led .result) (c .if7 .left))
+returns-3 c =
+    let a = c .before .before .before .before .before .args in
+    sym (broken-none (a .l .least) (a .s .now) (none (c .before .before)) (sym (c .before .eighth-rule .ensures) ∙ not-false (c .before .eighth-rule .result) (c .if2 .left)))
 
 pub broken-spec : {M : Type 1} → statement M
-broken-spec =
-    tie.close
-    (tie.spec
-    first-rule-requires
-    returns
-    header-requires
-    second-rule-requires
-    returns-2
-    third-rule-requires
-    returns-3
-    led-requires
-    surely-requires
-    returns-4
-    broken-requires
-    returns-5
-    last-requires
-    version-ok-requires
-    returns-6
-    returns-7
-    returns-8)
+broken-spec = tie.close (tie.spec lower-requires returns eighth-rule-requires returns-2 returns-3)

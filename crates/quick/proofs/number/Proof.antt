@@ -1,9 +1,11 @@
--- `quick::number` meets its contract: numbers 1 to 3, then the rules. Assumes nothing.
+-- `quick::number` meets its contract: numbers 1 to 3, then the rules, of which rule 8 is tested last. Assumes nothing.
 use Rattle.local.specs.Sizes.{sized}
-use Rattle.quick.specs.Number.{refused-number, not-refused, ruled-number}
+use Rattle.model.specs.Quick.{quickIn}
+use Rattle.quick.specs.Number.{refused-number, not-refused, ruled-number, in-clean}
 use borrow.Author.Tests.{not-true, not-false}
 use native.Mathlib.Omega.{arith}
-use mathlib.Core.Path.{sym, _∙_}
+use mathlib.Core.Bool.{true}
+use mathlib.Core.Path.{_≡_, sym, _∙_}
 use borrow.Author.Needs.{needs}
 use Rattle.quick.proofs.number.Statement.{statement}
 use Rattle.quick.proofs.number.Tie as tie
@@ -28,10 +30,25 @@ returns-2 c =
     let a = c .before .before .before .before .before .before .args in
     sym (ruled-number (a .l .least) (a .s .now) (c .before .before .before .before .refused .result) (c .before .before .before .before .refused .ensures) (omega (arith, c .before .before .before .before .before .before .pre .four)) (c .before .before .before .if1 .left) ∙ rw (← c .before .rules-hold .ensures, not-true (c .before .rules-hold .result) (c .if2 .taken)))
 
+-- rules 1 to 7 hold
+held : (c : tie.Else2) → let a = c .before .before .before .before .before .before .args in quickIn (a .l .least) (a .s .now) ≡ true
+held c = sym (c .before .rules-hold .ensures) ∙ not-false (c .before .rules-hold .result) (c .if2 .left)
+
+eighth-rule-requires : tie.Need-eighth-rule-requires
+eighth-rule-requires c κs =
+    let a = c .before .before .before .before .before .before .args in
+    let d = c .before .before .before .before .before .before .pre in
+    (d, rw (c .before .before .size .ensures) (sized (a .l .least) (d .four) (a .s .now) (d .eight) (not-refused (a .l .least) (a .s .now) (c .before .before .before .before .refused .result) (c .before .before .before .before .refused .ensures) (c .before .before .before .if1 .left) .0)), in-clean (a .l .least) (a .s .now) (held (c)))
+
 returns-3 : tie.Need-returns-3
 returns-3 c =
-    let a = c .before .before .before .before .before .before .args in
-    sym (ruled-number (a .l .least) (a .s .now) (c .before .before .before .before .refused .result) (c .before .before .before .before .refused .ensures) (omega (arith, c .before .before .before .before .before .before .pre .four)) (c .before .before .before .if1 .left) ∙ rw (← c .before .rules-hold .ensures, not-false (c .before .rules-hold .result) (c .if2 .left)))
+    let a = c .before .before .before .before .before .before .before .before .args in
+    sym (ruled-number (a .l .least) (a .s .now) (c .before .before .before .before .before .before .refused .result) (c .before .before .before .before .before .before .refused .ensures) (omega (arith, c .before .before .before .before .before .before .before .before .pre .four)) (c .before .before .before .before .before .if1 .left) ∙ rw (held (c .before .before), ← c .before .eighth-rule .ensures, not-true (c .before .eighth-rule .result) (c .if3 .taken)))
+
+returns-4 : tie.Need-returns-4
+returns-4 c =
+    let a = c .before .before .before .before .before .before .before .before .args in
+    sym (ruled-number (a .l .least) (a .s .now) (c .before .before .before .before .before .before .refused .result) (c .before .before .before .before .before .before .refused .ensures) (omega (arith, c .before .before .before .before .before .before .before .before .pre .four)) (c .before .before .before .before .before .if1 .left) ∙ rw (held (c .before .before), ← c .before .eighth-rule .ensures, not-false (c .before .eighth-rule .result) (c .if3 .left)))
 
 pub number-spec : {M : Type 1} → statement M
-number-spec = tie.close (tie.spec refused-requires returns size-requires rules-hold-requires returns-2 returns-3)
+number-spec = tie.close (tie.spec refused-requires returns size-requires rules-hold-requires returns-2 eighth-rule-requires returns-3 returns-4)

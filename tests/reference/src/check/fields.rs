@@ -53,7 +53,7 @@ pub fn page_holds(bytes: &[u8], number: u32) -> bool {
     let count = edition.entry_count.get(page) as usize;
     level <= HIGHEST_LEVEL
         && count <= edition.most_entries
-        && zero_from(&page[..PAGE_HEAD_BYTES], edition.page_end.end())
+        && zero_from(&page[..PAGE_HEAD_BYTES], edition.head_end())
         // In edition 2 sixteen bytes more stand behind the entries.
         && zero_from(&page[PAGE_HEAD_BYTES + count * ENTRY_BYTES..], 0)
         && span_holds(page_span(edition, page), header)

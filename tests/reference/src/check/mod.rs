@@ -13,6 +13,7 @@ mod bounds;
 mod directory;
 mod fields;
 mod fill;
+mod live_counts;
 mod reach;
 mod spans;
 
@@ -110,6 +111,9 @@ fn lowest_broken_rule(store: &[u8]) -> Option<u32> {
     }
     if !versions.iter().all(|v| reach::holds(&image, *v)) {
         return Some(6);
+    }
+    if !live_counts::hold(store) {
+        return Some(8);
     }
     None
 }

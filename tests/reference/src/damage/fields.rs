@@ -55,7 +55,7 @@ fn slot_bit(bytes: &mut [u8], rng: &mut Rng) -> bool {
 fn head_bit(bytes: &mut [u8], rng: &mut Rng) -> bool {
     match some_page(&Image::read(bytes), rng, |_| true) {
         Some(number) => {
-            let used = Edition::of(bytes).page_end.end();
+            let used = Edition::of(bytes).head_end();
             let head = &mut store::page_bytes_mut(bytes, number)[..PAGE_HEAD_BYTES];
             set_some_bit(head, rng, used)
         }

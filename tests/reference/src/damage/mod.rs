@@ -8,6 +8,7 @@ mod bounds;
 mod directory;
 mod fields;
 mod fill;
+mod live_counts;
 mod reach;
 mod spans;
 pub mod tamper;
@@ -48,7 +49,11 @@ impl Damage {
 
 /// Every kind of damage, by rule.
 pub fn kinds() -> Vec<Damage> {
-    let on_bytes = [(1, fields::KINDS), (2, directory::KINDS)];
+    let on_bytes = [
+        (1, fields::KINDS),
+        (2, directory::KINDS),
+        (8, live_counts::KINDS),
+    ];
     let on_values = [
         (3, spans::KINDS),
         (4, bounds::KINDS),

@@ -62,9 +62,10 @@ fn golden_bytes() {
     assert_eq!(slots(&source), [(0, 5), (1, 8), (2, 9)]);
     let target = converted(&source, 6);
     let mut expected = fresh_second(6);
-    // Current 2; a leaf of 21 entries.
+    // Current 2; a leaf of 21 entries, of which 14 live.
     expected[8] = 0x01;
     expected[5 * 512..5 * 512 + 2].copy_from_slice(&[0x15, 0x40]);
+    expected[5 * 512 + 6] = 0xCE;
     for key in 1..=21u8 {
         let end = match key {
             12..=18 => [0x10, 0x00, 0x02],

@@ -39,12 +39,12 @@ fn golden_heads_of_a_split_root() {
     assert_eq!(bytes[..12], header);
     assert_eq!(bytes[512..520], [0, 0, 0, 5, 0, 0, 0x10, 8]);
     let head = |number| &page_bytes(&bytes, number)[..8];
-    // Level, count, start, end: a leaf without entries from 0 to 1, leaves of 21
-    // and of 20 from 1 on, an index page of 2.
+    // Level, count, start, end, live count: a leaf without entries from 0 to 1,
+    // leaves of 21 and of 20 from 1 on, an index page of 2.
     assert_eq!(head(5), [0x10, 0x00, 0x00, 0x00, 0x00, 0x00, 0x40, 0]);
-    assert_eq!(head(6), [0x15, 0x40, 0x00, 0x07, 0xFF, 0xFF, 0xC0, 0]);
-    assert_eq!(head(7), [0x15, 0x00, 0x00, 0x07, 0xFF, 0xFF, 0xC0, 0]);
-    assert_eq!(head(8), [0x20, 0x80, 0x00, 0x07, 0xFF, 0xFF, 0xC0, 0]);
+    assert_eq!(head(6), [0x15, 0x40, 0x00, 0x07, 0xFF, 0xFF, 0xD5, 0]);
+    assert_eq!(head(7), [0x15, 0x00, 0x00, 0x07, 0xFF, 0xFF, 0xD4, 0]);
+    assert_eq!(head(8), [0x20, 0x80, 0x00, 0x07, 0xFF, 0xFF, 0xC2, 0]);
     // The last entry of page 6 is key 21, value 210; the second router's low
     // key is 22, its page 7.
     let last = &page_bytes(&bytes, 6)[16 + 20 * 12..16 + 21 * 12];
@@ -271,7 +271,7 @@ fn counts_and_zero_bits() {
     }
     // The first spare bit of a page's head, its last, and the sixteen bytes at
     // the end of a page.
-    rule_1_broken(|bytes| page_bytes_mut(bytes, 6)[6] |= 0x20);
+    rule_1_broken(|bytes| page_bytes_mut(bytes, 6)[7] |= 0x80);
     rule_1_broken(|bytes| page_bytes_mut(bytes, 6)[15] |= 1);
     for at in 496..512 {
         rule_1_broken(|bytes| page_bytes_mut(bytes, 6)[at] |= 0x10);

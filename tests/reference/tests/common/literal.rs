@@ -23,6 +23,9 @@ pub struct Page {
 
 struct Store {
     fewest: usize,
+    /// The number told by each page, and the number of its entries that have
+    /// not ended.
+    live: Vec<(u64, u64)>,
     last: u64,
     slots: Vec<(u64, usize)>,
     pages: Vec<Page>,
@@ -83,6 +86,7 @@ pub fn verdict(bytes: &[u8]) -> (u32, u32) {
     let rules: [fn(&Store) -> bool; 5] = [rule_2, rule_3, rule_4, rule_5, rule_6];
     match rules.iter().position(|rule| !rule(&store)) {
         Some(index) => (4, index as u32 + 2),
+        None if store.live.iter().any(|(told, live)| told != live) => (4, 8),
         None => (0, 0),
     }
 }
@@ -116,7 +120,16 @@ fn rule_1(bytes: &[u8]) -> Option<Store> {
     // Pages 0 to 4 stand in as free ones, so that numbers are indices.
     let empty = (0..5).map(|_| Some(free()));
     let pages: Option<Vec<Page>> = empty.chain((5..count).map(page)).collect();
+    // In edition 2 six bits behind the page's end, from bit 50 on.
+    let told = |number: usize| bits(&bytes[own.page * number..], 50, 6);
+    let live = |page: &Page| page.entries.iter().filter(|e| e.span.1 == ALIVE).count();
+    let counted = |(number, page): (usize, &Page)| (told(number), live(page) as u64);
+    let counts = |pages: &[Page]| match own.page {
+        512 => pages.iter().enumerate().skip(5).map(counted).collect(),
+        _ => Vec::new(),
+    };
     pages.map(|pages| Store {
+        live: counts(&pages),
         fewest: own.fewest,
         last,
         slots,
@@ -173,7 +186,8 @@ pub fn page(bytes: &[u8], own: Numbers, last: u64, count: usize) -> Option<Page>
     let start_at = 4 + own.count_bits;
     let span = (bits(bytes, start_at, 20), bits(bytes, start_at + 20, 20));
     let behind = 16 + 12 * own.entries;
-    let spare = zero(bytes, start_at + 40, 128) && zero(bytes, 8 * behind, 8 * own.page);
+    let head = start_at + 40 + if own.page == 512 { 6 } else { 0 };
+    let spare = zero(bytes, head, 128) && zero(bytes, 8 * behind, 8 * own.page);
     if level > 7 || entry_count > own.entries || !span_fits(span, last) || !spare {
         return None;
     }

@@ -1,9 +1,10 @@
--- `edit::sift::sift` meets its contract: the entries closed up, those behind unused, the front for them. Assumes nothing.
-use Rattle.edit.specs.Sift.{sifted, siftedHead, fewer, head-fits, sift-end}
+-- `edit::sift::sift` meets its contract: the entries closed up, those behind unused, the front for them, and how many live. Assumes nothing.
+use Rattle.model.specs.Limits.{liveShown}
+use Rattle.edit.specs.Sift.{sifted, siftedHead, fewer, head-fits, sift-end, sift-live, sift-low}
 use Rattle.edit.specs.Fate.{endOf}
 use Rattle.page.specs.Stage.{staged, blanked, entriesIn}
 use Rattle.page.specs.Read.{count-of}
-use Rattle.page.specs.Head.{readHead, putHead, HeadFits}
+use Rattle.page.specs.Head.{readHead, putHead, putLive, HeadFits}
 use Rattle.page.specs.declared.Head.{Head}
 use Rattle.model.specs.Layout.{countOf}
 use Rattle.model.specs.declared.Entry.{Entry}
@@ -22,7 +23,7 @@ head-of-requires c κs = (c .before .before .pre .0, omega (arith, c .before .be
 counted : (c : tie.After-head-of) → c .head-of .result .count ≡ countOf (c .before .before .before .args .l .least) (c .before .before .before .args .page .now)
 counted c = let a = c .before .before .before .args in ap (λ (h : Head). h .count) (c .head-of .ensures) ∙ sym (count-of (a .l .least) (a .page .now))
 
-few : (c : tie.After-squeeze) → c .squeeze .result ≤ countOf (c .before .before .before .before .before .args .l .least) (c .before .before .before .before .before .args .page .now)
+few : (c : tie.After-squeeze) → c .squeeze .result .count ≤ countOf (c .before .before .before .before .before .args .l .least) (c .before .before .before .before .before .args .page .now)
 few c =
     let s = c .before .before .before .before .before in
     rw (c .squeeze .ensures .1) (fewer (s .args .l .least) (s .pre .0 .four) (s .pre .0 .eight) (s .args .page .now) (s .pre .1) (s .args .rule) (s .args .w) (s .pre .2))
@@ -52,21 +53,35 @@ put-head-requires c κs =
       omega (arith, c .before .before .before .before .blank .kept .0, c .before .before .before .before .before .before .before .before .squeeze .kept .0, c .before .before .before .before .before .before .before .before .before .before .before .before .before .pre .1 .size, d .eight),
     )
 
+put-live-requires : tie.Need-put-live-requires
+put-live-requires c κs =
+    let s = c .before .before .before .before .before .before .before .before .before .before .before .before .before .before .before .before .before in let a = s .args in let d = s .pre .0 in (
+      d,
+      rw (c .before .before .before .before .before .before .before .before .before .before .before .before .squeeze .ensures .2) (sift-low (a .l .least) (d .four) (d .eight) (a .page .now) (s .pre .1) (a .rule) (a .w) (s .pre .2)),
+      omega (arith, c .before .before .before .put-head .kept .0, c .before .before .before .before .before .before .before .before .blank .kept .0, c .before .before .before .before .before .before .before .before .before .before .before .before .squeeze .kept .0, s .pre .1 .size, d .four),
+      omega (arith, c .before .before .before .put-head .kept .0, c .before .before .before .before .before .before .before .before .blank .kept .0, c .before .before .before .before .before .before .before .before .before .before .before .before .squeeze .kept .0, s .pre .1 .size, d .eight),
+    )
+
 same-length : tie.Need-same-length
 same-length c = search needs
 
 returns : tie.Need-returns
 returns c =
-    let a = c .before .before .before .before .before .before .before .before .before .before .before .before .before .before .before .before .args in let d = c .before .before .before .before .before .before .before .before .before .before .before .before .before .before .before .before .pre .0 in
+    let s = c .before .before .before .before .before .before .before .before .before .before .before .before .before .before .before .before .before .before .before .before in let a = s .args in let d = s .pre .0 in
+    let least = a .l .least in
     let p : List ℕ = a .page .now in
-    let h = c .before .before .before .before .before .before .before .before .before .before .before .before .before .head-of .ensures in
-    let out : List Entry = sifted (a .rule) (a .w) (entriesIn (a .l .least) p) in
-    let q : List ℕ = blanked (staged (a .l .least) p out) (length out) (countOf (a .l .least) p - length out) in
-    let end = c .before .before .before .end-of .ensures ∙ ap (λ (x : Head). endOf (a .rule) (a .w) (x .end)) h in
-    let bytes = _∙_ {c = q} (c .before .before .before .before .before .before .before .blank .ensures) (rw (c .before .before .before .before .before .before .before .before .before .before .before .squeeze .ensures .0, c .before .before .before .before .before .before .before .before .before .before .before .squeeze .ensures .1, counted ((c .before .before .before .before .before .before .before .before .before .before .before .before .before)))) in
-    c .before .before .put-head .ensures
-    ∙ (λ i. putHead (a .l .least) (bytes i) (record { level = h i .level; count = c .before .before .before .before .before .before .before .before .before .before .before .squeeze .ensures .1 i; start = h i .start; end = end i }))
-    ∙ sift-end (a .l .least) (d .four) (d .eight) p (c .before .before .before .before .before .before .before .before .before .before .before .before .before .before .before .before .pre .1) (a .rule) (a .w) (c .before .before .before .before .before .before .before .before .before .before .before .before .before .before .before .before .pre .2)
+    let h = c .before .before .before .before .before .before .before .before .before .before .before .before .before .before .before .before .before .head-of .ensures in
+    let k = c .before .before .before .before .before .before .before .before .before .before .before .before .before .before .before .squeeze .ensures in
+    let out : List Entry = sifted (a .rule) (a .w) (entriesIn least p) in
+    let q : List ℕ = blanked (staged least p out) (length out) (countOf least p - length out) in
+    let end = c .before .before .before .before .before .before .before .end-of .ensures ∙ ap (λ (x : Head). endOf (a .rule) (a .w) (x .end)) h in
+    let bytes = _∙_ {c = q} (c .before .before .before .before .before .before .before .before .before .before .before .blank .ensures) (rw (k .0, k .1, counted ((c .before .before .before .before .before .before .before .before .before .before .before .before .before .before .before .before .before)))) in
+    let front = c .before .before .before .before .before .before .put-head .ensures
+    ∙ (λ i. putHead least (bytes i) (record { level = h i .level; count = k .1 i; start = h i .start; end = end i }))
+    ∙ sift-end least (d .four) (d .eight) p (s .pre .1) (a .rule) (a .w) (s .pre .2) in
+    c .before .before .put-live .ensures
+    ∙ (λ i. putLive least (front i) (liveShown least (k .2 i)))
+    ∙ sift-live least (d .four) (d .eight) p (s .pre .1) (a .rule) (a .w) (s .pre .2)
 
 pub sift-spec : {M : Type 1} → statement M
 sift-spec =
@@ -77,5 +92,6 @@ sift-spec =
     blank-requires
     end-of-requires
     put-head-requires
+    put-live-requires
     same-length
     returns)
