@@ -1,0 +1,145 @@
+//! Header, slots and pages as values.
+
+use rcst::limits::{ALIVE, PAGE_BYTES};
+
+use super::bits::field;
+
+/// The first page behind the directory.
+pub const FIRST: usize = 5;
+pub const SLOTS: usize = 256;
+pub const MOST_ENTRIES: usize = 20;
+pub const FREE: u32 = 0;
+pub const LEAF: u32 = 1;
+
+/// From start up to, not including, end.
+#[derive(Clone, Copy, Debug, PartialEq, Eq)]
+pub struct Span {
+    pub start: u32,
+    pub end: u32,
+}
+
+impl Span {
+    pub fn holds(self, version: u32) -> bool {
+        self.start <= version && version < self.end
+    }
+
+    pub fn lies_in(self, other: Span) -> bool {
+        other.start <= self.start && self.end <= other.end
+    }
+
+    pub fn is_alive(self) -> bool {
+        self.end == ALIVE
+    }
+}
+
+#[derive(Clone, Copy, Debug)]
+pub struct Header {
+    pub edition: u32,
+    pub pages: u32,
+    pub current: u32,
+    pub open: bool,
+    pub roots: u32,
+}
+
+impl Header {
+    /// The version that can be read last.
+    pub fn last(&self) -> u32 {
+        self.current + u32::from(self.open)
+    }
+}
+
+/// A setting, or a router: its low key, and the page that it leads to.
+#[derive(Clone, Copy, Debug)]
+pub struct Entry {
+    pub key: u32,
+    pub span: Span,
+    pub value: u32,
+}
+
+#[derive(Clone, Debug)]
+pub struct Page {
+    pub level: u32,
+    /// As the field says, also where it says more than there is room for.
+    pub count: usize,
+    pub span: Span,
+    pub entries: Vec<Entry>,
+}
+
+impl Page {
+    pub fn alive_at(&self, version: u32) -> impl Iterator<Item = &Entry> {
+        let alive = move |entry: &&Entry| entry.span.holds(version);
+        self.entries.iter().filter(alive)
+    }
+}
+
+/// How many whole pages the bytes are.
+pub fn count(store: &[u8]) -> usize {
+    store.len() / PAGE_BYTES
+}
+
+pub fn bytes(store: &[u8], number: usize) -> &[u8] {
+    &store[number * PAGE_BYTES..][..PAGE_BYTES]
+}
+
+pub fn header(store: &[u8]) -> Header {
+    Header {
+        edition: field(store, 32, 8),
+        pages: field(store, 40, 13),
+        current: field(store, 53, 20),
+        open: field(store, 73, 1) == 1,
+        roots: field(store, 74, 9),
+    }
+}
+
+/// A slot's version, and its page.
+pub fn slot(store: &[u8], place: usize) -> (u32, usize) {
+    let bytes = &store[PAGE_BYTES + 4 * place..][..4];
+    (field(bytes, 0, 20), field(bytes, 20, 12) as usize)
+}
+
+/// The slots that are used.
+pub fn slots(store: &[u8]) -> impl DoubleEndedIterator<Item = (u32, usize)> + '_ {
+    let used = (header(store).roots as usize).min(SLOTS);
+    (0..used).map(|place| slot(store, place))
+}
+
+/// The page that a version is read from.
+pub fn root(store: &[u8], version: u32) -> Option<usize> {
+    let mut slots = slots(store).rev();
+    let (_, page) = slots.find(|(from, _)| *from <= version)?;
+    (FIRST..count(store)).contains(&page).then_some(page)
+}
+
+pub fn entry(page: &[u8], place: usize) -> Entry {
+    let bytes = &page[16 + 12 * place..][..12];
+    Entry {
+        key: field(bytes, 0, 24),
+        span: Span {
+            start: field(bytes, 24, 20),
+            end: field(bytes, 44, 20),
+        },
+        value: field(bytes, 64, 32),
+    }
+}
+
+pub fn page(store: &[u8], number: usize) -> Page {
+    let bytes = bytes(store, number);
+    let count = field(bytes, 4, 5) as usize;
+    let entries = (0..count.min(MOST_ENTRIES)).map(|place| entry(bytes, place));
+    Page {
+        level: field(bytes, 0, 4),
+        count,
+        span: Span {
+            start: field(bytes, 9, 20),
+            end: field(bytes, 29, 20),
+        },
+        entries: entries.collect(),
+    }
+}
+
+/// All pages behind the directory, with their numbers.
+pub fn pages(store: &[u8]) -> Vec<(usize, Page)> {
+    (FIRST..count(store))
+        .map(|number| (number, page(store, number)))
+        .collect()
+}
