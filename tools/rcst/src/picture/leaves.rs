@@ -69,7 +69,8 @@ fn boxed(svg: &mut Svg, region: &Region, across: &Across, down: &Down) {
     svg.rect((left, top), size, colour(number), told);
     let words = number.to_string();
     if size.0 >= 7.0 * words.len() as f64 + 4.0 && size.1 >= 12.0 {
-        svg.text(left + 3.0, top + 11.0, "start", 11, words);
+        let down = size.1.min(18.0) - 2.0;
+        svg.text(left + 3.0, top + down, "start", 11, words);
     }
 }
 
@@ -80,7 +81,7 @@ fn marks(
     across: &Across,
     down: &Down,
 ) {
-    let radius = (across.step().min(down.step()) / 3.0).clamp(0.4, 1.6);
+    let radius = (across.step().min(down.step()) / 3.0).clamp(0.7, 1.6);
     let mut taken = BTreeSet::new();
     for (key, events) in events {
         let x = across.middle(*key);

@@ -42,7 +42,7 @@ impl Svg {
     /// A box that says more where a pointer rests on it.
     pub fn rect(&mut self, corner: (f64, f64), size: (f64, f64), fill: &str, told: impl Display) {
         // a page of one version in a million is still a line
-        let stroke = if size.0.min(size.1) < 3.0 { 0.3 } else { 0.8 };
+        let stroke = if size.0.min(size.1) < 8.0 { 0.3 } else { 0.8 };
         self.0 += &format!(
             "<rect x=\"{:.1}\" y=\"{:.1}\" width=\"{:.1}\" height=\"{:.1}\" fill=\"{fill}\" stroke=\"{EDGE}\" stroke-width=\"{stroke}\"><title>{told}</title></rect>\n",
             corner.0, corner.1, size.0.max(0.2), size.1.max(0.2)
@@ -57,9 +57,10 @@ impl Svg {
     /// A level bar, around x.
     pub fn bar(&mut self, x: f64, y: f64, half: f64) {
         self.0 += &format!(
-            "<path d=\"M{:.1},{y:.1}h{:.1}\" stroke=\"#000\"/>\n",
+            "<path d=\"M{:.1},{y:.1}h{:.1}\" stroke=\"#000\" stroke-width=\"{:.1}\"/>\n",
             x - half,
-            2.0 * half
+            2.0 * half,
+            half.min(2.0) / 2.0
         );
     }
 

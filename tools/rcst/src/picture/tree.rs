@@ -56,7 +56,7 @@ fn middle(level: usize, place: usize, of: usize) -> (f64, f64) {
 
 pub fn drawn(store: &[u8], version: u32) -> String {
     let levels = levels(store, version);
-    let height = 60.0 + APART * levels.len() as f64;
+    let height = 60.0 + APART * (levels.len() - 1) as f64 + HIGH;
     let mut svg = Svg::new(
         WIDTH + 40.0,
         height,

@@ -24,6 +24,9 @@ pub fn disordered(store: &[u8]) -> Option<String> {
     let versions: Vec<u32> = (0..header.roots as usize)
         .map(|place| slot(store, place).0)
         .collect();
+    if versions.is_empty() {
+        return Some("page 0: no roots".into());
+    }
     (0..versions.len()).find_map(|place| {
         let version = versions[place];
         let before = place.checked_sub(1).map(|place| versions[place]);
