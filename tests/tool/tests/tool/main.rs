@@ -1,6 +1,7 @@
 //! Every command of the administrator's tool, and everything that can go wrong.
 
 mod commands;
+mod day;
 mod dumps;
 mod kills;
 mod names;
