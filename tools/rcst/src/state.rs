@@ -1,6 +1,6 @@
 //! What a store is like: its size, its version, and what is left.
 
-use crate::plain::page::{self, FREE, SLOTS};
+use crate::plain::page::{self, FREE};
 
 #[derive(Clone, Copy, Debug)]
 pub struct State {
@@ -37,7 +37,7 @@ pub fn state(store: &[u8]) -> Result<State, u32> {
         current: header.current,
         open: header.open,
         roots: header.roots as usize,
-        most_roots: SLOTS,
+        most_roots: page::shape(store).slots,
         free: pages.iter().filter(|(_, page)| page.level == FREE).count(),
     })
 }

@@ -1,19 +1,25 @@
 //! Rules 1 and 2 in the directory of roots, pages 1 to 4.
 
-use crate::plain::page::{count, header, slot, FIRST, SLOTS};
+use crate::plain::page::{count, header, shape, slot, FIRST};
 
-fn at(place: usize) -> String {
-    format!("page {}, slot {place}", 1 + place / 64)
+fn at(store: &[u8], place: usize) -> String {
+    format!(
+        "page {}, slot {place}",
+        1 + 4 * place / shape(store).page_bytes
+    )
 }
 
 /// Rule 1: pages that there are, and nothing in what is not used.
 pub fn malformed(store: &[u8]) -> Option<String> {
     let used = header(store).roots as usize;
-    (0..SLOTS).find_map(|place| match (place < used, slot(store, place)) {
-        (true, (_, page)) if !(FIRST..count(store)).contains(&page) => {
-            Some(format!("{}: root page {page}, which is none", at(place)))
+    (0..shape(store).slots).find_map(|place| match (place < used, slot(store, place)) {
+        (true, (_, page)) if !(FIRST..count(store)).contains(&page) => Some(format!(
+            "{}: root page {page}, which is none",
+            at(store, place)
+        )),
+        (false, found) if found != (0, 0) => {
+            Some(format!("{}: not used, and not zero", at(store, place)))
         }
-        (false, found) if found != (0, 0) => Some(format!("{}: not used, and not zero", at(place))),
         _ => None,
     })
 }
@@ -31,14 +37,14 @@ pub fn disordered(store: &[u8]) -> Option<String> {
         let version = versions[place];
         let before = place.checked_sub(1).map(|place| versions[place]);
         match before {
-            None if version != 0 => Some(format!("{}: version {version}, not 0", at(place))),
+            None if version != 0 => Some(format!("{}: version {version}, not 0", at(store, place))),
             Some(before) if version <= before => Some(format!(
                 "{}: version {version} behind version {before}",
-                at(place)
+                at(store, place)
             )),
             _ if version > header.last() => Some(format!(
                 "{}: version {version}, above the last, {}",
-                at(place),
+                at(store, place),
                 header.last()
             )),
             _ => None,

@@ -1,16 +1,16 @@
 //! Rule 1 in the pages behind the directory.
 
-use rcst::limits::{ALIVE, PAGE_BYTES};
+use rcst::limits::ALIVE;
 
 use crate::plain::bits::first_set;
-use crate::plain::page::{bytes, count, header, page, FIRST, FREE, LEAF, MOST_ENTRIES};
+use crate::plain::page::{bytes, count, header, page, shape, Shape, FIRST, FREE, LEAF};
 use crate::plain::{Entry, Page, Span};
 
 pub fn wrong(store: &[u8]) -> Option<String> {
     let last = header(store).last();
     (FIRST..count(store)).find_map(|number| {
         let page = page(store, number);
-        front(bytes(store, number), &page, last)
+        front(bytes(store, number), shape(store), &page, last)
             .or_else(|| listed(store, &page, last))
             .map(|words| format!("page {number}{words}"))
     })
@@ -30,8 +30,8 @@ fn span(span: Span, last: u32) -> Option<String> {
     }
 }
 
-fn front(bytes: &[u8], page: &Page, last: u32) -> Option<String> {
-    let end = 8 * PAGE_BYTES;
+fn front(bytes: &[u8], shape: &Shape, page: &Page, last: u32) -> Option<String> {
+    let end = 8 * shape.page_bytes;
     if page.level == FREE {
         let bit = first_set(bytes, 0, end)?;
         return Some(format!(": free, and bit {bit} is set (byte {})", bit / 8));
@@ -39,14 +39,15 @@ fn front(bytes: &[u8], page: &Page, last: u32) -> Option<String> {
     if page.level > 7 {
         return Some(format!(": level {}", page.level));
     }
-    if page.count > MOST_ENTRIES {
+    if page.count > shape.most_entries {
         return Some(format!(": entry count {}", page.count));
     }
     if let Some(words) = span(page.span, last) {
         return Some(format!(" {words}"));
     }
     let behind = 128 + 96 * page.count;
-    let bit = first_set(bytes, 49, 128).or_else(|| first_set(bytes, behind, end))?;
+    let front = 44 + shape.count_width + shape.live_width;
+    let bit = first_set(bytes, front, 128).or_else(|| first_set(bytes, behind, end))?;
     Some(format!(
         ": bit {bit} is set (byte {}), which no field covers",
         bit / 8

@@ -1,9 +1,7 @@
 //! Rule 1 in page 0.
 
-use rcst::limits::PAGE_BYTES;
-
 use crate::plain::bits::first_set;
-use crate::plain::page::{count, header};
+use crate::plain::page::{count, header, shape};
 
 /// The last version that may be current while an update is open.
 const LAST_BELOW_OPEN: u32 = 1_048_573;
@@ -23,9 +21,10 @@ pub fn wrong(store: &[u8]) -> Option<String> {
             header.current
         ));
     }
-    if header.roots > 256 {
+    let shape = shape(store);
+    if header.roots as usize > shape.slots {
         return Some(format!("page 0: {} roots", header.roots));
     }
-    let bit = first_set(store, 83, 8 * PAGE_BYTES)?;
+    let bit = first_set(store, 74 + shape.roots_width, 8 * shape.page_bytes)?;
     Some(format!("page 0: bit {bit} is set (byte {})", bit / 8))
 }

@@ -12,7 +12,6 @@ use crate::plain::page::{self, FREE, LEAF};
 use crate::plain::{Entry, Page};
 
 const BUDGET: usize = 20_000_000;
-const FEWEST_LIVE: usize = 4;
 
 /// A page that a walk comes to, with the keys that it is there for: from low up to,
 /// not including, high.
@@ -90,13 +89,14 @@ impl<'a> Walks<'a> {
 
 /// The first version and page at which rule 4 or 5 is broken.
 pub fn wrong(store: &[u8], rule: u32) -> Option<String> {
+    let fewest = page::shape(store).fewest_live;
     let mut walks = Walks::of(store);
     for version in walks.versions.clone() {
         let found = walks.at(version, |reached| {
             let live: Vec<&Entry> = reached.page.alive_at(version).collect();
             match rule {
                 4 => bounds(reached, &live),
-                _ => few(reached, live.len()),
+                _ => few(reached, live.len(), fewest),
             }
             .map(|words| format!("version {version}, page {}{words}", reached.number))
         });
@@ -128,9 +128,9 @@ fn bounds(reached: &Reached, live: &[&Entry]) -> Option<String> {
     twice.map(|two| format!(": key {} is alive twice", two[0].key))
 }
 
-fn few(reached: &Reached, live: usize) -> Option<String> {
+fn few(reached: &Reached, live: usize, fewest: usize) -> Option<String> {
     let fewest = match (reached.is_root, reached.page.level) {
-        (false, _) => FEWEST_LIVE,
+        (false, _) => fewest,
         (true, LEAF) => 0,
         (true, _) => 2,
     };

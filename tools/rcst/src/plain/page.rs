@@ -1,15 +1,53 @@
 //! Header, slots and pages as values.
 
-use rcst::limits::{ALIVE, PAGE_BYTES};
+use rcst::limits::ALIVE;
 
 use super::bits::field;
 
-/// The first page behind the directory.
+/// The first page behind the directory, in either edition.
 pub const FIRST: usize = 5;
-pub const SLOTS: usize = 256;
-pub const MOST_ENTRIES: usize = 20;
 pub const FREE: u32 = 0;
 pub const LEAF: u32 = 1;
+
+/// What differs between the editions.
+pub struct Shape {
+    pub page_bytes: usize,
+    pub slots: usize,
+    pub roots_width: usize,
+    pub count_width: usize,
+    /// How wide the number of entries alive is, in a page's front.
+    pub live_width: usize,
+    pub most_entries: usize,
+    pub fewest_live: usize,
+}
+
+const FIRST_EDITION: Shape = Shape {
+    page_bytes: 256,
+    slots: 256,
+    roots_width: 9,
+    count_width: 5,
+    live_width: 0,
+    most_entries: 20,
+    fewest_live: 4,
+};
+
+const SECOND_EDITION: Shape = Shape {
+    page_bytes: 512,
+    slots: 512,
+    roots_width: 10,
+    count_width: 6,
+    live_width: 6,
+    most_entries: 40,
+    fewest_live: 8,
+};
+
+/// By a store's fifth byte.
+pub fn shape(store: &[u8]) -> &'static Shape {
+    match store[4] {
+        2 => &SECOND_EDITION,
+        _ => &FIRST_EDITION,
+    }
+}
 
 /// From start up to, not including, end.
 #[derive(Clone, Copy, Debug, PartialEq, Eq)]
@@ -62,6 +100,8 @@ pub struct Page {
     /// As the field says, also where it says more than there is room for.
     pub count: usize,
     pub span: Span,
+    /// Edition 2: how many entries are alive at the last version, as the field says.
+    pub live: usize,
     pub entries: Vec<Entry>,
 }
 
@@ -74,11 +114,12 @@ impl Page {
 
 /// How many whole pages the bytes are.
 pub fn count(store: &[u8]) -> usize {
-    store.len() / PAGE_BYTES
+    store.len() / shape(store).page_bytes
 }
 
 pub fn bytes(store: &[u8], number: usize) -> &[u8] {
-    &store[number * PAGE_BYTES..][..PAGE_BYTES]
+    let page_bytes = shape(store).page_bytes;
+    &store[number * page_bytes..][..page_bytes]
 }
 
 pub fn header(store: &[u8]) -> Header {
@@ -87,19 +128,19 @@ pub fn header(store: &[u8]) -> Header {
         pages: field(store, 40, 13),
         current: field(store, 53, 20),
         open: field(store, 73, 1) == 1,
-        roots: field(store, 74, 9),
+        roots: field(store, 74, shape(store).roots_width),
     }
 }
 
 /// A slot's version, and its page.
 pub fn slot(store: &[u8], place: usize) -> (u32, usize) {
-    let bytes = &store[PAGE_BYTES + 4 * place..][..4];
+    let bytes = &store[shape(store).page_bytes + 4 * place..][..4];
     (field(bytes, 0, 20), field(bytes, 20, 12) as usize)
 }
 
 /// The slots that are used.
 pub fn slots(store: &[u8]) -> impl DoubleEndedIterator<Item = (u32, usize)> + '_ {
-    let used = (header(store).roots as usize).min(SLOTS);
+    let used = (header(store).roots as usize).min(shape(store).slots);
     (0..used).map(|place| slot(store, place))
 }
 
@@ -123,16 +164,18 @@ pub fn entry(page: &[u8], place: usize) -> Entry {
 }
 
 pub fn page(store: &[u8], number: usize) -> Page {
-    let bytes = bytes(store, number);
-    let count = field(bytes, 4, 5) as usize;
-    let entries = (0..count.min(MOST_ENTRIES)).map(|place| entry(bytes, place));
+    let (bytes, shape) = (bytes(store, number), shape(store));
+    let start = 4 + shape.count_width;
+    let count = field(bytes, 4, shape.count_width) as usize;
+    let entries = (0..count.min(shape.most_entries)).map(|place| entry(bytes, place));
     Page {
         level: field(bytes, 0, 4),
         count,
         span: Span {
-            start: field(bytes, 9, 20),
-            end: field(bytes, 29, 20),
+            start: field(bytes, start, 20),
+            end: field(bytes, start + 20, 20),
         },
+        live: field(bytes, start + 40, shape.live_width) as usize,
         entries: entries.collect(),
     }
 }
