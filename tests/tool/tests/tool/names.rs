@@ -59,52 +59,20 @@ fn people_read_names() {
 #[test]
 fn an_unknown_key_is_refused() {
     let folder = named();
-    folder.refused(
-        &["get", "s", "softness", "--names", "n"],
-        "",
-        17,
-        "softness: 17, unknown key",
-    );
-    folder.refused(
-        &["get", "s", "43", "--names", "n"],
-        "",
-        17,
-        "key 43: 17, unknown key",
-    );
-    folder.refused(
-        &["apply", "s", "--names", "n"],
-        "set 43 1\n",
-        17,
-        "line 1: key 43: 17",
-    );
-    folder.refused(
-        &["apply", "s", "--names", "n"],
-        "unset 43\n",
-        17,
-        "line 1: key 43: 17",
-    );
+    let refused = |words: &[&str], input: &str, sentence: &str| {
+        let words: Vec<&str> = words.iter().chain(&["--names", "n"]).copied().collect();
+        folder.refused(&words, input, 17, sentence);
+    };
+    refused(&["get", "s", "softness"], "", "softness: 17, unknown key");
+    refused(&["get", "s", "43"], "", "key 43: 17, unknown key");
+    refused(&["apply", "s"], "set 43 1\n", "line 1: key 43: 17");
+    refused(&["apply", "s"], "unset 43\n", "line 1: key 43: 17");
     folder.done(&["apply", "s"], "set 43 1\n");
-    folder.refused(
-        &["list", "s", "--names", "n"],
-        "",
-        17,
-        "key 43: 17, unknown key",
-    );
-    folder.refused(
-        &["diff", "s", "1", "2", "--names", "n"],
-        "",
-        17,
-        "key 43: 17, unknown key",
-    );
-    folder.refused(
-        &["return", "s", "1", "--names", "n"],
-        "",
-        17,
-        "key 43: 17, unknown key",
-    );
-    assert!(folder
-        .done(&["list", "s", "@1", "--names", "n"], "")
-        .starts_with("tube-current"));
+    refused(&["list", "s"], "", "key 43: 17, unknown key");
+    refused(&["diff", "s", "1", "2"], "", "key 43: 17, unknown key");
+    refused(&["return", "s", "1"], "", "key 43: 17, unknown key");
+    let said = folder.done(&["list", "s", "@1", "--names", "n"], "");
+    assert!(said.starts_with("tube-current"), "{said}");
 }
 
 #[test]

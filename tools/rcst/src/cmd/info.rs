@@ -33,52 +33,42 @@ fn run(mut line: Line) -> Result<u8, Fault> {
     Ok(0)
 }
 
+/// A name, a number and words for each thing there is to say.
 fn told(state: &State, settings: usize) -> Vec<(&'static str, usize, String)> {
-    let State {
-        edition,
-        pages,
-        current,
-        roots,
-        most_roots,
-        free,
-        ..
-    } = *state;
-    let used = pages - 5 - free;
-    let open = match state.open {
+    let (edition, current) = (state.edition, state.current);
+    let version = format!("version {current}, with {settings} settings");
+    let releases = left(current);
+    let numbered = format!("{releases} more releases can be numbered");
+    vec![
+        ("edition", edition as usize, format!("edition {edition}")),
+        ("version", current as usize, version),
+        ("open", usize::from(state.open), open(state)),
+        ("pages", state.pages, pages(state)),
+        ("free", state.free, fits(state.free)),
+        ("roots", state.roots, roots(state)),
+        ("releases", releases, numbered),
+    ]
+}
+
+fn open(state: &State) -> String {
+    match state.open {
         true => format!(
             "an update is open: version {}, not yet a release",
             state.last()
         ),
         false => "no update is open".into(),
-    };
-    vec![
-        ("edition", edition as usize, format!("edition {edition}")),
-        (
-            "version",
-            current as usize,
-            format!("version {current}, with {settings} settings"),
-        ),
-        ("open", usize::from(state.open), open),
-        (
-            "pages",
-            pages,
-            format!("{pages} pages: 5 for header and directory, {used} used, {free} free"),
-        ),
-        ("free", free, fits(free)),
-        (
-            "roots",
-            roots,
-            format!(
-                "{roots} of {most_roots} roots used: {}",
-                roots_left(most_roots - roots)
-            ),
-        ),
-        (
-            "releases",
-            left(current),
-            format!("{} more releases can be numbered", left(current)),
-        ),
-    ]
+    }
+}
+
+fn pages(state: &State) -> String {
+    let (pages, free) = (state.pages, state.free);
+    let used = pages - 5 - free;
+    format!("{pages} pages: 5 for header and directory, {used} used, {free} free")
+}
+
+fn roots(state: &State) -> String {
+    let (roots, most) = (state.roots, state.most_roots);
+    format!("{roots} of {most} roots used: {}", roots_left(most - roots))
 }
 
 fn left(current: u32) -> usize {
