@@ -1,0 +1,31 @@
+//! Commands whose calls this library does not have.
+
+use super::Command;
+use crate::fault::Fault;
+use crate::line::Line;
+
+/// The status of a service that is not there, as sysexits.h has it.
+const NOT_THERE: u8 = 69;
+
+pub const PRUNE: Command = Command {
+    name: "prune",
+    usage: "prune FILE V",
+    does: "drops the versions before V (not in this library)",
+    more: "Pruning is for edition 2, which this library does not have.",
+    run: |_: Line| Err(not_here("pruning")),
+};
+
+pub const CONVERT: Command = Command {
+    name: "convert",
+    usage: "convert FILE TO PAGES",
+    does: "makes an edition 2 store of one of edition 1 (not in this library)",
+    more: "The converter makes edition 2, which this library does not have.",
+    run: |_: Line| Err(not_here("converting")),
+};
+
+pub fn not_here(what: &str) -> Fault {
+    Fault {
+        status: NOT_THERE,
+        words: format!("{what}: not in this library, whose edition is 1"),
+    }
+}
