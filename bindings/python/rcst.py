@@ -43,6 +43,8 @@ WORDS = [
     "caller's list holds fewer numbers than two for each setting found (range), three for each stretch (life), "
     "four for each difference (difference), one for each page visited (visits)",
     "the open version's settings equal the current version's, key for key (commit)",
+    "value not of the key's kind or outside its limits (named insert), or key of another kind (viewer)",
+    "key unknown to the table of kinds, or met in a range (named settings, viewer)",
 ]
 
 Difference = namedtuple("Difference", "key kind old new")

@@ -13,6 +13,7 @@
 
 mod c;
 pub mod limits;
+pub mod naming;
 pub mod number;
 
 /// Makes a fresh store over any bytes of a fitting length.

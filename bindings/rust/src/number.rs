@@ -16,8 +16,10 @@ pub const NO_PAGE_FREE: u32 = 12;
 pub const NO_SLOT_FREE: u32 = 13;
 pub const LIST_TOO_SHORT: u32 = 14;
 pub const NOTHING_CHANGED: u32 = 15;
+pub const VALUE_NOT_ADMITTED: u32 = 16;
+pub const KEY_UNKNOWN: u32 = 17;
 
-const WORDS: [&str; 16] = [
+const WORDS: [&str; 18] = [
     "done",
     "length not 6 to 4,096 whole pages",
     "first four bytes wrong",
@@ -34,6 +36,8 @@ const WORDS: [&str; 16] = [
     "the rules need a 257th slot",
     "caller's list holds fewer numbers than two for each setting found (range), three for each stretch (life), four for each difference (difference), one for each page visited (visits)",
     "the open version's settings equal the current version's, key for key (commit)",
+    "value not of the key's kind or outside its limits (named insert), or key of another kind (viewer)",
+    "key unknown to the table of kinds, or met in a range (named settings, viewer)",
 ];
 
 /// When a number is given, in the header's words; none for what is no number of

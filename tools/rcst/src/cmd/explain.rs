@@ -3,7 +3,7 @@
 use std::io::{self, Write};
 
 use super::Command;
-use crate::fault::{extra_words, Fault};
+use crate::fault::Fault;
 use crate::line::Line;
 
 pub const COMMAND: Command = Command {
@@ -30,7 +30,6 @@ fn run(mut line: Line) -> Result<u8, Fault> {
 
 fn told(number: u32) -> Option<(&'static str, &'static str)> {
     let words = match number {
-        16 | 17 => extra_words(number),
         64 => "the command line is no command's",
         65 => "a text that was given says nothing, or what cannot be",
         66 => "there is no such file, or it cannot be read",
