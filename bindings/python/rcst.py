@@ -27,9 +27,9 @@ LIST_TOO_SHORT = 14
 
 WORDS = [
     "done",
-    "length not 6 to 4,096 whole pages",
+    "length not 6 to 4,096 whole pages of the edition",
     "first four bytes wrong",
-    "edition not 1",
+    "edition neither 1 nor 2",
     "not sound (lookup, range: the header, a slot, or a page of their own walk is wrong, or the walk cannot go on)",
     "key too large (insert: 16,776,960 or above), or range low above high",
     "version above last (of a difference: either version; of a return: above current)",
@@ -39,10 +39,12 @@ WORDS = [
     "key alive (insert)",
     "key not alive (delete)",
     "the rules need a page and none is free",
-    "the rules need a 257th slot",
+    "the rules need a 257th slot (edition 2: a 513th)",
     "caller's list holds fewer numbers than two for each setting found (range), three for each stretch (life), "
     "four for each difference (difference), one for each page visited (visits)",
     "the open version's settings equal the current version's, key for key (commit)",
+    "value not of the key's kind or outside its limits (named insert), or key of another kind (viewer)",
+    "key unknown to the table of kinds, or met in a range (named settings, viewer)",
 ]
 
 Difference = namedtuple("Difference", "key kind old new")

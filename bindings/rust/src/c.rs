@@ -2,6 +2,13 @@
 
 extern "C" {
     pub fn rcst_fresh(store: *mut u8, length: usize) -> u32;
+    pub fn rcst_fresh_second(store: *mut u8, length: usize) -> u32;
+    pub fn rcst_convert(
+        source: *const u8,
+        source_length: usize,
+        target: *mut u8,
+        target_length: usize,
+    ) -> u32;
     pub fn rcst_check(store: *const u8, length: usize, rule: *mut u32) -> u32;
     pub fn rcst_open(store: *mut u8, length: usize) -> u32;
     pub fn rcst_insert(store: *mut u8, length: usize, key: u32, value: u32) -> u32;

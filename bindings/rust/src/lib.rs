@@ -13,11 +13,30 @@
 
 mod c;
 pub mod limits;
+pub mod naming;
 pub mod number;
 
-/// Makes a fresh store over any bytes of a fitting length.
+/// Makes a fresh store of edition 1 over any bytes of a fitting length.
 pub fn fresh(store: &mut [u8]) -> u32 {
     unsafe { c::rcst_fresh(store.as_mut_ptr(), store.len()) }
+}
+
+/// Makes a fresh store of edition 2 over any bytes of a fitting length.
+pub fn fresh_second(store: &mut [u8]) -> u32 {
+    unsafe { c::rcst_fresh_second(store.as_mut_ptr(), store.len()) }
+}
+
+/// Makes `target` a store of edition 2 whose committed versions read as those of
+/// `source`, of edition 1; with 12 or 13 it is a fresh one.
+pub fn convert(source: &[u8], target: &mut [u8]) -> u32 {
+    unsafe {
+        c::rcst_convert(
+            source.as_ptr(),
+            source.len(),
+            target.as_mut_ptr(),
+            target.len(),
+        )
+    }
 }
 
 /// The number and, with 4, the lowest number of a broken rule.

@@ -1,6 +1,8 @@
 //! The format's limits: those of `include/rcst.h`.
 
+/// Of a page in edition 1, and in edition 2.
 pub const PAGE_BYTES: usize = 256;
+pub const SECOND_PAGE_BYTES: usize = 512;
 pub const FEWEST_PAGES: usize = 6;
 pub const MOST_PAGES: usize = 4096;
 pub const HIGHEST_KEY: u32 = 16_777_215;

@@ -16,12 +16,14 @@ pub const NO_PAGE_FREE: u32 = 12;
 pub const NO_SLOT_FREE: u32 = 13;
 pub const LIST_TOO_SHORT: u32 = 14;
 pub const NOTHING_CHANGED: u32 = 15;
+pub const VALUE_NOT_ADMITTED: u32 = 16;
+pub const KEY_UNKNOWN: u32 = 17;
 
-const WORDS: [&str; 16] = [
+const WORDS: [&str; 18] = [
     "done",
-    "length not 6 to 4,096 whole pages",
+    "length not 6 to 4,096 whole pages of the edition",
     "first four bytes wrong",
-    "edition not 1",
+    "edition neither 1 nor 2",
     "not sound (lookup, range: the header, a slot, or a page of their own walk is wrong, or the walk cannot go on)",
     "key too large (insert: 16,776,960 or above), or range low above high",
     "version above last (of a difference: either version; of a return: above current)",
@@ -31,9 +33,11 @@ const WORDS: [&str; 16] = [
     "key alive (insert)",
     "key not alive (delete)",
     "the rules need a page and none is free",
-    "the rules need a 257th slot",
+    "the rules need a 257th slot (edition 2: a 513th)",
     "caller's list holds fewer numbers than two for each setting found (range), three for each stretch (life), four for each difference (difference), one for each page visited (visits)",
     "the open version's settings equal the current version's, key for key (commit)",
+    "value not of the key's kind or outside its limits (named insert), or key of another kind (viewer)",
+    "key unknown to the table of kinds, or met in a range (named settings, viewer)",
 ];
 
 /// When a number is given, in the header's words; none for what is no number of

@@ -68,10 +68,7 @@ impl Fault {
 
     /// The library refused: its number, and its words.
     pub fn number(what: impl Display, number: u32) -> Fault {
-        let words = match rcst::number::words(number) {
-            Some(words) => words,
-            None => extra_words(number),
-        };
+        let words = rcst::number::words(number).unwrap_or("not a number of this library");
         Fault {
             status: number as u8,
             words: format!("{what}: {number}, {words}"),
@@ -97,15 +94,6 @@ impl Fault {
             self.status = DATA;
         }
         self
-    }
-}
-
-/// The words of the numbers of 2026-14, for a library that has none.
-pub fn extra_words(number: u32) -> &'static str {
-    match number {
-        16 => "value not of the key's kind, or outside its limits",
-        17 => "unknown key",
-        _ => "not a number of this library",
     }
 }
 

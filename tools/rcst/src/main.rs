@@ -10,6 +10,7 @@ mod change;
 mod cmd;
 mod fault;
 mod file;
+mod fresh;
 mod line;
 mod names;
 mod picture;

@@ -178,7 +178,7 @@ fn abandon_ends_what_was_left_open() {
 fn every_number_is_explained() {
     let folder = Folder::new();
     let readme = std::fs::read_to_string(tool::root().join("README.md")).expect("README");
-    for number in 0..=15 {
+    for number in 0..=17 {
         let said = folder.done(&["explain", &number.to_string()], "");
         let row = readme
             .lines()
@@ -197,7 +197,7 @@ fn every_number_is_explained() {
             "{said}"
         );
     }
-    for number in [16, 17, 64, 65, 66, 69, 74] {
+    for number in [64, 65, 66, 69, 74] {
         folder.done(&["explain", &number.to_string()], "");
     }
     folder.refused(&["explain", "99"], "", 64, "99: no number");

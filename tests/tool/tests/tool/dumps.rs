@@ -56,9 +56,9 @@ fn a_text_that_is_no_dump() {
         ("", 65, "the text ends"),
         ("rcst-dump 1\n", 65, "the text ends"),
         (
-            "rcst-dump 1\nedition 2\npages 6\nend 0\n",
-            69,
-            "another edition",
+            "rcst-dump 1\nedition 3\npages 6\nend 0\n",
+            3,
+            "edition 3: 3",
         ),
         ("rcst-dump 1\nedition 1\npages 5\nend 0\n", 1, "5 pages"),
         ("HEADversion 1\nset 1 1\n", 65, "the text ends"),

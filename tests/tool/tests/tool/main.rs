@@ -8,3 +8,4 @@ mod names;
 mod pictures;
 mod places;
 mod refusals;
+mod second;

@@ -63,14 +63,14 @@ fn an_unknown_key_is_refused() {
         let words: Vec<&str> = words.iter().chain(&["--names", "n"]).copied().collect();
         folder.refused(&words, input, 17, sentence);
     };
-    refused(&["get", "s", "softness"], "", "softness: 17, unknown key");
-    refused(&["get", "s", "43"], "", "key 43: 17, unknown key");
+    refused(&["get", "s", "softness"], "", "softness: 17, key unknown");
+    refused(&["get", "s", "43"], "", "key 43: 17, key unknown");
     refused(&["apply", "s"], "set 43 1\n", "line 1: key 43: 17");
     refused(&["apply", "s"], "unset 43\n", "line 1: key 43: 17");
     folder.done(&["apply", "s"], "set 43 1\n");
-    refused(&["list", "s"], "", "key 43: 17, unknown key");
-    refused(&["diff", "s", "1", "2"], "", "key 43: 17, unknown key");
-    refused(&["return", "s", "1"], "", "key 43: 17, unknown key");
+    refused(&["list", "s"], "", "key 43: 17, key unknown");
+    refused(&["diff", "s", "1", "2"], "", "key 43: 17, key unknown");
+    refused(&["return", "s", "1"], "", "key 43: 17, key unknown");
     let said = folder.done(&["list", "s", "@1", "--names", "n"], "");
     assert!(said.starts_with("tube-current"), "{said}");
 }

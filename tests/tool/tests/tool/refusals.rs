@@ -58,13 +58,16 @@ fn no_store() {
         ("long", 4097 * 256),
         ("huge", 5_000_000),
     ] {
-        folder.put(name, vec![0; bytes]);
+        let mut cut = vec![0; 6 * 256];
+        reference::store::write_fresh(&mut cut);
+        cut.resize(bytes, 0);
+        folder.put(name, cut);
         each(
             &folder,
             name,
             &all(),
             1,
-            "1, length not 6 to 4,096 whole pages",
+            "1, length not 6 to 4,096 whole pages of the edition",
         );
         assert_eq!(folder.run(&["check", name]).status, 1, "{name}");
     }
@@ -72,7 +75,7 @@ fn no_store() {
     let store = folder.bytes("s");
     for (place, status, sentence) in [
         (0, 2, "first four bytes wrong"),
-        (4, 3, "edition not 1"),
+        (4, 3, "edition neither 1 nor 2"),
         (200, 4, "not sound"),
     ] {
         let mut bytes = store.clone();
@@ -157,13 +160,6 @@ fn what_is_no_command() {
     folder.refused(&["apply", "s"], "set 1 x\n", 65, "line 1: x: not a number");
     folder.refused(&["load", "t"], "frob\n", 65, "line 1: frob");
     folder.refused(&["prune", "s", "0"], "", 69, "not in this library");
-    folder.refused(&["convert", "s", "t", "6"], "", 69, "not in this library");
-    folder.refused(
-        &["new", "t", "6", "--edition", "2"],
-        "",
-        69,
-        "not in this library",
-    );
 }
 
 #[test]

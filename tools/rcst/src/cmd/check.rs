@@ -3,7 +3,7 @@
 use std::path::Path;
 
 use super::Command;
-use crate::fault::{extra_words, Fault};
+use crate::fault::Fault;
 use crate::file;
 use crate::line::Line;
 use crate::place;
@@ -58,7 +58,7 @@ fn checked(path: &Path, rows: &mut Rows) -> Result<u8, Fault> {
 
 fn judged(bytes: &[u8]) -> (u32, u32, String) {
     let (number, rule) = rcst::check(bytes);
-    let words = rcst::number::words(number).unwrap_or_else(|| extra_words(number));
+    let words = rcst::number::words(number).unwrap_or("not a number of this library");
     let words = match number {
         0 => "sound".into(),
         1 => format!("1, {words} ({} bytes)", bytes.len()),

@@ -3,7 +3,7 @@
 use std::io::{self, Write};
 
 use super::Command;
-use crate::fault::{extra_words, Fault};
+use crate::fault::Fault;
 use crate::line::Line;
 
 pub const COMMAND: Command = Command {
@@ -30,7 +30,6 @@ fn run(mut line: Line) -> Result<u8, Fault> {
 
 fn told(number: u32) -> Option<(&'static str, &'static str)> {
     let words = match number {
-        16 | 17 => extra_words(number),
         64 => "the command line is no command's",
         65 => "a text that was given says nothing, or what cannot be",
         66 => "there is no such file, or it cannot be read",
@@ -54,7 +53,7 @@ const ADVICE: [(u32, &str); 23] = [
     (9, "The versions are used up. Begin a new store."),
     (10, "The setting is there. To change it, end it and set it anew; 'set' of 'rcst apply' does both."),
     (11, "The setting is not there. Look at 'rcst list'; nothing of the release was kept."),
-    (12, "The store is full for this change. Make a larger one: 'rcst dump', then 'rcst load --pages N'."),
+    (12, "The store is full for this change. Make a larger one: 'rcst convert' to edition 2, or 'rcst dump', then 'rcst load --pages N'."),
     (13, "The directory of roots is full: the root moved in 256 versions. Begin a new store from this one's settings."),
     (14, "A program lent a list that is too short. It is told how many numbers there are, and asks again."),
     (15, "The release would change nothing. The store is as it was, and there is nothing to release."),

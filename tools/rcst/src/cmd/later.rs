@@ -1,4 +1,4 @@
-//! Commands whose calls this library does not have.
+//! A command whose call this library does not have.
 
 use super::Command;
 use crate::fault::Fault;
@@ -11,21 +11,13 @@ pub const PRUNE: Command = Command {
     name: "prune",
     usage: "prune FILE V",
     does: "drops the versions before V (not in this library)",
-    more: "Pruning is for edition 2, which this library does not have.",
+    more: "Pruning is for edition 2; this library does not have it yet.",
     run: |_: Line| Err(not_here("pruning")),
 };
 
-pub const CONVERT: Command = Command {
-    name: "convert",
-    usage: "convert FILE TO PAGES",
-    does: "makes an edition 2 store of one of edition 1 (not in this library)",
-    more: "The converter makes edition 2, which this library does not have.",
-    run: |_: Line| Err(not_here("converting")),
-};
-
-pub fn not_here(what: &str) -> Fault {
+fn not_here(what: &str) -> Fault {
     Fault {
         status: NOT_THERE,
-        words: format!("{what}: not in this library, whose edition is 1"),
+        words: format!("{what}: not in this library"),
     }
 }

@@ -1,12 +1,11 @@
 //! A store made of a dump's text: equal answers at every version.
 
-use rcst::limits::{MOST_PAGES, PAGE_BYTES};
-
 use super::dump::TITLE;
-use super::{apply, later, Command};
+use super::{apply, Command};
 use crate::change;
 use crate::fault::Fault;
 use crate::file;
+use crate::fresh::fresh;
 use crate::line::{number, Line};
 use crate::names::Names;
 use crate::progress::Progress;
@@ -67,12 +66,9 @@ fn loaded(text: &str, pages: Option<usize>) -> Result<Vec<u8>, Fault> {
     if title != TITLE {
         return Err(wrong(place, title));
     }
-    if text.number("edition")? != 1 {
-        return Err(later::not_here("a dump of another edition"));
-    }
-    let pages = pages.unwrap_or(text.number("pages")? as usize);
-    let mut store = vec![0; pages.min(MOST_PAGES + 1) * PAGE_BYTES];
-    done(format!("{pages} pages"), rcst::fresh(&mut store))?;
+    let edition = text.number("edition")?;
+    let dumped = text.number("pages")? as usize;
+    let mut store = fresh(pages.unwrap_or(dumped), edition)?;
     releases(&mut store, &mut text, many)?;
     match text.lines.next() {
         None => Ok(store),

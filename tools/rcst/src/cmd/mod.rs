@@ -3,6 +3,7 @@
 mod abandon;
 mod apply;
 mod check;
+mod convert;
 mod diff;
 mod draw;
 mod dump;
@@ -47,6 +48,6 @@ pub const ALL: [&Command; 17] = [
     &load::COMMAND,
     &draw::COMMAND,
     &later::PRUNE,
-    &later::CONVERT,
+    &convert::COMMAND,
     &explain::COMMAND,
 ];

@@ -10,9 +10,8 @@ use std::path::Path;
 use crate::fault::{told, Fault};
 use crate::line;
 use crate::rows::Cell;
+use rcst::number::KEY_UNKNOWN;
 use settings::{Kind, Setting};
-
-const UNKNOWN_KEY: u32 = 17;
 
 /// The settings that a text file names; none, and keys are numbers.
 pub struct Names(Option<Vec<Setting>>);
@@ -53,14 +52,14 @@ impl Names {
         match (line::number(word), &self.0) {
             (Ok(key), _) => self.known(key).map(|()| key),
             (Err(fault), None) => Err(fault),
-            (Err(_), Some(_)) => Err(Fault::number(word, UNKNOWN_KEY)),
+            (Err(_), Some(_)) => Err(Fault::number(word, KEY_UNKNOWN)),
         }
     }
 
     /// 17 for a key that the file does not name, on reading too.
     pub fn known(&self, key: u32) -> Result<(), Fault> {
         match (&self.0, self.row(key)) {
-            (Some(_), None) => Err(Fault::number(format!("key {key}"), UNKNOWN_KEY)),
+            (Some(_), None) => Err(Fault::number(format!("key {key}"), KEY_UNKNOWN)),
             _ => Ok(()),
         }
     }
