@@ -3,7 +3,6 @@
 
 use reference::engine::{Answer, Call, Engine};
 
-pub mod naming;
 pub mod settings;
 
 pub use rcst::*;
