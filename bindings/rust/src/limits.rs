@@ -14,4 +14,4 @@ pub const MOST_LEVELS: usize = 7;
 /// The end of a stretch that is still alive.
 pub const ALIVE: u32 = 1_048_575;
 /// The stack that a call finds enough.
-pub const STACK_BYTES: usize = 786_432;
+pub const STACK_BYTES: usize = 1_572_864;

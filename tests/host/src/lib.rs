@@ -3,8 +3,6 @@
 
 use reference::engine::{Answer, Call, Engine};
 
-pub mod settings;
-
 pub use rcst::*;
 
 /// The proved library.

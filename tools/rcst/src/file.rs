@@ -50,7 +50,7 @@ pub fn make(path: &Path, bytes: &[u8]) -> Result<(), Fault> {
     if path.symlink_metadata().is_ok() {
         return Err(Fault::file(path, "is there already, and is left as it is"));
     }
-    let (beside, file) = beside(path)?;
+    let (beside, file) = beside(path, 0o666)?;
     let linked = written(&file, bytes)
         .and_then(|()| file.sync_all())
         .map_err(|error| Fault::io(path, &error))
@@ -60,12 +60,23 @@ pub fn make(path: &Path, bytes: &[u8]) -> Result<(), Fault> {
     sync_folder(path)
 }
 
+/// Writes a text to a file, whatever was in it, but for the store that it is about.
+pub fn tell(about: &Path, out: &Path, text: &str) -> Result<(), Fault> {
+    match (fs::metadata(about), fs::metadata(out)) {
+        (Ok(here), Ok(there)) if one(&here, &there) => Err(Fault::file(
+            out,
+            "is the store itself, and is left as it is",
+        )),
+        _ => fs::write(out, text).map_err(|error| Fault::io(out, &error)),
+    }
+}
+
 impl Held {
     /// Puts these bytes in the file's place.
     pub fn replace(self, bytes: &[u8]) -> Result<(), Fault> {
-        let (beside, file) = beside(&self.path)?;
-        let done = written(&file, bytes)
-            .and_then(|()| alike(&self.file, &file))
+        let (beside, file) = beside(&self.path, 0o600)?;
+        let done = alike(&self.file, &file)
+            .and_then(|()| written(&file, bytes))
             .and_then(|()| file.sync_all())
             .and_then(|()| fs::rename(&beside, &self.path));
         if let Err(error) = done {
@@ -116,7 +127,11 @@ fn lock(path: &Path, file: &File) -> Result<(), Fault> {
 
 fn same(file: &File, path: &Path) -> io::Result<bool> {
     let (held, there) = (file.metadata()?, fs::metadata(path));
-    Ok(there.is_ok_and(|there| (there.dev(), there.ino()) == (held.dev(), held.ino())))
+    Ok(there.is_ok_and(|there| one(&there, &held)))
+}
+
+fn one(here: &fs::Metadata, there: &fs::Metadata) -> bool {
+    (here.dev(), here.ino()) == (there.dev(), there.ino())
 }
 
 /// All bytes, or so many that no store has as many.
@@ -128,15 +143,19 @@ fn bytes_of(path: &Path, file: &File) -> Result<Vec<u8>, Fault> {
 }
 
 /// The file beside a store that a writer fills, empty, locked by this program.
-/// Its name is always the same: what a killed program left is used again.
-fn beside(path: &Path) -> Result<(PathBuf, File), Fault> {
+/// Its name is always the same: what a killed program left is used again. A link of
+/// that name is nobody's leftover, and what it leads to is not this program's.
+fn beside(path: &Path, mode: u32) -> Result<(PathBuf, File), Fault> {
     let mut name = path.as_os_str().to_owned();
     name.push(".rcst-new");
     let beside = PathBuf::from(name);
     let failed = |error: io::Error| Fault::io(&beside, &error);
+    if beside.is_symlink() {
+        return Err(Fault::file(&beside, "is a link, and is left as it is"));
+    }
     loop {
         let mut how = OpenOptions::new();
-        let how = how.write(true).create(true).truncate(false).mode(0o644);
+        let how = how.write(true).create(true).truncate(false).mode(mode);
         let file = how.open(&beside).map_err(failed)?;
         file.lock().map_err(failed)?;
         if same(&file, &beside).map_err(failed)? {

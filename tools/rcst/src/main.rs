@@ -19,6 +19,7 @@ mod plain;
 mod progress;
 mod release;
 mod rows;
+mod standard;
 mod state;
 mod store;
 

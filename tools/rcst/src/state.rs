@@ -41,3 +41,8 @@ pub fn state(store: &[u8]) -> Result<State, u32> {
         free: pages.iter().filter(|(_, page)| page.level == FREE).count(),
     })
 }
+
+/// The version that is current.
+pub fn current(store: &[u8]) -> Result<u32, u32> {
+    state(store).map(|state| state.current)
+}

@@ -2,6 +2,7 @@
 //! whose numbers are faults.
 
 use rcst::limits::{ALIVE, HIGHEST_KEY, MOST_PAGES};
+use rcst::naming::Viewer;
 use rcst::number;
 
 use crate::fault::Fault;
@@ -43,9 +44,17 @@ fn listed(each: usize, mut ask: impl FnMut(&mut [u32]) -> (u32, usize)) -> Resul
 
 /// Keys and values from low to high at a version.
 pub fn range(store: &[u8], low: u32, high: u32, version: u32) -> Result<Vec<(u32, u32)>, u32> {
-    let list = listed(2, |list| rcst::range(store, low, high, version, list))?;
+    listed(2, |list| rcst::range(store, low, high, version, list)).map(pairs)
+}
+
+/// The same by name: 17 where one of the keys is unknown to the viewer's table.
+pub fn viewed(viewer: Viewer, low: u32, high: u32) -> Result<Vec<(u32, u32)>, u32> {
+    listed(2, |list| viewer.range(low, high, list)).map(pairs)
+}
+
+fn pairs(list: Vec<u32>) -> Vec<(u32, u32)> {
     let pairs = list.chunks_exact(2).map(|pair| (pair[0], pair[1]));
-    Ok(pairs.collect())
+    pairs.collect()
 }
 
 /// All keys and values at a version.

@@ -1,8 +1,5 @@
 //! One release from lines on standard input.
 
-use std::io::{self, Read};
-use std::path::Path;
-
 use super::{diff, Command};
 use crate::change;
 use crate::fault::Fault;
@@ -10,6 +7,7 @@ use crate::line::{Form, Line};
 use crate::names::Names;
 use crate::progress::Progress;
 use crate::release::release;
+use crate::standard;
 use crate::store::difference;
 
 pub const COMMAND: Command = Command {
@@ -24,7 +22,8 @@ fn run(mut line: Line) -> Result<u8, Fault> {
     let path = line.file()?;
     line.end()?;
     let names = Names::of(line.names.as_deref())?;
-    let text = input()?;
+    // before any file is touched
+    let text = standard::input()?;
     let mut changes = Vec::new();
     for (place, said) in text.lines().enumerate() {
         changes.extend(change::of(place + 1, said, &names)?);
@@ -49,17 +48,5 @@ fn run(mut line: Line) -> Result<u8, Fault> {
 
 /// The number of the version that was made.
 pub fn said(version: u32) -> Result<(), Fault> {
-    use io::Write;
-    let mut out = io::stdout().lock();
-    let put = writeln!(out, "version {version}").and_then(|()| out.flush());
-    put.map_err(|error| Fault::output(&error))
-}
-
-/// All of standard input, before any file is touched.
-pub fn input() -> Result<String, Fault> {
-    let mut bytes = Vec::new();
-    let input = Path::new("standard input");
-    let read = io::stdin().lock().read_to_end(&mut bytes);
-    read.map_err(|error| Fault::io(input, &error))?;
-    String::from_utf8(bytes).map_err(|_| Fault::data("standard input: not text"))
+    standard::output(&format!("version {version}\n"))
 }

@@ -1,13 +1,11 @@
 //! The picture of a store.
 
-use std::fs;
-use std::io::{self, Write};
-
 use super::Command;
 use crate::fault::Fault;
 use crate::file;
 use crate::line::Line;
 use crate::picture;
+use crate::standard;
 use crate::state::state;
 
 pub const COMMAND: Command = Command {
@@ -36,12 +34,8 @@ fn run(mut line: Line) -> Result<u8, Fault> {
         false => picture::leaves::drawn(&bytes),
     };
     match line.output {
-        Some(out) => fs::write(&out, svg).map_err(|error| Fault::io(&out, &error))?,
-        None => {
-            let mut out = io::stdout().lock();
-            let put = out.write_all(svg.as_bytes()).and_then(|()| out.flush());
-            put.map_err(|error| Fault::output(&error))?;
-        }
+        Some(out) => file::tell(&path, &out, &svg)?,
+        None => standard::output(&svg)?,
     }
     Ok(0)
 }

@@ -1,10 +1,9 @@
 //! A number in words, and what to do.
 
-use std::io::{self, Write};
-
 use super::Command;
 use crate::fault::Fault;
 use crate::line::Line;
+use crate::standard;
 
 pub const COMMAND: Command = Command {
     name: "explain",
@@ -22,9 +21,7 @@ fn run(mut line: Line) -> Result<u8, Fault> {
             "{number}: no number of the library or of this program"
         )));
     };
-    let mut out = io::stdout().lock();
-    let put = writeln!(out, "{number}: {words}\n{advice}").and_then(|()| out.flush());
-    put.map_err(|error| Fault::output(&error))?;
+    standard::output(&format!("{number}: {words}\n{advice}\n"))?;
     Ok(0)
 }
 

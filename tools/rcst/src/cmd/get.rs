@@ -3,16 +3,16 @@
 use super::Command;
 use crate::fault::Fault;
 use crate::file;
-use crate::line::{number, Form, Line};
+use crate::line::{number, Line};
 use crate::names::Names;
-use crate::plain::page::header;
 use crate::rows::{Cell, Rows};
+use crate::state::current;
 
 pub const COMMAND: Command = Command {
     name: "get",
     usage: "get FILE KEY[@V] [--names F] [--json | --csv]",
     does: "a setting's value, or 'absent'",
-    more: "At version V, or at the current one. An absent setting is an answer, so the exit status is 0.\nIt judges what it reads; 'rcst check' judges the whole store.",
+    more: "At version V, or at the current one. An absent setting is an answer, so the exit status is 0.\nWith V it judges what it reads, without V the whole store.",
     run,
 };
 
@@ -27,46 +27,13 @@ fn run(mut line: Line) -> Result<u8, Fault> {
     };
     let key = names.key(word)?;
     let bytes = file::read(&path)?;
-    let version = at.unwrap_or_else(|| current(&bytes));
-    let (given, found, value) = rcst::lookup(&bytes, key, version);
-    if given != 0 {
-        return Err(Fault::number(path.display(), given));
-    }
-    let shown = match found {
-        true => names.shown(key, value),
-        false => "absent".into(),
-    };
-    answer(
-        line.form,
-        &names,
-        (key, version),
-        found.then_some(value),
-        &shown,
-    )?;
+    let refused = |number| Fault::number(path.display(), number);
+    let version = at.map_or_else(|| current(&bytes), Ok).map_err(refused)?;
+    let value = names.lookup(&bytes, key, version).map_err(refused)?;
+    let shown = value.map_or("absent".into(), |value| names.shown(key, value));
+    let cell = value.map_or(Cell::None, |value| names.cell(key, value));
+    let mut rows = Rows::new(line.form, &["key", "version", "value"])?;
+    rows.row(&shown, &[names.key_cell(key), Cell::number(version), cell])?;
+    rows.end()?;
     Ok(0)
-}
-
-/// The current version where the bytes are long enough to have one: what is
-/// refused is refused whatever stands there.
-pub fn current(bytes: &[u8]) -> u32 {
-    match bytes.len() {
-        0..256 => 0,
-        _ => header(bytes).current,
-    }
-}
-
-fn answer(
-    form: Form,
-    names: &Names,
-    (key, version): (u32, u32),
-    value: Option<u32>,
-    shown: &str,
-) -> Result<(), Fault> {
-    let mut rows = Rows::new(form, &["key", "version", "value"])?;
-    let value = match value {
-        Some(value) => names.cell(key, value),
-        None => Cell::None,
-    };
-    rows.row(shown, &[names.key_cell(key), Cell::number(version), value])?;
-    rows.end()
 }

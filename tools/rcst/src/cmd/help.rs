@@ -1,14 +1,11 @@
 //! What each command does, on standard output.
 
-use std::io::{self, Write};
-
 use super::{Command, ALL};
 use crate::fault::Fault;
+use crate::standard;
 
 fn put(text: &str) -> Result<u8, Fault> {
-    let mut out = io::stdout().lock();
-    let put = out.write_all(text.as_bytes()).and_then(|()| out.flush());
-    put.map(|()| 0).map_err(|error| Fault::output(&error))
+    standard::output(text).map(|()| 0)
 }
 
 pub fn all() -> Result<u8, Fault> {

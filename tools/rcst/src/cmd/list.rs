@@ -2,20 +2,19 @@
 
 use rcst::limits::HIGHEST_KEY;
 
-use super::get::current;
 use super::Command;
 use crate::fault::Fault;
 use crate::file;
 use crate::line::Line;
 use crate::names::Names;
 use crate::rows::Rows;
-use crate::store::range;
+use crate::state::current;
 
 pub const COMMAND: Command = Command {
     name: "list",
     usage: "list FILE [@V] [LOW HIGH] [--names F] [--json | --csv]",
     does: "the settings of a version, in key order",
-    more: "At version V, or at the current one; the keys from LOW to HIGH, both included, or all of them.\nIt judges what it reads; 'rcst check' judges the whole store.",
+    more: "At version V, or at the current one; the keys from LOW to HIGH, both included, or all of them.\nWith V and without names it judges what it reads, else the whole store.",
     run,
 };
 
@@ -32,11 +31,15 @@ fn run(mut line: Line) -> Result<u8, Fault> {
     };
     line.end()?;
     let bytes = file::read(&path)?;
-    let version = at.unwrap_or_else(|| current(&bytes));
-    let settings = range(&bytes, low, high, version);
-    let settings = settings.map_err(|number| Fault::number(path.display(), number))?;
-    // an unknown key refuses the whole, before a line is written
-    settings.iter().try_for_each(|(key, _)| names.known(*key))?;
+    let refused = |number| Fault::number(path.display(), number);
+    let version = at.map_or_else(|| current(&bytes), Ok).map_err(refused)?;
+    let settings = match names.range(&bytes, low, high, version) {
+        Ok(settings) => settings,
+        Err(number) => {
+            names.unknown(&bytes, low, high, version)?;
+            return Err(refused(number));
+        }
+    };
     let mut rows = Rows::new(line.form, &["key", "value"])?;
     for (key, value) in settings {
         let plain = format!("{} {}", names.shown_key(key), names.shown(key, value));

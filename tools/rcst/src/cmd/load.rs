@@ -1,7 +1,7 @@
 //! A store made of a dump's text: equal answers at every version.
 
 use super::dump::TITLE;
-use super::{apply, Command};
+use super::Command;
 use crate::change;
 use crate::fault::Fault;
 use crate::file;
@@ -9,6 +9,7 @@ use crate::fresh::fresh;
 use crate::line::{number, Line};
 use crate::names::Names;
 use crate::progress::Progress;
+use crate::standard;
 use crate::store::done;
 
 pub const COMMAND: Command = Command {
@@ -22,7 +23,7 @@ pub const COMMAND: Command = Command {
 fn run(mut line: Line) -> Result<u8, Fault> {
     let path = line.file()?;
     line.end()?;
-    let text = apply::input()?;
+    let text = standard::input()?;
     let store = loaded(&text, line.pages)?;
     file::make(&path, &store)?;
     Ok(0)

@@ -5,7 +5,7 @@ use crate::fault::Fault;
 use crate::file;
 use crate::line::Line;
 use crate::rows::{Cell, Rows};
-use crate::state::state;
+use crate::state;
 use crate::store::{difference, Change};
 
 pub const COMMAND: Command = Command {
@@ -21,7 +21,7 @@ fn run(mut line: Line) -> Result<u8, Fault> {
     line.end()?;
     let bytes = file::read(&path)?;
     let refused = |number| Fault::number(path.display(), number);
-    let current = state(&bytes).map_err(refused)?.current;
+    let current = state::current(&bytes).map_err(refused)?;
     let most = line.most.unwrap_or(usize::MAX);
     let mut rows = Rows::new(line.form, &["version", "added", "removed", "changed"])?;
     for version in (1..=current).rev().take(most) {
