@@ -20,6 +20,7 @@ from pathlib import Path
 __all__ = ["Store", "Refused", "Difference", "Stretch", "words", "PAGE_BYTES", "HIGHEST_KEY"]
 
 PAGE_BYTES = 256
+SECOND_PAGE_BYTES = 512
 HIGHEST_KEY = 16_777_215
 ALIVE = 1_048_575
 MOST_LEVELS = 7
@@ -77,6 +78,8 @@ _u32, _size = ctypes.c_uint32, ctypes.c_size_t
 _bytes, _number, _count = ctypes.POINTER(ctypes.c_uint8), ctypes.POINTER(_u32), ctypes.POINTER(_size)
 _CALLS = {
     "fresh": [],
+    "fresh_second": [],
+    "convert": [_bytes, _size],
     "check": [_number],
     "open": [],
     "insert": [_u32, _u32],
@@ -110,10 +113,11 @@ class Store:
         self._store = bytearray(lent)
 
     @classmethod
-    def fresh(cls, pages):
+    def fresh(cls, pages, edition=1):
         """A store of so many pages: version 0, no settings."""
-        store = cls(bytes(PAGE_BYTES * pages))
-        store._done("fresh")
+        second = edition == 2
+        store = cls(bytes((SECOND_PAGE_BYTES if second else PAGE_BYTES) * pages))
+        store._done("fresh_second" if second else "fresh")
         return store
 
     @classmethod
@@ -126,10 +130,13 @@ class Store:
     def __bytes__(self):
         return bytes(self._store)
 
-    def _call(self, name, *rest):
+    def _lent(self):
+        """The bytes and their number, as a call takes them."""
         length = len(self._store)
-        lent = (ctypes.c_uint8 * length).from_buffer(self._store) if length else None
-        return getattr(_library, "rcst_" + name)(lent, length, *rest)
+        return (ctypes.c_uint8 * length).from_buffer(self._store) if length else None, length
+
+    def _call(self, name, *rest):
+        return getattr(_library, "rcst_" + name)(*self._lent(), *rest)
 
     def _done(self, name, *rest):
         number = self._call(name, *rest)
@@ -178,6 +185,12 @@ class Store:
 
     def return_to(self, version):
         self._done("return", _whole(version))
+
+    def convert(self, pages):
+        """A store of edition 2, of so many pages, whose committed versions read as those of this one, of edition 1."""
+        target = type(self).fresh(pages, edition=2)
+        self._done("convert", *target._lent())
+        return target
 
     def lookup(self, key, version):
         """The key's value at the version, or None."""

@@ -1,7 +1,5 @@
 """The Python binding on README's tour; tests/install runs it where python3 can load the library."""
-import re
 import unittest
-from pathlib import Path
 
 import rcst
 
@@ -46,6 +44,14 @@ class Tour(unittest.TestCase):
         self.store.abandon()
         self.assertEqual(bytes(self.store), before)
 
+    def test_editions(self):
+        second = self.store.convert(64)
+        self.assertEqual(len(bytes(second)), 64 * rcst.SECOND_PAGE_BYTES)
+        self.assertEqual([second.range(version) for version in range(3)], [self.store.range(version) for version in range(3)])
+        with self.assertRaises(rcst.Refused) as met:
+            second.convert(64)
+        self.assertEqual(met.exception.number, 3)
+
     def test_refusals(self):
         self.refused(6, self.store.lookup, 40, 3)
         self.refused(5, self.store.life, 16_777_216)
@@ -53,15 +59,10 @@ class Tour(unittest.TestCase):
         self.refused(7, self.store.commit)
         with self.assertRaises(ValueError):
             self.store.lookup(1 << 32, 1)
-        for lent, number in [(b"", 1), (bytes(1000), 1), (bytes(1536), 2)]:
+        for lent, number in [(b"", 1), (bytes(4), 1), (bytes(1536), 2), (bytes(self.store)[:1000], 1)]:
             with self.assertRaises(rcst.Refused) as met:
                 rcst.Store(lent).check()
             self.assertEqual(met.exception.number, number)
-
-    def test_words_are_the_headers(self):
-        readme = (Path(__file__).resolve().parents[2] / "README.md").read_text(encoding="utf-8")
-        rows = re.findall(r"^\| (\d+) \| (.*) \|$", readme, re.M)
-        self.assertEqual([(str(number), said) for number, said in enumerate(rcst.WORDS)], rows[: len(rcst.WORDS)])
 
 
 if __name__ == "__main__":
