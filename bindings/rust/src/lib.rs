@@ -94,74 +94,48 @@ pub fn lookup(store: &[u8], key: u32, version: u32) -> (u32, bool, u32) {
     (number, found == 1, value)
 }
 
+/// The number and the count that a call gives which fills a list.
+fn counted(
+    list: &mut [u32],
+    call: impl FnOnce(*mut u32, usize, *mut usize) -> u32,
+) -> (u32, usize) {
+    let mut count = 0;
+    let number = call(list.as_mut_ptr(), list.len(), &mut count);
+    (number, count)
+}
+
 /// The number and the count of settings found; these go to the list.
 pub fn range(store: &[u8], low: u32, high: u32, version: u32, list: &mut [u32]) -> (u32, usize) {
-    let mut count = 0;
-    let number = unsafe {
-        c::rcst_range(
-            store.as_ptr(),
-            store.len(),
-            low,
-            high,
-            version,
-            list.as_mut_ptr(),
-            list.len(),
-            &mut count,
-        )
-    };
-    (number, count)
+    let (bytes, length) = (store.as_ptr(), store.len());
+    counted(list, |list, room, count| unsafe {
+        c::rcst_range(bytes, length, low, high, version, list, room, count)
+    })
 }
 
 /// The number and the count of pages that a lookup visits; their numbers go to
 /// the list, from the root down.
 pub fn visits(store: &[u8], key: u32, version: u32, pages: &mut [u32]) -> (u32, usize) {
-    let mut count = 0;
-    let number = unsafe {
-        c::rcst_visits(
-            store.as_ptr(),
-            store.len(),
-            key,
-            version,
-            pages.as_mut_ptr(),
-            pages.len(),
-            &mut count,
-        )
-    };
-    (number, count)
+    let (bytes, length) = (store.as_ptr(), store.len());
+    counted(pages, |pages, room, count| unsafe {
+        c::rcst_visits(bytes, length, key, version, pages, room, count)
+    })
 }
 
 /// The number and the count of differences from version `old` to version
 /// `new`; these go to the list: key, kind (0 added, 1 removed, 2 changed), old
 /// value and new value of each.
 pub fn difference(store: &[u8], old: u32, new: u32, list: &mut [u32]) -> (u32, usize) {
-    let mut count = 0;
-    let number = unsafe {
-        c::rcst_difference(
-            store.as_ptr(),
-            store.len(),
-            old,
-            new,
-            list.as_mut_ptr(),
-            list.len(),
-            &mut count,
-        )
-    };
-    (number, count)
+    let (bytes, length) = (store.as_ptr(), store.len());
+    counted(list, |list, room, count| unsafe {
+        c::rcst_difference(bytes, length, old, new, list, room, count)
+    })
 }
 
 /// The number and the count of stretches in which the key held one value;
 /// these go to the list, start, end and value each.
 pub fn life(store: &[u8], key: u32, list: &mut [u32]) -> (u32, usize) {
-    let mut count = 0;
-    let number = unsafe {
-        c::rcst_life(
-            store.as_ptr(),
-            store.len(),
-            key,
-            list.as_mut_ptr(),
-            list.len(),
-            &mut count,
-        )
-    };
-    (number, count)
+    let (bytes, length) = (store.as_ptr(), store.len());
+    counted(list, |list, room, count| unsafe {
+        c::rcst_life(bytes, length, key, list, room, count)
+    })
 }
