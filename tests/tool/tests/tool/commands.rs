@@ -22,7 +22,7 @@ fn new_is_the_fresh_store() {
     let folder = Folder::new();
     folder.done(&["new", "s", "6"], "");
     let mut fresh = vec![0; 6 * 256];
-    reference::store::write_fresh(&mut fresh);
+    reference::store::write_fresh(&reference::edition::FIRST, &mut fresh);
     assert_eq!(folder.bytes("s"), fresh);
     folder.done(&["new", "--edition", "1", "--", "t", "4096"], "");
     assert_eq!(folder.bytes("t").len(), 4096 * 256);

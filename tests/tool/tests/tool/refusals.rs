@@ -59,7 +59,7 @@ fn no_store() {
         ("huge", 5_000_000),
     ] {
         let mut cut = vec![0; 6 * 256];
-        reference::store::write_fresh(&mut cut);
+        reference::store::write_fresh(&reference::edition::FIRST, &mut cut);
         cut.resize(bytes, 0);
         folder.put(name, cut);
         each(
@@ -216,6 +216,23 @@ fn a_file_keeps_its_mode_and_its_links() {
     assert!(folder.path("link").is_symlink());
     assert_eq!(folder.done(&["get", "s", "1"], ""), "1\n");
     assert_eq!(folder.names(), ["link", "s"]);
+}
+
+/// What a picture or a release must never be written over.
+#[test]
+fn other_files_are_left_alone() {
+    let folder = Folder::new();
+    folder.done(&["new", "s", "6"], "");
+    std::os::unix::fs::symlink("s", folder.path("link")).expect("a link");
+    for out in ["s", "link", "./s"] {
+        folder.refused(&["draw", "s", "-o", out], "", 74, "is the store itself");
+    }
+    folder.put("letter", "a letter");
+    std::os::unix::fs::symlink("letter", folder.path("s.rcst-new")).expect("a link");
+    folder.refused(&["apply", "s"], "set 1 1\n", 74, "s.rcst-new: is a link");
+    folder.refused(&["new", "t", "9999"], "", 1, "1, length");
+    std::os::unix::fs::symlink("letter", folder.path("t.rcst-new")).expect("a link");
+    folder.refused(&["new", "t", "6"], "", 74, "t.rcst-new: is a link");
 }
 
 #[test]
