@@ -1,6 +1,7 @@
 //! Pictures: well-formed, with every leaf page and every change of a setting.
 
-use reference::history::{calls, KINDS};
+use reference::edition::EDITIONS;
+use reference::history::{calls_of, KINDS};
 use reference::image::Image;
 use reference::{calls as plain, store};
 use tool::Folder;
@@ -74,8 +75,9 @@ fn the_reader_of_xml_reads() {
 fn every_leaf_is_a_box() {
     let folder = Folder::new();
     for seed in 0..8 {
-        let kind = KINDS[seed as usize % KINDS.len()];
-        let (_, bytes) = calls(seed, kind, 64, 300);
+        let kind = KINDS[seed % KINDS.len()];
+        let edition = EDITIONS[seed / KINDS.len()];
+        let (_, bytes) = calls_of(edition, seed as u64, kind, 64, 300);
         folder.put("s", &bytes);
         let svg = folder.done(&["draw", "s"], "");
         assert_eq!(well_formed(&svg), Ok(()), "seed {seed}");

@@ -2,22 +2,35 @@
 //! breaks.
 
 use reference::damage;
-use reference::history::{calls, KINDS};
+use reference::edition::EDITIONS;
+use reference::history::{calls_of, KINDS};
 use reference::rng::Rng;
 use tool::{times, Folder};
+
+/// Sound stores of both editions.
+fn stores() -> Vec<Vec<u8>> {
+    let mut stores = Vec::new();
+    for edition in EDITIONS {
+        for seed in 0..times("RCST_DAMAGES", 4) {
+            let shape = KINDS[seed % KINDS.len()];
+            stores.push(calls_of(edition, seed as u64, shape, 40, 220).1);
+        }
+    }
+    stores
+}
 
 #[test]
 fn every_damage_has_a_place() {
     let folder = Folder::new();
     let mut names = Vec::new();
     let mut rules = Vec::new();
+    let stores = stores();
     for (kind, damage) in damage::kinds().iter().enumerate() {
-        for seed in 0..times("RCST_DAMAGES", 6) as u64 {
-            let mut rng = Rng::new(1000 * kind as u64 + seed);
-            let shape = KINDS[(seed as usize) % KINDS.len()];
-            let (_, mut bytes) = calls(seed, shape, 40, 220);
+        for (place, store) in stores.iter().enumerate() {
+            let mut rng = Rng::new(1000 * kind as u64 + place as u64);
+            let mut bytes = store.clone();
             if damage.make(&mut bytes, &mut rng) {
-                names.push(format!("{kind}-{seed}"));
+                names.push(format!("{kind}-{place}"));
                 rules.push((damage.rule, damage.name));
                 folder.put(names.last().expect("a name"), bytes);
             }
