@@ -1,4 +1,4 @@
-"""The Python binding on README's tour; tests/install runs it where python3 can load the library."""
+"""The Python binding, as installed, on README's tour; tests/install/run runs it."""
 import unittest
 
 import rcst
