@@ -71,6 +71,7 @@ mod c {
             room: usize,
             count: *mut usize,
         ) -> u32;
+        pub fn rcst_state(store: *const u8, length: usize, state: *mut super::State) -> u32;
     }
 }
 
@@ -221,6 +222,31 @@ pub fn life(store: &[u8], key: u32, list: &mut [u32]) -> (u32, usize) {
         )
     };
     (number, count)
+}
+
+/// What a store tells of itself, as `struct rcst_store_state` of the header.
+#[repr(C)]
+#[derive(Clone, Copy, Debug, Default, PartialEq, Eq)]
+pub struct State {
+    /// Pages of the store, header and directory among them.
+    pub pages: u32,
+    /// The current version.
+    pub current: u32,
+    /// 1 if an update is open, else 0.
+    pub open: u32,
+    /// Slots of the root directory that are used.
+    pub roots: u32,
+    /// 1 or 2.
+    pub edition: u32,
+    /// Pages that are free.
+    pub free: u32,
+}
+
+/// The number, and what the store tells of itself.
+pub fn state(store: &[u8]) -> (u32, State) {
+    let mut state = State::default();
+    let number = unsafe { c::rcst_state(store.as_ptr(), store.len(), &mut state) };
+    (number, state)
 }
 
 /// The proved library.
