@@ -224,6 +224,13 @@ pub extern "C" fn rcst_state(store: &[u8], state: &mut [u32; 6]) -> u32
     ensures told { λ _. ⌜ now (state .exit) ≡ stateNumbers (stateAny (now (store .entry))) ⌝ }
 {
     let t = calls::state(store);
-    *state = [t.pages, t.current, flag(t.opened), t.roots, t.edition, t.free];
+    *state = [
+        t.pages,
+        t.current,
+        flag(t.opened),
+        t.roots,
+        t.edition,
+        t.free,
+    ];
     t.number
 }
