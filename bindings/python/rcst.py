@@ -2,6 +2,7 @@
 
     import rcst
     store = rcst.Store.read("console.rcst")
+    store.state()                          # current version, pages, whether an update is open
     store.lookup(40, store.version)        # the value, or None
     store.life(40)                         # every stretch of versions in which it held one value
     store.difference(1, 2)                 # what differs between two releases
@@ -17,7 +18,7 @@ import os
 from collections import namedtuple
 from pathlib import Path
 
-__all__ = ["Store", "Refused", "Difference", "Stretch", "words", "PAGE_BYTES", "HIGHEST_KEY"]
+__all__ = ["Store", "Refused", "State", "Difference", "Stretch", "words", "PAGE_BYTES", "HIGHEST_KEY"]
 
 PAGE_BYTES = 256
 SECOND_PAGE_BYTES = 512
@@ -48,6 +49,8 @@ WORDS = [
     "key unknown to the table of kinds, or met in a range (named settings, viewer)",
 ]
 
+State = namedtuple("State", "pages current open roots edition free")
+State.__doc__ = "What a store tells of itself; open is 1 if an update is."
 Difference = namedtuple("Difference", "key kind old new")
 Difference.__doc__ = "A key that was added, removed or changed; a value is None where there is none."
 Stretch = namedtuple("Stretch", "start end value")
@@ -75,12 +78,20 @@ def _found():
 
 
 _u32, _size = ctypes.c_uint32, ctypes.c_size_t
+
+
+class _State(ctypes.Structure):
+    _fields_ = [(name, _u32) for name in State._fields]
+
+
+_state = ctypes.POINTER(_State)
 _bytes, _number, _count = ctypes.POINTER(ctypes.c_uint8), ctypes.POINTER(_u32), ctypes.POINTER(_size)
 _CALLS = {
     "fresh": [],
     "fresh_second": [],
     "convert": [_bytes, _size],
     "check": [_number],
+    "state": [_state],
     "open": [],
     "insert": [_u32, _u32],
     "delete": [_u32],
@@ -162,11 +173,16 @@ class Store:
         """Judges the whole store: Refused unless it is sound."""
         self._done("check", ctypes.byref(_u32()))
 
+    def state(self):
+        """What the store tells of itself."""
+        told = _State()
+        self._done("state", ctypes.byref(told))
+        return State(*(getattr(told, name) for name in State._fields))
+
     @property
     def version(self):
         """The current version: the last one that was committed."""
-        self.check()
-        return int.from_bytes(self._store[6:10], "big") >> 7 & 0xFFFFF
+        return self.state().current
 
     def open(self):
         self._done("open")

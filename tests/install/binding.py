@@ -26,6 +26,7 @@ class Tour(unittest.TestCase):
         self.assertEqual(bytes(self.store), before)
 
     def test_reads(self):
+        self.assertEqual(self.store.state(), rcst.State(pages=64, current=2, open=0, roots=1, edition=1, free=58))
         self.assertEqual(self.store.version, 2)
         self.assertEqual([self.store.lookup(40, version) for version in range(3)], [None, 7, 9])
         self.assertEqual(self.store.range(1), [(40, 7), (41, 300)])

@@ -1,5 +1,7 @@
 //! The calls as `include/rcst.h` declares them.
 
+use crate::State;
+
 extern "C" {
     pub fn rcst_fresh(store: *mut u8, length: usize) -> u32;
     pub fn rcst_fresh_second(store: *mut u8, length: usize) -> u32;
@@ -52,6 +54,7 @@ extern "C" {
         room: usize,
         count: *mut usize,
     ) -> u32;
+    pub fn rcst_state(store: *const u8, length: usize, state: *mut State) -> u32;
     pub fn rcst_life(
         store: *const u8,
         length: usize,

@@ -47,6 +47,42 @@ pub fn check(store: &[u8]) -> (u32, u32) {
     (number, rule)
 }
 
+/// What a store tells of itself, as the header's `struct rcst_store_state`.
+#[repr(C)]
+#[derive(Clone, Copy, Debug, Default, PartialEq, Eq)]
+pub struct State {
+    /// Pages of the store, header and directory among them.
+    pub pages: u32,
+    /// The current version.
+    pub current: u32,
+    /// 1 if an update is open, else 0.
+    pub open: u32,
+    /// Slots of the root directory that are used.
+    pub roots: u32,
+    /// 1 or 2.
+    pub edition: u32,
+    /// Pages that are free.
+    pub free: u32,
+}
+
+impl State {
+    pub fn is_open(&self) -> bool {
+        self.open == 1
+    }
+
+    /// The version that can be read last: the open one, else the current one.
+    pub fn last(&self) -> u32 {
+        self.current + self.open
+    }
+}
+
+/// The number and, with 0, what the store tells of itself.
+pub fn state(store: &[u8]) -> (u32, State) {
+    let mut state = State::default();
+    let number = unsafe { c::rcst_state(store.as_ptr(), store.len(), &mut state) };
+    (number, state)
+}
+
 /// Opens an update.
 pub fn open(store: &mut [u8]) -> u32 {
     unsafe { c::rcst_open(store.as_mut_ptr(), store.len()) }

@@ -7,12 +7,14 @@
 use std::io::{self, BufWriter, Write};
 use std::path::Path;
 
+use rcst::State;
+
 use super::Command;
 use crate::fault::Fault;
 use crate::file;
 use crate::line::Line;
 use crate::progress::{self, Progress};
-use crate::state::{state, State};
+use crate::state::state;
 use crate::store::{difference, Change};
 
 pub const COMMAND: Command = Command {
@@ -31,7 +33,7 @@ fn run(mut line: Line) -> Result<u8, Fault> {
     line.end()?;
     let bytes = file::read(&path)?;
     let state = state(&bytes).map_err(|number| Fault::number(path.display(), number))?;
-    if state.open {
+    if state.is_open() {
         progress::say("an update is open: it is not dumped");
     }
     let out = BufWriter::new(io::stdout().lock());

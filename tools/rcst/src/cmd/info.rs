@@ -1,13 +1,14 @@
 //! What a store is like, in words.
 
 use rcst::limits::HIGHEST_VERSION;
+use rcst::State;
 
 use super::Command;
 use crate::fault::Fault;
 use crate::file;
 use crate::line::Line;
 use crate::rows::{Cell, Rows};
-use crate::state::{state, State};
+use crate::state::state;
 use crate::store;
 
 pub const COMMAND: Command = Command {
@@ -17,6 +18,9 @@ pub const COMMAND: Command = Command {
     more: "A store that is not sound is refused with its number; 'rcst check' says where.",
     run,
 };
+
+/// How many roots the directory has room for, in edition 1; edition 2 has twice as many.
+const MOST_ROOTS: u32 = 256;
 
 fn run(mut line: Line) -> Result<u8, Fault> {
     let path = line.file()?;
@@ -34,24 +38,31 @@ fn run(mut line: Line) -> Result<u8, Fault> {
 }
 
 /// A name, a number and words for each thing there is to say.
-fn told(state: &State, settings: usize) -> Vec<(&'static str, usize, String)> {
-    let (edition, current) = (state.edition, state.current);
+fn told(state: &State, settings: usize) -> Vec<(&'static str, u32, String)> {
+    let State {
+        pages,
+        current,
+        roots,
+        edition,
+        free,
+        open,
+    } = *state;
     let version = format!("version {current}, with {settings} settings");
-    let releases = left(current);
+    let releases = HIGHEST_VERSION - current;
     let numbered = format!("{releases} more releases can be numbered");
     vec![
-        ("edition", edition as usize, format!("edition {edition}")),
-        ("version", current as usize, version),
-        ("open", usize::from(state.open), open(state)),
-        ("pages", state.pages, pages(state)),
-        ("free", state.free, fits(state.free)),
-        ("roots", state.roots, roots(state)),
+        ("edition", edition, format!("edition {edition}")),
+        ("version", current, version),
+        ("open", open, opened(state)),
+        ("pages", pages, shared(pages, free)),
+        ("free", free, fits(free)),
+        ("roots", roots, moves(roots, MOST_ROOTS * edition)),
         ("releases", releases, numbered),
     ]
 }
 
-fn open(state: &State) -> String {
-    match state.open {
+fn opened(state: &State) -> String {
+    match state.is_open() {
         true => format!(
             "an update is open: version {}, not yet a release",
             state.last()
@@ -60,24 +71,14 @@ fn open(state: &State) -> String {
     }
 }
 
-fn pages(state: &State) -> String {
-    let (pages, free) = (state.pages, state.free);
+fn shared(pages: u32, free: u32) -> String {
     let used = pages - 5 - free;
     format!("{pages} pages: 5 for header and directory, {used} used, {free} free")
 }
 
-fn roots(state: &State) -> String {
-    let (roots, most) = (state.roots, state.most_roots);
-    format!("{roots} of {most} roots used: {}", roots_left(most - roots))
-}
-
-fn left(current: u32) -> usize {
-    (HIGHEST_VERSION - current) as usize
-}
-
 /// A page that a change leaves in its place takes no free one. One that is rebuilt
 /// takes one or two; so does each page above it, and a root that splits one more.
-fn fits(free: usize) -> String {
+fn fits(free: u32) -> String {
     match free {
         0 => "no page is free: a change fits where its page has room, and else gives 12".into(),
         1..=14 => format!("{free} free: a change that rebuilds many pages may give 12"),
@@ -85,10 +86,11 @@ fn fits(free: usize) -> String {
     }
 }
 
-fn roots_left(left: usize) -> String {
-    match left {
+fn moves(roots: u32, most: u32) -> String {
+    let left = match most - roots {
         0 => "a release that moves the root gives 13".into(),
         1 => "one more release may move the root".into(),
-        _ => format!("{left} more releases may move the root"),
-    }
+        left => format!("{left} more releases may move the root"),
+    };
+    format!("{roots} of {most} roots used: {left}")
 }

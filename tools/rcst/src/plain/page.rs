@@ -68,7 +68,6 @@ impl Span {
 
 #[derive(Clone, Copy, Debug)]
 pub struct Header {
-    pub edition: u32,
     pub pages: u32,
     pub current: u32,
     pub open: bool,
@@ -118,7 +117,6 @@ pub fn bytes(store: &[u8], number: usize) -> &[u8] {
 
 pub fn header(store: &[u8]) -> Header {
     Header {
-        edition: field(store, 32, 8),
         pages: field(store, 40, 13),
         current: field(store, 53, 20),
         open: field(store, 73, 1) == 1,
