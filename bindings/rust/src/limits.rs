@@ -1,5 +1,7 @@
-//! The format's limits: those of `include/rcst.h`.
+//! The library's version, and the format's limits: those of `include/rcst.h`.
 
+pub const LIBRARY_MAJOR: u32 = 1;
+pub const LIBRARY_MINOR: u32 = 3;
 /// Of a page in edition 1, and in edition 2.
 pub const PAGE_BYTES: usize = 256;
 pub const SECOND_PAGE_BYTES: usize = 512;

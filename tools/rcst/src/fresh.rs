@@ -1,6 +1,7 @@
 //! Fresh stores in memory, of either edition.
 
 use rcst::limits::{MOST_PAGES, PAGE_BYTES, SECOND_PAGE_BYTES};
+use rcst::number::WRONG_EDITION;
 
 use crate::fault::Fault;
 use crate::store::done;
@@ -13,17 +14,21 @@ pub fn second(pages: usize) -> Vec<u8> {
 
 /// A fresh store of an edition.
 pub fn fresh(pages: usize, edition: u32) -> Result<Vec<u8>, Fault> {
-    let what = format!("{pages} pages");
-    let (mut store, make): (Vec<u8>, fn(&mut [u8]) -> u32) = match edition {
-        1 => (vec![0; pages.min(MOST_PAGES + 1) * PAGE_BYTES], rcst::fresh),
-        2 => (second(pages), rcst::fresh_second),
+    let mut store;
+    let made = match edition {
+        1 => {
+            store = vec![0; pages.min(MOST_PAGES + 1) * PAGE_BYTES];
+            rcst::fresh(&mut store)
+        }
+        2 => {
+            store = second(pages);
+            rcst::fresh_second(&mut store)
+        }
         _ => {
-            return Err(Fault::number(
-                format!("edition {edition}"),
-                rcst::number::WRONG_EDITION,
-            ))
+            let what = format!("edition {edition}");
+            return Err(Fault::number(what, WRONG_EDITION));
         }
     };
-    done(what, make(&mut store))?;
+    done(format!("{pages} pages"), made)?;
     Ok(store)
 }

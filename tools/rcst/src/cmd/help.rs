@@ -1,5 +1,7 @@
 //! What each command does, on standard output.
 
+use rcst::limits::{LIBRARY_MAJOR, LIBRARY_MINOR};
+
 use super::{Command, ALL};
 use crate::fault::Fault;
 use crate::standard;
@@ -24,6 +26,7 @@ pub fn one(command: &Command) -> Result<u8, Fault> {
     put(&format!("rcst {usage}\n    {does}\n\n{more}\n"))
 }
 
+/// The version of the library that this program holds.
 pub fn version() -> Result<u8, Fault> {
-    put(concat!("rcst ", env!("CARGO_PKG_VERSION"), "\n"))
+    put(&format!("rcst {LIBRARY_MAJOR}.{LIBRARY_MINOR}\n"))
 }
