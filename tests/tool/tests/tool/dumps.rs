@@ -82,11 +82,14 @@ fn a_text_that_is_no_dump() {
             sentence,
         );
     }
+}
+
+#[test]
+fn a_store_that_is_too_small() {
+    let folder = Folder::new();
     let many: String = (0..30).map(|key| format!("set {key} 1\n")).collect();
-    folder.refused(
-        &["load", "t"],
-        &format!("{head}version 1\n{many}end 1\n"),
-        12,
-        "--pages N",
-    );
+    let text = format!("rcst-dump 1\nedition 1\npages 6\nversion 1\n{many}end 1\n");
+    folder.refused(&["load", "t"], &text, 12, "--pages N");
+    folder.done(&["load", "t", "--pages", "16"], &text);
+    assert_eq!(folder.bytes("t").len(), 16 * 256);
 }

@@ -49,7 +49,7 @@ fn nothing_to_read() {
 }
 
 #[test]
-fn no_store() {
+fn a_file_of_wrong_length() {
     let folder = Folder::new();
     for (name, bytes) in [
         ("empty", 0),
@@ -71,6 +71,11 @@ fn no_store() {
         );
         assert_eq!(folder.run(&["check", name]).status, 1, "{name}");
     }
+}
+
+#[test]
+fn bytes_that_are_no_store() {
+    let folder = Folder::new();
     folder.done(&["new", "s", "6"], "");
     let store = folder.bytes("s");
     for (place, status, sentence) in [
