@@ -46,7 +46,7 @@ fn front(bytes: &[u8], shape: &Shape, page: &Page, last: u32) -> Option<String> 
         return Some(format!(" {words}"));
     }
     let behind = 128 + 96 * page.count;
-    let front = 44 + shape.count_width;
+    let front = 44 + shape.count_width + shape.live_width;
     let bit = first_set(bytes, front, 128).or_else(|| first_set(bytes, behind, end))?;
     Some(format!(
         ": bit {bit} is set (byte {}), which no field covers",

@@ -5,6 +5,7 @@
 mod directory;
 mod entries;
 mod header;
+mod live;
 mod spans;
 mod walk;
 
@@ -17,6 +18,7 @@ pub fn rule(rule: u32) -> &'static str {
         4 => "at a version a page's keys do not lie between its bounds, or one stands there twice",
         5 => "at a version a page has too few entries alive",
         6 => "a page is not reached at every version of its span, or is at another one",
+        8 => "a page's number of entries alive is not theirs",
         _ => "not a rule that this program knows",
     }
 }
@@ -31,6 +33,7 @@ pub fn of(store: &[u8], rule: u32) -> String {
         3 => spans::wrong(store),
         4 | 5 => walk::wrong(store, rule),
         6 => walk::unreached(store),
+        8 => live::wrong(store),
         _ => None,
     };
     found.unwrap_or_else(|| "where: this program cannot tell".into())

@@ -15,6 +15,8 @@ pub struct Shape {
     pub slots: usize,
     pub roots_width: usize,
     pub count_width: usize,
+    /// How wide the number of entries alive is, in a page's front.
+    pub live_width: usize,
     pub most_entries: usize,
     pub fewest_live: usize,
 }
@@ -24,6 +26,7 @@ const FIRST_EDITION: Shape = Shape {
     slots: 256,
     roots_width: 9,
     count_width: 5,
+    live_width: 0,
     most_entries: 20,
     fewest_live: 4,
 };
@@ -33,6 +36,7 @@ const SECOND_EDITION: Shape = Shape {
     slots: 512,
     roots_width: 10,
     count_width: 6,
+    live_width: 6,
     most_entries: 40,
     fewest_live: 8,
 };
@@ -95,6 +99,8 @@ pub struct Page {
     /// As the field says, also where it says more than there is room for.
     pub count: usize,
     pub span: Span,
+    /// Edition 2: how many entries are alive at the last version, as the field says.
+    pub live: usize,
     pub entries: Vec<Entry>,
 }
 
@@ -167,6 +173,7 @@ pub fn page(store: &[u8], number: usize) -> Page {
             start: field(bytes, start, 20),
             end: field(bytes, start + 20, 20),
         },
+        live: field(bytes, start + 40, shape.live_width) as usize,
         entries: entries.collect(),
     }
 }
