@@ -1,4 +1,4 @@
-//! Links the proved libraries that `rt staticlib` writes.
+//! Links the proved libraries that are measured beside the offered one.
 
 use std::path::Path;
 
@@ -6,7 +6,7 @@ fn main() {
     let here = std::env::var("CARGO_MANIFEST_DIR").expect("cargo sets it");
     let folder = Path::new(&here).join("../target/staticlib");
     println!("cargo:rustc-link-search=native={}", folder.display());
-    for name in ["gauge", "morning", "host"] {
+    for name in ["gauge", "morning"] {
         println!("cargo:rustc-link-lib=static={name}");
         let library = folder.join(format!("lib{name}.a"));
         println!("cargo:rerun-if-changed={}", library.display());

@@ -9,7 +9,7 @@
  * A file that is not there is made, with a fresh store of 64 pages. One program at
  * a time has the file. Gives 0, or 1 and says why.
  *
- *     cc examples/recover.c -Iinclude target/staticlib/libhost.a
+ *     cc examples/recover.c -Iinclude target/staticlib/librcst.a
  */
 #define _POSIX_C_SOURCE 200809L
 

@@ -76,7 +76,7 @@ extern "C" {
 #define RCST_FORMAT_EDITION 1u
 #define RCST_SECOND_EDITION 2u
 #define RCST_LIBRARY_MAJOR 1u
-#define RCST_LIBRARY_MINOR 2u
+#define RCST_LIBRARY_MINOR 3u
 
 /* The format's limits: a page's bytes in edition 1 and in edition 2, and those that both share. */
 #define RCST_PAGE_BYTES 256u
@@ -266,6 +266,23 @@ uint32_t rcst_difference(const uint8_t *store, size_t length, uint32_t old_versi
  * and with 14, else 0.
  */
 uint32_t rcst_life(const uint8_t *store, size_t length, uint32_t key, uint32_t *list, size_t room, size_t *count);
+
+/* What a store tells of itself. */
+struct rcst_store_state {
+    uint32_t pages;   /* pages of the store, header and directory among them */
+    uint32_t current; /* the current version */
+    uint32_t open;    /* 1 if an update is open, else 0 */
+    uint32_t roots;   /* slots of the root directory that are used */
+    uint32_t edition; /* 1 or 2 */
+    uint32_t free;    /* pages that are free */
+};
+
+/*
+ * Tells the state of a store, which it judges first as check does. Gives 0 or 1 to 4;
+ * with any number but 0 every field of *state is 0. open is 1 exactly where
+ * rcst_abandon would give 0. An update that needs more pages than are free gives 12.
+ */
+uint32_t rcst_state(const uint8_t *store, size_t length, struct rcst_store_state *state);
 
 /*
  * Named settings: a layer above the store that knows each key's kind. The kinds

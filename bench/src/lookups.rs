@@ -48,7 +48,7 @@ fn as_offered() {
         let (middle, mut list, mut lent) = (settings.len() / 2, [0; 20], store.clone());
         let (low, value) = settings[middle];
         let high = settings[middle + 9].0;
-        assert_eq!(proved::lookup(&store, low, version), (0, 1, value));
+        assert_eq!(proved::lookup(&store, low, version), (0, true, value));
         let ten = proved::range_from(&store, (low, high), version, &mut list);
         assert_eq!((ten, &list[..2]), ((0, 10), &[low, value][..]));
         assert_eq!(proved::commit(&mut lent), number::NONE_OPEN);

@@ -38,6 +38,32 @@ static void fresh_and_check(void) {
     expect(rcst_check(store, 0, &rule) == 1, "no bytes give 1");
 }
 
+static void state(void) {
+    static uint8_t store[8 * RCST_PAGE_BYTES];
+    struct rcst_store_state told = {9, 9, 9, 9, 9, 9};
+    uint32_t key;
+
+    expect(sizeof told == 6 * sizeof(uint32_t), "six numbers, and nothing between them");
+    expect(rcst_state(store, sizeof store, &told) == 2, "bytes that are no store give 2");
+    expect(told.pages == 0 && told.current == 0 && told.open == 0 && told.roots == 0 && told.edition == 0 && told.free == 0,
+           "and tell nothing");
+    rcst_fresh(store, sizeof store);
+    expect(rcst_state(store, sizeof store, &told) == 0, "a fresh store tells of itself");
+    expect(told.pages == 8 && told.current == 0 && told.open == 0 && told.roots == 1 && told.edition == 1 && told.free == 2,
+           "eight pages, two of them free, version 0, one root");
+    rcst_open(store, sizeof store);
+    for (key = 0; key < 20; key += 1) {
+        rcst_insert(store, sizeof store, key, 7);
+    }
+    expect(rcst_state(store, sizeof store, &told) == 0 && told.current == 0 && told.open == 1, "an update is open");
+    expect(told.roots == 1 && told.free == 2, "a root with room is changed in place");
+    rcst_commit(store, sizeof store);
+    expect(rcst_state(store, sizeof store, &told) == 0 && told.current == 1 && told.open == 0, "committed");
+    expect(rcst_abandon(store, sizeof store) == 7, "and nothing is open");
+    store[12] = 1;
+    expect(rcst_state(store, sizeof store, &told) == 4 && told.pages == 0, "a stray bit: 4, and nothing is told");
+}
+
 static void releases(void) {
     static uint8_t store[16 * RCST_PAGE_BYTES], before[16 * RCST_PAGE_BYTES];
     uint32_t found = 9, value = 9, list[3] = {1, 2, 3};
@@ -216,6 +242,7 @@ static void numbers(void) {
 int main(void) {
     numbers();
     fresh_and_check();
+    state();
     releases();
     settings();
     differences();

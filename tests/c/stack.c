@@ -15,12 +15,12 @@
 #include <stdlib.h>
 #include <string.h>
 
-enum { STACK = 1 << 21, PAGES = 40, CALLS = 13 };
+enum { STACK = 1 << 21, PAGES = 40, CALLS = 14 };
 
 #define PAINT 0xA5A5A5A5A5A5A5A5u
 
 static const char *const names[CALLS] = {"fresh",  "check",  "open",  "insert", "delete",              "commit", "abandon",
-                                         "return", "lookup", "range", "visits", "difference and life", "by name"};
+                                         "return", "lookup", "range", "visits", "difference and life", "state",  "by name"};
 static size_t most[CALLS];
 static uint64_t stack[STACK / 8] __attribute__((aligned(4096)));
 static uint8_t store[RCST_MOST_PAGES * RCST_PAGE_BYTES], kept[RCST_MOST_PAGES * RCST_PAGE_BYTES];
@@ -33,6 +33,7 @@ static uint32_t key;
 static uint8_t *begin;
 
 static void *made(void *none) {
+    struct rcst_store_state state;
     uint32_t a, b;
     size_t count;
 
@@ -53,6 +54,7 @@ static void *made(void *none) {
         rcst_difference(store, length, 0, 1, list, 64, &count);
         rcst_life(store, length, key, list, 64, &count);
         break;
+    case 12: rcst_state(store, length, &state); break;
     default:
         kinds[0] = key;
         rcst_view_value(store, length, 1, kinds, 4, key, &a, &b);

@@ -6,3 +6,4 @@ pub mod Committing
 pub mod Updating
 pub mod Differing
 pub mod Returning
+pub mod Stating

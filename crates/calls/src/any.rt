@@ -1,11 +1,12 @@
 // The offered calls, for stores of either edition: the edition that the bytes name is found first, with 1 for fewer than five bytes, 2
 // and 3, and then the call is made by its limits.
 use model::Looked;
+use model::State;
 use store::edition_lent;
 use walk::Counted;
 ghost use mathlib.Core.Path.{_≡_};
 ghost use Rattle.model.specs.Lent.{leaving};
-ghost use Rattle.model.specs.Any.{openAny, insertAny, deleteAny, commitAny, abandonAny, returnAny, lookupAny, rangeAny, visitsAny, differenceAny, lifeAny};
+ghost use Rattle.model.specs.Any.{openAny, insertAny, deleteAny, commitAny, abandonAny, returnAny, lookupAny, rangeAny, visitsAny, differenceAny, lifeAny, stateAny};
 ghost use Rattle.walk.specs.Counted.{withList};
 
 // Opens an update.
@@ -142,4 +143,15 @@ pub fn life(s: &[u8], key: u32, list: &mut [u32]) -> Counted
         };
     }
     crate::living::life_in(s, e.limits, key, list)
+}
+
+// What a store tells of itself: page count, current version, whether an update is open, roots used, edition and free pages.
+pub fn state(s: &[u8]) -> State
+    ensures { λ r. ⌜ r ≡ stateAny (now (s .entry)) ⌝ }
+{
+    let e = edition_lent(s);
+    if e.number != 0 {
+        return crate::stating::untold(e.number);
+    }
+    crate::stating::state_in(s, e.limits)
 }

@@ -5,6 +5,7 @@ mod any;
 mod differing;
 mod living;
 mod returning;
+mod stating;
 mod updating;
 mod visiting;
 
@@ -18,6 +19,7 @@ pub use any::lookup;
 pub use any::open;
 pub use any::range;
 pub use any::return_to;
+pub use any::state;
 pub use any::visits;
 use model::Limits;
 pub(crate) use near::KEYS;

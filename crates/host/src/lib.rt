@@ -4,9 +4,10 @@ mod naming;
 use model::Looked;
 ghost use mathlib.Core.Path.{_≡_};
 ghost use Rattle.model.specs.Layout.{bit};
+ghost use Rattle.model.specs.State.{stateNumbers};
 ghost use Rattle.model.specs.Calls.{lookedNumber, lookedFound, lookedValue};
 ghost use Rattle.model.specs.Lent.{leaving, freshLent};
-ghost use Rattle.model.specs.Any.{judgedAny, openAny, insertAny, deleteAny, commitAny, abandonAny, returnAny, lookupAny, rangeAny, lifeAny, differenceAny, visitsAny};
+ghost use Rattle.model.specs.Any.{judgedAny, openAny, insertAny, deleteAny, commitAny, abandonAny, returnAny, lookupAny, rangeAny, lifeAny, differenceAny, visitsAny, stateAny};
 ghost use Rattle.model.specs.Convert.{convertLent};
 
 // Makes a fresh store of edition 1.
@@ -208,4 +209,28 @@ pub extern "C" fn rcst_life(store: &[u8], key: u32, list: &mut [u32], count: &mu
     let r = calls::life(store, key, list);
     *count = r.count;
     r.number
+}
+
+fn flag(b: bool) -> u32
+    ensures { λ r. ⌜ r ≡ bit b ⌝ }
+{
+    if b { 1 } else { 0 }
+}
+
+// What a store tells of itself goes to `state`: page count, current version, 1 if an update is open, roots used, edition, free pages.
+#[no_mangle]
+pub extern "C" fn rcst_state(store: &[u8], state: &mut [u32; 6]) -> u32
+    ensures number { λ r. ⌜ r ≡ stateAny (now (store .entry)) .number ⌝ }
+    ensures told { λ _. ⌜ now (state .exit) ≡ stateNumbers (stateAny (now (store .entry))) ⌝ }
+{
+    let t = calls::state(store);
+    *state = [
+        t.pages,
+        t.current,
+        flag(t.opened),
+        t.roots,
+        t.edition,
+        t.free,
+    ];
+    t.number
 }

@@ -19,10 +19,12 @@ use Rattle.model.specs.Editions.{byEdition, lentNumber, leastOf}
 use Rattle.model.specs.declared.Looked.{Looked}
 use Rattle.model.specs.declared.Looked.the-variants.{Refused}
 use Rattle.model.specs.declared.Verdict.{Verdict}
+use Rattle.model.specs.declared.State.{State}
+use Rattle.model.specs.State.{untold}
 use Rattle.model.specs.Lent
 use Rattle.model.specs.Any
 use Rattle.model.specs.Any.{judgedAny}
-use Rattle.model.specs.Ended.{Asked, toFresh, toFreshSecond, toCheck, toOpen, toCommit, toAbandon, toInsert, toDelete, toReturn, toLookup, toRange, toLife, toDifference, toVisits, Ended, ofOutcome, ofVerdict, ofLooked, ofListed, ended, endedBy, makes, Untouched, Refuses}
+use Rattle.model.specs.Ended.{Asked, toFresh, toFreshSecond, toCheck, toOpen, toCommit, toAbandon, toInsert, toDelete, toReturn, toLookup, toRange, toLife, toDifference, toVisits, toState, Ended, ofOutcome, ofVerdict, ofLooked, ofListed, ofState, ended, endedBy, makes, Untouched, Refuses}
 use Rattle.model.proofs.Lists.{both-true}
 use Rattle.model.proofs.Judging.{accepted}
 
@@ -80,7 +82,7 @@ least-is b = at (ltb (length b) 5) (magicOk b) (editionOk 4 b) (editionOk 8 b)
 
 module _ (b ns : List ℕ) where
   pub ended-goes : (c : Asked) → makes c ≡ false → lentNumber b ≡ 0 → ended c b ns ≡ endedBy (leastOf b) c b ns
-  unfolding Any.openAny Any.insertAny Any.deleteAny Any.commitAny Any.abandonAny Any.returnAny Any.lookupAny Any.rangeAny Any.visitsAny Any.differenceAny Any.lifeAny Any.judgedAny
+  unfolding Any.openAny Any.insertAny Any.deleteAny Any.commitAny Any.abandonAny Any.returnAny Any.lookupAny Any.rangeAny Any.visitsAny Any.differenceAny Any.lifeAny Any.stateAny Any.judgedAny
   ended-goes toFresh m z = cc
   ended-goes toFreshSecond m z = cc
   ended-goes toCheck m z = ap (ofVerdict b ns) (goes {A = Verdict} b (λ (n : ℕ). verdict n 0) (λ (l : ℕ). judged l b) z)
@@ -95,6 +97,7 @@ module _ (b ns : List ℕ) where
   ended-goes (toVisits k v) m z = ap (ofListed b) (goes {A = Lent.Listed} b (λ (n : ℕ). record { number = n; count = 0; list = ns }) (λ (l : ℕ). Lent.visitsLent l b k v ns) z)
   ended-goes (toDifference u v) m z = ap (ofListed b) (goes {A = Lent.Listed} b (λ (n : ℕ). record { number = n; count = 0; list = ns }) (λ (l : ℕ). Lent.differenceLent l b u v ns) z)
   ended-goes (toLife k) m z = ap (ofListed b) (goes {A = Lent.Listed} b (λ (n : ℕ). record { number = n; count = 0; list = ns }) (λ (l : ℕ). Lent.lifeLent l b k ns) z)
+  ended-goes toState m z = ap (ofState b ns) (goes {A = State} b untold (λ (l : ℕ). Lent.stateLent l b) z)
 
   refused-verdict : (n : ℕ) → Refuses n b ns (ofVerdict b ns (verdict n 0))
   refused-verdict n = record { number = refl; untouched = record { store = refl; list = refl }; zeros = refl }
@@ -108,8 +111,11 @@ module _ (b ns : List ℕ) where
   refused-listed : (n : ℕ) → Refuses n b ns (ofListed b (record { number = n; count = 0; list = ns }))
   refused-listed n = record { number = refl; untouched = record { store = refl; list = refl }; zeros = refl }
 
+  refused-state : (n : ℕ) → Refuses n b ns (ofState b ns (untold n))
+  refused-state n = record { number = refl; untouched = record { store = refl; list = refl }; zeros = refl }
+
   pub ended-refuses : (c : Asked) → makes c ≡ false → lentNumber b ≢ 0 → Refuses (lentNumber b) b ns (ended c b ns)
-  unfolding Any.openAny Any.insertAny Any.deleteAny Any.commitAny Any.abandonAny Any.returnAny Any.lookupAny Any.rangeAny Any.visitsAny Any.differenceAny Any.lifeAny Any.judgedAny
+  unfolding Any.openAny Any.insertAny Any.deleteAny Any.commitAny Any.abandonAny Any.returnAny Any.lookupAny Any.rangeAny Any.visitsAny Any.differenceAny Any.lifeAny Any.stateAny Any.judgedAny
   ended-refuses toFresh m z = absurd (true≢false m)
   ended-refuses toFreshSecond m z = absurd (true≢false m)
   ended-refuses toCheck m z = subst (λ (x : Verdict). Refuses (lentNumber b) b ns (ofVerdict b ns x)) (sym (refuses {A = Verdict} b (λ (n : ℕ). verdict n 0) (λ (l : ℕ). judged l b) z)) (refused-verdict (lentNumber b))
@@ -124,6 +130,7 @@ module _ (b ns : List ℕ) where
   ended-refuses (toVisits k v) m z = subst (λ (x : Lent.Listed). Refuses (lentNumber b) b ns (ofListed b x)) (sym (refuses {A = Lent.Listed} b (λ (n : ℕ). record { number = n; count = 0; list = ns }) (λ (l : ℕ). Lent.visitsLent l b k v ns) z)) (refused-listed (lentNumber b))
   ended-refuses (toDifference u v) m z = subst (λ (x : Lent.Listed). Refuses (lentNumber b) b ns (ofListed b x)) (sym (refuses {A = Lent.Listed} b (λ (n : ℕ). record { number = n; count = 0; list = ns }) (λ (l : ℕ). Lent.differenceLent l b u v ns) z)) (refused-listed (lentNumber b))
   ended-refuses (toLife k) m z = subst (λ (x : Lent.Listed). Refuses (lentNumber b) b ns (ofListed b x)) (sym (refuses {A = Lent.Listed} b (λ (n : ℕ). record { number = n; count = 0; list = ns }) (λ (l : ℕ). Lent.lifeLent l b k ns) z)) (refused-listed (lentNumber b))
+  ended-refuses toState m z = subst (λ (x : State). Refuses (lentNumber b) b ns (ofState b ns x)) (sym (refuses {A = State} b untold (λ (l : ℕ). Lent.stateLent l b) z)) (refused-state (lentNumber b))
 
   -- what holds of the call by each edition's limits, and of a refusal, holds of the call
   pub ended-either : (P : Ended → Type 0) (c : Asked) → ((least : ℕ) → IsEdition least → P (endedBy least c b ns))
@@ -150,6 +157,7 @@ module _ (b ns : List ℕ) where
       at (toVisits k v) true m by = absurd (true≢false (sym m))
       at (toDifference u v) true m by = absurd (true≢false (sym m))
       at (toLife k) true m by = absurd (true≢false (sym m))
+      at toState true m by = absurd (true≢false (sym m))
 
 -- ---- bytes of an edition
 

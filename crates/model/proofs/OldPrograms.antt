@@ -21,7 +21,7 @@ use Rattle.model.specs.Near.{early, fromRoot, downRight, rangeRight}
 use Rattle.model.specs.Calls
 use Rattle.model.specs.Calls.{Rule, rule, firstOf}
 use Rattle.model.specs.Lent
-use Rattle.model.specs.Ended.{Asked, toFresh, toFreshSecond, toCheck, toOpen, toCommit, toAbandon, toInsert, toDelete, toReturn, toLookup, toRange, toLife, toDifference, toVisits, Ended, ofLooked, ofListed, endedBy, makes, Refuses}
+use Rattle.model.specs.Ended.{Asked, toFresh, toFreshSecond, toCheck, toOpen, toCommit, toAbandon, toInsert, toDelete, toReturn, toLookup, toRange, toLife, toDifference, toVisits, toState, Ended, ofLooked, ofListed, endedBy, makes, Refuses}
 use Rattle.model.proofs.Editions.{Lends, lends-names, lends-second}
 
 -- all calls but making fresh, and lookup and range, which judge what they read
@@ -40,6 +40,7 @@ judgesWhole (toReturn v) = true
 judgesWhole (toVisits k v) = true
 judgesWhole (toDifference u v) = true
 judgesWhole (toLife k) = true
+judgesWhole toState = true
 
 -- a refusal with 1 or 3
 abbrev pub OneOrThree : List ℕ → List ℕ → Ended → Type 0
@@ -64,7 +65,7 @@ module _ (b ns : List ℕ) (l : Lends 8 b) where
 
   -- a call that judges the whole store gives the number of check
   whole : (c : Asked) (n : ℕ) → judged 4 b ≡ verdict (suc n) 0 → judgesWhole c ≡ true → Refuses (suc n) b ns (endedBy 4 c b ns)
-  unfolding Lent.openLent Lent.commitLent Lent.abandonLent Lent.insertLent Lent.deleteLent Lent.lent Lent.returnLent Lent.visitsLent Lent.differenceLent Lent.lifeLent
+  unfolding Lent.openLent Lent.commitLent Lent.abandonLent Lent.insertLent Lent.deleteLent Lent.lent Lent.returnLent Lent.visitsLent Lent.differenceLent Lent.lifeLent Lent.stateLent
   whole toCheck n e j = rw e (record { number = refl; untouched = record { store = refl; list = refl }; zeros = refl })
   whole toOpen n e j = rw e (record { number = refl; untouched = record { store = refl; list = refl }; zeros = refl })
   whole toCommit n e j = rw e (record { number = refl; untouched = record { store = refl; list = refl }; zeros = refl })
@@ -75,6 +76,7 @@ module _ (b ns : List ℕ) (l : Lends 8 b) where
   whole (toVisits k v) n e j = rw e (record { number = refl; untouched = record { store = refl; list = refl }; zeros = refl })
   whole (toDifference u v) n e j = rw e (record { number = refl; untouched = record { store = refl; list = refl }; zeros = refl })
   whole (toLife k) n e j = rw e (record { number = refl; untouched = record { store = refl; list = refl }; zeros = refl })
+  whole toState n e j = rw e (record { number = refl; untouched = record { store = refl; list = refl }; zeros = refl })
   whole toFresh n e j = absurd (true≢false (sym j))
   whole toFreshSecond n e j = absurd (true≢false (sym j))
   whole (toLookup k v) n e j = absurd (true≢false (sym j))
@@ -115,3 +117,4 @@ module _ (b ns : List ℕ) (l : Lends 8 b) where
   old-programs (toVisits k v) m = by-whole (toVisits k v) refl
   old-programs (toDifference u v) m = by-whole (toDifference u v) refl
   old-programs (toLife k) m = by-whole (toLife k) refl
+  old-programs toState m = by-whole toState refl

@@ -26,12 +26,14 @@ use Rattle.model.specs.Told
 use Rattle.model.specs.Visited
 use Rattle.model.specs.Differ
 use Rattle.model.specs.Life
+use Rattle.model.specs.State
+use Rattle.model.specs.State.{stateNumbers, untold}
 use Rattle.model.specs.Near
 use Rattle.model.specs.Return
 use Rattle.model.specs.Return.{Ran, reached, stopped, carried, Came, gave, gaveUp, lacking, orAbandoned, returnTests, unless}
-use Rattle.model.specs.Ended.{Asked, toFresh, toFreshSecond, toCheck, toOpen, toCommit, toAbandon, toInsert, toDelete, toReturn, toLookup, toRange, toLife, toDifference, toVisits, Ended, endedBy, Meets, Untouched, Excepted, Named, Zeros}
+use Rattle.model.specs.Ended.{Asked, toFresh, toFreshSecond, toCheck, toOpen, toCommit, toAbandon, toInsert, toDelete, toReturn, toLookup, toRange, toLife, toDifference, toVisits, toState, Ended, endedBy, Meets, Untouched, Excepted, Named, Zeros}
 use Rattle.model.specs.Lent
-use Rattle.model.specs.Lent.{Outcome, Listed, listed, left, leftBy, judgedFirst, openLent, insertLent, deleteLent, commitLent, abandonLent, returnLent, freshLent, lookupLent, rangeLent, lifeLent, differenceLent, visitsLent}
+use Rattle.model.specs.Lent.{Outcome, Listed, listed, left, leftBy, judgedFirst, openLent, insertLent, deleteLent, commitLent, abandonLent, returnLent, freshLent, lookupLent, rangeLent, lifeLent, differenceLent, visitsLent, stateLent}
 use Rattle.model.proofs.Stops.{lacking-is}
 use Rattle.model.proofs.Editions.{ended-either}
 
@@ -161,6 +163,7 @@ leaves least (toRange lo hi v) b ns h x = record { store = refl; list = range-sa
 leaves least (toVisits k v) b ns h x = record { store = refl; list = visits-same least b k v ns h }
 leaves least (toDifference u v) b ns h x = record { store = refl; list = difference-same least b u v ns h }
 leaves least (toLife k) b ns h x = record { store = refl; list = life-same least b k ns h }
+leaves least toState b ns h x = record { store = refl; list = refl }
 
 pub refused : (c : Asked) (b ns : List ℕ) (e : Ended) → Meets c b ns e → e .number ≢ 0 → (Excepted c (e .number) → ⊥) → Untouched b ns e
 refused c b ns e m = subst Left (sym m) (ended-either b ns Left c (λ least i. leaves least c b ns) (λ n z x r h k. r .untouched))
@@ -244,6 +247,14 @@ life-blank least b k ns = at (judged least b .number)
     at zero = told-blank Life.stretchNumbers 3 _ (length ns) _
     at (suc n) = λ h k. refl
 
+state-blank : (least : ℕ) (b : List ℕ) → stateLent least b .number ≢ 0 → Zeros (stateNumbers (stateLent least b))
+unfolding Lent.stateLent State.stateOf
+state-blank least b = at (judged least b .number)
+  where
+    at : (n : ℕ) → let t = judgedFirst n untold (State.stateOf least (decode least b)) in t .number ≢ 0 → Zeros (stateNumbers t)
+    at zero h = absurd (h refl)
+    at (suc n) h = refl
+
 zero-one : (x : ℕ) → x ≡ 0 → Zeros (x ∷ [])
 zero-one x e = rw e
 
@@ -262,6 +273,7 @@ blanks least (toRange lo hi v) b ns h k = zero-one _ (range-blank least b lo hi 
 blanks least (toVisits i v) b ns h k = zero-one _ (visits-blank least b i v ns h k)
 blanks least (toDifference u v) b ns h k = zero-one _ (difference-blank least b u v ns h k)
 blanks least (toLife i) b ns h k = zero-one _ (life-blank least b i ns h k)
+blanks least toState b ns h k = state-blank least b h
 
 pub blank : (c : Asked) (b ns : List ℕ) (e : Ended) → Meets c b ns e → e .number ≢ 0 → (Named c (e .number) → ⊥) → Zeros (e .results)
 blank c b ns e m = subst Blank (sym m) (ended-either b ns Blank c (λ least i. blanks least c b ns) (λ n z x r h k. r .zeros))

@@ -6,9 +6,11 @@ use mathlib.Core.List.{List}
 use Rattle.model.specs.declared.Looked.{Looked}
 use Rattle.model.specs.declared.Looked.the-variants.{Refused}
 use Rattle.model.specs.declared.Verdict.{Verdict}
+use Rattle.model.specs.declared.State.{State}
 use Rattle.model.specs.Judged.{verdict, judged}
+use Rattle.model.specs.State.{untold}
 use Rattle.model.specs.Editions.{byEdition}
-use Rattle.model.specs.Lent.{Outcome, Listed, openLent, insertLent, deleteLent, commitLent, abandonLent, returnLent, lookupLent, rangeLent, visitsLent, differenceLent, lifeLent}
+use Rattle.model.specs.Lent.{Outcome, Listed, openLent, insertLent, deleteLent, commitLent, abandonLent, returnLent, lookupLent, rangeLent, visitsLent, differenceLent, lifeLent, stateLent}
 
 -- "Every number but 0 leaves store and list untouched", and "any result not named here is 0"
 abbrev pub outcomeAny : List ℕ → (ℕ → Outcome) → Outcome
@@ -49,6 +51,9 @@ differenceAny b u v ns = listedAny b ns (λ least. differenceLent least b u v ns
 
 unfoldable pub lifeAny : List ℕ → ℕ → List ℕ → Listed
 lifeAny b k ns = listedAny b ns (λ least. lifeLent least b k ns)
+
+unfoldable pub stateAny : List ℕ → State
+stateAny b = byEdition b untold (λ least. stateLent least b)
 
 -- what check gives
 unfoldable pub judgedAny : List ℕ → Verdict

@@ -11,15 +11,17 @@ use lib.Dec.{eqb}
 use Rattle.model.specs.Basic.{all}
 use Rattle.model.specs.declared.Looked.{Looked}
 use Rattle.model.specs.declared.Verdict.{Verdict}
+use Rattle.model.specs.declared.State.{State}
 use Rattle.model.specs.Layout.{bit}
 use Rattle.model.specs.Judged.{judged}
 use Rattle.model.specs.Calls.{lookedNumber, lookedFound, lookedValue}
-use Rattle.model.specs.Any.{openAny, insertAny, deleteAny, commitAny, abandonAny, returnAny, lookupAny, rangeAny, lifeAny, differenceAny, visitsAny, judgedAny}
-use Rattle.model.specs.Lent.{Outcome, Listed, openLent, insertLent, deleteLent, commitLent, abandonLent, returnLent, freshLent, lookupLent, rangeLent, lifeLent, differenceLent, visitsLent}
+use Rattle.model.specs.State.{stateNumbers}
+use Rattle.model.specs.Any.{openAny, insertAny, deleteAny, commitAny, abandonAny, returnAny, lookupAny, rangeAny, lifeAny, differenceAny, visitsAny, stateAny, judgedAny}
+use Rattle.model.specs.Lent.{Outcome, Listed, openLent, insertLent, deleteLent, commitLent, abandonLent, returnLent, freshLent, lookupLent, rangeLent, lifeLent, differenceLent, visitsLent, stateLent}
 
 -- the calls, with the numbers that they take
 pub data Asked : Type 0 where
-  toFresh toFreshSecond toCheck toOpen toCommit toAbandon : Asked
+  toFresh toFreshSecond toCheck toOpen toCommit toAbandon toState : Asked
   toInsert : ℕ → ℕ → Asked
   toDelete : ℕ → Asked
   toReturn : ℕ → Asked
@@ -48,6 +50,9 @@ ofLooked b ns r = record { number = lookedNumber r; results = bit (lookedFound r
 abbrev pub ofListed : List ℕ → Listed → Ended
 ofListed b r = record { number = r .number; results = r .count ∷ []; store = b; list = r .list }
 
+abbrev pub ofState : List ℕ → List ℕ → State → Ended
+ofState b ns t = record { number = t .number; results = stateNumbers t; store = b; list = ns }
+
 -- what the definitions say of a call, for any bytes lent as a store and any list; making fresh is a call for each edition, and reads nothing
 -- of the bytes but their length
 abbrev pub ended : Asked → List ℕ → List ℕ → Ended
@@ -65,6 +70,7 @@ ended (toRange lo hi v) b ns = ofListed b (rangeAny b lo hi v ns)
 ended (toVisits k v) b ns = ofListed b (visitsAny b k v ns)
 ended (toDifference u v) b ns = ofListed b (differenceAny b u v ns)
 ended (toLife k) b ns = ofListed b (lifeAny b k ns)
+ended toState b ns = ofState b ns (stateAny b)
 
 -- a call's contract, said of an outcome
 abbrev pub Meets : Asked → List ℕ → List ℕ → Ended → Type 0
@@ -87,6 +93,7 @@ endedBy least (toRange lo hi v) b ns = ofListed b (rangeLent least b lo hi v ns)
 endedBy least (toVisits k v) b ns = ofListed b (visitsLent least b k v ns)
 endedBy least (toDifference u v) b ns = ofListed b (differenceLent least b u v ns)
 endedBy least (toLife k) b ns = ofListed b (lifeLent least b k ns)
+endedBy least toState b ns = ofState b ns (stateLent least b)
 
 -- making fresh, for either edition: these calls read nothing of the bytes
 abbrev pub makes : Asked → Bool
@@ -104,6 +111,7 @@ makes (toRange lo hi v) = false
 makes (toVisits k v) = false
 makes (toDifference u v) = false
 makes (toLife k) = false
+makes toState = false
 
 -- store and list are as they were
 pub record Untouched (b ns : List ℕ) (e : Ended) : Type 0 where
@@ -130,6 +138,7 @@ Named (toRange lo hi v) n = n ≡ 14
 Named (toVisits k v) n = n ≡ 14
 Named (toDifference u v) n = n ≡ 14
 Named (toLife k) n = n ≡ 14
+Named toState n = ⊥
 
 abbrev pub Zeros : List ℕ → Type 0
 Zeros xs = all (λ (x : ℕ). eqb x 0) xs ≡ true

@@ -5,6 +5,7 @@ use mathlib.Core.List.{List, _++_}
 use lib.ListN.{length, drop}
 use Rattle.model.specs.Basic.{pick}
 use Rattle.model.specs.declared.Looked.{Looked}
+use Rattle.model.specs.declared.State.{State}
 use Rattle.model.specs.Store.{Store, fresh}
 use Rattle.model.specs.Layout.{sizeOf, encode, decode}
 use Rattle.model.specs.Judged.{lengthOk, judged}
@@ -14,6 +15,7 @@ use Rattle.model.specs.Calls.{insert, delete, begin, commit, abandon, Ra
 use Rattle.model.specs.Visited.{visits}
 use Rattle.model.specs.Differ.{difference}
 use Rattle.model.specs.Life.{lived}
+use Rattle.model.specs.State.{stateOf, untold}
 use Rattle.model.specs.Return.{Came, gave, gaveUp, returned}
 
 -- the number that a call gives, and the store's bytes after it
@@ -94,3 +96,7 @@ differenceLent least b u v ns =
 unfoldable pub lifeLent : ℕ → List ℕ → ℕ → List ℕ → Listed
 lifeLent least b k ns =
     judgedFirst (judged least b .number) (λ n. record { number = n; count = 0; list = ns }) (listed ns (lived (decode least b) k (length ns)))
+
+-- it is refused by judging alone
+unfoldable pub stateLent : ℕ → List ℕ → State
+stateLent least b = judgedFirst (judged least b .number) untold (stateOf least (decode least b))

@@ -20,6 +20,7 @@ pub mod Settings
 pub mod Histories
 pub mod Field
 pub mod Layout
+pub mod State
 pub mod Clean
 pub mod Quick
 pub mod Counted

@@ -12,6 +12,7 @@ use Rattle.model.specs.Calls
 use Rattle.model.specs.Told
 use Rattle.model.specs.Visited
 use Rattle.model.specs.Life
+use Rattle.model.specs.State
 use Rattle.model.specs.Sound
 use Rattle.model.specs.Sound.{sound}
 use Rattle.model.specs.Field
@@ -27,7 +28,7 @@ use Rattle.model.specs.Return
 use Rattle.model.specs.GoingBack.{goingBack}
 use Rattle.model.specs.Vectors.{freshBytes, freshSecondBytes, entryForty, fortyBytes, fortyPage, fortyHead, fortySecondHead}
 use Rattle.model.specs.Figures.{Figure, made, figures}
-use Rattle.model.specs.Samples.{twoLevels, fromElsewhere, served, visited, visitedPages}
+use Rattle.model.specs.Samples.{twoLevels, fromElsewhere, served, visited, visitedPages, states, statesTold}
 use Rattle.model.specs.Differ
 use Rattle.model.specs.Signed.{asked, answered, signed, byHand}
 use Rattle.model.specs.Lifetimes.{lifetimes}
@@ -184,3 +185,8 @@ signed-by-hand = refl
 pub samples-visited : visited ≡ visitedPages
 unfolding Visited.visits Told.toldBy Told.toldIn
 samples-visited = refl
+
+-- what they tell of themselves
+pub samples-told : states ≡ statesTold
+unfolding State.stateOf
+samples-told = refl

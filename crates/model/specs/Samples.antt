@@ -2,13 +2,14 @@
 -- Assumes nothing.
 use Prim.Native.Nat.{ℕ}
 use mathlib.Core.Bool.{true}
-use mathlib.Core.List.{List, [], _∷_, _++_}
+use mathlib.Core.List.{List, [], _∷_, _++_, map}
 use lib.ListN.{replicate}
 use Rattle.model.specs.Entry.{alive}
 use Rattle.model.specs.Page.{free}
-use Rattle.model.specs.Store.{Store}
+use Rattle.model.specs.Store.{Store, fresh}
 use Rattle.model.specs.Calls.{Ranged}
 use Rattle.model.specs.Visited.{visits}
+use Rattle.model.specs.State.{stateOf, stateNumbers}
 use Rattle.model.specs.Histories.{inserts, deletes}
 use Rattle.model.specs.Replay.{History, gives, looks}
 use Rattle.model.specs.declared.Looked.the-variants.{Value, Absent}
@@ -74,3 +75,13 @@ abbrev pub visitedPages : List Ranged
 visitedPages =
     told 0 2 (8 ∷ 7 ∷ []) ∷ told 0 2 (8 ∷ 9 ∷ []) ∷ told 0 2 (8 ∷ 10 ∷ []) ∷ told 0 1 (5 ∷ []) ∷ told 14 2 []
     ∷ told 5 0 [] ∷ told 6 0 [] ∷ []
+
+-- What the two tell of themselves, and two fresh stores, the smallest and one of edition 2: pages, current version, whether an update is
+-- open, roots used, edition, free pages.
+abbrev pub states : List (List ℕ)
+states = map stateNumbers (stateOf 4 twoLevels ∷ stateOf 4 fromElsewhere ∷ stateOf 4 (fresh 6) ∷ stateOf 8 (fresh 64) ∷ [])
+
+abbrev pub statesTold : List (List ℕ)
+statesTold =
+    (16 ∷ 1 ∷ 1 ∷ 2 ∷ 1 ∷ 5 ∷ []) ∷ (12 ∷ 3 ∷ 1 ∷ 5 ∷ 1 ∷ 3 ∷ []) ∷ (6 ∷ 0 ∷ 0 ∷ 1 ∷ 1 ∷ 0 ∷ []) ∷ (64 ∷ 0 ∷ 0 ∷ 1 ∷ 2 ∷ 58 ∷ [])
+    ∷ []

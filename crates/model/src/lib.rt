@@ -55,6 +55,18 @@ pub struct Verdict {
     pub rule: u32,
 }
 
+// What a store tells of itself: number of pages, current version, whether an update is open, slots used, edition, free pages; or the
+// number of a refusal, and then all of them 0.
+pub struct State {
+    pub number: u32,
+    pub pages: u32,
+    pub current: u32,
+    pub opened: bool,
+    pub roots: u32,
+    pub edition: u32,
+    pub free: u32,
+}
+
 // What a lookup answers: the value, that the key is absent, or the number of a refusal.
 pub enum Looked {
     Value(u32),

@@ -52,12 +52,15 @@ use Rattle.host.proofs.rcst_convert.Met as rcst-convert-met
 use Rattle.host.proofs.rcst_life as rcst-life
 use Rattle.host.proofs.rcst_life.Symbol as rcst-life-code
 use Rattle.host.proofs.rcst_life.Met as rcst-life-met
+use Rattle.host.proofs.rcst_state as rcst-state
+use Rattle.host.proofs.rcst_state.Symbol as rcst-state-code
+use Rattle.host.proofs.rcst_state.Met as rcst-state-met
 use Rattle.promises.specs.Accepts.{Accepts}
 use Rattle.promises.specs.Demand1.{TurnedAway}
 use Rattle.promises.specs.Converts.{Converted, Emptied, Lacks}
 use Rattle.promises.proofs.Promises as promises
 use Rattle.offered.specs.Promised.{Promised, gave, Conversion}
-use Rattle.offered.specs.Offered.{Fresh, FreshSecond, Check, Open, Insert, Delete, Commit, Abandon, Return, Lookup, Range, Visits, Difference, Life, Convert, AllOffered}
+use Rattle.offered.specs.Offered.{Fresh, FreshSecond, Check, Open, Insert, Delete, Commit, Abandon, Return, Lookup, Range, Visits, Difference, Life, State, Convert, AllOffered}
 use Rattle.offered.proofs.Passing.{by-one, by-two, by-three}
 
 -- what meets a call's contract has all that is promised of the call
@@ -94,6 +97,9 @@ two-told b ns x y z = λ i. gave (x i) (y i ∷ z i ∷ []) b ns
 list-told : {n m c k : ℕ} {ns ms : List ℕ} (b : List ℕ) → n ≡ m → c ≡ k → ns ≡ ms → gave n (c ∷ []) b ns ≡ gave m (k ∷ []) b ms
 list-told b x y z = λ i. gave (x i) (y i ∷ []) b (z i)
 
+all-told : {n m : ℕ} {rs ts : List ℕ} (b ns : List ℕ) → n ≡ m → rs ≡ ts → gave n rs b ns ≡ gave m ts b ns
+all-told b ns x y = ap₂ (λ (i : ℕ) (us : List ℕ). gave i us b ns) x y
+
 -- ---- each function
 
 pub all-offered : {M : Type 1} → AllOffered M
@@ -112,5 +118,6 @@ all-offered = record {
   visits = by-three rcst-visits.ended rcst-visits-code.routine Visits _ _ _ rcst-visits-met.met (λ κs a r e x y z. promised _ _ _ _ (list-told _ x y z));
   difference = by-three rcst-difference.ended rcst-difference-code.routine Difference _ _ _ rcst-difference-met.met (λ κs a r e x y z. promised _ _ _ _ (list-told _ x y z));
   convert = by-one rcst-convert.ended rcst-convert-code.routine Convert _ rcst-convert-met.met (λ κs a r e x. conversion _ _ _ _ x);
+  state = by-two rcst-state.ended rcst-state-code.routine State _ _ rcst-state-met.met (λ κs a r e x y ns. promised _ _ ns _ (all-told _ ns x y));
   life = by-three rcst-life.ended rcst-life-code.routine Life _ _ _ rcst-life-met.met (λ κs a r e x y z. promised _ _ _ _ (list-told _ x y z));
 }

@@ -4,7 +4,7 @@
 use Prim.Native.Nat.{ℕ}
 use mathlib.Core.List.{List, [], _∷_}
 use denote.Ref.{now}
-use Rattle.model.specs.Ended.{toFresh, toFreshSecond, toCheck, toOpen, toCommit, toAbandon, toInsert, toDelete, toReturn, toLookup, toRange, toVisits, toDifference, toLife}
+use Rattle.model.specs.Ended.{toFresh, toFreshSecond, toCheck, toOpen, toCommit, toAbandon, toInsert, toDelete, toReturn, toLookup, toRange, toVisits, toDifference, toLife, toState}
 use Rattle.host.proofs.rcst_fresh as rcst-fresh
 use Rattle.host.proofs.rcst_fresh.Symbol as rcst-fresh-code
 use Rattle.host.proofs.rcst_fresh_second as rcst-fresh-second
@@ -35,6 +35,8 @@ use Rattle.host.proofs.rcst_convert as rcst-convert
 use Rattle.host.proofs.rcst_convert.Symbol as rcst-convert-code
 use Rattle.host.proofs.rcst_life as rcst-life
 use Rattle.host.proofs.rcst_life.Symbol as rcst-life-code
+use Rattle.host.proofs.rcst_state as rcst-state
+use Rattle.host.proofs.rcst_state.Symbol as rcst-state-code
 use Rattle.offered.specs.Does.{Says, Does}
 use Rattle.offered.specs.Promised.{Promised, gave, Conversion}
 
@@ -80,6 +82,9 @@ Difference κs a r e = Promised (toDifference (a .1 .0) (a .1 .1 .0)) (now (a .0
 abbrev pub Life : Says rcst-life.ended
 Life κs a r e = Promised (toLife (a .1 .0)) (now (a .0)) (now (a .1 .1 .0)) (gave r (now (e .1 .1 .1 .0) ∷ []) (now (a .0)) (now (e .1 .1 .0)))
 
+abbrev pub State : Says rcst-state.ended
+State κs a r e = (ns : List ℕ) → Promised toState (now (a .0)) ns (gave r (now (e .1 .0)) (now (a .0)) ns)
+
 abbrev pub Convert : Says rcst-convert.ended
 Convert κs a r e = Conversion (now (a .0)) (now (a .1 .0)) r (now (e .1 .0))
 
@@ -99,4 +104,5 @@ pub record AllOffered (M : Type 1) : Type 2 where
   pub visits : Does rcst-visits.ended rcst-visits-code.routine Visits M
   pub difference : Does rcst-difference.ended rcst-difference-code.routine Difference M
   pub life : Does rcst-life.ended rcst-life-code.routine Life M
+  pub state : Does rcst-state.ended rcst-state-code.routine State M
   pub convert : Does rcst-convert.ended rcst-convert-code.routine Convert M

@@ -23,21 +23,23 @@ use Rattle.model.specs.Differ
 use Rattle.model.specs.Differ.{differ, deltaNumbers, difference}
 use Rattle.model.specs.Life
 use Rattle.model.specs.Life.{lifeOf, lived, stretchNumbers}
+use Rattle.model.specs.State
+use Rattle.model.specs.Layout.{bit}
 use Rattle.model.specs.Return.{returnTests}
 use Rattle.model.specs.Histories.{begins, commits, abandons, inserts, deletes, returns}
 use Rattle.model.specs.Settings.{Machine}
 use Rattle.model.specs.Lent.{listed}
-use Rattle.model.specs.Ended.{toInsert, toDelete, toReturn, toLookup, toRange, toLife, toDifference, ofLooked, ofListed, ended}
+use Rattle.model.specs.Ended.{toInsert, toDelete, toReturn, toLookup, toRange, toLife, toDifference, toState, ofLooked, ofListed, ofState, Ended, ended}
 use Rattle.model.proofs.Lives.{life-ext}
 use Rattle.model.proofs.Lookups.{lookup-is, settings-rise}
 use Rattle.model.proofs.Ranges.{range-is}
 use Rattle.promises.specs.Accepts.{storeOf}
 use Rattle.promises.specs.Beside.{Beside}
-use Rattle.promises.specs.Answers.{lastIn, lookupTests, rangeTests, differenceTests, openTests, endTests, commitTests, lookedIn, rangedFrom, livedIn, toldFrom, aliveIn, unchangedIn, Gives, Answers, lifeTests}
+use Rattle.promises.specs.Answers.{lastIn, lookupTests, rangeTests, differenceTests, openTests, endTests, commitTests, lookedIn, rangedFrom, livedIn, toldFrom, aliveIn, unchangedIn, Gives, Stands, Answers, lifeTests}
 use Rattle.promises.proofs.High.{begin-number, commit-number, abandon-number, insert-number, delete-number, return-number}
 use Rattle.promises.proofs.Known.{four}
 use Rattle.promises.proofs.Lending.{change-number}
-use Rattle.promises.proofs.Sounding.{lookup-lent, range-lent, difference-lent, life-lent}
+use Rattle.promises.proofs.Sounding.{lookup-lent, range-lent, difference-lent, life-lent, state-lent}
 use Rattle.promises.proofs.Agreed.{Agreed}
 
 module _ (x : Beside) (a : Agreed x) where
@@ -136,6 +138,13 @@ module _ (x : Beside) (a : Agreed x) where
   life-answers : (k : ℕ) (ns : List ℕ) → ended (toLife k) (x .bytes) ns ≡ ofListed (x .bytes) (listed ns (livedIn m k (length ns)))
   life-answers k ns = ap (ofListed (x .bytes)) (life-lent (x .bytes) (a .accepted) k ns ∙ ap (listed ns) (lived-here k (length ns)))
 
+  -- ---- the state
+
+  state-answers : (ns : List ℕ) → Stands m (ended toState (x .bytes) ns)
+  unfolding State.stateOf
+  state-answers ns = subst (λ (e : Ended). Stands m e) (sym (ap (ofState (x .bytes) ns) (state-lent (x .bytes) (a .accepted))))
+      (record { number = refl; current = a .agrees .current; opened = ap bit (a .agrees .opened) })
+
   -- ---- numbers
 
   alive-here : s .opened ≡ true → (k : ℕ) → k < keyLimit → isSome (lookup s k (next s)) ≡ aliveIn m k
@@ -196,6 +205,7 @@ module _ (x : Beside) (a : Agreed x) where
     range = range-answers;
     difference = difference-answers;
     life = life-answers;
+    state = state-answers;
     order = λ v h. ap (inOrder (λ (p q : Pair). ltb (p .key) (q .key))) (sym (a .agrees .shows v (omega (arith, last-is)))) ∙ settings-rise l two s (a .agrees .is-sound) v (omega (arith, last-is));
     count = λ v h. ap (λ (us : List Pair). length us + x .tally .removed v) (sym (a .agrees .shows v (omega (arith, last-is)))) ∙ a .counts .is v (omega (arith, last-is));
     opens = λ ns. change-number (x .bytes) (a .accepted) begins ns ∙ begin-number l s ∙ ap₂ (λ (o : Bool) (n : ℕ). firstOf (openTests o n)) (a .agrees .opened) (a .agrees .current);

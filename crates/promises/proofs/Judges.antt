@@ -29,11 +29,13 @@ use Rattle.model.specs.Visited.{pageNumber}
 use Rattle.model.specs.Differ
 use Rattle.model.specs.Differ.{differ, deltaNumbers, tooLate, difference}
 use Rattle.model.specs.Life
+use Rattle.model.specs.State
+use Rattle.model.specs.State.{stateOf, untold}
 use Rattle.model.specs.Return.{Came, gave, gaveUp, returned}
 use Rattle.model.specs.Histories.{begins, commits, abandons, inserts, deletes, returns}
 use Rattle.model.specs.Lent
-use Rattle.model.specs.Lent.{left, leftBy, judgedFirst, listed, freshLent, returnLent, lifeLent, differenceLent, visitsLent}
-use Rattle.model.specs.Ended.{Asked, toFresh, toFreshSecond, toCheck, toOpen, toCommit, toAbandon, toInsert, toDelete, toReturn, toLookup, toRange, toLife, toDifference, toVisits, Ended, ofOutcome, ended, endedBy, makes}
+use Rattle.model.specs.Lent.{left, leftBy, judgedFirst, listed, freshLent, returnLent, lifeLent, differenceLent, visitsLent, stateLent}
+use Rattle.model.specs.Ended.{Asked, toFresh, toFreshSecond, toCheck, toOpen, toCommit, toAbandon, toInsert, toDelete, toReturn, toLookup, toRange, toLife, toDifference, toVisits, toState, Ended, ofOutcome, ended, endedBy, makes}
 use Rattle.model.proofs.Lists.{both-true, both-intro}
 use Rattle.model.proofs.Members.{bool-cases, not-both}
 use Rattle.model.proofs.Judging.{unbroken, unbroken-all, whole, broken-none}
@@ -141,6 +143,14 @@ life-past least b k ns = at (judged least b .number)
     at zero = lived-past (decode least b) k (length ns)
     at (suc j) = refl
 
+state-past : (least : ℕ) (b : List ℕ) → Past (judged least b .number) (stateLent least b .number)
+unfolding Lent.stateLent State.stateOf
+state-past least b = at (judged least b .number)
+  where
+    at : (j : ℕ) → Past j (judgedFirst j untold (stateOf least (decode least b)) .number)
+    at zero = inl refl
+    at (suc j) = refl
+
 past-same : (j : ℕ) → Past j j
 past-same zero = inl refl
 past-same (suc j) = refl
@@ -161,6 +171,7 @@ past-by least (toRange lo hi v) b ns h = absurd (not-both false h refl)
 past-by least (toVisits k v) b ns h = visits-past least b k v ns
 past-by least (toDifference u v) b ns h = difference-past least b u v ns
 past-by least (toLife k) b ns h = life-past least b k ns
+past-by least toState b ns h = state-past least b
 
 judges-makes : (c : Asked) → judgesAll c ≡ true → makes c ≡ false
 judges-makes toFresh h = absurd (not-both false h refl)
@@ -177,6 +188,7 @@ judges-makes (toRange lo hi v) h = refl
 judges-makes (toVisits k v) h = refl
 judges-makes (toDifference u v) h = refl
 judges-makes (toLife k) h = refl
+judges-makes toState h = refl
 
 -- the early number is check's and the call's
 call-past : (c : Asked) (b ns : List ℕ) → judgesAll c ≡ true → Past (judgedAny b .number) (ended c b ns .number)

@@ -20,7 +20,7 @@ use Rattle.model.specs.Histories.{Call, begins, commits, abandons, inserts, del
 use Rattle.model.specs.Settings
 use Rattle.model.specs.Lent
 use Rattle.model.specs.Lent.{Outcome, left, leftBy, judgedFirst, freshLent, returnLent}
-use Rattle.model.specs.Ended.{Asked, toFresh, toFreshSecond, toCheck, toOpen, toCommit, toAbandon, toInsert, toDelete, toReturn, toLookup, toRange, toLife, toDifference, toVisits, Ended, ofOutcome, ended, endedBy, makes}
+use Rattle.model.specs.Ended.{Asked, toFresh, toFreshSecond, toCheck, toOpen, toCommit, toAbandon, toInsert, toDelete, toReturn, toLookup, toRange, toLife, toDifference, toVisits, toState, Ended, ofOutcome, ended, endedBy, makes}
 use Rattle.model.proofs.Members.{true-holds}
 use Rattle.model.proofs.Given.{to-tests}
 use Rattle.model.proofs.Turns.{fresh-sound}
@@ -74,6 +74,7 @@ by-kind P f g h (toRange lo hi v) = h (toRange lo hi v) refl (λ b ns. refl)
 by-kind P f g h (toVisits k v) = h (toVisits k v) refl (λ b ns. refl)
 by-kind P f g h (toDifference u v) = h (toDifference u v) refl (λ b ns. refl)
 by-kind P f g h (toLife k) = h (toLife k) refl (λ b ns. refl)
+by-kind P f g h toState = h toState refl (λ b ns. refl)
 
 -- ---- a change
 

@@ -16,6 +16,7 @@ pub mod Leveled
 pub mod Roomy
 pub mod Projected
 pub mod Stays
+pub mod States
 pub mod Differences
 pub mod Stretches
 pub mod Lives

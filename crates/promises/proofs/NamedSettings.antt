@@ -31,7 +31,7 @@ use Rattle.model.specs.Any
 use Rattle.model.specs.Any.{insertAny, deleteAny, lookupAny, rangeAny}
 use Rattle.model.specs.Settings.{Machine, step, put}
 use Rattle.model.specs.Histories.{begins, commits, abandons, inserts, deletes}
-use Rattle.model.specs.Ended.{Asked, toFresh, toFreshSecond, toCheck, toOpen, toCommit, toAbandon, toInsert, toDelete, toReturn, toLookup, toRange, toVisits, toDifference, toLife, Ended, ended, Untouched, ofOutcome, ofLooked, ofListed}
+use Rattle.model.specs.Ended.{Asked, toFresh, toFreshSecond, toCheck, toOpen, toCommit, toAbandon, toInsert, toDelete, toReturn, toLookup, toRange, toVisits, toDifference, toLife, toState, Ended, ended, Untouched, ofOutcome, ofLooked, ofListed}
 use Rattle.model.specs.Kinds.{admits, knownIn, allowed, unknown}
 use Rattle.model.specs.Named.{before, insertNamed, deleteNamed, lookupNamed, allKnown, barred, rangeNamedBy, rangeNamed, ByName, byOpen, byCommit, byAbandon, byInsert, byDelete, byLookup, byRange, endedNamed}
 use Rattle.model.proofs.Lists.{all-cons, both-intro}
@@ -84,6 +84,7 @@ returning (toRange lo hi v) = 0
 returning (toVisits k v) = 0
 returning (toDifference u v) = 0
 returning (toLife k) = 0
+returning toState = 0
 
 untouched : (c : Asked) (b ns : List ℕ) → returning c ≡ 0 → ended c b ns .number ≢ 0 → Untouched b ns (ended c b ns)
 untouched c b ns e z = one.refused c b ns (ended c b ns) refl z (λ x. omega (arith, e, ap returning (x .0 .1)))

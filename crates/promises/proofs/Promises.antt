@@ -1,5 +1,5 @@
 -- The promises, each under its name: what it says stands in specs/Demand1, Demand2, Levels, Room, Demand3, in a file for each request of
--- document 02 (OldReadings, Near, Bench, Differences, Lives, Releases, Returns, Apart, Converts, LiveCounts, NamedSettings), in Replayed and Fakes.
+-- document 02 (OldReadings, Near, Bench, Differences, Lives, Releases, Returns, Apart, Converts, LiveCounts, NamedSettings), in States, Replayed and Fakes.
 -- Assumes nothing.
 use Prim.Native.Nat.{ℕ}
 use native.Mathlib.Omega.{arith}
@@ -29,6 +29,7 @@ use Rattle.promises.specs.Room.{NoRangeOutgrows}
 use Rattle.promises.specs.Demand3.{Abandoned}
 use Rattle.promises.specs.OldReadings.{PagesStay, VisitsTold, VisitsStay}
 use Rattle.promises.specs.Near.{LookupJudges, RangeJudges, OffTheWalk, SoundSame}
+use Rattle.promises.specs.States.{StateTold}
 use Rattle.promises.specs.Differences.{DifferenceGiven, DifferenceSays, DifferenceNone, DifferenceExchanged, DifferenceStays}
 use Rattle.promises.specs.Lives.{LifeGiven, LivesAgree, StretchesApart, OpenUnshown, LeftAlone}
 use Rattle.promises.specs.Replayed.{TableLent}
@@ -52,6 +53,7 @@ use Rattle.promises.proofs.Stays as stays
 use Rattle.promises.proofs.Near as near
 use Rattle.promises.proofs.OffWalk as off
 use Rattle.promises.proofs.Sounding as sounding
+use Rattle.promises.proofs.States as states
 use Rattle.promises.proofs.Differences as differ
 use Rattle.promises.proofs.Lives as lives
 use Rattle.promises.proofs.Restored as restored
@@ -213,6 +215,11 @@ off-the-walk = off.off-the-walk
 
 pub sound-same : SoundSame
 sound-same = sounding.sound-same
+
+-- ---- what a store tells of itself
+
+pub state-told : StateTold
+state-told = states.state-told found
 
 -- ---- what differs between two versions
 

@@ -9,16 +9,18 @@ use borrow.Author.Tests.{eq-eqb}
 use Rattle.model.specs.Limits.{limits, Edition}
 use Rattle.model.specs.declared.Looked.{Looked}
 use Rattle.model.specs.declared.Looked.the-variants.{Refused}
+use Rattle.model.specs.declared.State.{State}
 use Rattle.model.specs.Judged.{judged, isSound}
 use Rattle.model.specs.Editions.{leastOf}
 use Rattle.model.specs.Calls.{get, range}
 use Rattle.model.specs.Visited.{visits}
 use Rattle.model.specs.Differ.{difference}
 use Rattle.model.specs.Life.{lived}
+use Rattle.model.specs.State.{stateOf, untold}
 use Rattle.model.specs.Lent
-use Rattle.model.specs.Lent.{judgedFirst, Listed, listed, lookupLent, rangeLent, visitsLent, differenceLent, lifeLent}
+use Rattle.model.specs.Lent.{judgedFirst, Listed, listed, lookupLent, rangeLent, visitsLent, differenceLent, lifeLent, stateLent}
 use Rattle.model.specs.Any
-use Rattle.model.specs.Any.{lookupAny, rangeAny, visitsAny, differenceAny, lifeAny}
+use Rattle.model.specs.Any.{lookupAny, rangeAny, visitsAny, differenceAny, lifeAny, stateAny}
 use Rattle.model.specs.Ended.{ofLooked, ofListed}
 use Rattle.model.proofs.Editions.{goes}
 use Rattle.near.specs.Same.{lookup-same, range-same}
@@ -61,6 +63,12 @@ module _ (b : List ℕ) (ok : Accepts b) where
   pub life-lent : (k : ℕ) (ns : List ℕ) → lifeAny b k ns ≡ listed ns (lived (storeOf b) k (length ns))
   unfolding Any.lifeAny Lent.lifeLent
   life-lent k ns = told-by ns (λ (l : ℕ). lifeLent l b k ns) ∙ judged-first ns (listed ns (lived (storeOf b) k (length ns)))
+
+  pub state-lent : stateAny b ≡ stateOf (leastOf b) (storeOf b)
+  unfolding Any.stateAny Lent.stateLent
+  state-lent =
+      goes {A = State} b untold (λ (l : ℕ). stateLent l b) (known b ok)
+      ∙ ap (λ (m : ℕ). judgedFirst m untold (stateOf (leastOf b) (storeOf b))) (judged-by b ok)
 
 pub sound-same : SoundSame
 sound-same = record {

@@ -22,7 +22,7 @@ use Rattle.model.specs.Editions.{leastOf}
 use Rattle.model.specs.Histories.{Call, begins, commits, abandons, inserts, deletes, returns, callBy, after}
 use Rattle.model.specs.Settings.{Machine, put, step}
 use Rattle.model.specs.Lent.{Outcome, freshLent}
-use Rattle.model.specs.Ended.{Asked, toFresh, toFreshSecond, toCheck, toOpen, toCommit, toAbandon, toInsert, toDelete, toReturn, toLookup, toRange, toVisits, toDifference, toLife, ended}
+use Rattle.model.specs.Ended.{Asked, toFresh, toFreshSecond, toCheck, toOpen, toCommit, toAbandon, toInsert, toDelete, toReturn, toLookup, toRange, toVisits, toDifference, toLife, toState, ended}
 use Rattle.model.proofs.Lists.{all-cons}
 use Rattle.model.proofs.Members.{true-holds, either-left, either-right, bool-cases, In, all-by}
 use Rattle.model.proofs.Given.{to-tests}
@@ -128,6 +128,7 @@ module _ (b : List ℕ) (r : Ruled) (ok : Accepts b) (i : Holds b r) where
   holds-on (toVisits k v) f ns = i
   holds-on (toDifference u v) f ns = i
   holds-on (toLife k) f ns = i
+  holds-on toState f ns = i
 
 -- the bytes hold the store that the rules make, the machine agrees with it, and they are bytes where those lent were
 record Stands (b : List ℕ) (x : Beside) (r : Ruled) : Type 0 where

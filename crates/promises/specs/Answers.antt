@@ -6,7 +6,7 @@ use mathlib.Core.Path.{_≡_}
 use mathlib.Core.Logic.{_⊎_}
 use mathlib.Core.List.{List, [], _∷_}
 use lib.Dec.{leb, ltb}
-use lib.ListN.{length}
+use lib.ListN.{length, getD}
 use Rattle.model.specs.Basic.{inOrder}
 use Rattle.model.specs.declared.Pair.{Pair}
 use Rattle.model.specs.declared.Looked.{Looked}
@@ -19,8 +19,9 @@ use Rattle.model.specs.Differ.{differ, deltaNumbers}
 use Rattle.model.specs.Life.{lifeOf, stretchNumbers}
 use Rattle.model.specs.Return.{returnTests}
 use Rattle.model.specs.Settings.{Machine}
+use Rattle.model.specs.Layout.{bit}
 use Rattle.model.specs.Lent.{listed}
-use Rattle.model.specs.Ended.{toOpen, toCommit, toAbandon, toInsert, toDelete, toReturn, toLookup, toRange, toLife, toDifference, ended, ofLooked, ofListed}
+use Rattle.model.specs.Ended.{toOpen, toCommit, toAbandon, toInsert, toDelete, toReturn, toLookup, toRange, toLife, toDifference, toState, Ended, ended, ofLooked, ofListed}
 use Rattle.promises.specs.Accepts.{Accepts}
 use Rattle.promises.specs.Beside.{Beside}
 
@@ -91,6 +92,12 @@ abbrev pub Gives : ℕ → ℕ → Type 0
 Gives zero n = (n ≡ 0) ⊎ ((n ≡ 12) ⊎ (n ≡ 13))
 Gives (suc m) n = n ≡ suc m
 
+-- what state tells of the machine: the current version, second of its numbers, and whether an update is open, the third
+pub record Stands (m : Machine) (e : Ended) : Type 0 where
+  pub number : e .number ≡ 0
+  pub current : getD (e .results) 1 0 ≡ m .current
+  pub opened : getD (e .results) 2 0 ≡ bit (m .opened)
+
 pub record Answers (x : Beside) : Type 0 where
   pub accepted : Accepts (x .bytes)
   -- readings
@@ -98,6 +105,7 @@ pub record Answers (x : Beside) : Type 0 where
   pub range : (lo hi v : ℕ) (ns : List ℕ) → ended (toRange lo hi v) (x .bytes) ns ≡ ofListed (x .bytes) (listed ns (rangedFrom (x .machine) lo hi v (length ns)))
   pub difference : (u v : ℕ) (ns : List ℕ) → ended (toDifference u v) (x .bytes) ns ≡ ofListed (x .bytes) (listed ns (toldFrom (x .machine) u v (length ns)))
   pub life : (k : ℕ) (ns : List ℕ) → ended (toLife k) (x .bytes) ns ≡ ofListed (x .bytes) (listed ns (livedIn (x .machine) k (length ns)))
+  pub state : (ns : List ℕ) → Stands (x .machine) (ended toState (x .bytes) ns)
   -- "in key order", no key twice
   pub order : (v : ℕ) → v ≤ lastIn (x .machine) → inOrder (λ (p q : Pair). ltb (p .key) (q .key)) (x .machine .shows v) ≡ true
   -- "their number is those inserts less those deletes"

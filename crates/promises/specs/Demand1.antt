@@ -17,7 +17,7 @@ use Rattle.model.specs.Clean.{clean}
 use Rattle.model.specs.Counted.{rule8}
 use Rattle.model.specs.Judged.{lengthOk, magicOk, editionOk}
 use Rattle.model.specs.Editions.{leastOf}
-use Rattle.model.specs.Ended.{Asked, toFresh, toFreshSecond, toCheck, toOpen, toCommit, toAbandon, toInsert, toDelete, toReturn, toLookup, toRange, toVisits, toDifference, toLife, Ended, ended, Meets, Untouched, Excepted, Named, Zeros}
+use Rattle.model.specs.Ended.{Asked, toFresh, toFreshSecond, toCheck, toOpen, toCommit, toAbandon, toInsert, toDelete, toReturn, toLookup, toRange, toVisits, toDifference, toLife, toState, Ended, ended, Meets, Untouched, Excepted, Named, Zeros}
 use Rattle.promises.specs.Accepts.{Accepts, storeOf}
 
 -- ---- every call is pinned: no second outcome meets its contract
@@ -66,6 +66,7 @@ judgesAll (toRange lo hi v) = false
 judgesAll (toVisits k v) = true
 judgesAll (toDifference u v) = true
 judgesAll (toLife k) = true
+judgesAll toState = true
 
 -- these, on any bytes
 abbrev pub Judges : Type 0

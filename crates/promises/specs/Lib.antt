@@ -13,6 +13,7 @@ pub mod Levels
 pub mod Room
 pub mod Demand3
 pub mod OldReadings
+pub mod States
 pub mod Differences
 pub mod Releases
 pub mod Replayed

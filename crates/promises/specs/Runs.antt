@@ -9,7 +9,7 @@ use Rattle.model.specs.Return.{lacking}
 use Rattle.model.specs.Histories.{Call, begins, commits, abandons, inserts, deletes, returns}
 use Rattle.model.specs.Settings
 use Rattle.model.specs.Lent.{Outcome}
-use Rattle.model.specs.Ended.{Asked, toFresh, toFreshSecond, toCheck, toOpen, toCommit, toAbandon, toInsert, toDelete, toReturn, toLookup, toRange, toLife, toDifference, toVisits, Ended, ended}
+use Rattle.model.specs.Ended.{Asked, toFresh, toFreshSecond, toCheck, toOpen, toCommit, toAbandon, toInsert, toDelete, toReturn, toLookup, toRange, toLife, toDifference, toVisits, toState, Ended, ended}
 
 -- a call, and the list lent with it; each may bring another list
 pub record Turn : Type 0 where
@@ -52,6 +52,7 @@ kindOf (toRange lo hi v) = reading
 kindOf (toVisits k v) = reading
 kindOf (toDifference u v) = reading
 kindOf (toLife k) = reading
+kindOf toState = reading
 
 -- the call that asks for a change
 abbrev pub asks : Call → Asked

@@ -15,7 +15,7 @@ use Rattle.model.specs.Layout.{encode, sizeOf}
 use Rattle.model.specs.Judged.{lengthOk}
 use Rattle.model.specs.Editions.{leastOf}
 use Rattle.model.specs.Histories.{Call, begins, commits, abandons, inserts, deletes, returns, callBy, after}
-use Rattle.model.specs.Ended.{Asked, toFresh, toFreshSecond, toCheck, toOpen, toCommit, toAbandon, toInsert, toDelete, toReturn, toLookup, toRange, toVisits, toDifference, toLife}
+use Rattle.model.specs.Ended.{Asked, toFresh, toFreshSecond, toCheck, toOpen, toCommit, toAbandon, toInsert, toDelete, toReturn, toLookup, toRange, toVisits, toDifference, toLife, toState}
 use Rattle.promises.specs.Accepts.{storeOf}
 use Rattle.promises.specs.Runs.{Turn}
 use Rattle.promises.specs.Beside.{Beside, onward}
@@ -53,6 +53,7 @@ ruledBy b r (toRange lo hi v) = r
 ruledBy b r (toVisits k v) = r
 ruledBy b r (toDifference u v) = r
 ruledBy b r (toLife k) = r
+ruledBy b r toState = r
 
 -- ---- every state on the way, the first and the last among them
 

@@ -1,14 +1,26 @@
 //! A text file of settings, and what the library makes of its table.
 
 use host::naming::{self, Viewer};
-use host::settings::{key_of, read, table};
+use host::settings::{self, Fault, Setting};
 
 const EXAMPLE: &str = include_str!("../../../examples/settings.txt");
 
+/// The table that a text makes, and its settings.
+fn read(text: &str) -> Result<(Vec<u32>, Vec<Setting<'_>>), Fault> {
+    let mut table = vec![0; 4 * text.lines().count()];
+    let count = settings::table(text, &mut table)?;
+    table.truncate(4 * count);
+    Ok((table, settings::settings(text).collect()))
+}
+
+fn key_of(settings: &[Setting], name: &str) -> Option<u32> {
+    let setting = settings.iter().find(|setting| setting.name == name)?;
+    Some(setting.row[0])
+}
+
 #[test]
 fn the_example() {
-    let settings = read(EXAMPLE).expect("a right text");
-    let table = table(&settings);
+    let (table, settings) = read(EXAMPLE).expect("a right text");
     let rows: [u32; 16] = [
         40,
         0,
@@ -59,9 +71,12 @@ fn faults_by_line() {
     assert_eq!(fault("4294967296 a switch"), 1);
     assert_eq!(fault("1 a whole 0 9 mA mA"), 1);
     assert_eq!(fault("1 a"), 1);
-    assert_eq!(read(""), Ok(vec![]));
+    assert_eq!(fault("1 2 switch"), 1);
+    assert_eq!(read(""), Ok((vec![], vec![])));
+    let (table, _) = read("1 a level -inf inf m/s").unwrap();
+    assert_eq!(table[2], 0xFF80_0000);
     assert_eq!(
-        read("1 a level -inf inf m/s").unwrap()[0].row[2],
-        0xFF80_0000
+        settings::table("1 a switch\n2 b switch", &mut [0; 4]).map_err(|fault| fault.line),
+        Err(2)
     );
 }

@@ -196,21 +196,21 @@ impl<'a> Viewer<'a> {
     /// The number and the count of settings from low to high; these go to the
     /// list, if every key is known.
     pub fn range(self, low: u32, high: u32, list: &mut [u32]) -> (u32, usize) {
-        let mut count = 0;
-        let number = unsafe {
+        let (bytes, length) = (self.store.as_ptr(), self.store.len());
+        let (table, numbers) = (self.table.as_ptr(), self.table.len());
+        crate::counted(list, |list, room, count| unsafe {
             c::rcst_view_range(
-                self.store.as_ptr(),
-                self.store.len(),
+                bytes,
+                length,
                 self.version,
-                self.table.as_ptr(),
-                self.table.len(),
+                table,
+                numbers,
                 low,
                 high,
-                list.as_mut_ptr(),
-                list.len(),
-                &mut count,
+                list,
+                room,
+                count,
             )
-        };
-        (number, count)
+        })
     }
 }

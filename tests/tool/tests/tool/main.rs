@@ -1,0 +1,11 @@
+//! Every command of the administrator's tool, and everything that can go wrong.
+
+mod commands;
+mod day;
+mod dumps;
+mod kills;
+mod names;
+mod pictures;
+mod places;
+mod refusals;
+mod second;
