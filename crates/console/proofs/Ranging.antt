@@ -21,7 +21,7 @@ use Rattle.lines.specs.declared.Answer.the-variants.{Refused, Count}
 use Rattle.lines.specs.declared.Command.the-variants.{Range}
 use Rattle.lines.specs.Session as Session
 use Rattle.lines.specs.Session.{settings, ranged, said}
-use Rattle.console.specs.Obeys.{storeIn, Replies}
+use Rattle.console.specs.Obeys.{storeIn, Sure, Replies}
 
 -- a range that is done wrote two numbers a setting, and they have room
 abbrev Roomy : ℕ → Ranged → Type 0
@@ -78,15 +78,16 @@ module _ (bytes : List ℕ) (pages lo hi v : ℕ) (ns list : List ℕ) (r : Coun
   refused-by zero z = absurd (z refl)
   refused-by (suc n) z = refl
 
-  pub range-refused : (r .number ≡ 0 → ⊥)
+  pub range-refused : Sure bytes pages → (r .number ≡ 0 → ⊥)
       → Replies (said 4 (storeIn bytes pages) (Range lo hi v)) bytes list (record { pages = pages; answer = Refused (r .number); count = 0 })
-  range-refused z = record { store = store; answers = sym answers ∙ refused-by (r .number) z; listed = omega arith; pages = few }
+  range-refused s z = record { store = store; answers = sym answers ∙ refused-by (r .number) z; listed = omega arith; pages = few; sure = s }
 
-  pub range-done : r .number ≡ 0
+  pub range-done : Sure bytes pages → r .number ≡ 0
       → Replies (said 4 (storeIn bytes pages) (Range lo hi v)) bytes list (record { pages = pages; answer = Count (r .count); count = r .count })
-  range-done z = record {
+  range-done s z = record {
     store = store;
     answers = sym answers ∙ ap (λ (n : ℕ). Session.rangedBy n (r .count) list) z;
     listed = count-fits z;
     pages = few;
+    sure = s;
   }

@@ -31,7 +31,7 @@ returns c =
     let r = c .before .before .before .before .range in
     let l = c .before .before .before .before .before .before .before .edition-one in
     let four : l .result .least ≡ 4 = ap (λ (x : Limits). x .least) (l .ensures) in
-    range-refused (a .bytes .now) (a .pages) (a .low) (a .high) (a .v) (a .list .now) (r .last .1 .1 .1 .1 .1 .0) (r .result) (omega arith) (omega arith) (rw four at (r .ensures)) (c .if1 .taken)
+    range-refused (a .bytes .now) (a .pages) (a .low) (a .high) (a .v) (a .list .now) (r .last .1 .1 .1 .1 .1 .0) (r .result) (omega arith) (omega arith) (rw four at (r .ensures)) (c .before .before .before .before .before .before .before .before .before .before .pre .3) (c .if1 .taken)
 
 cast-t16 : tie.Need-cast-t16
 cast-t16 c =
@@ -51,7 +51,7 @@ returns-2 c =
     let r = c .before .before .before .before .before .range in
     let l = c .before .before .before .before .before .before .before .before .edition-one in
     let four : l .result .least ≡ 4 = ap (λ (x : Limits). x .least) (l .ensures) in
-    range-done (a .bytes .now) (a .pages) (a .low) (a .high) (a .v) (a .list .now) (r .last .1 .1 .1 .1 .1 .0) (r .result) (omega arith) (omega arith) (rw four at (r .ensures)) (c .before .if1 .left)
+    range-done (a .bytes .now) (a .pages) (a .low) (a .high) (a .v) (a .list .now) (r .last .1 .1 .1 .1 .1 .0) (r .result) (omega arith) (omega arith) (rw four at (r .ensures)) (c .before .before .before .before .before .before .before .before .before .before .before .pre .3) (c .before .if1 .left)
 
 pub range-spec : {M : Type 1} → statement M
 range-spec =
