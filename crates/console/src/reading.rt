@@ -29,7 +29,8 @@ pub(crate) fn get(key: u32, v: u32, pages: usize, bytes: &[u8]) -> Answer
     looked(calls::sure::lookup(&bytes[..e], l, key, v, 0 < pages))
 }
 
-// "with a list of 10,040 numbers, which no range there outgrows": what an earlier range left in the list makes no difference.
+// "with a list of 10,040 numbers, which no range there outgrows": what an earlier range left in the list makes no difference. "before an
+// accepted `store` .. the answer is `refused 1`".
 pub(crate) fn range(
     low: u32,
     high: u32,
@@ -41,9 +42,16 @@ pub(crate) fn range(
     requires { ⌜ (pages ≤ 256) × (length (now bytes) ≡ 65536) × (length (now list) ≡ 10040) × Sure (now bytes) pages ⌝ }
     ensures { λ r. ⌜ Replies (said 4 (storeIn (now (bytes .entry)) pages) (Range low high v)) (now (bytes .entry)) (now (list .exit)) r ⌝ }
 {
+    if pages == 0 {
+        return Reply {
+            pages,
+            answer: Answer::Refused(1),
+            count: 0,
+        };
+    }
     let l = model::edition_one();
     let e = pages * 256;
-    let r = near::range(&bytes[..e], l, low, high, v, list);
+    let r = calls::sure::range(&bytes[..e], l, low, high, v, list);
     if r.number != 0 {
         return Reply {
             pages,
