@@ -21,9 +21,10 @@ pub enum Kind {
     Releases,
     /// Ten updates a round, half of the rounds abandoned.
     Steady,
-    /// Forty versions; each tries settings out and takes most of it back.
+    /// Some forty versions; each tries settings out and takes most of it back.
     Sessions,
-    /// Eight versions of 1,250 updates.
+    /// Eight rounds of 1,250 updates. Once the store is nearly full they try
+    /// settings out, and a round that leaves nothing changed is abandoned.
     Bulk,
 }
 

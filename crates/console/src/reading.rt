@@ -59,9 +59,10 @@ pub(crate) fn range(
             count: 0,
         };
     }
+    let found = r.count as u32;
     Reply {
         pages,
-        answer: Answer::Count(r.count as u32),
+        answer: Answer::Count(found),
         count: r.count,
     }
 }

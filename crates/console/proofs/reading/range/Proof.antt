@@ -40,8 +40,8 @@ returns-2 c =
     let four : l .result .least ≡ 4 = ap (λ (x : Limits). x .least) (l .ensures) in
     range-refused (a .bytes .now) (a .pages) (a .low) (a .high) (a .v) (a .list .now) (r .last .1 .1 .1 .1 .1 .0) (r .result) (omega arith) (omega arith) (rw four at (r .ensures)) (c .before .before .before .before .before .before .before .before .before .before .before .pre .3) (c .if2 .taken)
 
-cast-t16 : tie.Need-cast-t16
-cast-t16 c =
+cast-found : tie.Need-cast-found
+cast-found c =
     let a = c .before .before .before .before .before .before .before .before .before .before .before .before .args in
     let r = c .before .before .before .before .before .range in
     let l = c .before .before .before .before .before .before .before .before .edition-one in
@@ -71,6 +71,6 @@ range-spec =
     range-requires
     same-length
     returns-2
-    cast-t16
+    cast-found
     same-length-2
     returns-3)
