@@ -3,8 +3,9 @@
 //! docs/BENCH.md has the table.
 //!
 //! The two programs take turns; a time is the processor time of a whole
-//! program, from its start to its end. Lookups are what a program takes for
-//! the updates and the lookups less what it takes for the updates alone.
+//! program, from its start to its end, and a ratio is the median of the
+//! rounds' ratios. Lookups are what a program takes for the updates and the
+//! lookups less what it takes for the updates alone.
 //! Instructions are counted by valgrind, where it is installed: they do not
 //! depend on what else the machine does.
 
@@ -115,26 +116,24 @@ impl Programs {
 /// The updates, and for each spread the lookups alone and both together.
 fn table(taken: &Times, counted: Option<&[[f64; 2]]>) {
     let count = |of: &dyn Fn(&[[f64; 2]]) -> f64| counted.map_or(String::new(), |c| times(of(c)));
-    let line = |what: &str, [console, lists]: [f64; 2], instructions: String| {
-        let ratio = times(console / lists);
-        println!(
-            "| {what} | {ratio} | {} | {} | {instructions} |",
-            told(console),
-            told(lists)
-        );
+    let line = |what: &str, ratio: f64, [console, lists]: [f64; 2], instructions: String| {
+        let (ratio, console, lists) = (times(ratio), told(console), told(lists));
+        println!("| {what} | {ratio} | {console} | {lists} | {instructions} |");
     };
-    line(
-        "10,000 updates",
-        [0, 1].map(|way| taken.of(way)),
-        count(&|c| c[0][0] / c[0][1]),
-    );
+    let whole = |what: &str, at: usize| {
+        let way = 2 * at;
+        let each = [way, way + 1].map(|way| taken.of(way));
+        let fewer = count(&|c| c[at][0] / c[at][1]);
+        line(what, taken.ratio(way, way + 1), each, fewer);
+    };
+    whole("10,000 updates", 0);
     for (place, (spread, _)) in SPREADS.iter().enumerate() {
         let (at, way) = (place + 1, 2 * (place + 1));
         let alone = [0, 1].map(|program| taken.more(way + program, program)[1]);
-        let less = |c: &[[f64; 2]]| (c[at][0] - c[0][0]) / (c[at][1] - c[0][1]);
-        line(&format!("100,000 lookups, {spread}"), alone, count(&less));
-        let whole = [0, 1].map(|program| taken.of(way + program));
-        line("both", whole, count(&|c| c[at][0] / c[at][1]));
+        let ratio = taken.ratio_of_more([way, 0], [way + 1, 1]);
+        let fewer = count(&|c| (c[at][0] - c[0][0]) / (c[at][1] - c[0][1]));
+        line(&format!("100,000 lookups, {spread}"), ratio, alone, fewer);
+        whole("both", at);
     }
 }
 
