@@ -1,5 +1,6 @@
 pub mod Guard
 pub mod Reading
+pub mod Looking
 pub mod Living
 pub mod Turning
 pub mod Committing

@@ -1,11 +1,13 @@
 // The calls, for any bytes and any numbers lent: each is its guard, which judges the store and then goes through the call's
 // refusals in order, and a core that rests on a sound store. Lookup and range judge only what they read, and are near's. Below they
-// are given the limits of an edition; offered are those of any.rt, which go by the edition lent.
+// are given the limits of an edition; offered are those of any.rt, which go by the edition lent. A caller that is sure of its store
+// has sure.rt.
 mod any;
 mod differing;
 mod living;
 mod returning;
 mod stating;
+pub mod sure;
 mod updating;
 mod visiting;
 
@@ -27,13 +29,25 @@ pub use updating::delete_in;
 pub use updating::insert_in;
 ghost use mathlib.Core.Path.{_≡_};
 ghost use Rattle.model.specs.Limits.{Edition};
+ghost use Rattle.model.specs.Judged.{judged};
 ghost use Rattle.model.specs.Lent.{leaving, openLent, commitLent, abandonLent};
-ghost use Rattle.calls.specs.Guard.{guarded};
+ghost use Rattle.calls.specs.Guard.{guarded, Sure};
 ghost use Rattle.calls.specs.Reading.{reading};
 ghost use Rattle.calls.specs.Turning.{opening, closing, committing};
 
 // "Versions are 0 to 1,048,574."
 const LAST: u32 = 1048574;
+
+// The number of judging, which a caller that is sure of a sound store is spared.
+fn judge(s: &[u8], l: Limits, sure: bool) -> u32
+    requires { ⌜ Edition l × Sure l (now s) sure ⌝ }
+    ensures { λ r. ⌜ r ≡ judged (l .least) (now (s .entry)) .number ⌝ }
+{
+    if sure {
+        return 0;
+    }
+    quick::number(s, l)
+}
 
 // The guard of visits and difference: judging, then 5 where the key is wrong, then 6. Offered to callers that read many
 // times from a store that nobody writes in between.
@@ -56,11 +70,11 @@ pub fn guard_reading(s: &[u8], l: Limits, bad: bool, v: u32) -> u32
 }
 
 // The guard of open: judging, then 8 and 9.
-fn guard_opening(s: &[u8], l: Limits) -> u32
-    requires { ⌜ Edition l ⌝ }
+fn guard_opening(s: &[u8], l: Limits, sure: bool) -> u32
+    requires { ⌜ Edition l × Sure l (now s) sure ⌝ }
     ensures { λ r. ⌜ r ≡ guarded (l .least) (now (s .entry)) opening ⌝ }
 {
-    let n = quick::number(s, l);
+    let n = judge(s, l, sure);
     if n != 0 {
         return n;
     }
@@ -75,11 +89,11 @@ fn guard_opening(s: &[u8], l: Limits) -> u32
 }
 
 // The guard of abandon: judging, then 7.
-fn guard_closing(s: &[u8], l: Limits) -> u32
-    requires { ⌜ Edition l ⌝ }
+fn guard_closing(s: &[u8], l: Limits, sure: bool) -> u32
+    requires { ⌜ Edition l × Sure l (now s) sure ⌝ }
     ensures { λ r. ⌜ r ≡ guarded (l .least) (now (s .entry)) closing ⌝ }
 {
-    let n = quick::number(s, l);
+    let n = judge(s, l, sure);
     if n != 0 {
         return n;
     }
@@ -91,11 +105,11 @@ fn guard_closing(s: &[u8], l: Limits) -> u32
 }
 
 // The guard of commit: abandon's, then 15.
-fn guard_committing(s: &[u8], l: Limits) -> u32
-    requires { ⌜ Edition l ⌝ }
+fn guard_committing(s: &[u8], l: Limits, sure: bool) -> u32
+    requires { ⌜ Edition l × Sure l (now s) sure ⌝ }
     ensures { λ r. ⌜ r ≡ guarded (l .least) (now (s .entry)) committing ⌝ }
 {
-    let n = guard_closing(s, l);
+    let n = guard_closing(s, l, sure);
     if n != 0 {
         return n;
     }
@@ -111,12 +125,7 @@ pub fn open_in(s: &mut [u8], l: Limits) -> u32
     requires { ⌜ Edition l ⌝ }
     ensures { λ r. ⌜ leaving r (now (s .exit)) ≡ openLent (l .least) (now (s .entry)) ⌝ }
 {
-    let n = guard_opening(s, l);
-    if n != 0 {
-        return n;
-    }
-    turn::begin(s, l);
-    0
+    sure::open(s, l, false)
 }
 
 // Commits the open update, unless its settings are the current version's.
@@ -124,12 +133,7 @@ pub fn commit_in(s: &mut [u8], l: Limits) -> u32
     requires { ⌜ Edition l ⌝ }
     ensures { λ r. ⌜ leaving r (now (s .exit)) ≡ commitLent (l .least) (now (s .entry)) ⌝ }
 {
-    let n = guard_committing(s, l);
-    if n != 0 {
-        return n;
-    }
-    turn::commit(s, l);
-    0
+    sure::commit(s, l, false)
 }
 
 // Abandons the open update.
@@ -137,10 +141,5 @@ pub fn abandon_in(s: &mut [u8], l: Limits) -> u32
     requires { ⌜ Edition l ⌝ }
     ensures { λ r. ⌜ leaving r (now (s .exit)) ≡ abandonLent (l .least) (now (s .entry)) ⌝ }
 {
-    let n = guard_closing(s, l);
-    if n != 0 {
-        return n;
-    }
-    turn::abandon(s, l);
-    0
+    sure::abandon(s, l, false)
 }

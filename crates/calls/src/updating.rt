@@ -1,4 +1,4 @@
-// Insert and delete: their guard, and then the core.
+// Insert and delete by their guard.
 use model::Limits;
 use model::Looked;
 ghost use mathlib.Core.Path.{_≡_};
@@ -9,7 +9,7 @@ ghost use Rattle.model.specs.Layout.{decode};
 ghost use Rattle.model.specs.Calls.{isSome};
 ghost use Rattle.model.specs.Lent.{leaving, insertLent, deleteLent};
 ghost use Rattle.walk.specs.Sure.{Readable};
-ghost use Rattle.calls.specs.Guard.{guarded};
+ghost use Rattle.calls.specs.Guard.{guarded, Sure};
 ghost use Rattle.calls.specs.Updating.{updating, limitOf, against};
 
 // "Keys 16,776,960 and above belong to our test bench. Insert refuses them with 5."
@@ -54,11 +54,11 @@ fn limit_of(insert: bool) -> u32
 }
 
 // The guard of insert and delete: judging, then 5, 7, and 10 or 11.
-fn guard_updating(s: &[u8], l: Limits, key: u32, insert: bool) -> u32
-    requires { ⌜ Edition l ⌝ }
+pub(crate) fn guard_updating(s: &[u8], l: Limits, key: u32, insert: bool, sure: bool) -> u32
+    requires { ⌜ Edition l × Sure l (now s) sure ⌝ }
     ensures { λ r. ⌜ r ≡ guarded (l .least) (now (s .entry)) (updating insert key) ⌝ }
 {
-    let n = quick::number(s, l);
+    let n = crate::judge(s, l, sure);
     if n != 0 {
         return n;
     }
@@ -77,11 +77,7 @@ pub fn insert_in(s: &mut [u8], l: Limits, key: u32, value: u32) -> u32
     requires { ⌜ Edition l ⌝ }
     ensures { λ r. ⌜ leaving r (now (s .exit)) ≡ insertLent (l .least) (now (s .entry)) key value ⌝ }
 {
-    let n = guard_updating(s, l, key, true);
-    if n != 0 {
-        return n;
-    }
-    update::raw_insert(s, l, key, value)
+    crate::sure::insert(s, l, key, value, false)
 }
 
 // Deletes a setting in the open update.
@@ -89,9 +85,5 @@ pub fn delete_in(s: &mut [u8], l: Limits, key: u32) -> u32
     requires { ⌜ Edition l ⌝ }
     ensures { λ r. ⌜ leaving r (now (s .exit)) ≡ deleteLent (l .least) (now (s .entry)) key ⌝ }
 {
-    let n = guard_updating(s, l, key, false);
-    if n != 0 {
-        return n;
-    }
-    update::raw_delete(s, l, key)
+    crate::sure::delete(s, l, key, false)
 }

@@ -10,14 +10,15 @@ use native.Mathlib.Omega.{arith}
 use borrow.Author.Tests.{le-leb, lt-leb}
 use Rattle.model.specs.Store.{fresh}
 use Rattle.model.specs.Layout.{sizeOf, encode}
-use Rattle.model.specs.Judged.{lengthOk}
+use Rattle.model.specs.Judged.{isSound, lengthOk}
 use Rattle.model.specs.Lent.{Outcome, leaving, freshLent}
 use Rattle.store.specs.Answers.{length-rest, done-store}
 use Rattle.lines.specs.declared.Answer.{Answer}
 use Rattle.lines.specs.declared.Answer.the-variants.{Done, Refused}
 use Rattle.lines.specs.Session.{Said, answered, outcome, stored, settings}
 use Rattle.console.specs.declared.Reply.{Reply}
-use Rattle.console.specs.Obeys.{storeIn, Single, Replies}
+use Rattle.console.specs.Obeys.{storeIn, Sure, Single, Replies}
+use Rattle.console.proofs.Staying.{made-sound}
 
 -- the part that is lent
 pub front : (bytes : List ℕ) (pages : ℕ) → pages ≤ 256 → length bytes ≡ 65536 → pages * 256 ≡ length (storeIn bytes pages)
@@ -29,22 +30,36 @@ back q z pages e = take-at q z (pages * 256) (sym e)
 
 -- a call that changes the store
 pub updated : (o : Outcome) (n pages : ℕ) (q z : List ℕ) (a : Answer) → leaving n q ≡ o → a ≡ answered n → pages * 256 ≡ length q → pages ≤ 256
-    → Single (outcome o) (q ++ z) (record { pages = pages; answer = a; count = 0 })
-updated o n pages q z a e f g h =
+    → (0 < pages → isSound 4 (o .store) ≡ true) → Single (outcome o) (q ++ z) (record { pages = pages; answer = a; count = 0 })
+updated o n pages q z a e f g h stays =
     subst
     (λ (x : Outcome). Single (outcome x) (q ++ z) (record { pages = pages; answer = a; count = 0 }))
     e
-    (record { store = back q z pages g; answers = ap (λ (x : Answer). x ∷ []) (sym f); alone = refl; pages = h })
+    (record {
+      store = back q z pages g;
+      answers = ap (λ (x : Answer). x ∷ []) (sym f);
+      alone = refl;
+      pages = h;
+      sure = λ t. subst (λ (b : List ℕ). isSound 4 b ≡ true) (sym (back q z pages g ∙ ap (λ (x : Outcome). x .store) e)) (stays t);
+    })
 
 -- ---- making a store
 
 -- n whole pages, 6 to 256, made fresh
-fresh-made : (p : List ℕ) (n : ℕ) → n * 256 ≡ length p → 6 ≤ n → n ≤ 256 → freshLent 4 p .store ≡ encode 4 (fresh n)
-fresh-made p n e few many =
-    let size : sizeOf 4 p ≡ n = omega arith in
-    let whole : length p % 256 ≡ 0 = omega arith in
-    let yes : lengthOk 4 p ≡ true = length-rest 4 p whole (omega arith) ∙ le-leb (sizeOf 4 p) 4096 (omega arith) in
-    sym (done-store 4 p yes) ∙ ap (λ (m : ℕ). encode 4 (fresh m)) size
+module _ (p : List ℕ) (n : ℕ) (e : n * 256 ≡ length p) (few : 6 ≤ n) (many : n ≤ 256) where
+  size : sizeOf 4 p ≡ n
+  size = omega arith
+
+  right : lengthOk 4 p ≡ true
+  right =
+      let whole : length p % 256 ≡ 0 = omega arith in
+      length-rest 4 p whole (omega (arith, size)) ∙ le-leb (sizeOf 4 p) 4096 (omega (arith, size))
+
+  fresh-made : freshLent 4 p .store ≡ encode 4 (fresh n)
+  fresh-made = sym (done-store 4 p right) ∙ ap (λ (m : ℕ). encode 4 (fresh m)) size
+
+  fresh-sound : isSound 4 (freshLent 4 p .store) ≡ true
+  fresh-sound = made-sound p right
 
 module _ (b : List ℕ) (n : ℕ) where
   abbrev stays : Said
@@ -59,14 +74,14 @@ module _ (b : List ℕ) (n : ℕ) where
   pub made : 6 ≤ n → n ≤ 256 → record { store = encode 4 (fresh n); answers = Done ∷ [] } ≡ stored 4 b n
   made few many = rw (le-leb 6 n few, le-leb n 256 many)
 
-module _ (bytes : List ℕ) (n pages : ℕ) (h : pages ≤ 256) where
+module _ (bytes : List ℕ) (n pages : ℕ) (h : pages ≤ 256) (s : Sure bytes pages) where
   kept : stays (storeIn bytes pages) n ≡ stored 4 (storeIn bytes pages) n
       → Single (stored 4 (storeIn bytes pages) n) bytes (record { pages = pages; answer = Refused 1; count = 0 })
   kept e =
       subst
       (λ (x : Said). Single x bytes (record { pages = pages; answer = Refused 1; count = 0 }))
       e
-      (record { store = refl; answers = refl; alone = refl; pages = h })
+      (record { store = refl; answers = refl; alone = refl; pages = h; sure = s })
 
   pub few-kept : n < 6 → Single (stored 4 (storeIn bytes pages) n) bytes (record { pages = pages; answer = Refused 1; count = 0 })
   few-kept l = kept (too-few (storeIn bytes pages) n l)
@@ -81,7 +96,13 @@ made-new b p q z n ep eq e few many =
     subst
     (λ (x : Said). Single x (q ++ z) (record { pages = n; answer = Done; count = 0 }))
     (made b n few many)
-    (record { store = back q z n eq ∙ e ∙ fresh-made p n ep few many; answers = refl; alone = refl; pages = many })
+    (record {
+      store = back q z n eq ∙ e ∙ fresh-made p n ep few many;
+      answers = refl;
+      alone = refl;
+      pages = many;
+      sure = λ t. subst (λ (x : List ℕ). isSound 4 x ≡ true) (sym (back q z n eq ∙ e)) (fresh-sound p n ep few many);
+    })
 
 -- one answer is a reply with no setting behind it
 pub alone : {s : Said} {bytes : List ℕ} {r : Reply} (list : List ℕ) → Single s bytes r → Replies s bytes list r
@@ -90,4 +111,5 @@ alone {s} {bytes} {r} list k = record {
   answers = k .answers ∙ ap (λ (c : ℕ). r .answer ∷ settings (take (2 * c) list)) (sym (k .alone));
   listed = omega (arith, k .alone);
   pages = k .pages;
+  sure = k .sure;
 }

@@ -1,4 +1,5 @@
 -- Laws that belong to no one function.
+pub mod Staying
 pub mod Keeping
 pub mod Ranging
 pub mod Settings

@@ -12,7 +12,7 @@ use Rattle.lines.specs.Reading.{reading, readOn, told}
 use Rattle.lines.specs.Session.{after}
 use Rattle.console.specs.declared.Filled.{Filled}
 use Rattle.console.specs.declared.Kept.{Kept}
-use Rattle.console.specs.Obeys.{storeIn, Upto, Passed}
+use Rattle.console.specs.Obeys.{storeIn, Sure, Upto, Passed}
 
 -- the store after the piece and the line that is being read then, as what is left gives them
 pub record Going (h₀ : Held) (b piece bytes : List ℕ) (h : Held) (p at : ℕ) : Type 0 where
@@ -22,9 +22,10 @@ pub record Going (h₀ : Held) (b piece bytes : List ℕ) (h : Held) (p at : ℕ
   pub room : h .len ≤ 81
   pub few : h .before ≤ h₀ .before + at
   pub pages : p ≤ 256
+  pub sure : Sure bytes p
 
-pub set-out : (h : Held) (bytes : List ℕ) (pages : ℕ) (piece : List ℕ) → h .len ≤ 81 → pages ≤ 256 → Going h (storeIn bytes pages) piece bytes h pages 0
-set-out h bytes pages piece room few = record { store = refl; read = refl; within = omega arith; room = room; few = omega arith; pages = few }
+pub set-out : (h : Held) (bytes : List ℕ) (pages : ℕ) (piece : List ℕ) → h .len ≤ 81 → pages ≤ 256 → Sure bytes pages → Going h (storeIn bytes pages) piece bytes h pages 0
+set-out h bytes pages piece room few s = record { store = refl; read = refl; within = omega arith; room = room; few = omega arith; pages = few; sure = s }
 
 pub part-most : (n : ℕ) (l : List ℕ) → length (take n l) ≤ length l
 part-most n l = rw length-take (min-le-right n (length l))
@@ -54,6 +55,7 @@ go-on {h₀} {h} {b} {piece} {bytes} {bytes'} {out} {pages} {at} {f} g u =
       room = u .room;
       few = omega (arith, g .few, u .few);
       pages = u .pages;
+      sure = u .sure;
     }
 
 pub arrive : {h₀ h : Held} {b piece bytes : List ℕ} {pages at : ℕ} (went : Bool) → Going h₀ b piece bytes h pages at → length piece ≤ at
@@ -67,4 +69,5 @@ arrive {h₀} {h} {b} {piece} {bytes} {pages} {at} went g l =
       room = g .room;
       few = omega (arith, g .few, g .within);
       pages = g .pages;
+      sure = g .sure;
     }

@@ -1,6 +1,6 @@
 -- A range's answers do not depend on what stood in the list, and its settings have room there. Assumes nothing.
 use Prim.Native.Nat.{ℕ, zero, suc, _*_, _≤_}
-use mathlib.Core.Path.{_≡_, refl, ap, sym, _∙_}
+use mathlib.Core.Path.{_≡_, refl, ap, sym, subst, _∙_}
 use mathlib.Core.Bool.{Bool, true, false}
 use mathlib.Core.List.{List, [], _∷_, _++_}
 use lib.Dec.{ltb}
@@ -11,6 +11,7 @@ use borrow.Author.Tests.{ltb-false}
 use Rattle.model.specs.declared.Pair.{Pair}
 use Rattle.model.specs.Walk.{rangeOf}
 use Rattle.model.specs.Layout.{decode}
+use Rattle.model.specs.Judged.{lengthOk}
 use Rattle.model.specs.Near.{rangeNear}
 use Rattle.model.specs.Calls.{Ranged, rule, firstOf, rangedIn, rangedBy}
 use Rattle.model.specs.Lent.{Listed, listed, rangeLent}
@@ -21,7 +22,7 @@ use Rattle.lines.specs.declared.Answer.the-variants.{Refused, Count}
 use Rattle.lines.specs.declared.Command.the-variants.{Range}
 use Rattle.lines.specs.Session as Session
 use Rattle.lines.specs.Session.{settings, ranged, said}
-use Rattle.console.specs.Obeys.{storeIn, Replies}
+use Rattle.console.specs.Obeys.{storeIn, Sure, Replies}
 
 -- a range that is done wrote two numbers a setting, and they have room
 abbrev Roomy : ℕ → Ranged → Type 0
@@ -58,6 +59,27 @@ module _ (least : ℕ) (b : List ℕ) (lo hi v : ℕ) where
   unfolding rangeLent
   fits ns l e z = rw e (roomy (length ns) (sym (ap (λ (x : Listed). x .number) e) ∙ z) .1)
 
+-- "before an accepted `store` .. the answer is `refused 1`"
+none-lent : (lo hi v : ℕ) (ns : List ℕ) → rangeLent 4 [] lo hi v ns .number ≡ 1
+unfolding rangeLent rangeNear rangedBy lengthOk
+none-lent lo hi v ns = refl
+
+none-said : (lo hi v : ℕ) → said 4 [] (Range lo hi v) .answers ≡ Refused 1 ∷ []
+unfolding said
+none-said lo hi v = let l = rangeLent 4 [] lo hi v (replicate 10040 0) in ap (λ (n : ℕ). Session.rangedBy n (l .count) (l .list)) (none-lent lo hi v (replicate 10040 0))
+
+none-kept : (lo hi v : ℕ) → [] ≡ said 4 [] (Range lo hi v) .store
+unfolding said
+none-kept lo hi v = refl
+
+pub range-none : (bytes list : List ℕ) (pages lo hi v : ℕ) → pages ≡ 0
+    → Replies (said 4 (storeIn bytes pages) (Range lo hi v)) bytes list (record { pages = pages; answer = Refused 1; count = 0 })
+range-none bytes list pages lo hi v z =
+    subst
+    (λ (p : ℕ). Replies (said 4 (storeIn bytes p) (Range lo hi v)) bytes list (record { pages = p; answer = Refused 1; count = 0 }))
+    (sym z)
+    (record { store = none-kept lo hi v; answers = none-said lo hi v; listed = omega arith; pages = omega arith; sure = λ t. absurd (omega arith) })
+
 -- what the call gave, and the list after it
 module _ (bytes : List ℕ) (pages lo hi v : ℕ) (ns list : List ℕ) (r : Counted) (size : length ns ≡ 10040) (few : pages ≤ 256)
     (e : withList r list ≡ rangeLent 4 (storeIn bytes pages) lo hi v ns) where
@@ -78,15 +100,16 @@ module _ (bytes : List ℕ) (pages lo hi v : ℕ) (ns list : List ℕ) (r : Coun
   refused-by zero z = absurd (z refl)
   refused-by (suc n) z = refl
 
-  pub range-refused : (r .number ≡ 0 → ⊥)
+  pub range-refused : Sure bytes pages → (r .number ≡ 0 → ⊥)
       → Replies (said 4 (storeIn bytes pages) (Range lo hi v)) bytes list (record { pages = pages; answer = Refused (r .number); count = 0 })
-  range-refused z = record { store = store; answers = sym answers ∙ refused-by (r .number) z; listed = omega arith; pages = few }
+  range-refused s z = record { store = store; answers = sym answers ∙ refused-by (r .number) z; listed = omega arith; pages = few; sure = s }
 
-  pub range-done : r .number ≡ 0
+  pub range-done : Sure bytes pages → r .number ≡ 0
       → Replies (said 4 (storeIn bytes pages) (Range lo hi v)) bytes list (record { pages = pages; answer = Count (r .count); count = r .count })
-  range-done z = record {
+  range-done s z = record {
     store = store;
     answers = sym answers ∙ ap (λ (n : ℕ). Session.rangedBy n (r .count) list) z;
     listed = count-fits z;
     pages = few;
+    sure = s;
   }

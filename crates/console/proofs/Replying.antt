@@ -15,7 +15,7 @@ use Rattle.lines.specs.Answers.{textOf, Put}
 use Rattle.lines.specs.Session.{Said, outcome, looked, settings, stored, said}
 use Rattle.console.specs.declared.Reply.{Reply}
 use Rattle.console.specs.declared.Obeyed.{Obeyed}
-use Rattle.console.specs.Obeys.{storeIn, Single, Replies, Obeys, heardSaid}
+use Rattle.console.specs.Obeys.{storeIn, Sure, Single, Replies, Obeys, heardSaid}
 use Rattle.console.proofs.Keeping.{alone}
 use Rattle.console.proofs.Settings.{put-none}
 
@@ -48,23 +48,23 @@ module _ (b : List ℕ) where
 pub replied : (b : List ℕ) {s : Said} {bytes : List ℕ} {c d : Command} {r : Reply} (list : List ℕ) → c ≡ d → said 4 b d ≡ s → Single s bytes r → Replies (said 4 b c) bytes list r
 replied b {s} {bytes} {c} {d} {r} list e f k = subst (λ (x : Said). Replies x bytes list r) (sym (ap (said 4 b) e ∙ f)) (alone list k)
 
-pub got : (bytes : List ℕ) (pages k v : ℕ) (a : Answer) (r : Reply) → pages ≤ 256 → a ≡ looked (lookupLent 4 (storeIn bytes pages) k v)
+pub got : (bytes : List ℕ) (pages k v : ℕ) (a : Answer) (r : Reply) → pages ≤ 256 → Sure bytes pages → a ≡ looked (lookupLent 4 (storeIn bytes pages) k v)
     → r ≡ record { pages = pages; answer = a; count = 0 } → Single (said 4 (storeIn bytes pages) (Get k v)) bytes r
 unfolding said
-got bytes pages k v a r h e f =
+got bytes pages k v a r h s e f =
     subst
     (λ (x : Reply). Single (said 4 (storeIn bytes pages) (Get k v)) bytes x)
     (sym f)
-    (record { store = refl; answers = ap (λ (x : Answer). x ∷ []) (sym e); alone = refl; pages = h })
+    (record { store = refl; answers = ap (λ (x : Answer). x ∷ []) (sym e); alone = refl; pages = h; sure = s })
 
-pub not-a-command : (bytes : List ℕ) (pages : ℕ) (r : Reply) → pages ≤ 256 → r ≡ record { pages = pages; answer = BadLine; count = 0 }
+pub not-a-command : (bytes : List ℕ) (pages : ℕ) (r : Reply) → pages ≤ 256 → Sure bytes pages → r ≡ record { pages = pages; answer = BadLine; count = 0 }
     → Single (said 4 (storeIn bytes pages) Bad) bytes r
 unfolding said
-not-a-command bytes pages r h f =
+not-a-command bytes pages r h s f =
     subst
     (λ (x : Reply). Single (said 4 (storeIn bytes pages) Bad) bytes x)
     (sym f)
-    (record { store = refl; answers = refl; alone = refl; pages = h })
+    (record { store = refl; answers = refl; alone = refl; pages = h; sure = s })
 
 -- ---- a reply as text
 
@@ -75,8 +75,9 @@ obeyed {s} {bytes} {list} {d} {d'} {at} {e} {r} k p h = record {
   put = subst (λ (x : List Answer). Put d at (flatMap textOf x) d' e) (sym (k .answers)) p;
   room = h;
   pages = k .pages;
+  sure = k .sure;
 }
 
-pub nothing-heard : (bytes : List ℕ) (pages : ℕ) (d : List ℕ) (at : ℕ) → pages ≤ 256
+pub nothing-heard : (bytes : List ℕ) (pages : ℕ) (d : List ℕ) (at : ℕ) → pages ≤ 256 → Sure bytes pages
     → Obeys (heardSaid (storeIn bytes pages) Nothing) bytes d at d (record { pages = pages; at = at })
-nothing-heard bytes pages d at h = record { store = refl; put = put-none d at; room = omega arith; pages = h }
+nothing-heard bytes pages d at h s = record { store = refl; put = put-none d at; room = omega arith; pages = h; sure = s }

@@ -18,7 +18,7 @@ use Rattle.lines.proofs.Laying.{length-laid}
 use Rattle.lines.specs.Session.{said, writes, after}
 use Rattle.console.specs.declared.Obeyed.{Obeyed}
 use Rattle.console.specs.declared.Filled.{Filled}
-use Rattle.console.specs.Obeys.{storeIn, heardSaid, Obeys, Upto, Ends}
+use Rattle.console.specs.Obeys.{storeIn, Sure, heardSaid, Obeys, Upto, Ends}
 
 pub writes-heard : (b : List ℕ) (h : Heard) (ls : List Line) → writes 4 b (heardLines h ++ ls) ≡ flatMap textOf (heardSaid b h .answers) ++ writes 4 (heardSaid b h .store) ls
 unfolding writes
@@ -38,9 +38,9 @@ take-put {d} {d'} {t} {at} {r} p h =
 
 -- ---- before the first line of a piece
 
-pub from-here : (h : Held) (bytes : List ℕ) (pages : ℕ) (piece out : List ℕ) → h .len ≤ 81 → pages ≤ 256
+pub from-here : (h : Held) (bytes : List ℕ) (pages : ℕ) (piece out : List ℕ) → h .len ≤ 81 → pages ≤ 256 → Sure bytes pages
     → Upto h (storeIn bytes pages) piece bytes out (record { held = h; pages = pages; used = 0; len = 0 })
-from-here h bytes pages piece out room few = record {
+from-here h bytes pages piece out room few s = record {
   written = refl;
   store = refl;
   read = refl;
@@ -48,6 +48,7 @@ from-here h bytes pages piece out room few = record {
   room = room;
   few = omega arith;
   pages = few;
+  sure = s;
   len = omega arith;
 }
 
@@ -103,6 +104,7 @@ module _ {h₀ : Held} {b piece bytes out : List ℕ} {f : Filled} (u : Upto h�
     room = k .room;
     few = omega (arith, k .few, u .few);
     pages = a .pages;
+    sure = a .sure;
     len = len;
   }
 

@@ -3,9 +3,11 @@
 -- Assumes nothing.
 use Prim.Native.Nat.{ℕ, _+_, _*_, _<_, _≤_}
 use mathlib.Core.Path.{_≡_}
+use mathlib.Core.Bool.{true}
 use mathlib.Core.List.{List, [], _∷_, _++_}
 use lib.ListN.{length, take, drop}
 use Rattle.model.specs.Basic.{flatMap}
+use Rattle.model.specs.Judged.{isSound}
 use Rattle.lines.specs.declared.Heard.{Heard}
 use Rattle.lines.specs.declared.Heard.the-variants.{Whole, Nothing}
 use Rattle.lines.specs.declared.Held.{Held}
@@ -21,12 +23,18 @@ use Rattle.console.specs.declared.Kept.{Kept}
 abbrev pub storeIn : List ℕ → ℕ → List ℕ
 storeIn bytes pages = take (pages * 256) bytes
 
+-- Checking once for a run of commands: the program's bytes are its own, and a store in them was made by `store` and changed by the
+-- calls alone, so that it is sound; what no line made is not judged as sound.
+abbrev pub Sure : List ℕ → ℕ → Type 0
+Sure bytes pages = 0 < pages → isSound 4 (storeIn bytes pages) ≡ true
+
 -- a reply that is all that is said
 pub record Single (s : Said) (bytes : List ℕ) (r : Reply) : Type 0 where
   pub store : storeIn bytes (r .pages) ≡ s .store
   pub answers : s .answers ≡ r .answer ∷ []
   pub alone : r .count ≡ 0
   pub pages : r .pages ≤ 256
+  pub sure : Sure bytes (r .pages)
 
 -- a reply that is what is said, with the settings of a range in a list
 pub record Replies (s : Said) (bytes list : List ℕ) (r : Reply) : Type 0 where
@@ -34,6 +42,7 @@ pub record Replies (s : Said) (bytes list : List ℕ) (r : Reply) : Type 0 where
   pub answers : s .answers ≡ r .answer ∷ settings (take (2 * r .count) list)
   pub listed : 2 * r .count ≤ 10040
   pub pages : r .pages ≤ 256
+  pub sure : Sure bytes (r .pages)
 
 -- the store is kept, and the answers' text put into the buffer d at place at
 pub record Obeys (s : Said) (bytes d : List ℕ) (at : ℕ) (d' : List ℕ) (r : Obeyed) : Type 0 where
@@ -41,6 +50,7 @@ pub record Obeys (s : Said) (bytes d : List ℕ) (at : ℕ) (d' : List ℕ) (r :
   pub put : Put d at (flatMap textOf (s .answers)) d' (r .at)
   pub room : r .at ≤ at + 110462
   pub pages : r .pages ≤ 256
+  pub sure : Sure bytes (r .pages)
 
 -- a line that ended, or none
 abbrev pub heardSaid : List ℕ → Heard → Said
@@ -57,6 +67,7 @@ pub record Upto (h : Held) (b piece bytes out : List ℕ) (r : Filled) : Type 0 
   pub room : r .held .len ≤ 81
   pub few : r .held .before ≤ h .before + r .used
   pub pages : r .pages ≤ 256
+  pub sure : Sure bytes (r .pages)
   pub len : r .len ≤ length out
 
 -- after a whole piece
@@ -66,6 +77,7 @@ pub record Passed (h : Held) (b piece bytes : List ℕ) (r : Kept) : Type 0 wher
   pub room : r .held .len ≤ 81
   pub few : r .held .before ≤ h .before + length piece
   pub pages : r .pages ≤ 256
+  pub sure : Sure bytes (r .pages)
 
 -- "its newline (which the last may lack)"
 pub record Ends (h : Held) (b out : List ℕ) (len : ℕ) : Type 0 where

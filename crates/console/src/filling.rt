@@ -2,7 +2,7 @@
 ghost use mathlib.Core.Path.{_≡_};
 ghost use Prim.Native.Nat.{_+_, _^_, _<_, _≤_};
 ghost use lib.ListN.{length};
-ghost use Rattle.console.specs.Obeys.{storeIn, Upto, Ends};
+ghost use Rattle.console.specs.Obeys.{storeIn, Sure, Upto, Ends};
 use crate::Filled;
 use crate::obeying::answer;
 use lines::Held;
@@ -18,7 +18,7 @@ pub(crate) fn fill(
     piece: &[u8],
     out: &mut [u8],
 ) -> Filled
-    requires { ⌜ (pages ≤ 256) × (length (now bytes) ≡ 65536) × (length (now list) ≡ 10040) ⌝ }
+    requires { ⌜ (pages ≤ 256) × (length (now bytes) ≡ 65536) × (length (now list) ≡ 10040) × Sure (now bytes) pages ⌝ }
     requires { ⌜ (held .len ≤ 81) × (held .before + length (now piece) + 1 < 2 ^ 64) ⌝ }
     requires { ⌜ 110462 ≤ length (now out) ⌝ }
     ensures { λ r. ⌜ Upto held (storeIn (now (bytes .entry)) pages) (now (piece .entry)) (now (bytes .exit)) (now (out .exit)) r ⌝ }
@@ -56,7 +56,7 @@ pub(crate) fn end(
     list: &mut [u32],
     out: &mut [u8],
 ) -> usize
-    requires { ⌜ (pages ≤ 256) × (length (now bytes) ≡ 65536) × (length (now list) ≡ 10040) ⌝ }
+    requires { ⌜ (pages ≤ 256) × (length (now bytes) ≡ 65536) × (length (now list) ≡ 10040) × Sure (now bytes) pages ⌝ }
     requires { ⌜ (held .len ≤ 81) × (held .before + 1 < 2 ^ 64) ⌝ }
     requires { ⌜ 110462 ≤ length (now out) ⌝ }
     ensures { λ r. ⌜ Ends held (storeIn (now (bytes .entry)) pages) (now (out .exit)) r ⌝ }

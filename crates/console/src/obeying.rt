@@ -3,7 +3,7 @@ ghost use mathlib.Core.Path.{_≡_};
 ghost use Prim.Native.Nat.{_+_, _≤_};
 ghost use lib.ListN.{length};
 ghost use Rattle.lines.specs.Session.{said};
-ghost use Rattle.console.specs.Obeys.{storeIn, heardSaid, Replies, Obeys};
+ghost use Rattle.console.specs.Obeys.{storeIn, Sure, heardSaid, Replies, Obeys};
 use crate::Obeyed;
 use crate::Reply;
 use crate::reading::get;
@@ -30,7 +30,7 @@ fn single(pages: usize, answer: Answer) -> Reply
 }
 
 fn reply(command: Command, pages: usize, bytes: &mut [u8], list: &mut [u32]) -> Reply
-    requires { ⌜ (pages ≤ 256) × (length (now bytes) ≡ 65536) × (length (now list) ≡ 10040) ⌝ }
+    requires { ⌜ (pages ≤ 256) × (length (now bytes) ≡ 65536) × (length (now list) ≡ 10040) × Sure (now bytes) pages ⌝ }
     ensures { λ r. ⌜ Replies (said 4 (storeIn (now (bytes .entry)) pages) command) (now (bytes .exit)) (now (list .exit)) r ⌝ }
 {
     match command {
@@ -54,7 +54,7 @@ fn obey(
     out: &mut [u8],
     at: usize,
 ) -> Obeyed
-    requires { ⌜ (pages ≤ 256) × (length (now bytes) ≡ 65536) × (length (now list) ≡ 10040) ⌝ }
+    requires { ⌜ (pages ≤ 256) × (length (now bytes) ≡ 65536) × (length (now list) ≡ 10040) × Sure (now bytes) pages ⌝ }
     requires { ⌜ at + 110462 ≤ length (now out) ⌝ }
     ensures { λ r. ⌜ Obeys (said 4 (storeIn (now (bytes .entry)) pages) command) (now (bytes .exit)) (now (out .entry)) at (now (out .exit)) r ⌝ }
 {
@@ -76,7 +76,7 @@ pub(crate) fn answer(
     out: &mut [u8],
     at: usize,
 ) -> Obeyed
-    requires { ⌜ (pages ≤ 256) × (length (now bytes) ≡ 65536) × (length (now list) ≡ 10040) ⌝ }
+    requires { ⌜ (pages ≤ 256) × (length (now bytes) ≡ 65536) × (length (now list) ≡ 10040) × Sure (now bytes) pages ⌝ }
     requires { ⌜ at + 110462 ≤ length (now out) ⌝ }
     ensures { λ r. ⌜ Obeys (heardSaid (storeIn (now (bytes .entry)) pages) heard) (now (bytes .exit)) (now (out .entry)) at (now (out .exit)) r ⌝ }
 {

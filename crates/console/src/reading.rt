@@ -5,7 +5,7 @@ ghost use lib.ListN.{length};
 ghost use Rattle.lines.specs.declared.Command.the-variants.{Range};
 ghost use Rattle.lines.specs.Session.{said, looked as Session·looked};
 ghost use Rattle.model.specs.Lent.{lookupLent};
-ghost use Rattle.console.specs.Obeys.{storeIn, Replies};
+ghost use Rattle.console.specs.Obeys.{storeIn, Sure, Replies};
 use crate::Reply;
 use lines::Answer;
 use model::Looked;
@@ -21,15 +21,16 @@ fn looked(r: Looked) -> Answer
 }
 
 pub(crate) fn get(key: u32, v: u32, pages: usize, bytes: &[u8]) -> Answer
-    requires { ⌜ (pages ≤ 256) × (length (now bytes) ≡ 65536) ⌝ }
+    requires { ⌜ (pages ≤ 256) × (length (now bytes) ≡ 65536) × Sure (now bytes) pages ⌝ }
     ensures { λ r. ⌜ r ≡ Session·looked (lookupLent 4 (storeIn (now (bytes .entry)) pages) key v) ⌝ }
 {
     let l = model::edition_one();
     let e = pages * 256;
-    looked(near::lookup(&bytes[..e], l, key, v))
+    looked(calls::sure::lookup(&bytes[..e], l, key, v, 0 < pages))
 }
 
-// "with a list of 10,040 numbers, which no range there outgrows": what an earlier range left in the list makes no difference.
+// "with a list of 10,040 numbers, which no range there outgrows": what an earlier range left in the list makes no difference. "before an
+// accepted `store` .. the answer is `refused 1`".
 pub(crate) fn range(
     low: u32,
     high: u32,
@@ -38,12 +39,19 @@ pub(crate) fn range(
     bytes: &[u8],
     list: &mut [u32],
 ) -> Reply
-    requires { ⌜ (pages ≤ 256) × (length (now bytes) ≡ 65536) × (length (now list) ≡ 10040) ⌝ }
+    requires { ⌜ (pages ≤ 256) × (length (now bytes) ≡ 65536) × (length (now list) ≡ 10040) × Sure (now bytes) pages ⌝ }
     ensures { λ r. ⌜ Replies (said 4 (storeIn (now (bytes .entry)) pages) (Range low high v)) (now (bytes .entry)) (now (list .exit)) r ⌝ }
 {
+    if pages == 0 {
+        return Reply {
+            pages,
+            answer: Answer::Refused(1),
+            count: 0,
+        };
+    }
     let l = model::edition_one();
     let e = pages * 256;
-    let r = near::range(&bytes[..e], l, low, high, v, list);
+    let r = calls::sure::range(&bytes[..e], l, low, high, v, list);
     if r.number != 0 {
         return Reply {
             pages,
@@ -51,9 +59,10 @@ pub(crate) fn range(
             count: 0,
         };
     }
+    let found = r.count as u32;
     Reply {
         pages,
-        answer: Answer::Count(r.count as u32),
+        answer: Answer::Count(found),
         count: r.count,
     }
 }

@@ -2,7 +2,7 @@
 ghost use mathlib.Core.Path.{_≡_};
 ghost use Prim.Native.Nat.{_+_, _^_, _<_, _≤_};
 ghost use lib.ListN.{length};
-ghost use Rattle.console.specs.Obeys.{storeIn, Passed};
+ghost use Rattle.console.specs.Obeys.{storeIn, Sure, Passed};
 use crate::Kept;
 use crate::filling::end;
 use crate::filling::fill;
@@ -41,7 +41,7 @@ fn pass(
     piece: &[u8],
     out: &mut [u8],
 ) -> Kept
-    requires { ⌜ (pages ≤ 256) × (length (now bytes) ≡ 65536) × (length (now list) ≡ 10040) ⌝ }
+    requires { ⌜ (pages ≤ 256) × (length (now bytes) ≡ 65536) × (length (now list) ≡ 10040) × Sure (now bytes) pages ⌝ }
     requires { ⌜ (held .len ≤ 81) × (held .before + length (now piece) + 1 < 2 ^ 64) ⌝ }
     requires { ⌜ 110462 ≤ length (now out) ⌝ }
     ensures { λ r. ⌜ Passed held (storeIn (now (bytes .entry)) pages) (now (piece .entry)) (now (bytes .exit)) r ⌝ }
@@ -73,7 +73,7 @@ fn fail() {
 // What stands behind the last newline, where the input came to its end and all was written; where a read or a write failed, half a
 // line is not obeyed, and standard error has the reason.
 fn close(well: bool, held: Held, pages: usize, bytes: &mut [u8], list: &mut [u32], out: &mut [u8])
-    requires { ⌜ (pages ≤ 256) × (length (now bytes) ≡ 65536) × (length (now list) ≡ 10040) ⌝ }
+    requires { ⌜ (pages ≤ 256) × (length (now bytes) ≡ 65536) × (length (now list) ≡ 10040) × Sure (now bytes) pages ⌝ }
     requires { ⌜ (held .len ≤ 81) × (held .before + 1 < 2 ^ 64) ⌝ }
     requires { ⌜ 110462 ≤ length (now out) ⌝ }
 {

@@ -3,7 +3,7 @@ ghost use mathlib.Core.Path.{_≡_};
 ghost use Prim.Native.Nat.{_≤_};
 ghost use lib.ListN.{length};
 ghost use Rattle.lines.specs.Session.{stored};
-ghost use Rattle.console.specs.Obeys.{storeIn, Single};
+ghost use Rattle.console.specs.Obeys.{storeIn, Sure, Single};
 use crate::Reply;
 use lines::Answer;
 
@@ -19,7 +19,7 @@ fn refused(pages: usize) -> Reply
 
 // "for N outside 6 to 256 (an earlier store stays), the answer is `refused 1`"
 pub(crate) fn make(n: u32, pages: usize, bytes: &mut [u8]) -> Reply
-    requires { ⌜ (pages ≤ 256) × (length (now bytes) ≡ 65536) ⌝ }
+    requires { ⌜ (pages ≤ 256) × (length (now bytes) ≡ 65536) × Sure (now bytes) pages ⌝ }
     ensures { λ r. ⌜ Single (stored 4 (storeIn (now (bytes .entry)) pages) n) (now (bytes .exit)) r ⌝ }
 {
     if n < 6 {

@@ -5,7 +5,7 @@ ghost use Prim.Native.Nat.{_≤_};
 ghost use lib.ListN.{length};
 ghost use Rattle.lines.specs.Session.{answered, outcome};
 ghost use Rattle.model.specs.Lent.{openLent, insertLent, deleteLent, commitLent, abandonLent};
-ghost use Rattle.console.specs.Obeys.{storeIn, Single};
+ghost use Rattle.console.specs.Obeys.{storeIn, Sure, Single};
 use crate::Reply;
 use lines::Answer;
 
@@ -20,12 +20,12 @@ fn answer(n: u32) -> Answer
 }
 
 pub(crate) fn open(pages: usize, bytes: &mut [u8]) -> Reply
-    requires { ⌜ (pages ≤ 256) × (length (now bytes) ≡ 65536) ⌝ }
+    requires { ⌜ (pages ≤ 256) × (length (now bytes) ≡ 65536) × Sure (now bytes) pages ⌝ }
     ensures { λ r. ⌜ Single (outcome (openLent 4 (storeIn (now (bytes .entry)) pages))) (now (bytes .exit)) r ⌝ }
 {
     let l = model::edition_one();
     let e = pages * 256;
-    let n = calls::open_in(&mut bytes[..e], l);
+    let n = calls::sure::open(&mut bytes[..e], l, 0 < pages);
     Reply {
         pages,
         answer: answer(n),
@@ -34,12 +34,12 @@ pub(crate) fn open(pages: usize, bytes: &mut [u8]) -> Reply
 }
 
 pub(crate) fn insert(key: u32, value: u32, pages: usize, bytes: &mut [u8]) -> Reply
-    requires { ⌜ (pages ≤ 256) × (length (now bytes) ≡ 65536) ⌝ }
+    requires { ⌜ (pages ≤ 256) × (length (now bytes) ≡ 65536) × Sure (now bytes) pages ⌝ }
     ensures { λ r. ⌜ Single (outcome (insertLent 4 (storeIn (now (bytes .entry)) pages) key value)) (now (bytes .exit)) r ⌝ }
 {
     let l = model::edition_one();
     let e = pages * 256;
-    let n = calls::insert_in(&mut bytes[..e], l, key, value);
+    let n = calls::sure::insert(&mut bytes[..e], l, key, value, 0 < pages);
     Reply {
         pages,
         answer: answer(n),
@@ -48,12 +48,12 @@ pub(crate) fn insert(key: u32, value: u32, pages: usize, bytes: &mut [u8]) -> Re
 }
 
 pub(crate) fn delete(key: u32, pages: usize, bytes: &mut [u8]) -> Reply
-    requires { ⌜ (pages ≤ 256) × (length (now bytes) ≡ 65536) ⌝ }
+    requires { ⌜ (pages ≤ 256) × (length (now bytes) ≡ 65536) × Sure (now bytes) pages ⌝ }
     ensures { λ r. ⌜ Single (outcome (deleteLent 4 (storeIn (now (bytes .entry)) pages) key)) (now (bytes .exit)) r ⌝ }
 {
     let l = model::edition_one();
     let e = pages * 256;
-    let n = calls::delete_in(&mut bytes[..e], l, key);
+    let n = calls::sure::delete(&mut bytes[..e], l, key, 0 < pages);
     Reply {
         pages,
         answer: answer(n),
@@ -62,12 +62,12 @@ pub(crate) fn delete(key: u32, pages: usize, bytes: &mut [u8]) -> Reply
 }
 
 pub(crate) fn commit(pages: usize, bytes: &mut [u8]) -> Reply
-    requires { ⌜ (pages ≤ 256) × (length (now bytes) ≡ 65536) ⌝ }
+    requires { ⌜ (pages ≤ 256) × (length (now bytes) ≡ 65536) × Sure (now bytes) pages ⌝ }
     ensures { λ r. ⌜ Single (outcome (commitLent 4 (storeIn (now (bytes .entry)) pages))) (now (bytes .exit)) r ⌝ }
 {
     let l = model::edition_one();
     let e = pages * 256;
-    let n = calls::commit_in(&mut bytes[..e], l);
+    let n = calls::sure::commit(&mut bytes[..e], l, 0 < pages);
     Reply {
         pages,
         answer: answer(n),
@@ -76,12 +76,12 @@ pub(crate) fn commit(pages: usize, bytes: &mut [u8]) -> Reply
 }
 
 pub(crate) fn abandon(pages: usize, bytes: &mut [u8]) -> Reply
-    requires { ⌜ (pages ≤ 256) × (length (now bytes) ≡ 65536) ⌝ }
+    requires { ⌜ (pages ≤ 256) × (length (now bytes) ≡ 65536) × Sure (now bytes) pages ⌝ }
     ensures { λ r. ⌜ Single (outcome (abandonLent 4 (storeIn (now (bytes .entry)) pages))) (now (bytes .exit)) r ⌝ }
 {
     let l = model::edition_one();
     let e = pages * 256;
-    let n = calls::abandon_in(&mut bytes[..e], l);
+    let n = calls::sure::abandon(&mut bytes[..e], l, 0 < pages);
     Reply {
         pages,
         answer: answer(n),

@@ -8,6 +8,7 @@ pub mod Bound
 pub mod Crossed
 pub mod Off
 pub mod Same
+pub mod Sounded
 pub mod OffRange
 pub mod Told
 pub mod Table

@@ -135,7 +135,7 @@ early-none : (a m e f : Bool) (rs : List Rule) → a ≡ true → m ≡ true →
     → firstOf (rule 1 (not a) ∷ rule 2 (not m) ∷ rule 3 (not e) ∷ rule 4 (not f) ∷ rs) ≡ firstOf rs
 early-none a m e f rs p q r t = rw (p, q, r, t)
 
-low-in : (lo hi : ℕ) → (leb keyLimit lo || leb keyLimit hi || ltb hi lo) ≡ false → lo < keyLimit
+pub low-in : (lo hi : ℕ) → (leb keyLimit lo || leb keyLimit hi || ltb hi lo) ≡ false → lo < keyLimit
 low-in lo hi e = leb-false keyLimit lo (at (leb keyLimit lo) (leb keyLimit hi) (ltb hi lo) e)
   where
     at : (p q r : Bool) → (p || q || r) ≡ false → p ≡ false

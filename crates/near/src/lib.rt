@@ -13,15 +13,16 @@ use walk::Counted;
 use walk::Query;
 ghost use mathlib.Core.Path.{_≡_};
 ghost use mathlib.Core.Bool.{true};
+ghost use Prim.Native.Nat.{_<_};
 ghost use lib.ListN.{length};
-ghost use Rattle.model.specs.Walk.{rangeBelow};
+ghost use Rattle.model.specs.Walk.{keyLimit, rangeBelow, rangeOf};
 ghost use Rattle.model.specs.Limits.{Edition};
 ghost use Rattle.model.specs.Layout.{decode};
 ghost use Rattle.model.specs.Near.{rangeRight};
 ghost use Rattle.model.specs.Calls.{rangedBy};
 ghost use Rattle.model.specs.Lent.{listed, lookupLent, rangeLent};
 ghost use Rattle.local.specs.Right.{Known};
-ghost use Rattle.walk.specs.Sure.{Fronted};
+ghost use Rattle.walk.specs.Sure.{Fronted, Readable};
 ghost use Rattle.walk.specs.Written.{Space, Gathers};
 ghost use Rattle.walk.specs.Counted.{withList};
 ghost use Rattle.near.specs.Here.{Reads};
@@ -113,6 +114,16 @@ fn fill(
         number: 0,
         count: found,
     }
+}
+
+// A range on a sound store, whose walk is right as it stands.
+pub fn sound_range(s: &[u8], l: Limits, low: u32, high: u32, v: u32, list: &mut [u32]) -> Counted
+    requires { ⌜ Readable l (now s) v × (low < keyLimit) ⌝ }
+    ensures { λ r. ⌜ withList r (now (list .exit)) ≡ listed (now (list .entry)) (rangedBy 0 (length (now (list .entry))) (rangeOf (decode (l .least) (now (s .entry))) low high v)) ⌝ }
+{
+    let root = walk::root_at(s, l, v);
+    let up = walk::height_of(s, l, root);
+    fill(s, l, root, up, low, high, v, list)
 }
 
 // "lookup(s, key, version)" for any bytes: the value, that the key is absent, or a number.

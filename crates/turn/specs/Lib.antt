@@ -3,3 +3,4 @@ pub mod Undone
 pub mod Turned
 pub mod Slotted
 pub mod Abandoned
+pub mod Touched

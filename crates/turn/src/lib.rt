@@ -3,7 +3,7 @@
 use model::Limits;
 use model::Slot;
 ghost use mathlib.Core.Path.{_≡_};
-ghost use mathlib.Core.Bool.{true};
+ghost use mathlib.Core.Bool.{true, false};
 ghost use mathlib.Core.List.{map};
 ghost use Prim.Native.Nat.{_+_, _*_, _-_, _^_, _≤_, _<_};
 ghost use lib.ListN.{length};
@@ -43,11 +43,41 @@ pub fn commit(s: &mut [u8], l: Limits)
     store::put_header(s, l, h.with_version(h.current + 1).with_flag(false));
 }
 
+// Whether anything of a page starts or ends at w. Where nothing does, an abandon of version w leaves the page as it is.
+fn touched(page: &[u8], l: Limits, w: u32) -> bool
+    requires { ⌜ Edition l × Exact (l .least) (now page) ⌝ }
+    ensures { λ r. ⌜ (r ≡ false → back w (decodePage (l .least) (now (page .entry))) ≡ decodePage (l .least) (now (page .entry))) ⌝ }
+{
+    let h = page::head_of(page, l);
+    if h.start == w {
+        return true;
+    }
+    if h.end == w {
+        return true;
+    }
+    let count = h.count;
+    let mut i = 0;
+    while i < count {
+        let e = page::entry_at(page, i);
+        if e.start == w {
+            return true;
+        }
+        if e.end == w {
+            return true;
+        }
+        i += 1;
+    }
+    false
+}
+
 // What an abandon of version w makes of page n.
 fn undo_page(s: &mut [u8], l: Limits, n: usize, w: u32)
     requires { ⌜ Edition l × (w < 2 ^ 20) × (n * (64 * l .least) + 64 * l .least ≤ length (now s)) × (length (now s) ≤ 2 ^ 40) × Exact (l .least) (pageOf (l .least) (now s) n) ⌝ }
     ensures { λ _. ⌜ now (s .exit) ≡ withPage (l .least) (now (s .entry)) n (encodePage (l .least) (back w (decodePage (l .least) (pageOf (l .least) (now (s .entry)) n)))) ⌝ }
 {
+    if !touched(store::part(s, l, n), l, w) {
+        return;
+    }
     let a = store::offset(l, n);
     edit::undo(&mut s[a..a + l.bytes], l, w);
 }

@@ -3,6 +3,7 @@ pub mod Counted
 pub mod Live
 pub mod Ends
 pub mod Scan
+pub mod Places
 pub mod Below
 pub mod Bound
 pub mod Covers

@@ -3,16 +3,19 @@ use model::Entry;
 use model::Looked;
 ghost use mathlib.Core.Path.{_≡_};
 ghost use mathlib.Core.Bool.{true, _&&_};
-ghost use Prim.Native.Nat.{_≤_};
-ghost use lib.Dec.{leb};
+ghost use Prim.Native.Nat.{_+_, _*_, _^_, _≤_, min};
+ghost use lib.ListN.{length};
+ghost use lib.Dec.{leb, ltb};
 ghost use mathlib.Core.List.{[], _∷_};
+ghost use Rattle.model.specs.Basic.{pick};
 ghost use Rattle.model.specs.Entry.{pairOf, liveAt};
 ghost use Rattle.model.specs.Walk.{find, between};
 ghost use Rattle.model.specs.Calls.{lookedAt};
 ghost use Rattle.model.specs.Near.{startsBy};
 ghost use Rattle.walk.specs.Written.{written, Space, Gathers};
 ghost use Rattle.walk.specs.Live.{live};
-ghost use Rattle.walk.specs.Scan.{Stands, from, Next, Owns};
+ghost use Rattle.walk.specs.Scan.{Stands, entry, from, Next, Owns};
+ghost use Rattle.walk.specs.Places.{Place, Fives};
 
 // The last router alive at or below a key: the page that it leads to, and the place at which the search for it ended.
 pub struct Own {
@@ -67,12 +70,59 @@ pub fn next_place(page: &[u8], n: usize, v: u32, low: u32, high: u32, i: usize) 
     n
 }
 
+// One, if entry i has its key under k. The key and the eight bits behind it make one word, so that one load tells it.
+fn under(page: &[u8], i: usize, k: u64) -> usize
+    requires { ⌜ (16 + 12 * i + 12 ≤ length (now page)) × (length (now page) ≤ 2 ^ 40) × (k ≤ 2 ^ 32) ⌝ }
+    ensures { λ r. ⌜ r ≡ pick (ltb (entry (now (page .entry)) i .key) k) 1 0 ⌝ }
+{
+    let w = bits::field(page, 128 + 96 * i, 32) as u64;
+    if w < k * 256 { 1 } else { 0 }
+}
+
+// By fives: up to place r all keys are under k, and four places on, if there is an entry, they are not.
+fn fives(page: &[u8], n: usize, k: u64) -> usize
+    requires { ⌜ Stands (now page) n × (k ≤ 2 ^ 32) ⌝ }
+    ensures { λ r. ⌜ Fives (now (page .entry)) k n r ⌝ }
+{
+    let mut i = 0;
+    while i + 4 < n {
+        if under(page, i + 4, k) == 0 {
+            return i;
+        }
+        i += 5;
+    }
+    i
+}
+
+fn least(a: usize, b: usize) -> usize
+    ensures { λ r. ⌜ r ≡ min a b ⌝ }
+{
+    if a < b { a } else { b }
+}
+
+// How many of the first n entries have their key under k: those stand first. Of the last four none is a branch.
+fn place(page: &[u8], n: usize, k: u64) -> usize
+    requires { ⌜ Stands (now page) n × (k ≤ 2 ^ 32) ⌝ }
+    ensures { λ r. ⌜ Place (now (page .entry)) k n r ⌝ }
+{
+    let begin = fives(page, n, k);
+    let end = least(n, begin + 4);
+    let mut r = begin;
+    let mut i = begin;
+    while i < end {
+        r += under(page, i, k);
+        i += 1;
+    }
+    r
+}
+
 // The value of a key at v.
 pub fn find(page: &[u8], n: usize, v: u32, key: u32) -> Looked
     requires { ⌜ Stands (now page) n ⌝ }
     ensures { λ r. ⌜ r ≡ lookedAt (find key (live v (from (now (page .entry)) 0 n))) ⌝ }
 {
-    let i = next_place(page, n, v, key, key, 0);
+    let first = place(page, n, key as u64);
+    let i = next_place(page, n, v, key, key, first);
     if i < n {
         let e = page::entry_at(page, i);
         return Looked::Value(e.value);
@@ -85,19 +135,19 @@ pub fn own_router(page: &[u8], n: usize, v: u32, key: u32) -> Own
     requires { ⌜ Stands (now page) n × (startsBy key (live v (from (now page) 0 n)) ≡ true) ⌝ }
     ensures { λ r. ⌜ Owns (now (page .entry)) v key n r ⌝ }
 {
-    let mut c = 0;
-    let mut i = 0;
-    while i < n {
+    let next = place(page, n, key as u64 + 1);
+    let mut i = next;
+    while 0 < i {
+        i -= 1;
         let e = page::entry_at(page, i);
-        if key < e.key {
-            return Own { page: c, next: i };
-        }
         if alive_at(e, v) {
-            c = e.value;
+            return Own {
+                page: e.value,
+                next,
+            };
         }
-        i += 1;
     }
-    Own { page: c, next: i }
+    Own { page: 0, next }
 }
 
 // A setting behind the first k of a list.

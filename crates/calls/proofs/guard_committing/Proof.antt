@@ -24,12 +24,12 @@ header-requires : tie.Need-header-requires
 header-requires c κs =
     let a = c .before .before .before .args in
     let h = guard-sound (a .l .least) (a .s .now) closing (sym (c .before .guard-closing .ensures) ∙ c .if1 .left) in
-    (c .before .before .before .pre, omega (arith, front (c .before .before .before .pre) (a .s .now) h), few (c .before .before .before .pre) (a .s .now) h)
+    (c .before .before .before .pre .0, omega (arith, front (c .before .before .before .pre .0) (a .s .now) h), few (c .before .before .before .pre .0) (a .s .now) h)
 
 unchanged-requires : tie.Need-unchanged-requires
 unchanged-requires c κs =
     let a = c .before .before .before .before .args in
-    opens (c .before .before .before .before .pre) (a .s .now) (sym (c .before .before .guard-closing .ensures) ∙ c .before .if1 .left) (c .header .result) (c .header .ensures)
+    opens (c .before .before .before .before .pre .0) (a .s .now) (sym (c .before .before .guard-closing .ensures) ∙ c .before .if1 .left) (c .header .result) (c .header .ensures)
 
 returns-2 : tie.Need-returns-2
 returns-2 c =

@@ -1,18 +1,35 @@
 -- `undo_page` meets its contract. Assumes nothing.
 use native.Mathlib.Omega.{arith}
-use mathlib.Core.Path.{ap, _∙_}
+use mathlib.Core.Path.{ap, sym, _∙_}
+use borrow.Author.Tests.{not-true}
 use borrow.Author.Needs.{needs}
 use Rattle.model.specs.Layout.{withPage}
 use Rattle.page.specs.Editions.{bytes-is}
 use Rattle.store.specs.Parts.{part-page, part-back}
+use Rattle.turn.specs.Touched.{unmoved}
 use Rattle.turn.proofs.undo_page.Statement.{statement}
 use Rattle.turn.proofs.undo_page.Tie as tie
+
+part-requires : tie.Need-part-requires
+part-requires c κs = let s = c .before .before in (s .pre .0, s .pre .2, s .pre .3)
+
+touched-requires : tie.Need-touched-requires
+touched-requires c κs = let s = c .before .before .before in (s .pre .0, rw (c .part .ensures .0) (s .pre .4))
+
+same-length : tie.Need-same-length
+same-length c = search needs
+
+returns : tie.Need-returns
+returns c =
+    let s = c .before .before .before .before .before in
+    let a = s .args in
+    unmoved (a .l .least) (a .s .now) (a .n) (a .w) (s .pre .4) (rw (c .before .before .part .ensures .0) at (c .before .touched .ensures (not-true (c .before .touched .result) (c .if1 .taken))))
 
 offset-requires : tie.Need-offset-requires
 offset-requires c κs = search needs
 
 add-undo : tie.Need-add-undo
-add-undo c = omega (arith, bytes-is (c .before .before .before .pre .0), c .before .offset .ensures, c .before .before .before .pre .2, c .before .before .before .pre .3)
+add-undo c = let p = c .before .before .before .before .before .before .before .pre in omega (arith, bytes-is (p .0), c .before .offset .ensures, p .2, p .3)
 
 sub-undo : tie.Need-sub-undo
 sub-undo c = search needs
@@ -21,32 +38,38 @@ part-undo-start : tie.Need-part-undo-start
 part-undo-start c = search needs
 
 part-undo-end : tie.Need-part-undo-end
-part-undo-end c = omega (arith, bytes-is (c .before .before .before .pre .0), c .before .offset .ensures, c .before .before .before .pre .2)
+part-undo-end c = let p = c .before .before .before .before .before .before .before .pre in omega (arith, bytes-is (p .0), c .before .offset .ensures, p .2)
 
 undo-requires : tie.Need-undo-requires
 undo-requires c κs =
-    let a = c .before .before .before .before .args in
-    rw (part-page (a .l .least) (a .s .now) (a .n) (c .before .before .offset .result) (a .l .bytes) (c .before .before .offset .ensures) (bytes-is (c .before .before .before .before .pre .0))) (c .before .before .before .before .pre .0, c .before .before .before .before .pre .4, c .before .before .before .before .pre .1)
+    let s = c .before .before .before .before .before .before .before .before in
+    let a = s .args in
+    rw (part-page (a .l .least) (a .s .now) (a .n) (c .before .before .offset .result) (a .l .bytes) (c .before .before .offset .ensures) (bytes-is (s .pre .0))) (s .pre .0, s .pre .4, s .pre .1)
 
-same-length : tie.Need-same-length
-same-length c = search needs
+same-length-2 : tie.Need-same-length-2
+same-length-2 c = search needs
 
-returns : tie.Need-returns
-returns c =
-    let a = c .before .before .before .before .before .before .before .args in
-    part-back (a .l .least) (a .s .now) (a .n) (c .before .before .before .before .before .offset .result) (a .l .bytes) (c .before .before .undo .last .0) (c .before .before .before .before .before .offset .ensures) (bytes-is (c .before .before .before .before .before .before .before .pre .0))
-    ∙ ap (withPage (a .l .least) (a .s .now) (a .n))
-    (rw (part-page (a .l .least) (a .s .now) (a .n) (c .before .before .before .before .before .offset .result) (a .l .bytes) (c .before .before .before .before .before .offset .ensures) (bytes-is (c .before .before .before .before .before .before .before .pre .0))) at (c .before .before .undo .ensures))
+returns-2 : tie.Need-returns-2
+returns-2 c =
+    let s = c .before .before .before .before .before .before .before .before .before .before .before in
+    let a = s .args in
+    let o = c .before .before .before .before .before .offset in
+    part-back (a .l .least) (a .s .now) (a .n) (o .result) (a .l .bytes) (c .before .before .undo .last .0) (o .ensures) (bytes-is (s .pre .0))
+    ∙ ap (withPage (a .l .least) (a .s .now) (a .n)) (rw (part-page (a .l .least) (a .s .now) (a .n) (o .result) (a .l .bytes) (o .ensures) (bytes-is (s .pre .0))) at (c .before .before .undo .ensures))
 
 pub undo-page-spec : {M : Type 1} → statement M
 undo-page-spec =
     tie.close
     (tie.spec
+    part-requires
+    touched-requires
+    same-length
+    returns
     offset-requires
     add-undo
     sub-undo
     part-undo-start
     part-undo-end
     undo-requires
-    same-length
-    returns)
+    same-length-2
+    returns-2)

@@ -1,35 +1,17 @@
--- `insert_in` meets its contract. Assumes nothing.
-use mathlib.Core.Path.{sym, _∙_}
-use Rattle.calls.specs.Updating.{enters, insert-refused, insert-done}
+-- `insert_in` meets its contract: it is not sure. Assumes nothing.
 use borrow.Author.Needs.{needs}
+use Rattle.calls.specs.Guard.{not-sure}
 use Rattle.calls.proofs.updating.insert_in.Statement.{statement}
 use Rattle.calls.proofs.updating.insert_in.Tie as tie
 
-guard-updating-requires : tie.Need-guard-updating-requires
-guard-updating-requires c κs = c .before .before .pre
+insert-requires : tie.Need-insert-requires
+insert-requires c κs = (c .before .before .pre, not-sure (c .before .before .args .l) (c .before .before .args .s .now))
 
 same-length : tie.Need-same-length
 same-length c = search needs
 
 returns : tie.Need-returns
-returns c =
-    let a = c .before .before .before .before .args in
-    insert-refused (a .l .least) (a .s .now) (a .key) (a .value) (c .before .guard-updating .result) (c .before .guard-updating .ensures) (c .if1 .taken)
-
-raw-insert-requires : tie.Need-raw-insert-requires
-raw-insert-requires c κs =
-    let h = c .before .before .before .before .before in
-    enters (h .pre) (h .args .s .now) (h .args .key) (sym (c .before .before .guard-updating .ensures) ∙ c .before .if1 .left)
-
-same-length-2 : tie.Need-same-length-2
-same-length-2 c = search needs
-
-returns-2 : tie.Need-returns-2
-returns-2 c =
-    let h = c .before .before .before .before in
-    let a = h .before .before .before .before .args in
-    let u = c .before .before .raw-insert .ensures in
-    insert-done (a .l .least) (a .s .now) (a .key) (a .value) (h .before .guard-updating .result) (h .before .guard-updating .ensures) (h .if1 .left) _ _ (u .0) (u .1)
+returns c = search needs
 
 pub insert-in-spec : {M : Type 1} → statement M
-insert-in-spec = tie.close (tie.spec guard-updating-requires same-length returns raw-insert-requires same-length-2 returns-2)
+insert-in-spec = tie.close (tie.spec insert-requires same-length returns)

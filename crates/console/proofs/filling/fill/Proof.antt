@@ -25,7 +25,7 @@ abbrev μ-loop : tie.MeasureT-loop
 loop-holds : tie.Need-loop-holds Inv-loop μ-loop
 loop-holds c =
     let a = c .before .before .before .before .args in
-    (refl, refl, refl, omega arith, from-here (a .held) (a .bytes .now) (a .pages) (a .piece .now) (a .out .now) (omega arith) (omega arith))
+    (refl, refl, refl, omega arith, from-here (a .held) (a .bytes .now) (a .pages) (a .piece .now) (a .out .now) (omega arith) (omega arith) (c .before .before .before .before .pre .0 .3))
 
 -- src/filling.rt:31:12
 sub-if1 : tie.Need-sub-if1 Inv-loop μ-loop
@@ -55,7 +55,7 @@ answer-requires c κs =
     let l = c .before .before .before .before .before .before .before .loop in
     let a = c .before .before .before .before .before .before .before .before .before .before .before .before .pre .0 in
     let room : l .len + 110462 ≤ length (l .out) = omega (arith, l .inv .4 .len) in
-    ((l .inv .4 .pages, l .inv .0 ∙ a .1, l .inv .1 ∙ a .2), room)
+    ((l .inv .4 .pages, l .inv .0 ∙ a .1, l .inv .1 ∙ a .2, l .inv .4 .sure), room)
 
 -- src/filling.rt:39:9
 add-used : tie.Need-add-used Inv-loop μ-loop

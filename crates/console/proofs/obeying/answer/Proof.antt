@@ -40,7 +40,7 @@ returns c = rw (c .before .before .before .before .before .before .before .befor
 returns-2 : tie.Need-returns-2
 returns-2 c =
     let a = c .before .before .before .before .before .args in
-    rw (c .enum-told .given .1) (nothing-heard (a .bytes .now) (a .pages) (a .out .now) (a .at) (omega arith))
+    rw (c .enum-told .given .1) (nothing-heard (a .bytes .now) (a .pages) (a .out .now) (a .at) (omega arith) (c .before .before .before .before .before .pre .0 .3))
 
 pub answer-spec : {M : Type 1} → statement M
 answer-spec =

@@ -150,7 +150,7 @@ same-length-7 c = search needs
 returns-7 : tie.Need-returns-7
 returns-7 c =
     let a = c .before .before .before .before .before .before .before .before .args in
-    replied (storeIn (a .bytes .now) (a .pages)) (a .list .now) (c .before .before .before .before .command4 .given .1) refl (got (a .bytes .now) (a .pages) _ _ (c .before .get .result) (c .single .result) (omega arith) (c .before .get .ensures) (c .single .ensures))
+    replied (storeIn (a .bytes .now) (a .pages)) (a .list .now) (c .before .before .before .before .command4 .given .1) refl (got (a .bytes .now) (a .pages) _ _ (c .before .get .result) (c .single .result) (omega arith) (c .before .before .before .before .before .before .before .before .pre .3) (c .before .get .ensures) (c .single .ensures))
 
 -- src/obeying.rt:32:1
 same-length-8 : tie.Need-same-length-8
@@ -168,7 +168,7 @@ returns-8 c = rw (c .before .before .before .before .before .before .command5 .g
 returns-9 : tie.Need-returns-9
 returns-9 c =
     let a = c .before .before .before .before .before .args in
-    replied (storeIn (a .bytes .now) (a .pages)) (a .list .now) (c .before .enum-told4 .given .1) refl (not-a-command (a .bytes .now) (a .pages) (c .single2 .result) (omega arith) (c .single2 .ensures))
+    replied (storeIn (a .bytes .now) (a .pages)) (a .list .now) (c .before .enum-told4 .given .1) refl (not-a-command (a .bytes .now) (a .pages) (c .single2 .result) (omega arith) (c .before .before .before .before .before .pre .3) (c .single2 .ensures))
 
 pub reply-spec : {M : Type 1} → statement M
 reply-spec =

@@ -5,6 +5,7 @@ use native.Mathlib.Omega.{arith}
 use Rattle.model.specs.declared.Limits.{Limits}
 use Rattle.page.specs.Editions.{edition-of}
 use Rattle.console.proofs.Keeping.{front}
+use Rattle.console.proofs.Staying.{surely}
 use borrow.Author.Needs.{needs}
 use Rattle.console.proofs.reading.get.Statement.{statement}
 use Rattle.console.proofs.reading.get.Tie as tie
@@ -19,7 +20,10 @@ slice-aggregate-lookup : tie.Need-slice-aggregate-lookup
 slice-aggregate-lookup c = let a = c .before .before .before .args in front (a .bytes .now) (a .pages) (omega arith) (omega arith)
 
 lookup-requires : tie.Need-lookup-requires
-lookup-requires c κs = edition-of 4 (c .before .edition-one .ensures) (omega arith) (omega arith)
+lookup-requires c κs =
+    let l = c .before .edition-one in
+    let h = c .before .before .before in
+    (edition-of 4 (l .ensures) (omega arith) (omega arith), surely (l .result) (h .args .bytes .now) (h .args .pages) (ap (λ (x : Limits). x .least) (l .ensures)) (h .pre .2))
 
 looked-requires : tie.Need-looked-requires
 looked-requires c κs = search needs

@@ -25,7 +25,7 @@ abbrev μ-loop : tie.MeasureT-loop
 loop-holds : tie.Need-loop-holds Inv-loop μ-loop
 loop-holds c =
     let a = c .before .before .before .before .args in
-    (refl, refl, refl, set-out (a .held) (a .bytes .now) (a .pages) (a .piece .now) (omega arith) (omega arith))
+    (refl, refl, refl, set-out (a .held) (a .bytes .now) (a .pages) (a .piece .now) (omega arith) (omega arith) (c .before .before .before .before .pre .0 .3))
 
 -- src/serving.rt:34:41
 sub-fill : tie.Need-sub-fill Inv-loop μ-loop
@@ -49,7 +49,7 @@ fill-requires c κs =
     let all : a .held .before + length (a .piece .now) + 1 < 18446744073709551616 = q .1 .0 .1 in
     let few : l .h .before + length (take (length (a .piece .now) - l .at) (drop (l .at) (a .piece .now))) + 1 < 18446744073709551616 = omega (arith, g .few, g .within, length-part (a .piece .now) (l .at) (g .within)) in
     let room : 110462 ≤ length (l .out) = omega (arith, l .inv .2, q .1 .1) in
-    ((g .pages, l .inv .0 ∙ q .0 .1, l .inv .1 ∙ q .0 .2), ((g .room, few), room))
+    ((g .pages, l .inv .0 ∙ q .0 .1, l .inv .1 ∙ q .0 .2, g .sure), ((g .room, few), room))
 
 -- src/serving.rt:36:38
 slice-reshare-prefix-put : tie.Need-slice-reshare-prefix-put Inv-loop μ-loop

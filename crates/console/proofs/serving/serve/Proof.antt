@@ -5,6 +5,7 @@ use mathlib.Core.List.{List}
 use mathlib.Core.Logic.{⊎-elim}
 use lib.ListN.{length, take}
 use Rattle.lines.specs.Reading.{Reading}
+use Rattle.console.specs.Obeys.{Sure}
 use Rattle.console.proofs.Passing.{part-most}
 use native.Mathlib.Omega.{arith}
 use borrow.Author.Needs.{needs}
@@ -21,7 +22,7 @@ use Rattle.lines.proofs.start.Reads as start-reads
 
 abbrev Inv-loop : tie.InvT-loop
 Inv-loop bytes₀ list₀ piece₀ out₀ h₀ p₀ reads₀ well₀ bytes list piece out h p reads well =
-    (length bytes ≡ length bytes₀) × (length list ≡ length list₀) × (length piece ≡ length piece₀) × (length out ≡ length out₀) × (h .len ≤ 81) × (h .before ≤ 65536 * reads) × (p ≤ 256) × (reads ≤ 1099511627776)
+    (length bytes ≡ length bytes₀) × (length list ≡ length list₀) × (length piece ≡ length piece₀) × (length out ≡ length out₀) × (h .len ≤ 81) × (h .before ≤ 65536 * reads) × (p ≤ 256) × (reads ≤ 1099511627776) × Sure bytes p
 
 abbrev μ-loop : tie.MeasureT-loop
 μ-loop bytes₀ list₀ piece₀ out₀ h₀ p₀ reads₀ well₀ bytes list piece out h p reads well = 1099511627776 - reads
@@ -32,7 +33,7 @@ start-requires c κs = search needs
 
 -- src/serving.rt:51:5
 loop-holds : tie.Need-loop-holds Inv-loop μ-loop
-loop-holds c = (refl, refl, refl, refl, c .start .ensures .1, omega (arith, ap (λ (r : Reading). r .before) (c .start .ensures .0)), omega arith, omega arith)
+loop-holds c = (refl, refl, refl, refl, c .start .ensures .1, omega (arith, ap (λ (r : Reading). r .before) (c .start .ensures .0)), omega arith, omega arith, λ t. absurd (omega arith))
 
 -- src/serving.rt:52:27
 read-requires : tie.Need-read-requires Inv-loop μ-loop
@@ -60,7 +61,7 @@ pass-requires c κs =
     let part = part-most (c .before .before .before .before .before .count .result) (c .before .before .before .before .before .before .before .before .before .read .last .1 .0) in
     let few : l .h .before + length (take (c .before .before .before .before .before .count .result) (c .before .before .before .before .before .before .before .before .before .read .last .1 .0)) + 1 < 18446744073709551616 = omega (arith, part, piece, test, l .inv .5) in
     let room : 110462 ≤ length (l .out) = omega (arith, l .inv .3, q .3) in
-    ((l .inv .6, l .inv .0 ∙ q .0, l .inv .1 ∙ q .1), ((l .inv .4, few), room))
+    ((l .inv .6, l .inv .0 ∙ q .0, l .inv .1 ∙ q .1, l .inv .8), ((l .inv .4, few), room))
 
 -- src/serving.rt:59:9
 further-requires : tie.Need-further-requires Inv-loop μ-loop
@@ -82,7 +83,7 @@ loop-again c =
     let test : l .reads < 1099511627776 = omega arith in
     let piece : length (c .before .before .before .before .before .before .before .before .before .before .before .before .before .before .before .before .before .before .read .last .1 .0) ≡ 65536 = c .before .before .before .before .before .before .before .before .before .before .before .before .before .before .before .before .before .piece .given ∙ l .inv .2 ∙ c .before .before .before .before .before .before .before .before .before .before .before .before .before .before .before .before .before .before .before .before .before .before .before .before .before .before .before .pre .2 in
     let part = part-most (c .before .before .before .before .before .before .before .before .before .before .before .before .before .before .count .result) (c .before .before .before .before .before .before .before .before .before .before .before .before .before .before .before .before .before .before .read .last .1 .0) in
-    (c .before .before .before .before .before .before .before .bytes .given ∙ l .inv .0, c .before .before .before .before .before .list .given ∙ l .inv .1, c .before .before .before .before .before .before .before .before .before .before .before .before .before .before .before .before .before .piece .given ∙ l .inv .2, c .before .before .before .out .given ∙ l .inv .3, k .room, omega (arith, k .few, part, piece, l .inv .5, c .further .ensures .0), k .pages, c .further .ensures .1)
+    (c .before .before .before .before .before .before .before .bytes .given ∙ l .inv .0, c .before .before .before .before .before .list .given ∙ l .inv .1, c .before .before .before .before .before .before .before .before .before .before .before .before .before .before .before .before .before .piece .given ∙ l .inv .2, c .before .before .before .out .given ∙ l .inv .3, k .room, omega (arith, k .few, part, piece, l .inv .5, c .further .ensures .0), k .pages, c .further .ensures .1, k .sure)
 
 -- src/serving.rt:61:9
 close-requires : tie.Need-close-requires Inv-loop μ-loop
@@ -91,7 +92,7 @@ close-requires c κs =
     let l = c .before .before .before .before .loop in
     let few : l .h .before + 1 < 18446744073709551616 = omega (arith, l .inv .5, l .inv .7) in
     let room : 110462 ≤ length (l .out) = omega (arith, l .inv .3, q .3) in
-    ((l .inv .6, l .inv .0 ∙ q .0, l .inv .1 ∙ q .1), ((l .inv .4, few), room))
+    ((l .inv .6, l .inv .0 ∙ q .0, l .inv .1 ∙ q .1, l .inv .8), ((l .inv .4, few), room))
 
 -- src/serving.rt:45:1
 same-length : tie.Need-same-length Inv-loop μ-loop

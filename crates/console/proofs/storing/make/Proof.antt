@@ -24,7 +24,7 @@ refused-requires c κs = search needs
 returns : tie.Need-returns
 returns c =
     let a = c .before .before .before .args in
-    subst (λ (r : Reply). Single (stored 4 (storeIn (a .bytes .now) (a .pages)) (a .n)) (a .bytes .now) r) (sym (c .refused .ensures)) (few-kept (a .bytes .now) (a .n) (a .pages) (omega arith) (omega arith))
+    subst (λ (r : Reply). Single (stored 4 (storeIn (a .bytes .now) (a .pages)) (a .n)) (a .bytes .now) r) (sym (c .refused .ensures)) (few-kept (a .bytes .now) (a .n) (a .pages) (omega arith) (c .before .before .before .pre .2) (omega arith))
 
 -- src/storing.rt:29:9
 refused-requires-2 : tie.Need-refused-requires-2
@@ -34,7 +34,7 @@ refused-requires-2 c κs = search needs
 returns-2 : tie.Need-returns-2
 returns-2 c =
     let a = c .before .before .before .before .args in
-    subst (λ (r : Reply). Single (stored 4 (storeIn (a .bytes .now) (a .pages)) (a .n)) (a .bytes .now) r) (sym (c .refused2 .ensures)) (many-kept (a .bytes .now) (a .n) (a .pages) (omega arith) (omega arith))
+    subst (λ (r : Reply). Single (stored 4 (storeIn (a .bytes .now) (a .pages)) (a .n)) (a .bytes .now) r) (sym (c .refused2 .ensures)) (many-kept (a .bytes .now) (a .n) (a .pages) (omega arith) (c .before .before .before .before .pre .2) (omega arith))
 
 -- src/storing.rt:32:13
 mul-e : tie.Need-mul-e

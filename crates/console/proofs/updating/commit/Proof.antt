@@ -4,7 +4,9 @@ use mathlib.Core.Path.{_≡_, ap, sym, _∙_}
 use lib.ListN.{drop}
 use Rattle.model.specs.declared.Limits.{Limits}
 use Rattle.page.specs.Editions.{edition-of}
+use Rattle.console.specs.Obeys.{storeIn}
 use Rattle.console.proofs.Keeping.{front, updated}
+use Rattle.console.proofs.Staying.{commit-stays, surely}
 use native.Mathlib.Omega.{arith}
 use borrow.Author.Needs.{needs}
 use Rattle.console.proofs.updating.commit.Statement.{statement}
@@ -16,14 +18,17 @@ edition-one-requires c κs = search needs
 mul-e : tie.Need-mul-e
 mul-e c = search needs
 
-slice-relend-prefix-commit-in : tie.Need-slice-relend-prefix-commit-in
-slice-relend-prefix-commit-in c = search needs
+slice-relend-prefix-commit : tie.Need-slice-relend-prefix-commit
+slice-relend-prefix-commit c = search needs
 
-slice-aggregate-commit-in : tie.Need-slice-aggregate-commit-in
-slice-aggregate-commit-in c = let a = c .before .before .before .args in front (a .bytes .now) (a .pages) (omega arith) (omega arith)
+slice-aggregate-commit : tie.Need-slice-aggregate-commit
+slice-aggregate-commit c = let a = c .before .before .before .args in front (a .bytes .now) (a .pages) (omega arith) (omega arith)
 
-commit-in-requires : tie.Need-commit-in-requires
-commit-in-requires c κs = edition-of 4 (c .before .edition-one .ensures) (omega arith) (omega arith)
+commit-requires : tie.Need-commit-requires
+commit-requires c κs =
+    let l = c .before .edition-one in
+    let h = c .before .before .before in
+    (edition-of 4 (l .ensures) (omega arith) (omega arith), surely (l .result) (h .args .bytes .now) (h .args .pages) (ap (λ (x : Limits). x .least) (l .ensures)) (h .pre .2))
 
 answer-requires : tie.Need-answer-requires
 answer-requires c κs = search needs
@@ -34,10 +39,11 @@ same-length c = search needs
 returns : tie.Need-returns
 returns c =
     let a = c .before .before .before .before .before .before .before .args in
-    let r = c .before .before .before .commit-in in
+    let r = c .before .before .before .commit in
     let four : c .before .before .before .before .before .edition-one .result .least ≡ 4 = ap (λ (l : Limits). l .least) (c .before .before .before .before .before .edition-one .ensures) in
     updated _ (r .result) (a .pages) (r .last .0) (drop (a .pages * 256) (a .bytes .now)) (c .answer .result) (rw four at (r .ensures)) (c .answer .ensures)
     (front (a .bytes .now) (a .pages) (omega arith) (omega arith) ∙ sym (c .before .before .bytes .given .0)) (omega arith)
+    (λ t. commit-stays (storeIn (a .bytes .now) (a .pages)) (c .before .before .before .before .before .before .before .pre .2 t))
 
 pub commit-spec : {M : Type 1} → statement M
 commit-spec =
@@ -45,9 +51,9 @@ commit-spec =
     (tie.spec
     edition-one-requires
     mul-e
-    slice-relend-prefix-commit-in
-    slice-aggregate-commit-in
-    commit-in-requires
+    slice-relend-prefix-commit
+    slice-aggregate-commit
+    commit-requires
     answer-requires
     same-length
     returns)
