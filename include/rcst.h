@@ -76,7 +76,7 @@ extern "C" {
 #define RCST_FORMAT_EDITION 1u
 #define RCST_SECOND_EDITION 2u
 #define RCST_LIBRARY_MAJOR 1u
-#define RCST_LIBRARY_MINOR 3u
+#define RCST_LIBRARY_MINOR 4u
 
 /* The format's limits: a page's bytes in edition 1 and in edition 2, and those that both share. */
 #define RCST_PAGE_BYTES 256u
@@ -361,6 +361,76 @@ uint32_t rcst_view_level(const uint8_t *store, size_t length, uint32_t version, 
  */
 uint32_t rcst_view_range(const uint8_t *store, size_t length, uint32_t version, const uint32_t *table, size_t numbers, uint32_t low,
                          uint32_t high, uint32_t *list, size_t room, size_t *count);
+
+/*
+ * The plain engine: the store's settings in one list that is scanned, for an auditor
+ * who will not read a tree. It has no pages and no bytes of a format. A plain store is
+ * a list of `room` numbers that the caller lends, of which the first four times `count`
+ * are its items, key, start, end, value, and its state. The fresh one is a state of
+ * zeros, with a list of any content.
+ *
+ * For every sequence of calls the two engines give equal numbers, values, lists and
+ * counts, except that a call to which the store gives 12 or 13 is left out of the plain
+ * sequence, and a return that gives one of them is an abandon there. The premise: `room`
+ * is four numbers for each accepted insert, those that a return makes included.
+ *
+ * Every call gives 4 where what is lent is no plain store: `current`, or the open
+ * version behind it, above RCST_HIGHEST_VERSION; `opened` above 1; fewer than four numbers
+ * for each of `count` items; or a list of more than RCST_PLAIN_MOST_NUMBERS. Insert and
+ * return give 14 where they would be done and the list has not the room: fewer than four
+ * numbers for each item that there is and each insert that the call makes. Every other
+ * number is the store's, in its order, 14 last; 1 to 3, 12 and 13 are not given. What
+ * the items say is not judged: on items that no calls made, the answers are those of
+ * the scan. Items, state, list and results do not overlap.
+ *
+ * With 4 no number of list and state is changed, and with every other number but 0 the
+ * items and the state are what they were. What stands in the list behind the items is
+ * not said. A return, a commit, a range and a difference take time in the number of
+ * items for each key that has a value.
+ */
+struct rcst_plain_state {
+    uint32_t current; /* the current version */
+    uint32_t opened;  /* 1 if an update is open, else 0 */
+    uint32_t count;   /* how many items the list holds */
+};
+
+/* How many numbers an item has, and the longest list. */
+#define RCST_PLAIN_ITEM_NUMBERS 4u
+#define RCST_PLAIN_MOST_NUMBERS 17179869180ull
+
+/* Opens an update. Gives 0, 4, 8 or 9. */
+uint32_t rcst_plain_open(struct rcst_plain_state *state);
+
+/* Inserts a setting in the open update. Gives 0, 4, 5, 7, 10 or 14. */
+uint32_t rcst_plain_insert(uint32_t *items, size_t room, struct rcst_plain_state *state, uint32_t key, uint32_t value);
+
+/* Deletes a setting in the open update. Gives 0, 4, 5, 7 or 11. */
+uint32_t rcst_plain_delete(uint32_t *items, size_t room, struct rcst_plain_state *state, uint32_t key);
+
+/* Commits the open update. Gives 0, 4, 7 or 15. */
+uint32_t rcst_plain_commit(const uint32_t *items, size_t room, struct rcst_plain_state *state);
+
+/* Abandons the open update. Gives 0, 4 or 7. */
+uint32_t rcst_plain_abandon(uint32_t *items, size_t room, struct rcst_plain_state *state);
+
+/* Returns to a committed version. Gives 0, 4, 6, 7 or 14. */
+uint32_t rcst_plain_return(uint32_t *items, size_t room, struct rcst_plain_state *state, uint32_t version);
+
+/* Looks a key up at a version, as rcst_lookup does. Gives 0, 4, 5 or 6. */
+uint32_t rcst_plain_lookup(const uint32_t *items, size_t room, const struct rcst_plain_state *state, uint32_t key, uint32_t version,
+                           uint32_t *found, uint32_t *value);
+
+/* The settings from low to high at a version, as rcst_range gives them. Gives 0, 4, 5, 6 or 14. */
+uint32_t rcst_plain_range(const uint32_t *items, size_t room, const struct rcst_plain_state *state, uint32_t low, uint32_t high,
+                          uint32_t version, uint32_t *list, size_t list_room, size_t *count);
+
+/* What differs from one version to another, as rcst_difference gives it. Gives 0, 4, 6 or 14. */
+uint32_t rcst_plain_difference(const uint32_t *items, size_t room, const struct rcst_plain_state *state, uint32_t old_version,
+                               uint32_t new_version, uint32_t *list, size_t list_room, size_t *count);
+
+/* When a setting was changed, as rcst_life gives it. Gives 0, 4, 5 or 14. */
+uint32_t rcst_plain_life(const uint32_t *items, size_t room, const struct rcst_plain_state *state, uint32_t key, uint32_t *list,
+                         size_t list_room, size_t *count);
 
 #ifdef __cplusplus
 }

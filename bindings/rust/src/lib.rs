@@ -15,6 +15,7 @@ mod c;
 pub mod limits;
 pub mod naming;
 pub mod number;
+pub mod plain;
 pub mod settings;
 
 /// Makes a fresh store of edition 1 over any bytes of a fitting length.

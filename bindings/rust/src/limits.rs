@@ -1,7 +1,7 @@
 //! The library's version, and the format's limits: those of `include/rcst.h`.
 
 pub const LIBRARY_MAJOR: u32 = 1;
-pub const LIBRARY_MINOR: u32 = 3;
+pub const LIBRARY_MINOR: u32 = 4;
 /// Of a page in edition 1, and in edition 2.
 pub const PAGE_BYTES: usize = 256;
 pub const SECOND_PAGE_BYTES: usize = 512;
@@ -15,5 +15,9 @@ pub const HIGHEST_VERSION: u32 = 1_048_574;
 pub const MOST_LEVELS: usize = 7;
 /// The end of a stretch that is still alive.
 pub const ALIVE: u32 = 1_048_575;
+/// How many numbers an item of the plain engine takes: key, start, end, value.
+pub const PLAIN_ITEM_NUMBERS: usize = 4;
+/// The longest list that it is lent.
+pub const PLAIN_MOST_NUMBERS: u64 = 17_179_869_180;
 /// The stack that a call finds enough.
 pub const STACK_BYTES: usize = 1_572_864;

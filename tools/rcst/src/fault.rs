@@ -34,6 +34,14 @@ impl Fault {
         }
     }
 
+    /// Answers that are to be equal are not.
+    pub fn unequal(words: impl Into<String>) -> Fault {
+        Fault {
+            status: 1,
+            words: words.into(),
+        }
+    }
+
     /// There is nothing to read.
     pub fn no_input(path: &Path, words: impl Display) -> Fault {
         Fault {
@@ -87,8 +95,8 @@ impl Fault {
         self
     }
 
-    /// `diff` keeps 1 for versions that differ, so a file of wrong length has
-    /// another status there.
+    /// `diff` keeps 1 for versions that differ and `audit` for answers that do, so a
+    /// wrong length has another status there.
     pub fn kept_from_one(mut self) -> Fault {
         if self.status == 1 {
             self.status = DATA;

@@ -2,15 +2,18 @@
 //!
 //! What a store says, and whether it may be changed, the proved library decides.
 //! This program reads files and writes them (`file`), makes releases on a copy in
-//! memory (`release`), and shows answers. It has rules of its own in two places
-//! only, which read the bytes as docs/FORMAT.md has them (`plain`): where a store
-//! is wrong (`place`), and its picture (`picture`).
+//! memory (`release`), runs histories through the library's two engines (`beside`),
+//! and shows answers. It has rules of its own in two places only, which read the
+//! bytes as docs/FORMAT.md has them (`plain`): where a store is wrong (`place`), and
+//! its picture (`picture`).
 
+mod beside;
 mod change;
 mod cmd;
 mod fault;
 mod file;
 mod fresh;
+mod history;
 mod line;
 mod names;
 mod picture;

@@ -27,7 +27,10 @@ pub struct Stretch {
 }
 
 /// Asks twice: once for the count, and once with a list for it.
-fn listed(each: usize, mut ask: impl FnMut(&mut [u32]) -> (u32, usize)) -> Result<Vec<u32>, u32> {
+pub fn listed(
+    each: usize,
+    mut ask: impl FnMut(&mut [u32]) -> (u32, usize),
+) -> Result<Vec<u32>, u32> {
     let (given, count) = ask(&mut []);
     match given {
         number::DONE => return Ok(Vec::new()),

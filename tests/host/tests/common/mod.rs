@@ -4,6 +4,7 @@
 
 pub mod calls;
 pub mod met;
+pub mod plainly;
 pub mod stores;
 
 use host::Proved;

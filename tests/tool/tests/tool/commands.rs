@@ -220,6 +220,6 @@ fn help_and_the_manual_name_every_command() {
         );
         count += 1;
     }
-    assert_eq!(count, 17);
+    assert_eq!(count, 18);
     assert!(folder.done(&["--version"], "").starts_with("rcst "));
 }

@@ -1,5 +1,6 @@
 //! Every command of the administrator's tool, and everything that can go wrong.
 
+mod audit;
 mod commands;
 mod day;
 mod dumps;

@@ -2,6 +2,7 @@
 
 mod abandon;
 mod apply;
+mod audit;
 mod check;
 mod convert;
 mod diff;
@@ -32,7 +33,7 @@ pub struct Command {
     pub run: fn(Line) -> Result<u8, Fault>,
 }
 
-pub const ALL: [&Command; 17] = [
+pub const ALL: [&Command; 18] = [
     &new::COMMAND,
     &info::COMMAND,
     &check::COMMAND,
@@ -49,5 +50,6 @@ pub const ALL: [&Command; 17] = [
     &draw::COMMAND,
     &later::PRUNE,
     &convert::COMMAND,
+    &audit::COMMAND,
     &explain::COMMAND,
 ];

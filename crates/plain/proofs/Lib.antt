@@ -1,0 +1,5 @@
+pub mod Values
+pub mod Keys
+pub mod Backs
+pub mod Shows
+pub mod Guards

@@ -1,0 +1,44 @@
+-- `abandon` meets its contract. Assumes nothing.
+use Prim.Native.Nat.{ℕ, suc, _+_, _*_, _<_}
+use native.Mathlib.Omega.{arith}
+use mathlib.Core.Path.{_≡_, refl, ap, ap₂, sym, _∙_}
+use mathlib.Core.List.{List}
+use Rattle.plain.specs.declared.Left.{Left}
+use Rattle.model.specs.Walk.{keyLimit}
+use Rattle.model.specs.Calls.{benchLimit}
+use Rattle.plain.specs.Plain.{valueAt}
+use Rattle.plain.specs.Items.{plainOf, from, found-some, found-none}
+use Rattle.plain.specs.Calls.{givenBy, abandon-seven, abandon-left}
+use Rattle.plain.specs.Sweep.{swept-read}
+use mathlib.Core.Bool.{true}
+use borrow.Author.Tests.{not-true, not-false}
+use borrow.Author.Needs.{needs}
+use Rattle.plain.proofs.abandon.Statement.{statement}
+use Rattle.plain.proofs.abandon.Tie as tie
+
+refused-requires : tie.Need-refused-requires
+refused-requires c κs = search needs
+
+returns : tie.Need-returns
+returns c =
+    let a = c .before .before .before .before .args in
+    ap (λ (r : Left). givenBy r (a .items .now)) (c .refused .ensures) ∙ abandon-seven (plainOf (a .s) (a .items .now)) (not-true (a .s .opened) (c .before .if1 .taken))
+
+add-sweep : tie.Need-add-sweep
+add-sweep c = omega (arith, c .before .before .before .before .before .pre .version)
+
+sweep-requires : tie.Need-sweep-requires
+sweep-requires c κs = c .before .before .before .before .before .pre .lent
+
+same-length : tie.Need-same-length
+same-length c = search needs
+
+returns-2 : tie.Need-returns-2
+returns-2 c =
+    let a = c .before .before .before .before .before .before .before .before .args in
+    let g = c .before .before .sweep in
+    abandon-left (a .s) (a .items .now) 0 (a .s .current + 1) (omega arith) (not-false (a .s .opened) (c .before .before .before .before .before .if1 .left)) _
+    (swept-read (a .s .current + 1) true 0 (a .s .count) (a .items .now) _ (g .result) (c .before .before .before .before .before .before .before .before .pre .lent) (g .ensures))
+
+pub abandon-spec : {M : Type 1} → statement M
+abandon-spec = tie.close (tie.spec refused-requires returns add-sweep sweep-requires same-length returns-2)

@@ -1,0 +1,75 @@
+-- `difference` meets its contract: counted first, then written. Assumes nothing.
+use native.Mathlib.Omega.{arith}
+use mathlib.Core.Path.{_≡_, ap, sym, _∙_}
+use Rattle.model.proofs.Telling.{none-room, counted, told-short, second-space, told-all}
+use Rattle.plain.specs.Plain.{settings, differs}
+use Rattle.plain.specs.Items.{plainOf, from}
+use Rattle.plain.specs.Tell.{deltas, differs-few, difference-old, difference-new, difference-done}
+use borrow.Author.Needs.{needs}
+use Rattle.plain.proofs.difference.Statement.{statement}
+use Rattle.plain.proofs.difference.Tie as tie
+
+last-requires : tie.Need-last-requires
+last-requires c κs = c .before .before .pre .version
+
+told-as-requires : tie.Need-told-as-requires
+told-as-requires c κs = search needs
+
+returns : tie.Need-returns
+returns c =
+    let a = c .before .before .before .before .before .args in
+    rw (c .told-as .ensures) (difference-old (plainOf (a .s) (a .items .now)) (a .u) (a .v) (a .list .now) (omega (arith, c .before .before .last .ensures, c .before .if1 .taken)))
+
+last-requires-2 : tie.Need-last-requires-2
+last-requires-2 c κs = c .before .before .before .before .pre .version
+
+told-as-requires-2 : tie.Need-told-as-requires-2
+told-as-requires-2 c κs = search needs
+
+returns-2 : tie.Need-returns-2
+returns-2 c =
+    let a = c .before .before .before .before .before .before .before .args in
+    rw (c .told-as2 .ensures)
+    (difference-new (plainOf (a .s) (a .items .now)) (a .u) (a .v) (a .list .now) (omega (arith, c .before .before .before .before .last .ensures, c .before .before .before .if1 .left)) (omega (arith, c .before .before .last2 .ensures, c .before .if2 .taken)))
+
+tell-differences-requires : tie.Need-tell-differences-requires
+tell-differences-requires c κs = let a = c .before .before .before .before .before .before .before .args in (c .before .before .before .before .before .before .before .pre .lent .room, none-room deltas (differs-few (a .u) (a .v) (from (a .items .now) 0 (a .s .count))))
+
+mul-if3 : tie.Need-mul-if3
+mul-if3 c = let a = c .before .before .before .before .before .before .before .before .before .before .args in omega (arith, counted deltas (c .before .before .tell-differences .ensures), differs-few (a .u) (a .v) (from (a .items .now) 0 (a .s .count)))
+
+told-as-requires-3 : tie.Need-told-as-requires-3
+told-as-requires-3 c κs = search needs
+
+same-length : tie.Need-same-length
+same-length c = search needs
+
+returns-3 : tie.Need-returns-3
+returns-3 c =
+    let a = c .before .before .before .before .before .before .before .before .before .before .before .before .args in
+    rw (c .told-as3 .ensures)
+    (told-short deltas (c .before .before .before .before .tell-differences .ensures) (c .before .if3 .taken)
+    ∙ difference-done (plainOf (a .s) (a .items .now)) (a .u) (a .v) (a .list .now) (omega (arith, c .before .before .before .before .before .before .before .before .before .last .ensures, c .before .before .before .before .before .before .before .before .if1 .left)) (omega (arith, c .before .before .before .before .before .before .before .last2 .ensures, c .before .before .before .before .before .before .if2 .left)))
+
+tell-differences-requires-2 : tie.Need-tell-differences-requires-2
+tell-differences-requires-2 c κs =
+    let a = c .before .before .before .before .before .before .before .before .before .before .before .before .args in
+    (c .before .before .before .before .before .before .before .before .before .before .before .before .pre .lent .room, second-space deltas (c .before .before .before .before .tell-differences .ensures) (c .before .if3 .left) (differs-few (a .u) (a .v) (from (a .items .now) 0 (a .s .count))))
+
+told-as-requires-4 : tie.Need-told-as-requires-4
+told-as-requires-4 c κs = search needs
+
+same-length-2 : tie.Need-same-length-2
+same-length-2 c = search needs
+
+returns-4 : tie.Need-returns-4
+returns-4 c =
+    let a = c .before .before .before .before .before .before .before .before .before .before .before .before .before .before .before .before .args in
+    rw (c .told-as4 .ensures)
+    (told-all deltas (c .before .before .before .before .before .before .before .before .tell-differences .ensures) (c .before .before .before .before .before .if3 .left) (c .before .before .before .tell-differences2 .ensures)
+    ∙ difference-done (plainOf (a .s) (a .items .now)) (a .u) (a .v) (a .list .now) (omega (arith, c .before .before .before .before .before .before .before .before .before .before .before .before .before .last .ensures, c .before .before .before .before .before .before .before .before .before .before .before .before .if1 .left)) (omega (arith, c .before .before .before .before .before .before .before .before .before .before .before .last2 .ensures, c .before .before .before .before .before .before .before .before .before .before .if2 .left)))
+
+pub difference-spec : {M : Type 1} → statement M
+difference-spec =
+    tie.close
+    (tie.spec last-requires told-as-requires returns last-requires-2 told-as-requires-2 returns-2 tell-differences-requires mul-if3 told-as-requires-3 same-length returns-3 tell-differences-requires-2 told-as-requires-4 same-length-2 returns-4)

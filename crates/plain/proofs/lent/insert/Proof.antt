@@ -1,0 +1,91 @@
+-- `lent::insert` meets its contract. Assumes nothing.
+use Prim.Native.Nat.{ℕ, _+_, _*_, _≤_}
+use native.Mathlib.Omega.{arith}
+use mathlib.Core.Path.{_≡_, refl, ap, sym, _∙_}
+use mathlib.Core.List.{List}
+use lib.ListN.{length}
+use borrow.Author.Tests.{not-true, not-false}
+use Rattle.plain.specs.Plain.{Plain, insert}
+use Rattle.plain.specs.Items.{plainOf}
+use Rattle.plain.specs.Guard.{stateOf, isLent, readPlain, leftLent, fitted, ownInserts}
+use Rattle.plain.proofs.Guards as guards
+use borrow.Author.Needs.{needs}
+use Rattle.plain.proofs.lent.insert.Statement.{statement}
+use Rattle.plain.proofs.lent.insert.Tie as tie
+
+is-lent-requires : tie.Need-is-lent-requires
+is-lent-requires c κs = search needs
+
+same-length : tie.Need-same-length
+same-length c = search needs
+
+returns : tie.Need-returns
+returns c =
+    let a = c .before .before .before .before .before .args in
+    let p = readPlain (a .items .now) (a .state .now) in
+    let none = sym (c .before .is-lent .ensures) ∙ not-true (c .before .is-lent .result) (c .if1 .taken) in
+    (guards.guarded-none (isLent (a .items .now) (a .state .now)) p (fitted (a .items .now) (stateOf (a .state .now) .count + 1) p (insert p (a .key) (a .value))) none, (λ e. refl, λ e. refl))
+
+state-of-requires : tie.Need-state-of-requires
+state-of-requires c κs = search needs
+
+insert-lacks-requires : tie.Need-insert-lacks-requires
+insert-lacks-requires c κs =
+    let a = c .before .before .before .before .before .before .before .before .args in
+    guards.own-held (a .items .now) (a .state .now) (sym (c .before .before .before .before .is-lent .ensures) ∙ not-false (c .before .before .before .before .is-lent .result) (c .before .before .before .if1 .left)) _ (c .before .state-of .ensures .0)
+
+same-length-2 : tie.Need-same-length-2
+same-length-2 c = search needs
+
+returns-2 : tie.Need-returns-2
+returns-2 c =
+    let a = c .before .before .before .before .before .before .before .before .before .before .args in
+    let ns = a .items .now in
+    let ms = a .state .now in
+    let yes = sym (c .before .before .before .before .before .before .is-lent .ensures) ∙ not-false (c .before .before .before .before .before .before .is-lent .result) (c .before .before .before .before .before .if1 .left) in
+    let s = c .before .before .before .state-of in
+    let lack = c .before .insert-lacks in
+    let p = readPlain ns ms in
+    (guards.own-insert-short ns ms yes (s .result) (s .ensures .0) (a .key) (a .value) (lack .result) (lack .ensures) (c .if2 .taken) ∙ guards.guarded-some (isLent ns ms) p (fitted (a .items .now) (stateOf (a .state .now) .count + 1) p (insert p (a .key) (a .value))) yes, (λ e. refl, λ e. refl))
+
+insert-requires : tie.Need-insert-requires
+insert-requires c κs =
+    let a = c .before .before .before .before .before .before .before .before .before .before .before .args in
+    let ns = a .items .now in
+    let ms = a .state .now in
+    let yes = sym (c .before .before .before .before .before .before .before .is-lent .ensures) ∙ not-false (c .before .before .before .before .before .before .before .is-lent .result) (c .before .before .before .before .before .before .if1 .left) in
+    let s = c .before .before .before .before .state-of in
+    let lack = c .before .before .insert-lacks in
+    (guards.own-held ns ms yes (s .result) (s .ensures .0), guards.own-insert-room ns ms yes (s .result) (s .ensures .0) (a .key) (a .value) (lack .result) (lack .ensures) (c .before .if2 .left))
+
+keep-requires : tie.Need-keep-requires
+keep-requires c κs =
+    let a = c .before .before .before .before .before .before .before .before .before .before .before .before .before .before .before .args in
+    let ns = a .items .now in
+    let ms = a .state .now in
+    let yes = sym (c .before .before .before .before .before .before .before .before .before .before .before .is-lent .ensures) ∙ not-false (c .before .before .before .before .before .before .before .before .before .before .before .is-lent .result) (c .before .before .before .before .before .before .before .before .before .before .if1 .left) in
+    let s = c .before .before .before .before .before .before .before .before .state-of in
+    let lack = c .before .before .before .before .before .before .insert-lacks in
+    let call = c .before .before .before .insert in
+    guards.own-fits ns ms yes (s .result) (s .ensures .0) (call .result) (call .last .0) (λ (q : Plain). insert q (a .key) (a .value)) (call .ensures)
+    (guards.own-insert-room ns ms yes (s .result) (s .ensures .0) (a .key) (a .value) (lack .result) (lack .ensures) (c .before .before .before .before .before .if2 .left))
+
+same-length-3 : tie.Need-same-length-3
+same-length-3 c = search needs
+
+returns-3 : tie.Need-returns-3
+returns-3 c =
+    let a = c .before .before .before .before .before .before .before .before .before .before .before .before .before .before .before .before .args in
+    let ns = a .items .now in
+    let ms = a .state .now in
+    let yes = sym (c .before .before .before .before .before .before .before .before .before .before .before .before .is-lent .ensures) ∙ not-false (c .before .before .before .before .before .before .before .before .before .before .before .before .is-lent .result) (c .before .before .before .before .before .before .before .before .before .before .before .if1 .left) in
+    let s = c .before .before .before .before .before .before .before .before .before .state-of in
+    let lack = c .before .before .before .before .before .before .before .insert-lacks in
+    let call = c .before .before .before .before .insert in
+    let p = readPlain ns ms in
+    let left = guards.own-left ns ms yes (s .result) (s .ensures .0) (call .result) (call .last .0) (λ (q : Plain). insert q (a .key) (a .value)) (call .ensures) (c .keep .result) (c .keep .last .0) (c .keep .ensures .0) (c .keep .ensures .1) in
+    let roomy = guards.own-insert-roomy ns ms yes (s .result) (s .ensures .0) (a .key) (a .value) (lack .result) (lack .ensures) (c .before .before .before .before .before .before .if2 .left) in
+    (left ∙ roomy ∙ guards.guarded-some (isLent ns ms) p (fitted (a .items .now) (stateOf (a .state .now) .count + 1) p (insert p (a .key) (a .value))) yes, (λ e. guards.not-both (isLent ns ms) yes e, λ e. guards.not-both (isLent ns ms) yes e))
+
+pub insert-spec : {M : Type 1} → statement M
+insert-spec = tie.close (tie.spec is-lent-requires same-length returns state-of-requires insert-lacks-requires same-length-2 returns-2 insert-requires keep-requires same-length-3 returns-3)

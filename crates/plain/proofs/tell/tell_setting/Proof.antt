@@ -1,0 +1,33 @@
+-- `tell_setting` meets its contract. Assumes nothing.
+use native.Mathlib.Omega.{arith}
+use mathlib.Core.Path.{refl, sym, subst}
+use Rattle.model.specs.Telling.{Space}
+use Rattle.model.proofs.Telling.{written-none}
+use Rattle.plain.specs.Tell.{pairs, setting-told, setting-none}
+use borrow.Author.Needs.{needs}
+use Rattle.plain.proofs.tell.tell_setting.Statement.{statement}
+use Rattle.plain.proofs.tell.tell_setting.Tie as tie
+
+put-pair-requires : tie.Need-put-pair-requires
+put-pair-requires c κs =
+    let a = c .before .before .before .args in
+    subst (Space pairs (a .write) (a .list .now) (a .k)) (setting-told (a .key) (a .a) (c .before .if1 .taken)) (c .before .before .before .pre)
+
+add-result : tie.Need-add-result
+add-result c = omega (arith, c .before .before .before .before .before .before .pre .few)
+
+same-length : tie.Need-same-length
+same-length c = search needs
+
+returns : tie.Need-returns
+returns c =
+    let a = c .before .before .before .before .before .before .args in
+    rw (setting-told (a .key) (a .a) (c .before .before .before .before .if1 .taken)) (record { count = refl; list = c .before .before .put-pair .ensures })
+
+returns-2 : tie.Need-returns-2
+returns-2 c =
+    let a = c .before .before .args in
+    rw (setting-none (a .key) (a .a) (c .if1 .left)) (record { count = omega arith; list = sym (written-none pairs (a .write) (a .list .now) (a .k)) })
+
+pub tell-setting-spec : {M : Type 1} → statement M
+tell-setting-spec = tie.close (tie.spec put-pair-requires add-result same-length returns returns-2)

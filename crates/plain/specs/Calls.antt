@@ -1,0 +1,200 @@
+-- The calls on a lent list, test by test: what each gives and leaves.
+-- Assumes nothing.
+use Prim.Native.Nat.{ℕ, suc, _+_, _*_, _≤_, _<_}
+use native.Mathlib.Omega.{arith}
+use mathlib.Core.Bool.{Bool, true, false, not}
+use mathlib.Core.Option.{Option, none, some}
+use mathlib.Core.Path.{_≡_, refl, ap, ap₂, sym, _∙_}
+use mathlib.Core.List.{List, [], _∷_, _++_}
+use lib.Dec.{leb, ltb}
+use lib.ListN.{length, length-append}
+use borrow.Author.Tests.{le-leb, lt-leb, lt-ltb, le-ltb}
+use Rattle.model.specs.Basic.{isEmpty}
+use Rattle.model.specs.declared.Entry.{Entry}
+use Rattle.model.specs.declared.Looked.{Looked}
+use Rattle.model.specs.declared.Looked.the-variants.{Value, Absent, Refused}
+use Rattle.model.specs.Entry.{pair, alive, born}
+use Rattle.model.specs.Walk.{keyLimit}
+use Rattle.model.specs.Calls.{isSome, rule, firstOf, benchLimit, restoredEntries, lookedAt, lookedBy}
+use Rattle.plain.specs.declared.State.{State}
+use Rattle.plain.specs.declared.Left.{Left}
+use Rattle.plain.specs.Plain.{Plain, next, last, valueAt, differs, setKey, endKey, backTo, Given, unless, holding, begin, insert, delete, commit, abandon, return, lookup}
+use Rattle.plain.specs.Items.{plainOf, from}
+use Rattle.plain.specs.Laid.{laid, from-behind, from-length}
+use Rattle.plain.specs.Sweep.{swept, swept-ended, swept-undone}
+
+-- what a call gave, and the plain store that it left
+abbrev pub givenBy : Left → List ℕ → Given
+givenBy r ns = record { number = r .number; plain = plainOf (r .state) ns }
+
+abbrev pub leftWith : ℕ → State → ℕ → Left
+leftWith n s c = record { number = n; state = record { current = s .current; opened = s .opened; count = c } }
+
+-- the list has the room for the items that a call leaves
+abbrev pub Room : Given → List ℕ → Type 0
+Room g ns = 4 * length (g .plain .items) ≤ length ns
+
+-- an open reads no item: whatever the list
+abbrev pub Opens : State → Left → Type 0
+Opens s r = (ns : List ℕ) → givenBy r ns ≡ begin (plainOf s ns)
+
+-- ---- laws: lookup
+
+module _ (p : Plain) (k v : ℕ) where
+  pub lookup-five : keyLimit ≤ k → Refused 5 ≡ lookup p k v
+  unfolding lookup
+  lookup-five h = rw (le-leb keyLimit k h) refl
+
+  pub lookup-six : k < keyLimit → last p < v → Refused 6 ≡ lookup p k v
+  unfolding lookup
+  lookup-six h i = rw (lt-leb keyLimit k h, lt-ltb (last p) v i) refl
+
+  pub lookup-done : k < keyLimit → v ≤ last p → lookedAt (valueAt k v (p .items)) ≡ lookup p k v
+  unfolding lookup
+  lookup-done h i = rw (lt-leb keyLimit k h, le-ltb (last p) v i) refl
+
+-- ---- open
+
+module _ (p : Plain) where
+  pub open-eight : p .opened ≡ true → record { number = 8; plain = p } ≡ begin p
+  unfolding begin
+  open-eight o = ap (λ (b : Bool). unless (firstOf (rule 8 b ∷ rule 9 (leb 1048574 (p .current)) ∷ [])) p (record { current = p .current; opened = true; items = p .items })) (sym o)
+
+  pub open-nine : p .opened ≡ false → 1048574 ≤ p .current → record { number = 9; plain = p } ≡ begin p
+  unfolding begin
+  open-nine o h = ap₂ {C = Given} (λ (b c : Bool). unless (firstOf (rule 8 b ∷ rule 9 c ∷ [])) p (record { current = p .current; opened = true; items = p .items })) (sym o) (sym (le-leb 1048574 (p .current) h))
+
+  pub open-done : p .opened ≡ false → p .current < 1048574 → record { number = 0; plain = record { current = p .current; opened = true; items = p .items } } ≡ begin p
+  unfolding begin
+  open-done o h = ap₂ {C = Given} (λ (b c : Bool). unless (firstOf (rule 8 b ∷ rule 9 c ∷ [])) p (record { current = p .current; opened = true; items = p .items })) (sym o) (sym (lt-leb 1048574 (p .current) h))
+
+-- ---- insert, delete
+
+abbrev three : ℕ → Bool → Bool → Bool → Plain → Plain → Given
+three n a b c p q = unless (firstOf (rule 5 a ∷ rule 7 (not b) ∷ rule n c ∷ [])) p q
+
+three-by : (n : ℕ) {a b c a′ b′ c′ : Bool} (p q : Plain) → a ≡ a′ → b ≡ b′ → c ≡ c′ → three n a′ b′ c′ p q ≡ three n a b c p q
+three-by n {a} {b} {c} {a′} {b′} {c′} p q e f g =
+    sym (ap₂ {C = Given} (λ (x y : Bool). three n x y c p q) e f ∙ ap (λ (z : Bool). three n a′ b′ z p q) g)
+
+module _ (p : Plain) (k x : ℕ) where
+  abbrev inserted : Plain
+  inserted = holding p (setKey (next p) k x (p .items))
+
+  pub insert-five : benchLimit ≤ k → record { number = 5; plain = p } ≡ insert p k x
+  unfolding insert
+  insert-five h = ap (λ (a : Bool). three 10 a (p .opened) (isSome (valueAt k (next p) (p .items))) p inserted) (sym (le-leb benchLimit k h))
+
+  module _ (h : k < benchLimit) where
+    pub insert-seven : p .opened ≡ false → record { number = 7; plain = p } ≡ insert p k x
+    unfolding insert
+    insert-seven o = ap₂ {C = Given} (λ (a b : Bool). three 10 a b (isSome (valueAt k (next p) (p .items))) p inserted) (sym (lt-leb benchLimit k h)) (sym o)
+
+    pub insert-ten : p .opened ≡ true → (y : ℕ) → valueAt k (next p) (p .items) ≡ some y → record { number = 10; plain = p } ≡ insert p k x
+    unfolding insert
+    insert-ten o y e = three-by 10 p inserted (lt-leb benchLimit k h) o (ap isSome e)
+
+    pub insert-done : p .opened ≡ true → valueAt k (next p) (p .items) ≡ none → record { number = 0; plain = inserted } ≡ insert p k x
+    unfolding insert
+    insert-done o e = three-by 10 p inserted (lt-leb benchLimit k h) o (ap isSome e)
+
+module _ (p : Plain) (k : ℕ) where
+  abbrev deleted : Plain
+  deleted = holding p (endKey (next p) k (p .items))
+
+  pub delete-five : keyLimit ≤ k → record { number = 5; plain = p } ≡ delete p k
+  unfolding delete
+  delete-five h = ap (λ (a : Bool). three 11 a (p .opened) (not (isSome (valueAt k (next p) (p .items)))) p deleted) (sym (le-leb keyLimit k h))
+
+  module _ (h : k < keyLimit) where
+    pub delete-seven : p .opened ≡ false → record { number = 7; plain = p } ≡ delete p k
+    unfolding delete
+    delete-seven o = ap₂ {C = Given} (λ (a b : Bool). three 11 a b (not (isSome (valueAt k (next p) (p .items)))) p deleted) (sym (lt-leb keyLimit k h)) (sym o)
+
+    pub delete-eleven : p .opened ≡ true → valueAt k (next p) (p .items) ≡ none → record { number = 11; plain = p } ≡ delete p k
+    unfolding delete
+    delete-eleven o e = three-by 11 p deleted (lt-leb keyLimit k h) o (ap (λ (y : Option ℕ). not (isSome y)) e)
+
+    pub delete-done : p .opened ≡ true → (y : ℕ) → valueAt k (next p) (p .items) ≡ some y → record { number = 0; plain = deleted } ≡ delete p k
+    unfolding delete
+    delete-done o y e = three-by 11 p deleted (lt-leb keyLimit k h) o (ap (λ (z : Option ℕ). not (isSome z)) e)
+
+-- ---- abandon, commit, return
+
+module _ (p : Plain) where
+  abbrev abandoned : Plain
+  abandoned = record { current = p .current; opened = false; items = restoredEntries (next p) (p .items) }
+
+  pub abandon-seven : p .opened ≡ false → record { number = 7; plain = p } ≡ abandon p
+  unfolding abandon
+  abandon-seven o = ap (λ (b : Bool). unless (firstOf (rule 7 (not b) ∷ [])) p abandoned) (sym o)
+
+  pub abandon-done : p .opened ≡ true → record { number = 0; plain = abandoned } ≡ abandon p
+  unfolding abandon
+  abandon-done o = ap (λ (b : Bool). unless (firstOf (rule 7 (not b) ∷ [])) p abandoned) (sym o)
+
+  abbrev committed : Plain
+  committed = record { current = next p; opened = false; items = p .items }
+
+  abbrev same : Bool
+  same = isEmpty (differs (p .current) (next p) (p .items))
+
+  pub commit-seven : p .opened ≡ false → record { number = 7; plain = p } ≡ commit p
+  unfolding commit
+  commit-seven o = ap (λ (b : Bool). unless (firstOf (rule 7 (not b) ∷ rule 15 same ∷ [])) p committed) (sym o)
+
+  pub commit-fifteen : p .opened ≡ true → same ≡ true → record { number = 15; plain = p } ≡ commit p
+  unfolding commit
+  commit-fifteen o e = ap₂ {C = Given} (λ (b c : Bool). unless (firstOf (rule 7 (not b) ∷ rule 15 c ∷ [])) p committed) (sym o) (sym e)
+
+  pub commit-done : p .opened ≡ true → same ≡ false → record { number = 0; plain = committed } ≡ commit p
+  unfolding commit
+  commit-done o e = ap₂ {C = Given} (λ (b c : Bool). unless (firstOf (rule 7 (not b) ∷ rule 15 c ∷ [])) p committed) (sym o) (sym e)
+
+module _ (p : Plain) (v : ℕ) where
+  abbrev returned : Plain
+  returned = holding p (backTo (next p) v (p .items))
+
+  pub return-six : p .current < v → record { number = 6; plain = p } ≡ return p v
+  unfolding return
+  return-six h = ap (λ (b : Bool). unless (firstOf (rule 6 b ∷ rule 7 (not (p .opened)) ∷ [])) p returned) (sym (lt-ltb (p .current) v h))
+
+  module _ (h : v ≤ p .current) where
+    pub return-seven : p .opened ≡ false → record { number = 7; plain = p } ≡ return p v
+    unfolding return
+    return-seven o = ap₂ {C = Given} (λ (b c : Bool). unless (firstOf (rule 6 b ∷ rule 7 (not c) ∷ [])) p returned) (sym (le-ltb (p .current) v h)) (sym o)
+
+    pub return-done : p .opened ≡ true → record { number = 0; plain = returned } ≡ return p v
+    unfolding return
+    return-done o = ap₂ {C = Given} (λ (b c : Bool). unless (firstOf (rule 6 b ∷ rule 7 (not c) ∷ [])) p returned) (sym (le-ltb (p .current) v h)) (sym o)
+
+-- ---- on a lent list; w is the open version as the code has it
+
+abbrev pub given : State → Bool → List Entry → Given
+given s o es = record { number = 0; plain = record { current = s .current; opened = o; items = es } }
+
+module _ (s : State) (ns : List ℕ) (k w : ℕ) (is : w ≡ suc (s .current)) (o : s .opened ≡ true) where
+  module _ (x : ℕ) (h : k < benchLimit) (none-there : valueAt k w (from ns 0 (s .count)) ≡ none) where
+    made : given s (s .opened) (setKey (suc (s .current)) k x (from ns 0 (s .count))) ≡ insert (plainOf s ns) k x
+    made = insert-done (plainOf s ns) k x h o (ap (λ (v : ℕ). valueAt k v (from ns 0 (s .count))) (sym is) ∙ none-there)
+
+    pub insert-room : Room (insert (plainOf s ns) k x) ns → 4 * s .count + 4 ≤ length ns
+    insert-room r =
+        let e = ap (λ (g : Given). length (g .plain .items)) made in
+        let one = length-append (from ns 0 (s .count)) (born (suc (s .current)) (pair k x) ∷ []) in
+        omega (arith, e, one, from-length ns (s .count), r)
+
+    pub insert-left : 4 * s .count + 4 ≤ length ns → given s (s .opened) (from (laid ns (s .count) (record { key = k; start = w; end = alive; value = x })) 0 (s .count + 1)) ≡ insert (plainOf s ns) k x
+    insert-left r =
+        ap (given s (s .opened)) (from-behind ns (s .count) (record { key = k; start = w; end = alive; value = x }) r)
+        ∙ ap (λ (v : ℕ). given s (s .opened) (setKey v k x (from ns 0 (s .count)))) is ∙ made
+
+  pub delete-left : k < keyLimit → (y : ℕ) → valueAt k w (from ns 0 (s .count)) ≡ some y → (es : List Entry) → es ≡ swept w false k (from ns 0 (s .count))
+      → given s (s .opened) es ≡ delete (plainOf s ns) k
+  delete-left h y e es d =
+      ap (given s (s .opened)) (d ∙ swept-ended w k (from ns 0 (s .count))) ∙ ap (λ (v : ℕ). given s (s .opened) (endKey v k (from ns 0 (s .count)))) is
+      ∙ delete-done (plainOf s ns) k h o y (ap (λ (v : ℕ). valueAt k v (from ns 0 (s .count))) (sym is) ∙ e)
+
+  pub abandon-left : (es : List Entry) → es ≡ swept w true k (from ns 0 (s .count)) → given s false es ≡ abandon (plainOf s ns)
+  abandon-left es d =
+      ap (given s false) (d ∙ swept-undone w k (from ns 0 (s .count))) ∙ ap (λ (v : ℕ). given s false (restoredEntries v (from ns 0 (s .count)))) is ∙ abandon-done (plainOf s ns) o

@@ -1,0 +1,10 @@
+pub mod Plain
+pub mod Items
+pub mod Laid
+pub mod Sweep
+pub mod Calls
+pub mod Scan
+pub mod Tell
+pub mod Turns
+pub mod Lived
+pub mod Guard
