@@ -54,11 +54,11 @@ pub fn work(s: &mut [u8], l: Limits, w: u32, a: Around, c: Change, size: usize) 
     ensures { λ r. ⌜ (workedOf r (pagesOf l (now (s .exit))) ≡ work (l .least) w (pagesOf l (now (s .entry))) (aroundOf a) (changeOf c)) × Becomes l (now (s .entry)) (now (s .exit)) (pagesOf l (now (s .exit))) × UpFits r ⌝ }
 {
     let n = wide(a.own.value);
-    let want = parts::wanted_of(s, l, n, w, c);
-    if group::takes_in_place(s, l, n, w, c, want.n) {
+    if group::takes_in_place(s, l, n, w, c) {
         parts::change_in(s, l, n, w, c);
         return Worked::Settled;
     }
+    let want = parts::wanted_of(s, l, n, w, c);
     let level = parts::level_of(s, l, n);
     let g = group::gathered(s, l, w, a, want);
     regroup(s, l, w, level, g, size)

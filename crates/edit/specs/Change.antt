@@ -17,7 +17,7 @@ use Rattle.edit.specs.declared.Change.{Change}
 use Rattle.edit.specs.declared.sift.Rule.the-variants.{End}
 use Rattle.edit.specs.Fate.{endOf}
 use Rattle.edit.specs.Sift.{sifted, siftedPage}
-use Rattle.edit.specs.Same.{firstOf, ends}
+use Rattle.edit.specs.Same.{firstOf, ends, none-end}
 use Rattle.edit.specs.Place.{entered}
 use Rattle.page.specs.Exact.{Valid}
 use Rattle.edit.specs.Valid.{length-enter, valid-entered, valid-sifted}
@@ -49,6 +49,11 @@ second w c p = enteredIf (leb 1 (c .takes)) w (c .take1) (first w c p)
 
 unfoldable pub third : ℕ → Change → Page → Page
 third w c p = enteredIf (leb 2 (c .takes)) w (c .take2) (second w c p)
+
+-- with no key dropped the first stage is the page itself
+pub first-none : (w : ℕ) (c : Change) (p : Page) → c .drops ≡ 0 → first w c p ≡ p
+unfolding first siftedPage endOf
+first-none w c p e = rw (e, none-end (c .drop1) (c .drop2) w (p .entries))
 
 pub third-is : (w : ℕ) (c : Change) (p : Page) → third w c p ≡ changed w (changeOf c) p
 unfolding third second first changeOf siftedPage endOf entered

@@ -54,6 +54,16 @@ ends n a b w [] = refl
 ends n a b w (e ∷ es) =
     rw (ends n a b w es, among-is (e .key) n a b) (end-one (liveAt w e && has (e .key) (firstOf n a b)) w e (endThose (λ (e : Entry). liveAt w e && has (e .key) (firstOf n a b)) w es))
 
+-- no key, no end
+pub none-end : (a b w : ℕ) (es : List Entry) → sifted (End 0 a b) w es ≡ es
+unfolding sifted fateOf
+none-end a b w [] = refl
+none-end a b w (e ∷ es) = rw (none-end a b w es) (go (liveAt w e))
+  where
+    go : (x : Bool) → left (endIf (x && amongOf (e .key) 0 a b) w e) ++ es ≡ e ∷ es
+    go true = refl
+    go false = refl
+
 backs : (w : ℕ) (es : List Entry) → sifted Back w es ≡ restoredEntries w es
 unfolding sifted fateOf
 backs w [] = refl

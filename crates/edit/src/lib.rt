@@ -17,7 +17,7 @@ ghost use Rattle.model.specs.Page.{filled, gone, changed};
 ghost use Rattle.model.specs.Calls.{back};
 ghost use Rattle.model.specs.Layout.{encodePage, decodePage};
 ghost use Rattle.page.specs.Exact.{Exact};
-ghost use Rattle.edit.specs.Change.{changeOf};
+ghost use Rattle.edit.specs.Change.{changeOf, first};
 ghost use Rattle.edit.specs.Fill.{nil, Fitting};
 
 // A change to a page: the keys that end, the first `drops` of two, and the pairs that come in, the first `takes` of two.
@@ -74,11 +74,14 @@ pub fn undo(page: &mut [u8], l: Limits, w: u32)
     }
 }
 
-// A page takes a change in place.
-pub fn take_change(page: &mut [u8], l: Limits, w: u32, c: Change)
-    requires { ⌜ Edition l × Exact (l .least) (now page) × (w < 2 ^ 20) × (c .take1 .key < 2 ^ 24) × (c .take2 .key < 2 ^ 24) × (length (changed w (changeOf c) (decodePage (l .least) (now page)) .entries) ≤ 5 * l .least) ⌝ }
-    ensures { λ _. ⌜ now (page .exit) ≡ encodePage (l .least) (changed w (changeOf c) (decodePage (l .least) (now (page .entry)))) ⌝ }
+// The keys that a change drops end. Where it drops none the page stays as it is, and nothing is written.
+fn end_dropped(page: &mut [u8], l: Limits, w: u32, c: Change)
+    requires { ⌜ Edition l × Exact (l .least) (now page) × (w < 2 ^ 20) ⌝ }
+    ensures { λ _. ⌜ now (page .exit) ≡ encodePage (l .least) (first w c (decodePage (l .least) (now (page .entry)))) ⌝ }
 {
+    if c.drops == 0 {
+        return;
+    }
     sift::sift(
         page,
         l,
@@ -89,6 +92,14 @@ pub fn take_change(page: &mut [u8], l: Limits, w: u32, c: Change)
         },
         w,
     );
+}
+
+// A page takes a change in place.
+pub fn take_change(page: &mut [u8], l: Limits, w: u32, c: Change)
+    requires { ⌜ Edition l × Exact (l .least) (now page) × (w < 2 ^ 20) × (c .take1 .key < 2 ^ 24) × (c .take2 .key < 2 ^ 24) × (length (changed w (changeOf c) (decodePage (l .least) (now page)) .entries) ≤ 5 * l .least) ⌝ }
+    ensures { λ _. ⌜ now (page .exit) ≡ encodePage (l .least) (changed w (changeOf c) (decodePage (l .least) (now (page .entry)))) ⌝ }
+{
+    end_dropped(page, l, w, c);
     enter::enter_if(page, l, 1 <= c.takes, w, c.take1);
     enter::enter_if(page, l, 2 <= c.takes, w, c.take2);
 }

@@ -1,3 +1,4 @@
 pub mod Gather
 pub mod Place
 pub mod Kept
+pub mod Tests

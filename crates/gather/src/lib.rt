@@ -18,6 +18,11 @@ ghost use Rattle.gather.specs.Gather.{Good, Lists, pairsIn};
 ghost use Rattle.gather.specs.Place.{placeIn};
 ghost use Rattle.gather.specs.Kept.{Counted, Fits, keptPairs};
 
+mod test;
+
+pub use test::has_enough;
+pub use test::has_room;
+
 // Pairs gathered: the first n of the list. There is room for what two pages of the largest edition hold: 7 times its least, less one.
 pub struct Gather {
     pub list: [Pair; 56],
@@ -107,7 +112,7 @@ fn entered(g: Gather, x: Pair) -> Gather
 }
 
 // Whether a key is among those that a change drops.
-fn dropped(c: Change, k: u32) -> bool
+pub(crate) fn dropped(c: Change, k: u32) -> bool
     ensures { λ r. ⌜ r ≡ has k (changeOf c .drop) ⌝ }
 {
     edit::either(
@@ -170,7 +175,7 @@ pub fn wanted(page: &[u8], l: Limits, w: u32, c: Change) -> Gather
     entered(h, c.take2)
 }
 
-fn one(yes: bool) -> usize
+pub(crate) fn one(yes: bool) -> usize
     ensures { λ r. ⌜ (r ≡ one yes) × (r ≤ 1) ⌝ }
 {
     if yes { 1 } else { 0 }

@@ -11,9 +11,8 @@ ghost use lib.Dec.{leb, ltb, eqb};
 ghost use lib.ListN.{length};
 ghost use Rattle.model.specs.Basic.{pick};
 ghost use Rattle.model.specs.Limits.{Edition};
-ghost use Rattle.model.specs.Page.{wanted};
 ghost use Rattle.model.specs.Store.{page};
-ghost use Rattle.model.specs.Rules.{gatherBy, roomy};
+ghost use Rattle.model.specs.Rules.{gatherBy};
 ghost use Rattle.model.specs.Needs.{takesInPlace};
 ghost use Rattle.edit.specs.Change.{changeOf};
 ghost use Rattle.gather.specs.Gather.{Good, pairsIn};
@@ -64,20 +63,15 @@ pub(crate) fn wide(x: u32) -> usize
     x as usize
 }
 
-// Whether page n has room for the change: "at most 20 entries, dead ones counted".
-pub fn has_room(s: &[u8], l: Limits, n: usize, w: u32, c: Change) -> bool
-    requires { ⌜ Kept l (now s) × Inside l (now s) n × Fits c ⌝ }
-    ensures { λ r. ⌜ r ≡ roomy (l .least) w (changeOf c) (page (pagesOf l (now (s .entry))) n) ⌝ }
-{
-    parts::after_of(s, l, n, w, c) <= l.room
-}
-
 // "A page takes its change in place if it then has at most 20 entries, dead ones counted, and [..] has at least 4 live."
-pub fn takes_in_place(s: &[u8], l: Limits, n: usize, w: u32, c: Change, live: usize) -> bool
-    requires { ⌜ Kept l (now s) × Inside l (now s) n × Fits c × (live ≡ length (wanted w (changeOf c) (page (pagesOf l (now s)) n))) ⌝ }
+pub fn takes_in_place(s: &[u8], l: Limits, n: usize, w: u32, c: Change) -> bool
+    requires { ⌜ Kept l (now s) × Inside l (now s) n × Fits c ⌝ }
     ensures { λ r. ⌜ r ≡ takesInPlace (l .least) w (changeOf c) (page (pagesOf l (now (s .entry))) n) ⌝ }
 {
-    edit::both(has_room(s, l, n, w, c), l.least <= live)
+    if !parts::has_room(s, l, n, w, c) {
+        return false;
+    }
+    parts::has_enough(s, l, n, w, c)
 }
 
 // "First of all, an index root whose wanted list is one router goes".

@@ -4,9 +4,11 @@ use gather::Gather;
 use model::Limits;
 ghost use mathlib.Core.Path.{_≡_};
 ghost use Prim.Native.Nat.{_≤_, _<_};
+ghost use lib.Dec.{leb};
 ghost use lib.ListN.{length};
-ghost use Rattle.model.specs.Page.{wanted, changed, pairsAt, active};
+ghost use Rattle.model.specs.Page.{wanted, pairsAt, active};
 ghost use Rattle.model.specs.Store.{page};
+ghost use Rattle.model.specs.Rules.{roomy};
 ghost use Rattle.edit.specs.Change.{changeOf};
 ghost use Rattle.gather.specs.Gather.{Lists};
 ghost use Rattle.gather.specs.Kept.{Fits};
@@ -56,10 +58,18 @@ pub fn wanted_of(s: &[u8], l: Limits, n: usize, w: u32, c: Change) -> Gather
     gather::wanted(store::part(s, l, n), l, w, c)
 }
 
-// How many entries it has, dead ones counted, with the change made in place.
-pub fn after_of(s: &[u8], l: Limits, n: usize, w: u32, c: Change) -> usize
+// Whether it has "at most 20 entries, dead ones counted", with the change made in place.
+pub fn has_room(s: &[u8], l: Limits, n: usize, w: u32, c: Change) -> bool
     requires { ⌜ Kept l (now s) × Inside l (now s) n × Fits c ⌝ }
-    ensures { λ r. ⌜ r ≡ length (changed w (changeOf c) (page (pagesOf l (now (s .entry))) n) .entries) ⌝ }
+    ensures { λ r. ⌜ r ≡ roomy (l .least) w (changeOf c) (page (pagesOf l (now (s .entry))) n) ⌝ }
 {
-    gather::after(store::part(s, l, n), l, w, c)
+    gather::has_room(store::part(s, l, n), l, w, c)
+}
+
+// Whether its wanted list has "at least 4".
+pub fn has_enough(s: &[u8], l: Limits, n: usize, w: u32, c: Change) -> bool
+    requires { ⌜ Kept l (now s) × Inside l (now s) n × Fits c ⌝ }
+    ensures { λ r. ⌜ r ≡ leb (l .least) (length (wanted w (changeOf c) (page (pagesOf l (now (s .entry))) n))) ⌝ }
+{
+    gather::has_enough(store::part(s, l, n), l, w, c)
 }

@@ -75,10 +75,10 @@ fn plan_level(s: &[u8], l: Limits, w: u32, a: Around, c: Change, left: usize) ->
     ensures { λ r. ⌜ (plannedOf r ≡ planWork (l .least) w (pagesOf l (now (s .entry))) (aroundOf a) (changeOf c) left) × PlannedFits left r ⌝ }
 {
     let n = wide(a.own.value);
-    let want = parts::wanted_of(s, l, n, w, c);
-    if group::takes_in_place(s, l, n, w, c, want.n) {
+    if group::takes_in_place(s, l, n, w, c) {
         return Planned::Settles;
     }
+    let want = parts::wanted_of(s, l, n, w, c);
     plan_group(s, l, w, group::gathered(s, l, w, a, want), left)
 }
 
@@ -105,7 +105,7 @@ fn plan_root(s: &[u8], l: Limits, w: u32, n: usize, c: Change, left: usize) -> O
     if group::goes(s, l, n, want.n) {
         return Outlook::Moves;
     }
-    if group::has_room(s, l, n, w, c) {
+    if parts::has_room(s, l, n, w, c) {
         return Outlook::Keeps;
     }
     if one(parts::is_active(s, l, n, w)) + left < root_fills(l, want.n) {

@@ -3,3 +3,4 @@ pub mod Leaves
 pub mod Exactly
 pub mod Opened
 pub mod Places
+pub mod Ended

@@ -67,6 +67,18 @@ fn entries_settled(s: &[u8], l: Limits, c: u32, n: usize) -> bool
     true
 }
 
+// The same by the leaf's front where that tells it: one that ended by version c has nothing of the open version.
+fn leaf_settled(s: &[u8], l: Limits, c: u32, n: usize) -> bool
+    requires { ⌜ Opened l (now s) c × (page (decode (l .least) (now s) .pages) n .level ≡ 1) ⌝ }
+    ensures { λ r. ⌜ r ≡ all (settled (decode (l .least) (now (s .entry)))) (page (decode (l .least) (now (s .entry)) .pages) n .entries) ⌝ }
+{
+    let h = page::head_of(store::part(s, l, n), l);
+    if h.end <= c {
+        return true;
+    }
+    entries_settled(s, l, c, n)
+}
+
 // Whether each entry of page n does, if it is a leaf.
 fn page_settled(s: &[u8], l: Limits, c: u32, n: usize) -> bool
     requires { ⌜ Opened l (now s) c × (5 ≤ n) × (n < sizeOf (l .least) (now s)) ⌝ }
@@ -76,7 +88,7 @@ fn page_settled(s: &[u8], l: Limits, c: u32, n: usize) -> bool
     if h.level != 1 {
         return true;
     }
-    entries_settled(s, l, c, n)
+    leaf_settled(s, l, c, n)
 }
 
 // Whether the open version's settings equal those of the current version c.

@@ -54,7 +54,7 @@ pub fn work_root(s: &mut [u8], l: Limits, w: u32, n: usize, c: Change, size: usi
     if group::goes(s, l, n, want.n) {
         return Rooted::Moves(give_way(s, l, w, n, want));
     }
-    if group::has_room(s, l, n, w, c) {
+    if parts::has_room(s, l, n, w, c) {
         parts::change_in(s, l, n, w, c);
         return Rooted::Stays;
     }

@@ -40,6 +40,13 @@ pub partly-start : (w : ℕ) (ps : List Page) → 0 < w → take 5 ps ≡ replic
 unfolding partly
 partly-start w ps h e = sym (split-five 5 ps) ∙ ap (λ (xs : List Page). xs ++ drop 5 ps) (e ∙ sym (frees w 5 h) ∙ ap (map (back w)) (sym e))
 
+-- page n itself has not yet
+pub partly-at : (w n : ℕ) (ps : List Page) → page (partly w n ps) n ≡ page ps n
+unfolding partly
+partly-at w zero ps = refl
+partly-at w (suc n) [] = refl
+partly-at w (suc n) (x ∷ ps) = partly-at w n ps
+
 step : (w n : ℕ) (ps : List Page) → n < length ps → set (partly w n ps) n (back w (page (partly w n ps) n)) ≡ partly w (suc n) ps
 unfolding partly
 step w n [] h = absurd (omega arith)

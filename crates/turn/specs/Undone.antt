@@ -15,7 +15,8 @@ use Rattle.store.specs.Parts.{page-fits}
 use Rattle.store.specs.Holds.{Holds, encoded-length, page-encoded}
 use Rattle.store.specs.Set.{withPages, page-set}
 use Rattle.edit.specs.Left.{valid-back}
-use Rattle.turn.specs.Partly.{partly, partly-start, partly-step, partly-end, partly-length, set-holds}
+use Rattle.turn.specs.Past.{Past, AllPast}
+use Rattle.turn.specs.Partly.{partly, partly-at, partly-start, partly-step, partly-end, partly-length, set-holds}
 
 -- pages below n of the store came back
 pub record Undone (least : ℕ) (s : Store) (w n : ℕ) (b : List ℕ) : Type 0 where
@@ -60,6 +61,10 @@ module _ (least : ℕ) (four : 4 ≤ least) (eight : least ≤ 8) (s : Store) (w
 
       pub undone-exact : Exact least (pageOf least b n)
       undone-exact = rw part-is (encode-exact least four eight here valid)
+
+      pub undone-past : AllPast w (s .pages) → Past w (decodePage least (pageOf least b n))
+      unfolding here
+      undone-past a = rw (part-is, decode-encode least four eight (page (partly w n (s .pages)) n) valid, partly-at w n (s .pages)) (a .at n)
 
       pub undone-step : w < 2 ^ 20 → (c : List ℕ) → c ≡ withPage least b n (encodePage least (back w (decodePage least (pageOf least b n)))) → Undone least s w (n + 1) c
       unfolding here

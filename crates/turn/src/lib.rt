@@ -17,6 +17,7 @@ ghost use Rattle.page.specs.Exact.{Exact};
 ghost use Rattle.store.specs.Set.{withPages};
 ghost use Rattle.turn.specs.Turned.{Kept, begun};
 ghost use Rattle.turn.specs.Slotted.{Cleared};
+ghost use Rattle.turn.specs.Past.{Past, AllPast};
 
 fn wide(x: u32) -> usize
     ensures { λ r. ⌜ r ≡ x ⌝ }
@@ -70,12 +71,24 @@ fn touched(page: &[u8], l: Limits, w: u32) -> bool
     false
 }
 
+// Whether an abandon of version w may change a page. One that ended before w has nothing of it, nor has a free one, whose end is 0.
+fn may_move(page: &[u8], l: Limits, w: u32) -> bool
+    requires { ⌜ Edition l × Exact (l .least) (now page) × Past w (decodePage (l .least) (now page)) ⌝ }
+    ensures { λ r. ⌜ (r ≡ false → back w (decodePage (l .least) (now (page .entry))) ≡ decodePage (l .least) (now (page .entry))) ⌝ }
+{
+    let h = page::head_of(page, l);
+    if h.end < w {
+        return false;
+    }
+    touched(page, l, w)
+}
+
 // What an abandon of version w makes of page n.
 fn undo_page(s: &mut [u8], l: Limits, n: usize, w: u32)
-    requires { ⌜ Edition l × (w < 2 ^ 20) × (n * (64 * l .least) + 64 * l .least ≤ length (now s)) × (length (now s) ≤ 2 ^ 40) × Exact (l .least) (pageOf (l .least) (now s) n) ⌝ }
+    requires { ⌜ Edition l × (w < 2 ^ 20) × (n * (64 * l .least) + 64 * l .least ≤ length (now s)) × (length (now s) ≤ 2 ^ 40) × Exact (l .least) (pageOf (l .least) (now s) n) × Past w (decodePage (l .least) (pageOf (l .least) (now s) n)) ⌝ }
     ensures { λ _. ⌜ now (s .exit) ≡ withPage (l .least) (now (s .entry)) n (encodePage (l .least) (back w (decodePage (l .least) (pageOf (l .least) (now (s .entry)) n)))) ⌝ }
 {
-    if !touched(store::part(s, l, n), l, w) {
+    if !may_move(store::part(s, l, n), l, w) {
         return;
     }
     let a = store::offset(l, n);
@@ -84,7 +97,7 @@ fn undo_page(s: &mut [u8], l: Limits, n: usize, w: u32)
 
 // What it makes of every page.
 fn undo_pages(s: &mut [u8], l: Limits, size: usize, w: u32)
-    requires { ⌜ Edition l × (0 < w) × (w < 2 ^ 20) × Kept (l .least) (now s) × (size ≡ length (decode (l .least) (now s) .pages)) ⌝ }
+    requires { ⌜ Edition l × (0 < w) × (w < 2 ^ 20) × Kept (l .least) (now s) × (size ≡ length (decode (l .least) (now s) .pages)) × AllPast w (decode (l .least) (now s) .pages) ⌝ }
     ensures { λ _. ⌜ now (s .exit) ≡ encode (l .least) (withPages (decode (l .least) (now (s .entry))) (map (back w) (decode (l .least) (now (s .entry)) .pages))) ⌝ }
 {
     let mut n = 5;

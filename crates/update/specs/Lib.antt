@@ -3,3 +3,4 @@ pub mod Level
 pub mod Applied
 pub mod Whole
 pub mod Single
+pub mod Settled

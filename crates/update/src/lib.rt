@@ -15,7 +15,7 @@ ghost use mathlib.Core.Bool.{true};
 ghost use Prim.Native.Nat.{_<_};
 ghost use lib.ListN.{length};
 ghost use Rattle.model.specs.Limits.{Edition};
-ghost use Rattle.model.specs.Store.{freeOnes};
+ghost use Rattle.model.specs.Store.{freeOnes, next};
 ghost use Rattle.model.specs.Walk.{keyLimit};
 ghost use Rattle.model.specs.Layout.{decode};
 ghost use Rattle.model.specs.Judged.{isSound};
@@ -88,14 +88,12 @@ fn apply(s: &mut [u8], l: Limits, w: u32, way: Way, c: Change, size: usize)
     }
 }
 
-// The change made at the leaf for a key, or the number that speaks against it.
-pub fn update(s: &mut [u8], l: Limits, key: u32, c: Change) -> u32
-    requires { ⌜ Edition l × (isSound (l .least) (now s) ≡ true) × (decode (l .least) (now s) .opened ≡ true) × (key < keyLimit) × Fits c × LeavesSound (l .least) (update (l .least) (decode (l .least) (now s)) key (changeOf c)) ⌝ }
+// The change carried out from the leaf up, once its number is foreseen.
+fn rise(s: &mut [u8], l: Limits, w: u32, key: u32, c: Change) -> u32
+    requires { ⌜ Edition l × (isSound (l .least) (now s) ≡ true) × (decode (l .least) (now s) .opened ≡ true) × (key < keyLimit) × Fits c × LeavesSound (l .least) (update (l .least) (decode (l .least) (now s)) key (changeOf c)) × (w ≡ next (decode (l .least) (now s))) ⌝ }
     ensures number { λ r. ⌜ r ≡ left (l .least) (now (s .entry)) (update (l .least) (decode (l .least) (now (s .entry))) key (changeOf c)) .number ⌝ }
     ensures bytes { λ _. ⌜ now (s .exit) ≡ left (l .least) (now (s .entry)) (update (l .least) (decode (l .least) (now (s .entry))) key (changeOf c)) .store ⌝ }
 {
-    let h = store::header(s, l);
-    let w = h.current + 1;
     let way = plan::way_to(s, l, w, key);
     let size = parts::size_of(s, l);
     let n = foresee(s, l, w, way, c, size);
@@ -104,4 +102,21 @@ pub fn update(s: &mut [u8], l: Limits, key: u32, c: Change) -> u32
     }
     apply(s, l, w, way, c, size);
     0
+}
+
+// The change made at the leaf for a key, or the number that speaks against it. Most leaves take it in place: then no page above is
+// asked, and no free one is counted.
+pub fn update(s: &mut [u8], l: Limits, key: u32, c: Change) -> u32
+    requires { ⌜ Edition l × (isSound (l .least) (now s) ≡ true) × (decode (l .least) (now s) .opened ≡ true) × (key < keyLimit) × Fits c × LeavesSound (l .least) (update (l .least) (decode (l .least) (now s)) key (changeOf c)) ⌝ }
+    ensures number { λ r. ⌜ r ≡ left (l .least) (now (s .entry)) (update (l .least) (decode (l .least) (now (s .entry))) key (changeOf c)) .number ⌝ }
+    ensures bytes { λ _. ⌜ now (s .exit) ≡ left (l .least) (now (s .entry)) (update (l .least) (decode (l .least) (now (s .entry))) key (changeOf c)) .store ⌝ }
+{
+    let h = store::header(s, l);
+    let w = h.current + 1;
+    let n = walk::leaf_for(s, l, w, key);
+    if group::takes_in_place(s, l, n, w, c) {
+        parts::change_in(s, l, n, w, c);
+        return 0;
+    }
+    rise(s, l, w, key, c)
 }

@@ -8,14 +8,13 @@ use borrow.Author.Needs.{needs}
 use Rattle.edit.proofs.take_change.Statement.{statement}
 use Rattle.edit.proofs.take_change.Tie as tie
 
-sift-requires : tie.Need-sift-requires
-sift-requires c κs = search needs
+end-dropped-requires : tie.Need-end-dropped-requires
+end-dropped-requires c κs = search needs
 
-one-ends : (c : tie.After-sift) → let a = c .before .before .before .args in c .sift .last .0 ≡ encodePage (a .l .least) (first (a .w) (a .c) (decodePage (a .l .least) (a .page .now)))
-unfolding first
-one-ends c = c .sift .ensures
+one-ends : (c : tie.After-end-dropped) → let a = c .before .before .before .args in c .end-dropped .last .0 ≡ encodePage (a .l .least) (first (a .w) (a .c) (decodePage (a .l .least) (a .page .now)))
+one-ends c = c .end-dropped .ensures
 
-one-valid : (c : tie.After-sift) → let a = c .before .before .before .args in Valid (a .l .least) (first (a .w) (a .c) (decodePage (a .l .least) (a .page .now)))
+one-valid : (c : tie.After-end-dropped) → let a = c .before .before .before .args in Valid (a .l .least) (first (a .w) (a .c) (decodePage (a .l .least) (a .page .now)))
 one-valid c =
     let s = c .before .before .before in let a = s .args in
     first-valid (a .l .least) (a .w) (a .c) (decodePage (a .l .least) (a .page .now)) (valid-read (a .l .least) (a .page .now) (s .pre .1 .room)) (s .pre .2) (s .pre .3) (omega (arith, s .good .1 .1 .1 .0)) (s .pre .5)
@@ -71,4 +70,4 @@ returns c =
 
 pub take-change-spec : {M : Type 1} → statement M
 take-change-spec =
-    tie.close (tie.spec sift-requires enter-if-requires enter-if-requires-2 same-length returns)
+    tie.close (tie.spec end-dropped-requires enter-if-requires enter-if-requires-2 same-length returns)

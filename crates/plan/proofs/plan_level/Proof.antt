@@ -5,8 +5,7 @@ use Rattle.gather.specs.Gather.{listed}
 use Rattle.edit.specs.Change.{changeOf}
 use Rattle.model.specs.Store.{page}
 use Rattle.model.specs.Needs.{takesInPlace}
-use mathlib.Core.Bool.{true, false}
-use mathlib.Core.Path.{_≡_, _∙_, ap}
+use mathlib.Core.Path.{_≡_, sym, _∙_}
 use native.Mathlib.Omega.{arith}
 use borrow.Author.Needs.{needs}
 use Rattle.plan.proofs.plan_level.Statement.{statement}
@@ -15,35 +14,41 @@ use Rattle.plan.proofs.plan_level.Tie as tie
 wide-requires : tie.Need-wide-requires
 wide-requires c κs = search needs
 
-wanted-of-requires : tie.Need-wanted-of-requires
-wanted-of-requires c κs = rw (c .wide .ensures) (c .before .before .pre .0, c .before .before .pre .1 .own .inside, c .before .before .pre .2)
-
 takes-in-place-requires : tie.Need-takes-in-place-requires
-takes-in-place-requires c κs = rw (c .before .wide .ensures) (c .before .before .before .pre .0, c .before .before .before .pre .1 .own .inside, c .before .before .before .pre .2, rw (c .before .wide .ensures) at (listed (c .wanted-of .ensures)))
+takes-in-place-requires c κs = rw (c .wide .ensures) (c .before .before .pre .0, c .before .before .pre .1 .own .inside, c .before .before .pre .2)
+
+-- the test's answer, of the page that the place names
+test-is : (c : tie.After-takes-in-place)
+    → c .takes-in-place .result ≡ takesInPlace (c .before .before .before .args .l .least) (c .before .before .before .args .w) (changeOf (c .before .before .before .args .c)) (page (pagesOf (c .before .before .before .args .l) (c .before .before .before .args .s .now)) (c .before .before .before .args .a .own .value))
+test-is c = c .takes-in-place .ensures ∙ rw (c .before .wide .ensures)
 
 returns : tie.Need-returns
 unfolding plannedOf aroundOf
 returns c =
-    let ps = pagesOf (c .before .before .before .before .before .args .l) (c .before .before .before .before .before .args .s .now) in
-    let t : takesInPlace (c .before .before .before .before .before .args .l .least) (c .before .before .before .before .before .args .w) (changeOf (c .before .before .before .before .before .args .c)) (page ps (c .before .before .before .before .before .args .a .own .value)) ≡ true
-    = rw (← c .before .before .before .wide .ensures, ← c .before .takes-in-place .ensures) (c .if1 .taken) in
-    (level-settles (c .before .before .before .before .before .args .l .least) (c .before .before .before .before .before .args .w) ps (aroundOf (c .before .before .before .before .before .args .a)) (changeOf (c .before .before .before .before .before .args .c)) (c .before .before .before .before .before .args .left) t, tt)
+    let a = c .before .before .before .before .args in
+    (level-settles (a .l .least) (a .w) (pagesOf (a .l) (a .s .now)) (aroundOf (a .a)) (changeOf (a .c)) (a .left) (sym (test-is (c .before)) ∙ c .if1 .taken), tt)
+
+wanted-of-requires : tie.Need-wanted-of-requires
+wanted-of-requires c κs =
+    let e = c .before .before .before .before in
+    rw (c .before .before .wide .ensures) (e .pre .0, e .pre .1 .own .inside, e .pre .2)
 
 gathered-requires : tie.Need-gathered-requires
 gathered-requires c κs =
-    let i = rw (← c .before .before .before .wide .ensures) at (c .before .before .before .before .before .pre .1 .own .inside) in
-    (c .before .before .before .before .before .pre .0, c .before .before .before .before .before .pre .1, c .before .before .wanted-of .ensures .good, omega (arith, listed (c .before .before .wanted-of .ensures), wanted-room (c .before .before .before .before .before .pre .0) i (c .before .before .before .before .before .args .w) (c .before .before .before .before .before .args .c) (c .before .before .before .before .before .pre .2)))
+    let e = c .before .before .before .before .before in
+    let i = rw (← c .before .before .before .wide .ensures) at (e .pre .1 .own .inside) in
+    (e .pre .0, e .pre .1, c .wanted-of .ensures .good, omega (arith, listed (c .wanted-of .ensures), wanted-room (e .pre .0) i (e .args .w) (e .args .c) (e .pre .2)))
 
 plan-group-requires : tie.Need-plan-group-requires
-plan-group-requires c κs = (c .before .before .before .before .before .before .pre .0, c .gathered .ensures .0, c .before .before .before .before .before .before .pre .3)
+plan-group-requires c κs =
+    let e = c .before .before .before .before .before .before in
+    (e .pre .0, c .gathered .ensures .0, e .pre .3)
 
 returns-2 : tie.Need-returns-2
 unfolding aroundOf
 returns-2 c =
-    let ps = pagesOf (c .before .before .before .before .before .before .before .args .l) (c .before .before .before .before .before .before .before .args .s .now) in
-    let t : takesInPlace (c .before .before .before .before .before .before .before .args .l .least) (c .before .before .before .before .before .before .before .args .w) (changeOf (c .before .before .before .before .before .before .before .args .c)) (page ps (c .before .before .before .before .before .before .before .args .a .own .value)) ≡ false
-    = rw (← c .before .before .before .before .before .wide .ensures, ← c .before .before .before .takes-in-place .ensures) (c .before .before .if1 .left) in (
-      c .plan-group .ensures .0 ∙ rw (c .before .gathered .ensures .1, c .before .before .before .before .wanted-of .ensures .is, c .before .before .before .before .before .wide .ensures) (level-group (c .before .before .before .before .before .before .before .args .l .least) (c .before .before .before .before .before .before .before .args .w) ps (aroundOf (c .before .before .before .before .before .before .before .args .a)) (changeOf (c .before .before .before .before .before .before .before .args .c)) (c .before .before .before .before .before .before .before .args .left) t),
+    let a = c .before .before .before .before .before .before .before .args in (
+      c .plan-group .ensures .0 ∙ rw (c .before .gathered .ensures .1, c .before .before .wanted-of .ensures .is, c .before .before .before .before .before .wide .ensures) (level-group (a .l .least) (a .w) (pagesOf (a .l) (a .s .now)) (aroundOf (a .a)) (changeOf (a .c)) (a .left) (sym (test-is (c .before .before .before .before)) ∙ c .before .before .before .if1 .left)),
       c .plan-group .ensures .1,
     )
 
@@ -52,9 +57,9 @@ plan-level-spec =
     tie.close
     (tie.spec
     wide-requires
-    wanted-of-requires
     takes-in-place-requires
     returns
+    wanted-of-requires
     gathered-requires
     plan-group-requires
     returns-2)

@@ -23,8 +23,8 @@ returns c =
     let h = rw (c .before .before .before .part .ensures .0) at (c .before .before .head-of .ensures) in
     no-leaf (a .l .least) (a .s .now) (a .n) (p .1) (p .2) (λ e. c .if1 .taken (ap (λ (x : Head). x .level) h ∙ e))
 
-entries-settled-requires : tie.Need-entries-settled-requires
-entries-settled-requires c κs =
+leaf-settled-requires : tie.Need-leaf-settled-requires
+leaf-settled-requires c κs =
     let a = c .before .before .before .before .before .args in
     let p = c .before .before .before .before .before .pre in
     let h = rw (c .before .before .before .part .ensures .0) at (c .before .before .head-of .ensures) in
@@ -35,9 +35,9 @@ returns-2 c =
     let a = c .before .before .before .before .before .before .args in
     let p = c .before .before .before .before .before .before .pre in
     let h = rw (c .before .before .before .before .part .ensures .0) at (c .before .before .before .head-of .ensures) in
-    c .entries-settled .ensures
+    c .leaf-settled .ensures
     ∙ a-leaf (a .l .least) (a .s .now) (a .n) (p .1) (p .2) (level-is (a .l .least) (a .s .now) (a .n) (p .1) (p .2) ∙ sym (ap (λ (x : Head). x .level) h) ∙ c .before .if1 .left)
 
 pub page-settled-spec : {M : Type 1} → statement M
 page-settled-spec =
-    tie.close (tie.spec part-requires head-of-requires returns entries-settled-requires returns-2)
+    tie.close (tie.spec part-requires head-of-requires returns leaf-settled-requires returns-2)

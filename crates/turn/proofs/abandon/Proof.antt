@@ -6,9 +6,10 @@ use borrow.Author.Needs.{needs}
 use Rattle.model.specs.Layout.{decode}
 use Rattle.model.specs.Store.{next}
 use Rattle.model.specs.declared.Header.{Header}
-use Rattle.store.specs.Sure.{few, front, roots}
+use Rattle.store.specs.Sure.{sure, few, front, roots}
 use Rattle.store.specs.Header.{header-fits}
 use Rattle.turn.specs.Abandoned.{some-roots, abandoned-bytes}
+use Rattle.turn.specs.Ended.{all-past}
 use Rattle.turn.specs.Turned.{kept, next-low}
 use Rattle.turn.proofs.abandon.Statement.{statement}
 use Rattle.turn.proofs.abandon.Tie as tie
@@ -35,6 +36,7 @@ undo-pages-requires c κs =
       omega (arith, e, next-low d (a .s .now) (c .before .before .before .before .before .before .pre .1)),
       k,
       c .wide .ensures ∙ ap (λ (h : Header). h .pages) (c .before .before .before .header .ensures ∙ sym (k .header)),
+      all-past (a .l .least) (decode (a .l .least) (a .s .now)) (sure d (a .s .now) (c .before .before .before .before .before .before .pre .1)) _ (omega arith),
     )
 
 drop-slot-requires : tie.Need-drop-slot-requires

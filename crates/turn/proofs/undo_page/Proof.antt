@@ -13,8 +13,8 @@ use Rattle.turn.proofs.undo_page.Tie as tie
 part-requires : tie.Need-part-requires
 part-requires c κs = let s = c .before .before in (s .pre .0, s .pre .2, s .pre .3)
 
-touched-requires : tie.Need-touched-requires
-touched-requires c κs = let s = c .before .before .before in (s .pre .0, rw (c .part .ensures .0) (s .pre .4))
+may-move-requires : tie.Need-may-move-requires
+may-move-requires c κs = let s = c .before .before .before in (s .pre .0, rw (c .part .ensures .0) (s .pre .4), rw (c .part .ensures .0) (s .pre .5))
 
 same-length : tie.Need-same-length
 same-length c = search needs
@@ -23,7 +23,7 @@ returns : tie.Need-returns
 returns c =
     let s = c .before .before .before .before .before in
     let a = s .args in
-    unmoved (a .l .least) (a .s .now) (a .n) (a .w) (s .pre .4) (rw (c .before .before .part .ensures .0) at (c .before .touched .ensures (not-true (c .before .touched .result) (c .if1 .taken))))
+    unmoved (a .l .least) (a .s .now) (a .n) (a .w) (s .pre .4) (rw (c .before .before .part .ensures .0) at (c .before .may-move .ensures (not-true (c .before .may-move .result) (c .if1 .taken))))
 
 offset-requires : tie.Need-offset-requires
 offset-requires c κs = search needs
@@ -62,7 +62,7 @@ undo-page-spec =
     tie.close
     (tie.spec
     part-requires
-    touched-requires
+    may-move-requires
     same-length
     returns
     offset-requires

@@ -5,7 +5,7 @@ use mathlib.Core.Path.{_≡_, refl, sym, _∙_}
 use lib.ListN.{length}
 use borrow.Author.Needs.{needs}
 use Rattle.model.specs.Layout.{decode}
-use Rattle.turn.specs.Undone.{Undone, undone-start, undone-short, undone-end, undone-part, undone-exact, undone-step}
+use Rattle.turn.specs.Undone.{Undone, undone-start, undone-short, undone-end, undone-part, undone-exact, undone-past, undone-step}
 use Rattle.turn.proofs.undo_pages.Statement.{statement}
 use Rattle.turn.proofs.undo_pages.Tie as tie
 
@@ -33,6 +33,7 @@ undo-page-requires c κs =
       undone-part (a .l .least) (d .four) (d .eight) st (a .w) (l .n) (l .s) (l .inv .3) (l .inv .0) low,
       undone-short (a .l .least) (d .four) (d .eight) st (a .w) (l .n) (l .s) (l .inv .3),
       undone-exact (a .l .least) (d .four) (d .eight) st (a .w) (l .n) (l .s) (l .inv .3) (l .inv .0) low,
+      undone-past (a .l .least) (d .four) (d .eight) st (a .w) (l .n) (l .s) (l .inv .3) (l .inv .0) low (c .before .before .before .before .pre .5),
     )
 
 add-n : tie.Need-add-n Inv-loop μ-loop

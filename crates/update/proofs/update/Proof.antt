@@ -1,13 +1,17 @@
 -- `update` meets its contract. Assumes nothing.
 use native.Mathlib.Omega.{arith}
 use Prim.Native.Nat.{_+_}
-use mathlib.Core.Path.{_≡_, ap, _∙_}
+use mathlib.Core.Path.{_≡_, ap, sym, _∙_}
 use Rattle.model.specs.declared.Header.{Header}
-use Rattle.model.specs.Store.{next}
+use Rattle.model.specs.Store.{page, next}
 use Rattle.model.specs.Layout.{decode}
 use Rattle.store.specs.Sure.{few, front}
 use Rattle.root.specs.Slotted.{next-is}
-use Rattle.update.specs.Whole.{Begun, kept, slots, readable, is-refused, to-apply, is-done}
+use Rattle.edit.specs.Change.{changeOf}
+use Rattle.parts.specs.Kept.{pagesOf}
+use Rattle.climb.specs.Work.{in-place-room}
+use Rattle.update.specs.Whole.{Begun, kept, slots, low, readable}
+use Rattle.update.specs.Settled.{leaf-inside, settles}
 use borrow.Author.Needs.{needs}
 use Rattle.update.proofs.update.Statement.{statement}
 use Rattle.update.proofs.update.Tie as tie
@@ -27,35 +31,38 @@ header-requires c κs =
 add-w : tie.Need-add-w
 add-w c = omega (arith, w-is (c .before), slots (begun (c .before .before .before)) .low)
 
-way-to-requires : tie.Need-way-to-requires
-way-to-requires c κs =
-    (readable (begun (c .before .before .before .before)) _ (w-is (c .before .before)), begun (c .before .before .before .before) .key)
+leaf-for-requires : tie.Need-leaf-for-requires
+leaf-for-requires c κs = let u = begun (c .before .before .before .before) in (readable u _ (w-is (c .before .before)), u .key)
 
-size-of-requires : tie.Need-size-of-requires
-size-of-requires c κs = kept (begun (c .before .before .before .before .before .before))
+takes-in-place-requires : tie.Need-takes-in-place-requires
+takes-in-place-requires c κs =
+    let u = begun (c .before .before .before .before .before .before) in
+    (kept u, leaf-inside u _ (w-is (c .before .before .before .before)) _ (c .before .leaf-for .ensures), c .before .before .before .before .before .before .before .pre .4)
 
-foresee-requires : tie.Need-foresee-requires
-foresee-requires c κs =
-    (kept (begun (c .before .before .before .before .before .before .before .before)), c .before .before .before .way-to .ensures .led, c .before .before .before .before .before .before .before .before .before .pre .4, c .before .size-of .ensures, slots (begun (c .before .before .before .before .before .before .before .before)))
+change-in-requires : tie.Need-change-in-requires
+change-in-requires c κs =
+    let u = begun (c .before .before .before .before .before .before .before .before .before) in
+    let s = c .before .before .before .before .before .before .before .before .before .before in
+    let w = w-is (c .before .before .before .before .before .before .before) in
+    (kept u, leaf-inside u _ w _ (c .before .before .before .before .leaf-for .ensures), low u _ w, s .pre .4, in-place-room (s .args .l .least) _ (changeOf (s .args .c)) (page (pagesOf (s .args .l) (s .args .s .now)) (c .before .before .before .before .leaf-for .result)) (sym (c .before .before .takes-in-place .ensures) ∙ c .before .if1 .taken))
 
 same-length : tie.Need-same-length
 same-length c = search needs
 
 returns : tie.Need-returns
 returns c =
-    let e = is-refused (begun (c .before .before .before .before .before .before .before .before .before .before)) _ (w-is (c .before .before .before .before .before .before .before .before)) (c .before .before .before .before .before .way-to .result) (c .before .before .before .before .before .way-to .ensures) (c .before .before .before .before .before .before .before .before .before .before .before .args .c) (c .before .foresee .result) (c .before .foresee .ensures) (c .if1 .taken) in
-    (rw e, rw e)
+    settles (begun (c .before .before .before .before .before .before .before .before .before .before .before .before)) _ (w-is (c .before .before .before .before .before .before .before .before .before .before)) _ (c .before .before .before .before .before .before .before .leaf-for .ensures) (c .before .before .before .before .before .before .before .before .before .before .before .before .before .args .c) (sym (c .before .before .before .before .before .takes-in-place .ensures) ∙ c .before .before .before .before .if1 .taken) _ (c .before .before .change-in .ensures)
 
-apply-requires : tie.Need-apply-requires
-apply-requires c κs =
-    to-apply (begun (c .before .before .before .before .before .before .before .before .before .before .before)) _ (w-is (c .before .before .before .before .before .before .before .before .before)) (c .before .before .before .before .before .before .way-to .result) (c .before .before .before .before .before .before .way-to .ensures) (c .before .before .before .before .before .before .before .before .before .before .before .before .args .c) (c .before .before .foresee .result) (c .before .before .foresee .ensures) (c .before .if1 .left) (c .before .before .before .before .before .before .before .before .before .before .before .before .pre .4) (c .before .before .before .before .before .before .before .before .before .before .before .before .pre .5) (c .before .before .before .before .size-of .result) (c .before .before .before .before .size-of .ensures)
+rise-requires : tie.Need-rise-requires
+rise-requires c κs =
+    let p = c .before .before .before .before .before .before .before .before .before .before .pre in
+    (p .0, p .1, p .2, p .3, p .4, p .5, w-is (c .before .before .before .before .before .before .before))
 
 same-length-2 : tie.Need-same-length-2
 same-length-2 c = search needs
 
 returns-2 : tie.Need-returns-2
-returns-2 c =
-    is-done (begun (c .before .before .before .before .before .before .before .before .before .before .before .before .before .before)) _ (w-is (c .before .before .before .before .before .before .before .before .before .before .before .before)) (c .before .before .before .before .before .before .before .before .before .way-to .result) (c .before .before .before .before .before .before .before .before .before .way-to .ensures) (c .before .before .before .before .before .before .before .before .before .before .before .before .before .before .before .args .c) (c .before .before .before .before .before .foresee .result) (c .before .before .before .before .before .foresee .ensures) (c .before .before .before .before .if1 .left) _ (c .before .before .apply .ensures)
+returns-2 c = (c .before .before .rise .ensures .0, c .before .before .rise .ensures .1)
 
 pub update-spec : {M : Type 1} → statement M
 update-spec =
@@ -63,11 +70,11 @@ update-spec =
     (tie.spec
     header-requires
     add-w
-    way-to-requires
-    size-of-requires
-    foresee-requires
+    leaf-for-requires
+    takes-in-place-requires
+    change-in-requires
     same-length
     returns
-    apply-requires
+    rise-requires
     same-length-2
     returns-2)

@@ -1,0 +1,16 @@
+use Rattle.parts.specs.Kept.{part-in, short, shown, counted}
+use borrow.Author.Needs.{needs}
+use Rattle.parts.proofs.has_room.Statement.{statement}
+use Rattle.parts.proofs.has_room.Tie as tie
+
+part-requires : tie.Need-part-requires
+part-requires c κs = let k = c .before .pre .0 in (k .edition, part-in k (c .before .pre .1), short k)
+
+has-room-requires : tie.Need-has-room-requires
+has-room-requires c κs = (rw (c .part .ensures .0) (counted (c .before .before .pre .0) (c .before .before .pre .1)), c .before .before .pre .2)
+
+returns : tie.Need-returns
+returns c = rw (← shown (c .before .before .before .pre .0) (c .before .before .before .pre .1)) (rw (c .before .part .ensures .0) at (c .has-room .ensures))
+
+pub has-room-spec : {M : Type 1} → statement M
+has-room-spec = tie.close (tie.spec part-requires has-room-requires returns)

@@ -1,0 +1,36 @@
+-- `leaf_settled` meets its contract. Assumes nothing.
+use Prim.Native.Nat.{_≤_}
+use mathlib.Core.Path.{subst}
+use borrow.Author.Needs.{needs}
+use Rattle.page.specs.declared.Head.{Head}
+use Rattle.store.specs.Sure.{few}
+use Rattle.walk.specs.Sure.{inside}
+use Rattle.release.specs.Ended.{ended-settled}
+use Rattle.release.proofs.leaf_settled.Statement.{statement}
+use Rattle.release.proofs.leaf_settled.Tie as tie
+
+part-requires : tie.Need-part-requires
+part-requires c κs =
+    let o = c .before .pre .0 in
+    let b = c .before .args .s .now in
+    (o .edition, inside (o .edition) b (o .sound) _ 0 (c .before .pre .1) .part, few (o .edition) b (o .sound))
+
+head-of-requires : tie.Need-head-of-requires
+head-of-requires c κs = search needs
+
+returns : tie.Need-returns
+returns c =
+    let a = c .before .before .before .before .before .args in
+    let p = c .before .before .before .before .before .pre in
+    let h = rw (c .before .before .before .part .ensures .0) at (c .before .before .head-of .ensures) in
+    ended-settled (p .0) (a .n) (p .1) (subst (λ (x : Head). x .end ≤ a .c) h (c .if1 .taken))
+
+entries-settled-requires : tie.Need-entries-settled-requires
+entries-settled-requires c κs = search needs
+
+returns-2 : tie.Need-returns-2
+returns-2 c = c .entries-settled .ensures
+
+pub leaf-settled-spec : {M : Type 1} → statement M
+leaf-settled-spec =
+    tie.close (tie.spec part-requires head-of-requires returns entries-settled-requires returns-2)
