@@ -17,7 +17,7 @@ pub fn open(s: &mut [u8]) -> u32
     if e.number != 0 {
         return e.number;
     }
-    crate::open_in(s, e.limits)
+    changes::open_in(s, e.limits)
 }
 
 // Commits the open update, unless its settings are the current version's.
@@ -28,7 +28,7 @@ pub fn commit(s: &mut [u8]) -> u32
     if e.number != 0 {
         return e.number;
     }
-    crate::commit_in(s, e.limits)
+    changes::commit_in(s, e.limits)
 }
 
 // Abandons the open update.
@@ -39,7 +39,7 @@ pub fn abandon(s: &mut [u8]) -> u32
     if e.number != 0 {
         return e.number;
     }
-    crate::abandon_in(s, e.limits)
+    changes::abandon_in(s, e.limits)
 }
 
 // Inserts a setting in the open update.
@@ -50,7 +50,7 @@ pub fn insert(s: &mut [u8], key: u32, value: u32) -> u32
     if e.number != 0 {
         return e.number;
     }
-    crate::updating::insert_in(s, e.limits, key, value)
+    changes::insert_in(s, e.limits, key, value)
 }
 
 // Deletes a setting in the open update.
@@ -61,7 +61,7 @@ pub fn delete(s: &mut [u8], key: u32) -> u32
     if e.number != 0 {
         return e.number;
     }
-    crate::updating::delete_in(s, e.limits, key)
+    changes::delete_in(s, e.limits, key)
 }
 
 // Returns to version v in the open update: its settings become those of that version; with 12 or 13 the update is abandoned.
@@ -72,7 +72,7 @@ pub fn return_to(s: &mut [u8], v: u32) -> u32
     if e.number != 0 {
         return e.number;
     }
-    crate::returning::return_in(s, e.limits, v)
+    changes::return_in(s, e.limits, v)
 }
 
 // "lookup(s, key, version)": the value at the version, that the key is absent, or a number.
@@ -112,7 +112,7 @@ pub fn visits(s: &[u8], key: u32, v: u32, list: &mut [u32]) -> Counted
             count: 0,
         };
     }
-    crate::visiting::visits_in(s, e.limits, key, v, list)
+    reads::visits_in(s, e.limits, key, v, list)
 }
 
 // What differs from the old version to the new, in key order: how many differences there are, and key, kind (0 added, 1 removed, 2
@@ -127,7 +127,7 @@ pub fn difference(s: &[u8], old: u32, new: u32, list: &mut [u32]) -> Counted
             count: 0,
         };
     }
-    crate::differing::difference_in(s, e.limits, old, new, list)
+    reads::difference_in(s, e.limits, old, new, list)
 }
 
 // Every stretch of committed versions in which a key held one value, oldest first: their number, and start, end and value of each in
@@ -142,7 +142,7 @@ pub fn life(s: &[u8], key: u32, list: &mut [u32]) -> Counted
             count: 0,
         };
     }
-    crate::living::life_in(s, e.limits, key, list)
+    reads::life_in(s, e.limits, key, list)
 }
 
 // What a store tells of itself: page count, current version, whether an update is open, roots used, edition and free pages.
@@ -151,7 +151,7 @@ pub fn state(s: &[u8]) -> State
 {
     let e = edition_lent(s);
     if e.number != 0 {
-        return crate::stating::untold(e.number);
+        return reads::untold(e.number);
     }
-    crate::stating::state_in(s, e.limits)
+    reads::state_in(s, e.limits)
 }

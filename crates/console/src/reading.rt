@@ -26,7 +26,7 @@ pub(crate) fn get(key: u32, v: u32, pages: usize, bytes: &[u8]) -> Answer
 {
     let l = model::edition_one();
     let e = pages * 256;
-    looked(calls::sure::lookup(&bytes[..e], l, key, v, 0 < pages))
+    looked(reads::sure::lookup(&bytes[..e], l, key, v, 0 < pages))
 }
 
 // "with a list of 10,040 numbers, which no range there outgrows": what an earlier range left in the list makes no difference. "before an
@@ -51,7 +51,7 @@ pub(crate) fn range(
     }
     let l = model::edition_one();
     let e = pages * 256;
-    let r = calls::sure::range(&bytes[..e], l, low, high, v, list);
+    let r = reads::sure::range(&bytes[..e], l, low, high, v, list);
     if r.number != 0 {
         return Reply {
             pages,

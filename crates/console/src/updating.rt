@@ -25,7 +25,7 @@ pub(crate) fn open(pages: usize, bytes: &mut [u8]) -> Reply
 {
     let l = model::edition_one();
     let e = pages * 256;
-    let n = calls::sure::open(&mut bytes[..e], l, 0 < pages);
+    let n = changes::sure::open(&mut bytes[..e], l, 0 < pages);
     Reply {
         pages,
         answer: answer(n),
@@ -39,7 +39,7 @@ pub(crate) fn insert(key: u32, value: u32, pages: usize, bytes: &mut [u8]) -> Re
 {
     let l = model::edition_one();
     let e = pages * 256;
-    let n = calls::sure::insert(&mut bytes[..e], l, key, value, 0 < pages);
+    let n = changes::sure::insert(&mut bytes[..e], l, key, value, 0 < pages);
     Reply {
         pages,
         answer: answer(n),
@@ -53,7 +53,7 @@ pub(crate) fn delete(key: u32, pages: usize, bytes: &mut [u8]) -> Reply
 {
     let l = model::edition_one();
     let e = pages * 256;
-    let n = calls::sure::delete(&mut bytes[..e], l, key, 0 < pages);
+    let n = changes::sure::delete(&mut bytes[..e], l, key, 0 < pages);
     Reply {
         pages,
         answer: answer(n),
@@ -67,7 +67,7 @@ pub(crate) fn commit(pages: usize, bytes: &mut [u8]) -> Reply
 {
     let l = model::edition_one();
     let e = pages * 256;
-    let n = calls::sure::commit(&mut bytes[..e], l, 0 < pages);
+    let n = changes::sure::commit(&mut bytes[..e], l, 0 < pages);
     Reply {
         pages,
         answer: answer(n),
@@ -81,7 +81,7 @@ pub(crate) fn abandon(pages: usize, bytes: &mut [u8]) -> Reply
 {
     let l = model::edition_one();
     let e = pages * 256;
-    let n = calls::sure::abandon(&mut bytes[..e], l, 0 < pages);
+    let n = changes::sure::abandon(&mut bytes[..e], l, 0 < pages);
     Reply {
         pages,
         answer: answer(n),

@@ -34,7 +34,7 @@ fn look_on(s: &[u8], l: Limits, from: u32, step: u32, n: u32, v: u32) -> u64
 #[no_mangle]
 pub extern "C" fn morning_lookups(s: &[u8], from: u32, step: u32, n: u32, version: u32) -> u64 {
     let l = model::edition_one();
-    if calls::guard_reading(s, l, false, version) != 0 {
+    if reads::guard_reading(s, l, false, version) != 0 {
         return 0;
     }
     look_on(s, l, from, step, n, version)

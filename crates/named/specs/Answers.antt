@@ -12,8 +12,8 @@ use Rattle.model.specs.Layout.{decode}
 use Rattle.model.specs.Lent.{Listed, judgedFirst, rangeLent}
 use Rattle.model.specs.Named.{allKnown, barred, rangeNamedBy}
 use Rattle.near.specs.Early.{badRange}
-use Rattle.calls.specs.Guard.{guarded, refused-by, goes-by}
-use Rattle.calls.specs.Reading.{reading}
+use Rattle.reads.specs.Guard.{guarded, refused-by, goes-by}
+use Rattle.reads.specs.Reading.{reading}
 
 -- ---- by the layer's number n
 

@@ -43,7 +43,7 @@ fn range_in(
     requires { ⌜ Edition l ⌝ }
     ensures { λ r. ⌜ withList r (now (list .exit)) ≡ rangeNamedBy (l .least) (now (table .entry)) (now (s .entry)) low high v (now (list .entry)) ⌝ }
 {
-    let n = calls::guard_reading(s, l, near::guard::bad_range(low, high), v);
+    let n = reads::guard_reading(s, l, near::guard::bad_range(low, high), v);
     if n != 0 {
         return Counted {
             number: n,

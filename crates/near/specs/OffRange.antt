@@ -18,7 +18,7 @@ use Rattle.model.specs.Near.{pageRight, startsBy, rangeRight}
 use Rattle.model.specs.Lent.{judgedFirst, listed, rangeLent}
 use Rattle.model.proofs.Members.{In, bool-cases, all-in}
 use Rattle.local.specs.Right.{front-true}
-use Rattle.near.specs.Here.{page-of, all-of}
+use Rattle.tabled.specs.Here.{page-of, all-of}
 use Rattle.near.specs.Early.{guarded, guard-front-right, badRange}
 use Rattle.near.specs.Off.{SameFront, page-same, right-same, directory-same, guard-same}
 use Rattle.near.specs.Crossed.{kept, crossed, cross-free, cross-at, cross-not, range-by}

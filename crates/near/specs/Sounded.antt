@@ -14,7 +14,7 @@ use Rattle.model.proofs.Lists.{both-true}
 use Rattle.store.specs.Sure.{taken, few}
 use Rattle.local.specs.Sizes.{sized}
 use Rattle.walk.specs.Sure.{Readable}
-use Rattle.near.specs.Here.{Reads}
+use Rattle.tabled.specs.Here.{Reads}
 use Rattle.near.specs.Same.{range-all-right}
 
 module _ {l : Limits} {b : List ℕ} {v : ℕ} (r : Readable l b v) where

@@ -1,6 +1,6 @@
 // A range whose walk's budget is used up: by a table, which no bytes can keep busy.
-use crate::Asked;
 use model::Limits;
+use tabled::Asked;
 use walk::Counted;
 use walk::Query;
 ghost use mathlib.Core.Path.{_≡_};
@@ -12,7 +12,7 @@ ghost use Rattle.model.specs.Layout.{decode};
 ghost use Rattle.model.specs.Near.{rangeRight};
 ghost use Rattle.local.specs.Right.{Known};
 ghost use Rattle.walk.specs.Counted.{withList};
-ghost use Rattle.near.specs.Cells.{Table};
+ghost use Rattle.tabled.specs.Cells.{Table};
 ghost use Rattle.near.specs.Crossed.{answered};
 
 // What a range gives, and what it leaves in the caller's list, by a table that has the numbers of all pages up to this level. The
@@ -29,7 +29,7 @@ fn listed_by(
     requires { ⌜ Edition l × Known (l .least) (now s) (q .size) (q .last) × (length (now s) ≤ 2 ^ 40) × (0 < level) × (level ≤ 7) × Table (l .least) (now s) (q .version) (q .low) (q .high) ((level + 1) * 4096) (now table) ⌝ }
     ensures { λ r. ⌜ withList r (now (list .exit)) ≡ answered (now (list .entry)) (rangeRight (l .least) (now (s .entry)) (q .version) (pred level) (q .high) (q .low) n) (rangeBelow (pred level) (decode (l .least) (now (s .entry)) .pages) (q .version) (q .low) (q .high) (q .low) n) ⌝ }
 {
-    let w = crate::table::down(s, l, q, table, n, level, q.low);
+    let w = tabled::down(s, l, q, table, n, level, q.low);
     if w == 0 {
         return Counted {
             number: 4,
@@ -49,13 +49,13 @@ fn listed_by(
         version: q.version,
         write: true,
     };
-    crate::write::gather_by(
+    tabled::gather_by(
         table,
         s,
         l,
         writing,
         n,
-        crate::wide(level) - 1,
+        tabled::wide(level) - 1,
         q.low,
         list,
         0,
@@ -78,7 +78,7 @@ fn filled(
     requires { ⌜ Edition l × Known (l .least) (now s) (q .size) (q .last) × (length (now s) ≤ 2 ^ 40) × (0 < level) × (level ≤ 7) × (4096 * (5 * l .least + 1) ≤ length (now table)) ⌝ }
     ensures { λ r. ⌜ withList r (now (list .exit)) ≡ answered (now (list .entry)) (rangeRight (l .least) (now (s .entry)) (q .version) (pred level) (q .high) (q .low) n) (rangeBelow (pred level) (decode (l .least) (now (s .entry)) .pages) (q .version) (q .low) (q .high) (q .low) n) ⌝ }
 {
-    crate::table::fill_levels(table, s, l, q, level);
+    tabled::fill_levels(table, s, l, q, level);
     listed_by(table, s, l, q, n, level, list)
 }
 

@@ -31,17 +31,6 @@ pub(crate) fn level_at(s: &[u8], l: Limits, size: usize, n: usize) -> u32
     h.level
 }
 
-// Whether page n has a router alive at v at or below a key.
-pub(crate) fn starts(s: &[u8], l: Limits, n: usize, v: u32, key: u32) -> bool
-    requires { ⌜ Edition l × Inside (l .least) (now s) n × (length (now s) ≤ 2 ^ 40) ⌝ }
-    ensures { λ r. ⌜ r ≡ startsBy key (pairsAt v (page (decode (l .least) (now (s .entry)) .pages) n)) ⌝ }
-{
-    let p = store::part(s, l, n);
-    let h = page::head_of(p, l);
-    let count = h.count;
-    walk::next_place(p, count, v, 0, key, 0) < count
-}
-
 // The value of a key at v in page n, a leaf.
 fn value_in(s: &[u8], l: Limits, n: usize, v: u32, key: u32) -> Looked
     requires { ⌜ Edition l × Inside (l .least) (now s) n × (length (now s) ≤ 2 ^ 40) ⌝ }
@@ -66,7 +55,7 @@ pub(crate) fn descend(s: &[u8], l: Limits, last: u32, size: usize, key: u32, v: 
         if !local::page_right(s, l, last, size, level, n) {
             return Looked::Refused(4);
         }
-        if !starts(s, l, n, v, key) {
+        if !tabled::starts(s, l, n, v, key) {
             return Looked::Refused(4);
         }
         n = walk::child(s, l, n, v, key);

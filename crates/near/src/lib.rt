@@ -2,13 +2,12 @@
 mod bounded;
 mod down;
 pub mod guard;
-mod table;
 mod within;
-mod write;
 
 pub use guard::KEYS;
 use model::Limits;
 use model::Looked;
+use tabled::Asked;
 use walk::Counted;
 use walk::Query;
 ghost use mathlib.Core.Path.{_≡_};
@@ -25,23 +24,8 @@ ghost use Rattle.local.specs.Right.{Known};
 ghost use Rattle.walk.specs.Sure.{Fronted, Readable};
 ghost use Rattle.walk.specs.Written.{Space, Gathers};
 ghost use Rattle.walk.specs.Counted.{withList};
-ghost use Rattle.near.specs.Here.{Reads};
+ghost use Rattle.tabled.specs.Here.{Reads};
 ghost use Rattle.near.specs.Crossed.{crossed};
-
-// What a range asks of the pages of its walk: its low and high keys and its version; and what they are judged by.
-pub struct Asked {
-    pub low: u32,
-    pub high: u32,
-    pub version: u32,
-    pub last: u32,
-    pub size: usize,
-}
-
-pub(crate) fn wide(x: u32) -> usize
-    ensures { λ r. ⌜ r ≡ x ⌝ }
-{
-    x as usize
-}
 
 // The settings that a range asks for below page n, `up` levels above the leaves, behind the first `found` of a list; gives how many there
 // are then. Its walk has been found right.
@@ -65,11 +49,11 @@ fn gather(
         return walk::settings(p, count, q, list, found);
     }
     let o = walk::own_router(p, count, q.version, at);
-    let mut k = gather(s, l, q, wide(o.page), up - 1, at, list, found);
+    let mut k = gather(s, l, q, tabled::wide(o.page), up - 1, at, list, found);
     let mut i = walk::next_place(p, count, q.version, 0, q.high, o.next);
     while i < count {
         let e = page::entry_at(p, i);
-        k = gather(s, l, q, wide(e.value), up - 1, e.key, list, k);
+        k = gather(s, l, q, tabled::wide(e.value), up - 1, e.key, list, k);
         i = walk::next_place(p, count, q.version, 0, q.high, i + 1);
     }
     k
@@ -179,7 +163,7 @@ fn across(
             count: 0,
         };
     }
-    fill(s, l, root, wide(level) - 1, low, high, v, list)
+    fill(s, l, root, tabled::wide(level) - 1, low, high, v, list)
 }
 
 // The settings from low to high for any bytes: their number, and key, value, key, value in the caller's list.

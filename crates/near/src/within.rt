@@ -1,7 +1,7 @@
 // A range's walk judged within a budget: on a sound store a range visits no page twice, so that as many visits as the store has pages are
 // enough; on bytes made to keep it busy the budget ends, and `table` answers.
-use crate::Asked;
 use model::Limits;
+use tabled::Asked;
 ghost use Prim.Native.Nat.{pred, _-_, _^_, _≤_, _<_};
 ghost use lib.ListN.{length};
 ghost use Rattle.model.specs.Limits.{Edition};
@@ -48,7 +48,7 @@ pub(crate) fn range_right(
             left: rest,
         };
     }
-    if !crate::down::starts(s, l, n, q.version, at) {
+    if !tabled::starts(s, l, n, q.version, at) {
         return Within {
             fine: false,
             left: rest,
@@ -58,7 +58,7 @@ pub(crate) fn range_right(
     let h = page::head_of(p, l);
     let count = h.count;
     let o = walk::own_router(p, count, q.version, at);
-    let w = range_right(s, l, q, crate::wide(o.page), level - 1, at, rest);
+    let w = range_right(s, l, q, tabled::wide(o.page), level - 1, at, rest);
     if !w.fine {
         return w;
     }
@@ -66,7 +66,7 @@ pub(crate) fn range_right(
     let mut i = walk::next_place(p, count, q.version, 0, q.high, o.next);
     while i < count {
         let e = page::entry_at(p, i);
-        let r = range_right(s, l, q, crate::wide(e.value), level - 1, e.key, rest);
+        let r = range_right(s, l, q, tabled::wide(e.value), level - 1, e.key, rest);
         if !r.fine {
             return r;
         }

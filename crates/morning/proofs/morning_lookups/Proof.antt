@@ -1,13 +1,13 @@
 use mathlib.Core.Path.{sym, _∙_}
 use native.Mathlib.Omega.{arith}
 use Rattle.page.specs.Editions.{edition-of}
-use Rattle.calls.specs.Reading.{reads}
+use Rattle.reads.specs.Reading.{reads}
 use borrow.Author.Needs.{needs}
 use Rattle.morning.proofs.morning_lookups.Statement.{statement}
 use Rattle.morning.proofs.morning_lookups.Tie as tie
 use Rattle.morning.proofs.morning_lookups.Reads as own-reads
 use Rattle.morning.proofs.morning_lookups.Lts as lts
-use Rattle.calls.proofs.guard_reading.Reads as guard-reading-reads
+use Rattle.reads.proofs.guard_reading.Reads as guard-reading-reads
 use Rattle.model.proofs.edition_one.Reads as edition-one-reads
 use Rattle.morning.proofs.look_on.Reads as look-on-reads
 

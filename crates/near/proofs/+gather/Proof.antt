@@ -14,8 +14,8 @@ use Rattle.page.proofs.entry_at.Reads as entry-at-reads
 use Rattle.page.proofs.head_of.Reads as head-of-reads
 use Rattle.store.proofs.part.Reads as part-reads
 use Rattle.walk.specs.Written.{gathers-space, gathers-length, Gathering, space-front, gather-start, gather-same, gather-step, gather-end, gathers-append}
-use Rattle.near.specs.Here.{here-inside, here-stands, here-pairs, here-starts, here-own, here-all, here-range}
-use Rattle.near.specs.Across.{rightFrom, from-first, from-same}
+use Rattle.tabled.specs.Here.{here-inside, here-stands, here-pairs, here-starts, here-own, here-all, here-range}
+use Rattle.tabled.specs.Across.{rightFrom, from-first, from-same}
 use Rattle.walk.specs.Below.{later, later-step, later-same, later-end, leaf-range}
 use Rattle.walk.specs.Scan.{from, entry}
 use Rattle.walk.specs.Live.{live}
@@ -25,7 +25,7 @@ use Rattle.near.proofs.+gather.Lts-gather as gather-lts
 use Rattle.walk.proofs.next_place.Reads as next-place-reads
 use Rattle.walk.proofs.own_router.Reads as own-router-reads
 use Rattle.walk.proofs.settings.Reads as settings-reads
-use Rattle.near.proofs.wide.Reads as wide-reads
+use Rattle.tabled.proofs.wide.Reads as wide-reads
 use Rattle.near.proofs.+gather.{statement}
 use Rattle.near.proofs.+gather.Tie.{close}
 

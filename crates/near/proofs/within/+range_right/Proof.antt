@@ -15,15 +15,15 @@ use Rattle.page.specs.Head.{readHead}
 use Rattle.model.specs.Near.{rangeRight}
 use Rattle.walk.specs.Live.{live}
 use Rattle.walk.specs.Scan.{Stands, from, entry}
-use Rattle.near.specs.Inside.{level-inside}
-use Rattle.near.specs.Across.{rightFrom, across-wrong, across-leaf, across-none, across-on, from-on, from-same, from-end}
+use Rattle.tabled.specs.Inside.{level-inside}
+use Rattle.tabled.specs.Across.{rightFrom, across-wrong, across-leaf, across-none, across-on, from-on, from-same, from-end}
 use Rattle.near.specs.Within.{given-up, settled, ends, goes-on, fewer}
 use Rattle.near.proofs.within.range_right.Reads as range-right
 use Rattle.near.proofs.within.range_right.Kinds as range-right-kinds
 use Rattle.near.proofs.within.+range_right.Lts-range_right as range-right-lts
 use Rattle.local.proofs.page_right.Reads as page-right-reads
-use Rattle.near.proofs.down.starts.Reads as starts-reads
-use Rattle.near.proofs.wide.Reads as wide-reads
+use Rattle.tabled.proofs.starts.Reads as starts-reads
+use Rattle.tabled.proofs.wide.Reads as wide-reads
 use Rattle.page.proofs.entry_at.Reads as entry-at-reads
 use Rattle.page.proofs.head_of.Reads as head-of-reads
 use Rattle.store.proofs.part.Reads as part-reads

@@ -1,0 +1,17 @@
+-- `abandon_in` meets its contract: it is not sure. Assumes nothing.
+use borrow.Author.Needs.{needs}
+use Rattle.reads.specs.Guard.{not-sure}
+use Rattle.changes.proofs.abandon_in.Statement.{statement}
+use Rattle.changes.proofs.abandon_in.Tie as tie
+
+abandon-requires : tie.Need-abandon-requires
+abandon-requires c κs = (c .before .before .pre, not-sure (c .before .before .args .l) (c .before .before .args .s .now))
+
+same-length : tie.Need-same-length
+same-length c = search needs
+
+returns : tie.Need-returns
+returns c = search needs
+
+pub abandon-in-spec : {M : Type 1} → statement M
+abandon-in-spec = tie.close (tie.spec abandon-requires same-length returns)

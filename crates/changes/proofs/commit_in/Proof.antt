@@ -1,0 +1,17 @@
+-- `commit_in` meets its contract: it is not sure. Assumes nothing.
+use borrow.Author.Needs.{needs}
+use Rattle.reads.specs.Guard.{not-sure}
+use Rattle.changes.proofs.commit_in.Statement.{statement}
+use Rattle.changes.proofs.commit_in.Tie as tie
+
+commit-requires : tie.Need-commit-requires
+commit-requires c κs = (c .before .before .pre, not-sure (c .before .before .args .l) (c .before .before .args .s .now))
+
+same-length : tie.Need-same-length
+same-length c = search needs
+
+returns : tie.Need-returns
+returns c = search needs
+
+pub commit-in-spec : {M : Type 1} → statement M
+commit-in-spec = tie.close (tie.spec commit-requires same-length returns)

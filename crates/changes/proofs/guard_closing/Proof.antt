@@ -1,0 +1,42 @@
+-- `guard_closing` meets its contract. Assumes nothing.
+use native.Mathlib.Omega.{arith}
+use mathlib.Core.Path.{sym, _∙_}
+use borrow.Author.Tests.{not-true, not-false}
+use borrow.Author.Needs.{needs}
+use Rattle.store.specs.Sure.{few, front}
+use Rattle.changes.specs.Turning.{closing, gives-seven, gives-close}
+use Rattle.reads.specs.Guard.{judged-number, zero-sound}
+use Rattle.changes.proofs.guard_closing.Statement.{statement}
+use Rattle.changes.proofs.guard_closing.Tie as tie
+
+judge-requires : tie.Need-judge-requires
+judge-requires c κs = search needs
+
+returns : tie.Need-returns
+returns c =
+    let a = c .before .before .before .args in
+    let e = c .before .judge .ensures in
+    e ∙ judged-number (a .l .least) (a .s .now) closing (λ z. c .if1 .taken (e ∙ z))
+
+header-requires : tie.Need-header-requires
+header-requires c κs =
+    let a = c .before .before .before .args in
+    let e = c .before .judge .ensures in
+    let h = zero-sound (a .l .least) (a .s .now) (sym e ∙ c .if1 .left) in
+    (c .before .before .before .pre .0, omega (arith, front (c .before .before .before .pre .0) (a .s .now) h), few (c .before .before .before .pre .0) (a .s .now) h)
+
+returns-2 : tie.Need-returns-2
+returns-2 c =
+    let a = c .before .before .before .before .before .before .args in
+    let e = c .before .before .before .before .judge .ensures in
+    gives-seven (a .l .least) (a .s .now) (sym e ∙ c .before .before .before .if1 .left) (c .before .before .header .result) (c .before .before .header .ensures) (not-true (c .before .before .header .result .opened) (c .if2 .taken))
+
+returns-3 : tie.Need-returns-3
+returns-3 c =
+    let a = c .before .before .before .before .before .before .args in
+    let e = c .before .before .before .before .judge .ensures in
+    gives-close (a .l .least) (a .s .now) (sym e ∙ c .before .before .before .if1 .left) (c .before .before .header .result) (c .before .before .header .ensures) (not-false (c .before .before .header .result .opened) (c .if2 .left))
+
+pub guard-closing-spec : {M : Type 1} → statement M
+guard-closing-spec =
+    tie.close (tie.spec judge-requires returns header-requires returns-2 returns-3)

@@ -1,0 +1,44 @@
+-- `guard_returning` meets its contract. Assumes nothing.
+use Rattle.changes.specs.Returning.{returning, gives-six, gives-seven, gives-none}
+use Rattle.reads.specs.Guard.{judged-number, zero-sound}
+use Rattle.store.specs.Sure.{few, front}
+use borrow.Author.Tests.{not-true, not-false}
+use mathlib.Core.Path.{sym, _∙_}
+use native.Mathlib.Omega.{arith}
+use borrow.Author.Needs.{needs}
+use Rattle.changes.proofs.returning.guard_returning.Statement.{statement}
+use Rattle.changes.proofs.returning.guard_returning.Tie as tie
+
+number-requires : tie.Need-number-requires
+number-requires c κs = search needs
+
+returns : tie.Need-returns
+returns c =
+    let a = c .before .before .before .args in
+    let e = c .before .number .ensures in
+    e ∙ judged-number (a .l .least) (a .s .now) (returning (a .v)) (λ z. c .if1 .taken (e ∙ z))
+
+header-requires : tie.Need-header-requires
+header-requires c κs =
+    let a = c .before .before .before .args in
+    let h = zero-sound (a .l .least) (a .s .now) (sym (c .before .number .ensures) ∙ c .if1 .left) in
+    (c .before .before .before .pre, omega (arith, front (c .before .before .before .pre) (a .s .now) h), few (c .before .before .before .pre) (a .s .now) h)
+
+returns-2 : tie.Need-returns-2
+returns-2 c =
+    let a = c .before .before .before .before .before .before .args in
+    gives-six (a .l .least) (a .s .now) (a .v) (sym (c .before .before .before .before .number .ensures) ∙ c .before .before .before .if1 .left) (c .before .before .header .result) (c .before .before .header .ensures) (c .if2 .taken)
+
+returns-3 : tie.Need-returns-3
+returns-3 c =
+    let a = c .before .before .before .before .before .before .before .before .args in
+    gives-seven (a .l .least) (a .s .now) (a .v) (sym (c .before .before .before .before .before .before .number .ensures) ∙ c .before .before .before .before .before .if1 .left) (c .before .before .before .before .header .result) (c .before .before .before .before .header .ensures) (c .before .before .if2 .left) (not-true _ (c .if3 .taken))
+
+returns-4 : tie.Need-returns-4
+returns-4 c =
+    let a = c .before .before .before .before .before .before .before .before .args in
+    gives-none (a .l .least) (a .s .now) (a .v) (sym (c .before .before .before .before .before .before .number .ensures) ∙ c .before .before .before .before .before .if1 .left) (c .before .before .before .before .header .result) (c .before .before .before .before .header .ensures) (c .before .before .if2 .left) (not-false _ (c .if3 .left))
+
+pub guard-returning-spec : {M : Type 1} → statement M
+guard-returning-spec =
+    tie.close (tie.spec number-requires returns header-requires returns-2 returns-3 returns-4)

@@ -1,0 +1,17 @@
+-- `delete_in` meets its contract: it is not sure. Assumes nothing.
+use borrow.Author.Needs.{needs}
+use Rattle.reads.specs.Guard.{not-sure}
+use Rattle.changes.proofs.updating.delete_in.Statement.{statement}
+use Rattle.changes.proofs.updating.delete_in.Tie as tie
+
+delete-requires : tie.Need-delete-requires
+delete-requires c κs = (c .before .before .pre, not-sure (c .before .before .args .l) (c .before .before .args .s .now))
+
+same-length : tie.Need-same-length
+same-length c = search needs
+
+returns : tie.Need-returns
+returns c = search needs
+
+pub delete-in-spec : {M : Type 1} → statement M
+delete-in-spec = tie.close (tie.spec delete-requires same-length returns)

@@ -1,0 +1,17 @@
+-- `insert_in` meets its contract: it is not sure. Assumes nothing.
+use borrow.Author.Needs.{needs}
+use Rattle.reads.specs.Guard.{not-sure}
+use Rattle.changes.proofs.updating.insert_in.Statement.{statement}
+use Rattle.changes.proofs.updating.insert_in.Tie as tie
+
+insert-requires : tie.Need-insert-requires
+insert-requires c κs = (c .before .before .pre, not-sure (c .before .before .args .l) (c .before .before .args .s .now))
+
+same-length : tie.Need-same-length
+same-length c = search needs
+
+returns : tie.Need-returns
+returns c = search needs
+
+pub insert-in-spec : {M : Type 1} → statement M
+insert-in-spec = tie.close (tie.spec insert-requires same-length returns)

@@ -1,0 +1,35 @@
+-- `is_alive` meets its contract. Assumes nothing.
+use mathlib.Core.Path.{ap, sym, _∙_}
+use Rattle.model.specs.Walk.{lookup}
+use Rattle.model.specs.Layout.{decode}
+use Rattle.model.specs.Calls.{lookedFound}
+use Rattle.changes.specs.Updating.{found-is}
+use borrow.Author.Needs.{needs}
+use Rattle.changes.proofs.updating.is_alive.Statement.{statement}
+use Rattle.changes.proofs.updating.is_alive.Tie as tie
+
+lookup-requires : tie.Need-lookup-requires
+lookup-requires c κs = search needs
+
+enum-told : tie.Need-enum-told
+enum-told c = search needs
+
+enum-told-2 : tie.Need-enum-told-2
+enum-told-2 c = search needs
+
+enum-told-3 : tie.Need-enum-told-3
+enum-told-3 c = search needs
+
+returns : tie.Need-returns
+returns c = sym (ap lookedFound (c .enum-told .given .1)) ∙ ap lookedFound (c .before .before .lookup .ensures) ∙ found-is (lookup (decode (c .before .before .before .before .args .l .least) (c .before .before .before .before .args .s .now)) (c .before .before .before .before .args .key) (c .before .before .before .before .args .w))
+
+returns-2 : tie.Need-returns-2
+returns-2 c = sym (ap lookedFound (c .enum-told2 .given .1)) ∙ ap lookedFound (c .before .before .lookup .ensures) ∙ found-is (lookup (decode (c .before .before .before .before .args .l .least) (c .before .before .before .before .args .s .now)) (c .before .before .before .before .args .key) (c .before .before .before .before .args .w))
+
+returns-3 : tie.Need-returns-3
+returns-3 c = sym (ap lookedFound (c .enum-told3 .given .1)) ∙ ap lookedFound (c .before .before .lookup .ensures) ∙ found-is (lookup (decode (c .before .before .before .before .args .l .least) (c .before .before .before .before .args .s .now)) (c .before .before .before .before .args .key) (c .before .before .before .before .args .w))
+
+pub is-alive-spec : {M : Type 1} → statement M
+is-alive-spec =
+    tie.close
+    (tie.spec lookup-requires enum-told enum-told-2 enum-told-3 returns returns-2 returns-3)

@@ -1,0 +1,4 @@
+pub mod Turning
+pub mod Committing
+pub mod Updating
+pub mod Returning

@@ -1,0 +1,33 @@
+-- `state_in` meets its contract. Assumes nothing.
+use mathlib.Core.Path.{sym, _∙_}
+use borrow.Author.Needs.{needs}
+use Rattle.reads.specs.Guard.{zero-sound}
+use Rattle.reads.specs.Stating.{state-refused, state-done}
+use Rattle.reads.proofs.stating.state_in.Statement.{statement}
+use Rattle.reads.proofs.stating.state_in.Tie as tie
+
+number-requires : tie.Need-number-requires
+number-requires c κs = search needs
+
+untold-requires : tie.Need-untold-requires
+untold-requires c κs = search needs
+
+returns : tie.Need-returns
+returns c =
+    let h = c .before in
+    let a = h .before .before .before .args in
+    c .untold .ensures ∙ state-refused (a .l .least) (a .s .now) (h .before .number .result) (h .before .number .ensures) (h .if1 .taken)
+
+told-requires : tie.Need-told-requires
+told-requires c κs =
+    let h = c .before .before .before in
+    (h .pre, zero-sound (h .args .l .least) (h .args .s .now) (sym (c .before .number .ensures) ∙ c .if1 .left))
+
+returns-2 : tie.Need-returns-2
+returns-2 c =
+    let h = c .before in
+    let a = h .before .before .before .args in
+    c .told .ensures ∙ state-done (a .l .least) (a .s .now) (h .before .number .result) (h .before .number .ensures) (h .if1 .left)
+
+pub state-in-spec : {M : Type 1} → statement M
+state-in-spec = tie.close (tie.spec number-requires untold-requires returns told-requires returns-2)

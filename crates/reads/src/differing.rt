@@ -1,0 +1,34 @@
+// What differs between two versions: the list that is signed before a release (request 2026-03).
+use model::Limits;
+use walk::Counted;
+ghost use mathlib.Core.Path.{_≡_};
+ghost use Rattle.model.specs.Limits.{Edition};
+ghost use Rattle.model.specs.Lent.{differenceLent};
+ghost use Rattle.walk.specs.Counted.{withList};
+ghost use Rattle.reads.specs.Differing.{later};
+
+// The later of two versions: both can be read exactly when this one can.
+fn later(old: u32, new: u32) -> u32
+    ensures { λ r. ⌜ r ≡ later old new ⌝ }
+{
+    if old < new {
+        return new;
+    }
+    old
+}
+
+// What differs from the old version to the new, in key order: how many differences there are, and key, kind (0 added, 1 removed, 2
+// changed), old value and new value of each in the caller's list.
+pub fn difference_in(s: &[u8], l: Limits, old: u32, new: u32, list: &mut [u32]) -> Counted
+    requires { ⌜ Edition l ⌝ }
+    ensures { λ r. ⌜ withList r (now (list .exit)) ≡ differenceLent (l .least) (now (s .entry)) old new (now (list .entry)) ⌝ }
+{
+    let n = crate::guard_reading(s, l, false, later(old, new));
+    if n != 0 {
+        return Counted {
+            number: n,
+            count: 0,
+        };
+    }
+    differ::difference(s, l, old, new, list)
+}

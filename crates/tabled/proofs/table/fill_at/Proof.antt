@@ -1,0 +1,29 @@
+-- `table::fill_at` meets its contract. Assumes nothing.
+use native.Mathlib.Omega.{arith}
+use mathlib.Core.Path.{sym, _∙_}
+use borrow.Author.Tests.{not-true, not-false}
+use borrow.Author.Needs.{needs}
+use Rattle.tabled.specs.Filling.{filled-not}
+use Rattle.tabled.proofs.table.fill_at.Statement.{statement}
+use Rattle.tabled.proofs.table.fill_at.Tie as tie
+
+page-right-requires : tie.Need-page-right-requires
+page-right-requires c κs = (c .before .before .pre .0, c .before .before .pre .1, omega (arith, c .before .before .pre .3))
+
+returns : tie.Need-returns
+returns c =
+    let a = c .before .before .before .before .args in
+    filled-not (a .l .least) (a .s .now) (a .q .size) (c .before .before .before .before .pre .1 .sized) (a .q .version) (a .q .low) (a .q .high) (a .level) (a .n) (c .before .before .before .before .pre .3) (c .before .before .before .before .pre .5) (sym (c .before .page-right .ensures) ∙ not-true (c .before .page-right .result) (c .if1 .taken)) (a .table .now) (c .before .before .before .before .pre .6)
+
+fill-page-requires : tie.Need-fill-page-requires
+fill-page-requires c κs = (c .before .before .before .before .before .pre .0, c .before .before .before .before .before .pre .1, c .before .before .before .before .before .pre .2, c .before .before .before .before .before .pre .3, c .before .before .before .before .before .pre .4, sym (c .before .before .page-right .ensures) ∙ not-false (c .before .before .page-right .result) (c .before .if1 .left), c .before .before .before .before .before .pre .6)
+
+same-length : tie.Need-same-length
+same-length c = search needs
+
+returns-2 : tie.Need-returns-2
+returns-2 c = c .before .before .fill-page .ensures
+
+pub fill-at-spec : {M : Type 1} → statement M
+fill-at-spec =
+    tie.close (tie.spec page-right-requires returns fill-page-requires same-length returns-2)
