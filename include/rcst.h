@@ -13,8 +13,8 @@
  * both: the edition stands in the store's fifth byte, and making fresh is a call for
  * each. Keys are 0 to 16,777,215, a value is any 32 bits, versions are 0 to 1,048,574. Version 0 is empty. An update is
  * opened on the version after the current one; it is readable while it is open,
- * and it ends by a commit, which makes it the current version for ever, or by an
- * abandon, after which every byte is what it was before the open.
+ * and it ends by a commit, which makes it the current version and keeps it till a
+ * prune, or by an abandon, after which every byte is what it was before the open.
  *
  * Keys 16,776,960 and above belong to the test bench. Insert refuses them with
  * 5; lookup, range and delete take them, so that a store that was shipped with
@@ -40,7 +40,7 @@
  * During a call nobody else touches its list and results, and nobody writes the
  * store. So the calls that take the store as const may run side by side on one
  * store, each with a list and results of its own; a call that writes it (fresh,
- * open, insert, delete, return, commit, abandon, and insert and delete by name)
+ * open, insert, delete, return, prune, commit, abandon, and insert and delete by name)
  * runs alone on it, with no other reader or writer. The library has no state of its
  * own: calls on different stores never meet.
  *
@@ -71,12 +71,13 @@ extern "C" {
  * The editions of the format that the calls read and write: the one that rcst_fresh
  * makes and the one that rcst_fresh_second makes; and the version of what this header
  * offers: the first number rises where a program that was written for the one before
- * may have to change, the second where something is added.
+ * may have to change, or to be compiled again (2: struct rcst_store_state is longer), the
+ * second where something is added.
  */
 #define RCST_FORMAT_EDITION 1u
 #define RCST_SECOND_EDITION 2u
-#define RCST_LIBRARY_MAJOR 1u
-#define RCST_LIBRARY_MINOR 4u
+#define RCST_LIBRARY_MAJOR 2u
+#define RCST_LIBRARY_MINOR 0u
 
 /* The format's limits: a page's bytes in edition 1 and in edition 2, and those that both share. */
 #define RCST_PAGE_BYTES 256u
@@ -122,12 +123,12 @@ static inline const char *rcst_words(uint32_t number) {
         "done",
         "length not 6 to 4,096 whole pages of the edition",
         "first four bytes wrong",
-        "edition neither 1 nor 2",
+        "edition neither 1 nor 2 (prune: not 2; convert: source not 1)",
         "not sound (lookup, range: the header, a slot, or a page of their own walk is wrong, or the walk cannot go on)",
         "key too large (insert: 16,776,960 or above), or range low above high",
-        "version above last (of a difference: either version; of a return: above current)",
+        "version above last or below the oldest (of a difference: either version; of a return or a prune: above current)",
         "no update open (insert, delete, return, commit, abandon)",
-        "update already open (open)",
+        "update already open (open, prune, convert)",
         "current is 1,048,574 (open)",
         "key alive (insert)",
         "key not alive (delete)",
@@ -198,6 +199,18 @@ uint32_t rcst_abandon(uint8_t *store, size_t length);
 uint32_t rcst_return(uint8_t *store, size_t length, uint32_t version);
 
 /*
+ * Prunes: makes `version`, a committed one, the oldest version of a store of edition 2.
+ * Every page that ended at or before it is freed, for later updates to use, and slots
+ * that are not needed from it on go; every version from it on reads as before, by the
+ * same pages. Versions before it give 6 from then on. Gives 0, 1 to 4, 6 or 8: 3 for a
+ * store of edition 1, whatever else is wrong with it; 6 above the current version or
+ * below the oldest; 8 while an update is open. The same prune again changes nothing.
+ * Prune is not erasure: values of versions that are gone can stand in the bytes of
+ * pages that are kept, until these are rewritten.
+ */
+uint32_t rcst_prune(uint8_t *store, size_t length, uint32_t version);
+
+/*
  * Converts a store of edition 1, `source`, into `target`, which may hold any bytes and
  * becomes a store of edition 2: it is made fresh, and each version's differences are
  * replayed into it, deletes before inserts, bench keys let through, so that every
@@ -240,8 +253,8 @@ uint32_t rcst_range(const uint8_t *store, size_t length, uint32_t low, uint32_t 
  * A page's number is its place: page n starts at byte n * RCST_PAGE_BYTES, in edition
  * 2 at byte n * RCST_SECOND_PAGE_BYTES. Gives 0, 1 to 6 or 14. With 0 the numbers stand in the list, and nothing behind them is
  * touched. *count is how many they are with 0 and with 14, else 0. For a committed
- * version it says the same for ever, whatever is called later, short of making the
- * store fresh again.
+ * version it says the same for ever, whatever is called later, short of a prune above
+ * it and of making the store fresh again.
  */
 uint32_t rcst_visits(const uint8_t *store, size_t length, uint32_t key, uint32_t version, uint32_t *pages, size_t room, size_t *count);
 
@@ -262,7 +275,8 @@ uint32_t rcst_difference(const uint8_t *store, size_t length, uint32_t old_versi
  * the list as start, end, value, three numbers each, and nothing behind them is
  * touched; a stretch goes from start up to but not including end, and its end is
  * RCST_ALIVE if the current version is in it. Neighbours with equal values are one
- * stretch. An open update is not shown. *count is the number of stretches with 0
+ * stretch. After a prune the first one may start at the oldest version. An open update
+ * is not shown. *count is the number of stretches with 0
  * and with 14, else 0.
  */
 uint32_t rcst_life(const uint8_t *store, size_t length, uint32_t key, uint32_t *list, size_t room, size_t *count);
@@ -275,6 +289,7 @@ struct rcst_store_state {
     uint32_t roots;   /* slots of the root directory that are used */
     uint32_t edition; /* 1 or 2 */
     uint32_t free;    /* pages that are free */
+    uint32_t oldest;  /* the oldest version that can be read: 0, or the one pruned to last */
 };
 
 /*
@@ -367,7 +382,7 @@ uint32_t rcst_view_range(const uint8_t *store, size_t length, uint32_t version, 
  * who will not read a tree. It has no pages and no bytes of a format. A plain store is
  * a list of `room` numbers that the caller lends, of which the first four times `count`
  * are its items, key, start, end, value, and its state. The fresh one is a state of
- * zeros, with a list of any content.
+ * zeros but for the edition, with a list of any content.
  *
  * For every sequence of calls the two engines give equal numbers, values, lists and
  * counts, except that a call to which the store gives 12 or 13 is left out of the plain
@@ -375,13 +390,14 @@ uint32_t rcst_view_range(const uint8_t *store, size_t length, uint32_t version, 
  * is four numbers for each accepted insert, those that a return makes included.
  *
  * Every call gives 4 where what is lent is no plain store: `current`, or the open
- * version behind it, above RCST_HIGHEST_VERSION; `opened` above 1; fewer than four numbers
- * for each of `count` items; or a list of more than RCST_PLAIN_MOST_NUMBERS. Insert and
- * return give 14 where they would be done and the list has not the room: fewer than four
- * numbers for each item that there is and each insert that the call makes. Every other
- * number is the store's, in its order, 14 last; 1 to 3, 12 and 13 are not given. What
- * the items say is not judged: on items that no calls made, the answers are those of
- * the scan. Items, state, list and results do not overlap.
+ * version behind it, above RCST_HIGHEST_VERSION; `opened` above 1; `oldest` above
+ * `current`; `edition` neither 1 nor 2; fewer than four numbers for each of `count`
+ * items; or a list of more than RCST_PLAIN_MOST_NUMBERS. Insert and return give 14
+ * where they would be done and the list has not the room: fewer than four numbers for
+ * each item that there is and each insert that the call makes. Every other number is
+ * the store's, in its order, 14 last; 1, 2, 12 and 13 are not given, and 3 by prune
+ * alone. What the items say is not judged: on items that no calls made, the answers
+ * are those of the scan. Items, state, list and results do not overlap.
  *
  * With 4 no number of list and state is changed, and with every other number but 0 the
  * items and the state are what they were. What stands in the list behind the items is
@@ -392,6 +408,8 @@ struct rcst_plain_state {
     uint32_t current; /* the current version */
     uint32_t opened;  /* 1 if an update is open, else 0 */
     uint32_t count;   /* how many items the list holds */
+    uint32_t oldest;  /* the oldest version that is kept */
+    uint32_t edition; /* 1 or 2; prune alone asks for it */
 };
 
 /* How many numbers an item has, and the longest list. */
@@ -415,6 +433,9 @@ uint32_t rcst_plain_abandon(uint32_t *items, size_t room, struct rcst_plain_stat
 
 /* Returns to a committed version. Gives 0, 4, 6, 7 or 14. */
 uint32_t rcst_plain_return(uint32_t *items, size_t room, struct rcst_plain_state *state, uint32_t version);
+
+/* Drops the items that ended at or before a committed version. Gives 0, 3, 4, 6 or 8: 3 in edition 1. */
+uint32_t rcst_plain_prune(uint32_t *items, size_t room, struct rcst_plain_state *state, uint32_t version);
 
 /* Looks a key up at a version, as rcst_lookup does. Gives 0, 4, 5 or 6. */
 uint32_t rcst_plain_lookup(const uint32_t *items, size_t room, const struct rcst_plain_state *state, uint32_t key, uint32_t version,

@@ -4,6 +4,7 @@
 mod bitwise;
 mod chart;
 mod commits;
+mod curves;
 mod differences;
 mod judging;
 mod lives;
@@ -12,6 +13,7 @@ mod plain;
 mod plot;
 mod program;
 mod proved;
+mod prunes;
 mod returns;
 mod updates;
 mod worst;
@@ -28,7 +30,7 @@ use reference::{calls, store};
 
 /// All tables, or the one that the first argument names.
 fn main() {
-    let tables: [(&str, fn()); 14] = [
+    let tables: [(&str, fn()); 15] = [
         ("bytes", byte_layer),
         ("quick", judging::judging),
         ("check", check_of_histories),
@@ -42,6 +44,7 @@ fn main() {
         ("worst", worst::worst),
         ("updates", updates::updates),
         ("program", program::program),
+        ("prunes", prunes::prunes),
         ("plot", plot::plot),
     ];
     let wanted = std::env::args().nth(1);

@@ -6,7 +6,7 @@
 
 use reference::layout::HIGHEST_KEY;
 
-pub use rcst::{check, commit, delete, difference, insert, life, lookup, open, return_to};
+pub use rcst::{check, commit, delete, difference, insert, life, lookup, open, prune, return_to};
 
 mod c {
     extern "C" {

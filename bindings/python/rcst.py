@@ -31,12 +31,12 @@ WORDS = [
     "done",
     "length not 6 to 4,096 whole pages of the edition",
     "first four bytes wrong",
-    "edition neither 1 nor 2",
+    "edition neither 1 nor 2 (prune: not 2; convert: source not 1)",
     "not sound (lookup, range: the header, a slot, or a page of their own walk is wrong, or the walk cannot go on)",
     "key too large (insert: 16,776,960 or above), or range low above high",
-    "version above last (of a difference: either version; of a return: above current)",
+    "version above last or below the oldest (of a difference: either version; of a return or a prune: above current)",
     "no update open (insert, delete, return, commit, abandon)",
-    "update already open (open)",
+    "update already open (open, prune, convert)",
     "current is 1,048,574 (open)",
     "key alive (insert)",
     "key not alive (delete)",
@@ -49,8 +49,8 @@ WORDS = [
     "key unknown to the table of kinds, or met in a range (named settings, viewer)",
 ]
 
-State = namedtuple("State", "pages current open roots edition free")
-State.__doc__ = "What a store tells of itself; open is 1 if an update is."
+State = namedtuple("State", "pages current open roots edition free oldest")
+State.__doc__ = "What a store tells of itself; open is 1 if an update is, and oldest the first version that can be read."
 Difference = namedtuple("Difference", "key kind old new")
 Difference.__doc__ = "A key that was added, removed or changed; a value is None where there is none."
 Stretch = namedtuple("Stretch", "start end value")
@@ -98,6 +98,7 @@ _CALLS = {
     "commit": [],
     "abandon": [],
     "return": [_u32],
+    "prune": [_u32],
     "lookup": [_u32, _u32, _number, _number],
     "range": [_u32, _u32, _u32, _number, _size, _count],
     "visits": [_u32, _u32, _number, _size, _count],
@@ -201,6 +202,10 @@ class Store:
 
     def return_to(self, version):
         self._done("return", _whole(version))
+
+    def prune(self, version):
+        """Makes a committed version the oldest, in a store of edition 2: what ended at or before it is freed."""
+        self._done("prune", _whole(version))
 
     def convert(self, pages):
         """A store of edition 2, of so many pages, whose committed versions read as those of this one, of edition 1."""

@@ -40,17 +40,19 @@ static void fresh_and_check(void) {
 
 static void state(void) {
     static uint8_t store[8 * RCST_PAGE_BYTES];
-    struct rcst_store_state told = {9, 9, 9, 9, 9, 9};
+    struct rcst_store_state told = {9, 9, 9, 9, 9, 9, 9};
     uint32_t key;
 
-    expect(sizeof told == 6 * sizeof(uint32_t), "six numbers, and nothing between them");
+    expect(sizeof told == 7 * sizeof(uint32_t), "seven numbers, and nothing between them");
     expect(rcst_state(store, sizeof store, &told) == 2, "bytes that are no store give 2");
-    expect(told.pages == 0 && told.current == 0 && told.open == 0 && told.roots == 0 && told.edition == 0 && told.free == 0,
+    expect(told.pages == 0 && told.current == 0 && told.open == 0 && told.roots == 0 && told.edition == 0 && told.free == 0 &&
+               told.oldest == 0,
            "and tell nothing");
     rcst_fresh(store, sizeof store);
     expect(rcst_state(store, sizeof store, &told) == 0, "a fresh store tells of itself");
-    expect(told.pages == 8 && told.current == 0 && told.open == 0 && told.roots == 1 && told.edition == 1 && told.free == 2,
-           "eight pages, two of them free, version 0, one root");
+    expect(told.pages == 8 && told.current == 0 && told.open == 0 && told.roots == 1 && told.edition == 1 && told.free == 2 &&
+               told.oldest == 0,
+           "eight pages, two of them free, version 0, one root, every version kept");
     rcst_open(store, sizeof store);
     for (key = 0; key < 20; key += 1) {
         rcst_insert(store, sizeof store, key, 7);

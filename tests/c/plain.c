@@ -20,7 +20,7 @@ static void expect(int holds, const char *what) {
 
 static uint8_t store[8 * RCST_PAGE_BYTES];
 static uint32_t items[4 * 16];
-static struct rcst_plain_state state;
+static struct rcst_plain_state state = {.edition = 1};
 
 static const size_t bytes = sizeof store, room = sizeof items / sizeof items[0];
 
@@ -51,6 +51,10 @@ static uint32_t abandons(void) {
 
 static uint32_t returns(uint32_t version) {
     return both(rcst_return(store, bytes, version), rcst_plain_return(items, room, &state, version));
+}
+
+static uint32_t prunes(uint32_t version) {
+    return both(rcst_prune(store, bytes, version), rcst_plain_prune(items, room, &state, version));
 }
 
 static uint32_t looks(uint32_t key, uint32_t version) {
@@ -144,6 +148,25 @@ static void no_state(void) {
     expect(rcst_plain_lookup(items, room, &none, 40, 1, &found, &value) == 4 && found == 0 && value == 0, "and no result");
     none.current = RCST_HIGHEST_VERSION;
     expect(rcst_plain_open(&none) == 9, "the last version");
+    none = state;
+    none.oldest = none.current + 1;
+    expect(rcst_plain_open(&none) == 4, "an oldest version that is none");
+    none = state;
+    none.edition = 3;
+    expect(rcst_plain_prune(items, room, &none, 1) == 4 && none.edition == 3, "no edition");
+}
+
+/* The first release is dropped: of edition 1 it is not, so that the items go on as edition 2's. */
+static void pruning(void) {
+    static const uint32_t due[] = {41, 1, RCST_ALIVE, 300, 40, 2, 3, 9, 40, 3, RCST_ALIVE, 7};
+    struct rcst_plain_state second = state;
+
+    expect(prunes(2) == 3, "edition 1");
+    second.edition = 2;
+    expect(rcst_plain_prune(items, room, &second, 4) == 6 && rcst_plain_prune(items, room, &second, 2) == 0, "a prune");
+    expect(second.oldest == 2 && second.count == 3 && memcmp(items, due, sizeof due) == 0, "what ended at it is gone");
+    expect(rcst_plain_prune(items, room, &second, 1) == 6 && rcst_plain_open(&second) == 0, "below it");
+    expect(rcst_plain_prune(items, room, &second, 2) == 8, "an update is open");
 }
 
 int main(void) {
@@ -151,5 +174,6 @@ int main(void) {
     readings();
     going_back();
     no_state();
+    pruning();
     return failures != 0;
 }

@@ -104,6 +104,53 @@ static void pages(void) {
     expect(rcst_difference(store, n, 1, 3, list, 4, &count) == 0 && count == 0, "nothing differs");
 }
 
+/* Pruned to a version: what ended at or before it goes, what is kept reads as before, and freed pages are used again. */
+static void prunes(void) {
+    static uint8_t store[12 * PAGE], expected[12 * PAGE], first[12 * RCST_PAGE_BYTES];
+    static const uint8_t one[] = {0x20, 0x00, 0x01}, two[] = {0x10, 0x00, 0x02};
+    static const uint8_t slots[] = {0, 0, 0x10, 8, 0, 0, 0x20, 9, 0, 0, 0, 0}, slot[] = {0, 0, 0x20, 9, 0, 0, 0, 0};
+    struct rcst_store_state told;
+    uint32_t key, rule = 9, list[6];
+    size_t count = 9, n = sizeof store;
+
+    expect(rcst_fresh_second(store, n) == 0 && rcst_prune(store, n, 0) == 0, "a fresh store, pruned to version 0");
+    expect(rcst_open(store, n) == 0 && rcst_prune(store, n, 0) == 8, "not while an update is open");
+    for (key = 1; key <= 41; key += 1) {
+        expect(rcst_insert(store, n, key, 10 * key) == 0, "an insert");
+    }
+    expect(rcst_commit(store, n) == 0 && rcst_open(store, n) == 0, "a release");
+    for (key = 22; key <= 34; key += 1) {
+        expect(rcst_delete(store, n, key) == 0, "a delete");
+    }
+    expect(rcst_commit(store, n) == 0, "a second one");
+    memcpy(expected, store, n);
+    expect(rcst_prune(store, n, 3) == 6 && memcmp(store, expected, n) == 0, "a version above the current one");
+    expect(rcst_prune(store, n, 1) == 0, "the first release becomes the oldest");
+    memcpy(expected + 10, one, sizeof one);
+    memcpy(expected + PAGE, slots, sizeof slots);
+    memset(expected + 5 * PAGE, 0, PAGE);
+    expect(memcmp(store, expected, n) == 0, "page 5 and the first slot are gone, and no other byte moved");
+    expect(rcst_prune(store, n, 1) == 0 && memcmp(store, expected, n) == 0, "again, and nothing changes");
+    expect(rcst_prune(store, n, 0) == 6 && rcst_range(store, n, 0, 9, 0, list, 6, &count) == 6, "version 0 is gone");
+    expect(look(store, n, 30, 1) == 300 && look(store, n, 30, 2) == 4294967295u, "the others read as before");
+    expect(rcst_life(store, n, 30, list, 3, &count) == 0 && count == 1 && list[0] == 1 && list[1] == 2 && list[2] == 300, "a life");
+    expect(rcst_difference(store, n, 0, 2, list, 6, &count) == 6 && rcst_difference(store, n, 2, 0, list, 6, &count) == 6, "either version");
+    expect(rcst_prune(store, n, 2) == 0, "and then the second one");
+    memcpy(expected + 10, two, sizeof two);
+    memcpy(expected + PAGE, slot, sizeof slot);
+    memset(expected + 6 * PAGE, 0, 3 * PAGE);
+    expect(memcmp(store, expected, n) == 0, "pages 6 to 8 are free");
+    expect(rcst_state(store, n, &told) == 0 && told.oldest == 2 && told.current == 2 && told.roots == 1 && told.free == 6, "it tells so");
+    expect(rcst_check(store, n, &rule) == 0 && rule == 0, "it is sound");
+    expect(rcst_open(store, n) == 0 && rcst_return(store, n, 1) == 6 && rcst_return(store, n, 2) == 0, "a return goes as far back as that");
+    for (key = 50; key <= 90; key += 1) {
+        expect(rcst_insert(store, n, key, key) == 0, "an insert that uses a freed page");
+    }
+    expect(level(store, 5) != 0 && rcst_check(store, n, &rule) == 0, "page 5 is used again");
+    expect(rcst_abandon(store, n) == 0 && memcmp(store, expected, n) == 0, "abandoned, every byte is what it was");
+    expect(rcst_fresh(first, sizeof first) == 0 && rcst_prune(first, sizeof first, 0) == 3, "edition 1 gives 3");
+}
+
 /* Fewer than five bytes give 1; otherwise 2, then 3, then 1 by the edition's page size. */
 static void order(void) {
     static uint8_t store[16 * PAGE];
@@ -155,6 +202,7 @@ static void old_programs(void) {
 int main(void) {
     fresh();
     pages();
+    prunes();
     order();
     old_programs();
     return failures != 0;

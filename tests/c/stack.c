@@ -15,12 +15,13 @@
 #include <stdlib.h>
 #include <string.h>
 
-enum { STACK = 1 << 21, PAGES = 40, CALLS = 14 };
+enum { STACK = 1 << 21, PAGES = 40, CALLS = 15 };
 
 #define PAINT 0xA5A5A5A5A5A5A5A5u
 
 static const char *const names[CALLS] = {"fresh",  "check",  "open",  "insert", "delete",              "commit", "abandon",
-                                         "return", "lookup", "range", "visits", "difference and life", "state",  "by name"};
+                                         "return", "lookup", "range", "visits", "difference and life", "state",  "by name",
+                                         "prune"};
 static size_t most[CALLS];
 static uint64_t stack[STACK / 8] __attribute__((aligned(4096)));
 static uint8_t store[RCST_MOST_PAGES * RCST_PAGE_BYTES], kept[RCST_MOST_PAGES * RCST_PAGE_BYTES];
@@ -55,6 +56,7 @@ static void *made(void *none) {
         rcst_life(store, length, key, list, 64, &count);
         break;
     case 12: rcst_state(store, length, &state); break;
+    case 14: rcst_prune(store, length, key % 4); break;
     default:
         kinds[0] = key;
         rcst_view_value(store, length, 1, kinds, 4, key, &a, &b);
@@ -99,12 +101,10 @@ static void measure_all(uint32_t with) {
     }
 }
 
-/* Four releases in 40 pages, and an update open. */
-static void history(void) {
+/* Four releases in the 40 pages of a fresh store. */
+static void releases(void) {
     uint32_t version, i;
 
-    length = PAGES * RCST_PAGE_BYTES;
-    rcst_fresh(store, length);
     for (version = 1; version <= 4; version++) {
         rcst_open(store, length);
         for (i = 0; i < 45; i++) {
@@ -112,8 +112,33 @@ static void history(void) {
         }
         rcst_commit(store, length);
     }
+}
+
+/* These, and an update open. */
+static void history(void) {
+    length = PAGES * RCST_PAGE_BYTES;
+    rcst_fresh(store, length);
+    releases();
     rcst_open(store, length);
     rcst_delete(store, length, 5);
+}
+
+/* The same in edition 2, pruned to each version, and then every call from the second one on. */
+static void pruned(void) {
+    uint32_t version;
+
+    length = PAGES * RCST_SECOND_PAGE_BYTES;
+    rcst_fresh_second(store, length);
+    releases();
+    memcpy(kept, store, length);
+    for (version = 0; version < 4; version++) {
+        measure(14, version);
+        memcpy(store, kept, length);
+    }
+    rcst_prune(store, length, 2);
+    rcst_open(store, length);
+    rcst_delete(store, length, 5);
+    measure_all(41);
 }
 
 /* A field of the store, the highest bit first. */
@@ -166,6 +191,7 @@ int main(int count, char **files) {
         measure(5, 0);
         memcpy(store, kept, length);
     }
+    pruned();
     busy();
     measure(9, RCST_HIGHEST_KEY);
     for (i = 1; i < count; i++) {

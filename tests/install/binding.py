@@ -26,7 +26,7 @@ class Tour(unittest.TestCase):
         self.assertEqual(bytes(self.store), before)
 
     def test_reads(self):
-        self.assertEqual(self.store.state(), rcst.State(pages=64, current=2, open=0, roots=1, edition=1, free=58))
+        self.assertEqual(self.store.state(), rcst.State(pages=64, current=2, open=0, roots=1, edition=1, free=58, oldest=0))
         self.assertEqual(self.store.version, 2)
         self.assertEqual([self.store.lookup(40, version) for version in range(3)], [None, 7, 9])
         self.assertEqual(self.store.range(1), [(40, 7), (41, 300)])
@@ -52,6 +52,22 @@ class Tour(unittest.TestCase):
         with self.assertRaises(rcst.Refused) as met:
             second.convert(64)
         self.assertEqual(met.exception.number, 3)
+
+    def test_prunes(self):
+        self.refused(3, self.store.prune, 1)
+        self.store = self.store.convert(64)
+        second = self.store.range(2), self.store.visits(40, 2)
+        self.refused(6, self.store.prune, 3)
+        self.store.open()
+        self.refused(8, self.store.prune, 1)
+        self.store.abandon()
+        self.store.prune(2)
+        self.assertEqual(self.store.state().oldest, 2)
+        self.assertEqual((self.store.range(2), self.store.visits(40, 2)), second)
+        self.assertEqual(self.store.life(40), [(2, None, 9)])
+        self.refused(6, self.store.lookup, 40, 1)
+        self.refused(6, self.store.difference, 1, 2)
+        self.refused(6, self.store.prune, 1)
 
     def test_refusals(self):
         self.refused(6, self.store.lookup, 40, 3)

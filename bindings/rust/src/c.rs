@@ -18,6 +18,7 @@ extern "C" {
     pub fn rcst_commit(store: *mut u8, length: usize) -> u32;
     pub fn rcst_abandon(store: *mut u8, length: usize) -> u32;
     pub fn rcst_return(store: *mut u8, length: usize, version: u32) -> u32;
+    pub fn rcst_prune(store: *mut u8, length: usize, version: u32) -> u32;
     pub fn rcst_lookup(
         store: *const u8,
         length: usize,

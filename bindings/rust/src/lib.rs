@@ -64,6 +64,8 @@ pub struct State {
     pub edition: u32,
     /// Pages that are free.
     pub free: u32,
+    /// The oldest version that can be read: 0, or the one pruned to last.
+    pub oldest: u32,
 }
 
 impl State {
@@ -113,6 +115,12 @@ pub fn abandon(store: &mut [u8]) -> u32 {
 /// 13 the update is abandoned.
 pub fn return_to(store: &mut [u8], version: u32) -> u32 {
     unsafe { c::rcst_return(store.as_mut_ptr(), store.len(), version) }
+}
+
+/// Makes a committed version the oldest, in a store of edition 2: frees every page
+/// that ended at or before it. Versions below it give 6 from then on.
+pub fn prune(store: &mut [u8], version: u32) -> u32 {
+    unsafe { c::rcst_prune(store.as_mut_ptr(), store.len(), version) }
 }
 
 /// The number, whether the key is alive at the version, and its value.

@@ -1,7 +1,7 @@
 //! The library's version, and the format's limits: those of `include/rcst.h`.
 
-pub const LIBRARY_MAJOR: u32 = 1;
-pub const LIBRARY_MINOR: u32 = 4;
+pub const LIBRARY_MAJOR: u32 = 2;
+pub const LIBRARY_MINOR: u32 = 0;
 /// Of a page in edition 1, and in edition 2.
 pub const PAGE_BYTES: usize = 256;
 pub const SECOND_PAGE_BYTES: usize = 512;

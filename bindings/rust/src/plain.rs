@@ -28,6 +28,12 @@ mod c {
             state: *mut super::State,
             version: u32,
         ) -> u32;
+        pub fn rcst_plain_prune(
+            items: *mut u32,
+            room: usize,
+            state: *mut super::State,
+            version: u32,
+        ) -> u32;
         pub fn rcst_plain_lookup(
             items: *const u32,
             room: usize,
@@ -70,10 +76,9 @@ mod c {
     }
 }
 
-/// What goes with the items, as the header's `struct rcst_plain_state`. The default
-/// is that of no item: beside a fresh store.
+/// What goes with the items, as the header's `struct rcst_plain_state`.
 #[repr(C)]
-#[derive(Clone, Copy, Debug, Default, PartialEq, Eq)]
+#[derive(Clone, Copy, Debug, PartialEq, Eq)]
 pub struct State {
     /// The current version.
     pub current: u32,
@@ -81,6 +86,23 @@ pub struct State {
     pub opened: u32,
     /// How many items the list holds.
     pub count: u32,
+    /// The oldest version that is kept.
+    pub oldest: u32,
+    /// 1 or 2: pruning edition 1 gives 3, and nothing else asks for it.
+    pub edition: u32,
+}
+
+impl State {
+    /// That of no item: beside a fresh store of the edition.
+    pub fn fresh(edition: u32) -> State {
+        State {
+            current: 0,
+            opened: 0,
+            count: 0,
+            oldest: 0,
+            edition,
+        }
+    }
 }
 
 /// A lent list and its state. Where the list has no room for one item for each
@@ -93,8 +115,8 @@ pub struct Engine<'a> {
 
 impl<'a> Engine<'a> {
     /// No items: version 0, no settings, whatever stands in the list.
-    pub fn new(items: &'a mut [u32]) -> Engine<'a> {
-        Engine::resumed(items, State::default())
+    pub fn new(edition: u32, items: &'a mut [u32]) -> Engine<'a> {
+        Engine::resumed(items, State::fresh(edition))
     }
 
     /// Goes on with the items of a list. A state that is none, or of more items than
@@ -145,6 +167,12 @@ impl<'a> Engine<'a> {
     pub fn return_to(&mut self, version: u32) -> u32 {
         let (items, room) = (self.items.as_mut_ptr(), self.items.len());
         unsafe { c::rcst_plain_return(items, room, &mut self.state, version) }
+    }
+
+    /// Drops the items that ended at or before a committed version.
+    pub fn prune(&mut self, version: u32) -> u32 {
+        let (items, room) = (self.items.as_mut_ptr(), self.items.len());
+        unsafe { c::rcst_plain_prune(items, room, &mut self.state, version) }
     }
 
     /// The number, whether the key is alive at the version, and its value.

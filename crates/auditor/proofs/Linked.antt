@@ -12,8 +12,8 @@ use Rattle.model.specs.Calls.{Ranged}
 use Rattle.model.specs.declared.Looked.{Looked}
 use Rattle.model.specs.declared.Looked.the-variants.{Refused}
 use Rattle.model.specs.Lent.{Listed, listed}
-use Rattle.model.specs.Ended.{Asked, toFresh, toFreshSecond, toCheck, toState, toOpen, toCommit, toAbandon, toInsert, toDelete, toReturn, toLookup, toRange, toVisits, toDifference, toLife}
-use Rattle.plain.specs.Plain.{Plain, Given, begin, insert, delete, commit, abandon, return, lookup, range, difference, life}
+use Rattle.model.specs.Ended.{Asked, toFresh, toFreshSecond, toCheck, toState, toOpen, toCommit, toAbandon, toInsert, toDelete, toReturn, toPrune, toLookup, toRange, toVisits, toDifference, toLife}
+use Rattle.plain.specs.Plain.{Plain, Given, begin, insert, delete, commit, abandon, return, prune, lookup, range, difference, life}
 use Rattle.plain.specs.Guard.{stateOf, longest, isState, isLent, readPlain, refusing, guarded, lacks, fitted, ownInserts}
 use Rattle.auditor.specs.Engine.{Plainly, ofGiven, ofLooked, ofListed}
 use Rattle.auditor.specs.Linked.{Linked}
@@ -61,6 +61,7 @@ linked (toReturn v) ns ms us e h =
     let g = return p v in
     let n = stateOf ms .count + ownInserts p v in
     given ns ms us e (fitted ns n p g) ∙ ap (ofGiven us) (roomy ns ms us e n g h)
+linked (toPrune v) ns ms us e h = given ns ms us e (prune (readPlain ns ms) v)
 linked (toLookup k v) ns ms us e h = ap (λ (b : Bool). ofLooked (readPlain ns ms) us (pick b (lookup (readPlain ns ms) k v) (Refused 4))) e
 linked (toRange lo hi v) ns ms us e h = tells ns ms us e (range (readPlain ns ms) lo hi v)
 linked (toVisits k v) ns ms us e h = refl

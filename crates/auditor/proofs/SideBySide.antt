@@ -17,47 +17,57 @@ use Rattle.model.specs.declared.Delta.{Delta}
 use Rattle.model.specs.declared.Stretch.{Stretch}
 use Rattle.model.specs.declared.Looked.{Looked}
 use Rattle.model.specs.Entry.{pair, born, endThose, liveAt}
+use Rattle.model.specs.Limits.{editionOf}
 use Rattle.model.specs.Store.{Store, fresh, lastOf}
 use Rattle.model.specs.Store as store
 use Rattle.model.specs.Walk.{keyLimit, find, between}
 use Rattle.model.specs.Walk as walk
 use Rattle.model.specs.Layout.{encode}
-use Rattle.model.specs.Calls.{isSome, Rule, rule, firstOf, insertTests, deleteTests, benchLimit, revived, restoredEntries, lookedNumber, lookedFound, lookedValue, lookedAt, lookedBy, Ranged, rangedBy}
+use Rattle.model.specs.Calls.{isSome, Rule, rule, firstOf, beyond, insertTests, deleteTests, pruneTests, benchLimit, revived, restoredEntries, lookedNumber, lookedFound, lookedValue, lookedAt, lookedBy, Ranged, rangedBy}
 use Rattle.model.specs.Layout.{bit}
 use Rattle.model.specs.Inner.{rising}
 use Rattle.model.specs.Told.{toldBy}
 use Rattle.model.specs.Differ.{differ, deltaNumbers}
 use Rattle.model.specs.Life.{lifeOf, stretchNumbers}
 use Rattle.model.specs.Return.{returnTests, comes, lacking}
-use Rattle.model.specs.Histories.{Call, begins, commits, abandons, inserts, deletes, returns}
+use Rattle.model.specs.Histories.{Call, begins, commits, abandons, inserts, deletes, returns, prunes}
 use Rattle.model.specs.Settings.{Machine, start, step}
 use Rattle.model.specs.Lent.{Listed, listed}
+use Rattle.model.specs.Editions.{leastOf}
+use Rattle.model.specs.Sound.{sound}
 use Rattle.model.specs.Ended as calls
-use Rattle.model.specs.Ended.{Asked, Ended, ended, toFresh, toFreshSecond, toCheck, toState, toOpen, toCommit, toAbandon, toInsert, toDelete, toReturn, toLookup, toRange, toVisits, toDifference, toLife}
-use Rattle.model.proofs.Lists.{all-cons, shorter}
+use Rattle.model.specs.Ended.{Asked, Ended, ended, toFresh, toFreshSecond, toCheck, toState, toOpen, toCommit, toAbandon, toInsert, toDelete, toReturn, toPrune, toLookup, toRange, toVisits, toDifference, toLife}
+use Rattle.model.proofs.Lists.{both-intro, all-cons, shorter}
+use Rattle.model.proofs.Members.{true-holds}
+use Rattle.model.proofs.Given.{to-tests}
+use Rattle.model.proofs.Turns.{fresh-sound}
+use Rattle.model.proofs.Editions.{edition-four}
 use Rattle.model.proofs.Same.{same-none}
 use Rattle.model.proofs.Lives.{life-ext}
 use Rattle.promises.specs.Accepts.{storeOf, OfEdition}
-use Rattle.promises.specs.Runs.{Turn, turned, Kind, making, changing, reading, kindOf, givesUp, fitting, each}
+use Rattle.promises.specs.Runs.{Turn, turned, Kind, making, changing, reading, kindOf, givesUp, notMaking, fitting, each}
 use Rattle.promises.specs.Beside.{Beside, whenDone, stepped, undone, onward, fromFresh}
 use Rattle.promises.specs.Answers.{Answers, Gives, lastIn, lookupTests, rangeTests, differenceTests, lifeTests, openTests, endTests, commitTests, lookedIn, rangedFrom, toldFrom, livedIn, aliveIn, unchangedIn}
 use Rattle.promises.proofs.Agreed.{Agreed, fresh-agreed, one-turn}
+use Rattle.promises.proofs.Promises.{encoded-sound, edition-stays}
 use Rattle.promises.proofs.Answering.{answers}
-use Rattle.plain.specs.Plain.{Plain, empty, valueAt, settings, differs, setKey, endKey, backTo, Given, unless, holding, begin, insert, delete, commit, abandon, return, lookup, range, difference, life}
+use Rattle.plain.specs.Plain.{Plain, empty, valueAt, settings, differs, setKey, endKey, backTo, keptFrom, Given, unless, standing, holding, pruned, begin, insert, delete, commit, abandon, return, prune, lookup, range, difference, life}
 use Rattle.plain.proofs.Keys.{settings-are, differs-are}
+use Rattle.plain.proofs.Values.{kept-shorter}
 use Rattle.plain.proofs.Backs.{back-few}
-use Rattle.plain.proofs.Shows.{Shows, shows-start, shows-begins, shows-commits, shows-abandons, shows-inserts, shows-deletes, shows-returns}
+use Rattle.plain.proofs.Shows.{Shows, shows-start, shows-begins, shows-commits, shows-abandons, shows-inserts, shows-deletes, shows-returns, shows-prunes}
 use Rattle.auditor.specs.Engine.{has, Plainly, ofGiven, ofListed, plainly}
 use Rattle.auditor.specs.SideBySide.{Equal, OneCall, followed, insertsBy, acceptedIn, Fits, EachCall, SideBySide}
 
 -- ---- the plain store beside the machine
 
-abbrev plainBy : Machine → List Entry → Plain
-plainBy m es = record { current = m .current; opened = m .opened; items = es }
+-- d is the edition
+abbrev plainBy : ℕ → Machine → List Entry → Plain
+plainBy d m es = record { current = m .current; opened = m .opened; oldest = m .oldest; edition = d; items = es }
 
-record Follows (m : Machine) (p : Plain) : Type 0 where
+record Follows (d : ℕ) (m : Machine) (p : Plain) : Type 0 where
   pub items : List Entry
-  pub is : p ≡ plainBy m items
+  pub is : p ≡ plainBy d m items
   pub shows : Shows m items
 
 -- ---- the first test that holds
@@ -99,43 +109,43 @@ gives-number (suc f) n e l = e
 -- ---- after a call that gave n
 
 -- the machine and the plain store after it, with so many more items at the most
-record After (m : Machine) (q p : Plain) (more : ℕ) : Type 0 where
-  pub follows : Follows m q
+record After (d : ℕ) (m : Machine) (q p : Plain) (more : ℕ) : Type 0 where
+  pub follows : Follows d m q
   pub few : length (q .items) ≤ length (p .items) + more
 
-abbrev Then : Kind → Machine → ℕ → Plain → Plain → ℕ → Type 0
-Then k m n p q cost = After (whenDone n (stepped k m) (undone k n m)) (pick (lacking n) (pick (givesUp k n) (abandon p .plain) p) q) p (whenDone n cost 0)
+abbrev Then : ℕ → Kind → Machine → ℕ → Plain → Plain → ℕ → Type 0
+Then d k m n p q cost = After d (whenDone n (stepped k m) (undone k n m)) (pick (lacking n) (pick (givesUp k n) (abandon p .plain) p) q) p (whenDone n cost 0)
 
-stay : (m : Machine) (p : Plain) → Follows m p → After m p p 0
-stay m p a = record { follows = a; few = omega arith }
+stay : (d : ℕ) (m : Machine) (p : Plain) → Follows d m p → After d m p p 0
+stay d m p a = record { follows = a; few = omega arith }
 
-module _ (k : Kind) (m : Machine) (p q : Plain) (cost : ℕ) (a : Follows m p) where
+module _ (d : ℕ) (k : Kind) (m : Machine) (p q : Plain) (cost : ℕ) (a : Follows d m p) where
   -- refused: both stay
-  refused : (g : ℕ) → givesUp k (suc g) ≡ false → (n : ℕ) → Gives (suc g) n → Then k m n p (unless (suc g) p q .plain) cost
-  refused g h n e = subst (λ (j : ℕ). Then k m j p p cost) (sym e) (at (givesUp k (suc g)) h (lacking (suc g)))
+  refused : (g : ℕ) → givesUp k (suc g) ≡ false → (n : ℕ) → Gives (suc g) n → Then d k m n p (unless (suc g) p q .plain) cost
+  refused g h n e = subst (λ (j : ℕ). Then d k m j p p cost) (sym e) (at (givesUp k (suc g)) h (lacking (suc g)))
     where
-      at : (b : Bool) → b ≡ false → (c : Bool) → After (pick b (step m abandons) m) (pick c (pick b (abandon p .plain) p) p) p 0
+      at : (b : Bool) → b ≡ false → (c : Bool) → After d (pick b (step m abandons) m) (pick c (pick b (abandon p .plain) p) p) p 0
       at true i c = absurd (true-false i)
-      at false i true = stay m p a
-      at false i false = stay m p a
+      at false i true = stay d m p a
+      at false i false = stay d m p a
 
   -- 12 or 13: left out
-  left-out : (g : ℕ) → lacking (suc g) ≡ true → givesUp k (suc g) ≡ false → Then k m (suc g) p q cost
+  left-out : (g : ℕ) → lacking (suc g) ≡ true → givesUp k (suc g) ≡ false → Then d k m (suc g) p q cost
   left-out g l h = at (givesUp k (suc g)) h (lacking (suc g)) l
     where
-      at : (b : Bool) → b ≡ false → (c : Bool) → c ≡ true → After (pick b (step m abandons) m) (pick c (pick b (abandon p .plain) p) q) p 0
+      at : (b : Bool) → b ≡ false → (c : Bool) → c ≡ true → After d (pick b (step m abandons) m) (pick c (pick b (abandon p .plain) p) q) p 0
       at true i c j = absurd (true-false i)
-      at false i true j = stay m p a
+      at false i true j = stay d m p a
       at false i false j = absurd (true-false (sym j))
 
   -- done, or 12 or 13
-  done : After (stepped k m) q p cost → Then k m 12 p q cost → Then k m 13 p q cost → (n : ℕ) → Gives 0 n → Then k m n p (unless 0 p q .plain) cost
-  done d twelve thirteen n (inl e) = subst (λ (j : ℕ). Then k m j p q cost) (sym e) d
-  done d twelve thirteen n (inr (inl e)) = subst (λ (j : ℕ). Then k m j p q cost) (sym e) twelve
-  done d twelve thirteen n (inr (inr e)) = subst (λ (j : ℕ). Then k m j p q cost) (sym e) thirteen
+  done : After d (stepped k m) q p cost → Then d k m 12 p q cost → Then d k m 13 p q cost → (n : ℕ) → Gives 0 n → Then d k m n p (unless 0 p q .plain) cost
+  done did twelve thirteen n (inl e) = subst (λ (j : ℕ). Then d k m j p q cost) (sym e) did
+  done did twelve thirteen n (inr (inl e)) = subst (λ (j : ℕ). Then d k m j p q cost) (sym e) twelve
+  done did twelve thirteen n (inr (inr e)) = subst (λ (j : ℕ). Then d k m j p q cost) (sym e) thirteen
 
-  done-or-out : After (stepped k m) q p cost → givesUp k 12 ≡ false → givesUp k 13 ≡ false → (n : ℕ) → Gives 0 n → Then k m n p (unless 0 p q .plain) cost
-  done-or-out d g h = done d (left-out 11 refl g) (left-out 12 refl h)
+  done-or-out : After d (stepped k m) q p cost → givesUp k 12 ≡ false → givesUp k 13 ≡ false → (n : ℕ) → Gives 0 n → Then d k m n p (unless 0 p q .plain) cost
+  done-or-out did g h = done did (left-out 11 refl g) (left-out 12 refl h)
 
 -- ---- what is told where the tests fail, and nothing else
 
@@ -186,8 +196,11 @@ module _ (x : Beside) (a : Agreed x) (es : List Entry) (s : Shows (x .machine) e
   abbrev m : Machine
   m = x .machine
 
+  abbrev d : ℕ
+  d = editionOf (leastOf (x .bytes))
+
   abbrev p : Plain
-  p = plainBy (x .machine) es
+  p = plainBy (editionOf (leastOf (x .bytes))) (x .machine) es
 
   abbrev w : ℕ
   w = suc (x .machine .current)
@@ -195,7 +208,7 @@ module _ (x : Beside) (a : Agreed x) (es : List Entry) (s : Shows (x .machine) e
   says : Answers x
   says = answers x a
 
-  at-p : Follows m p
+  at-p : Follows d m p
   at-p = record { items = es; is = refl; shows = s }
 
   open-last : m .opened ≡ true → lastIn m ≡ w
@@ -208,145 +221,180 @@ module _ (x : Beside) (a : Agreed x) (es : List Entry) (s : Shows (x .machine) e
       at true = omega arith
       at false = omega arith
 
-  stands : (v : ℕ) → v ≤ lastIn m → rising (m .shows v) ≡ true
-  stands v h = says .order v h
+  -- a version that can be read
+  record Kept (v : ℕ) : Type 0 where
+    pub from : m .oldest ≤ v
+    pub upto : v ≤ lastIn m
+
+  kept-by : (v : ℕ) → beyond (lastIn m) (m .oldest) v ≡ false → Kept v
+  kept-by v e = let f = either-fails (ltb (lastIn m) v) (ltb v (m .oldest)) e in record { from = ltb-false v (m .oldest) (f .1); upto = ltb-false (lastIn m) v (f .0) }
+
+  current-kept : Kept (m .current)
+  current-kept = record { from = s .old; upto = current-last }
+
+  stands : (v : ℕ) → Kept v → rising (m .shows v) ≡ true
+  stands v h = says .order v (h .from) (h .upto)
+
+  shown : (k v : ℕ) → k < keyLimit → Kept v → valueAt k v es ≡ find k (m .shows v)
+  shown k v low h = s .shows k v low (h .from) (h .upto)
 
   -- the difference of two versions that can be read
-  differ-here : (u v : ℕ) → u ≤ lastIn m → v ≤ lastIn m → differs u v es ≡ differ (m .shows u) (m .shows v)
+  differ-here : (u v : ℕ) → Kept u → Kept v → differs u v es ≡ differ (m .shows u) (m .shows v)
   differ-here u v h i =
-      differs-are u v es (m .shows u) (m .shows v) (stands u h) (stands v i) (s .keys-small u h) (s .keys-small v i) (λ k low. s .shows k u low h) (λ k low. s .shows k v low i)
+      differs-are u v es (m .shows u) (m .shows v) (stands u h) (stands v i) (s .keys-small u (h .upto)) (s .keys-small v (i .upto)) (λ k low. shown k u low h) (λ k low. shown k v low i)
 
   -- ---- readings
 
   lookup-same : (k v : ℕ) → lookup p k v ≡ lookedIn m k v
   unfolding lookup
   lookup-same k v =
-      looked-same (firstOf (lookupTests (lastIn m) k v)) (valueAt k v es) (find k (m .shows v))
-      (λ e. let n = two-fail 4 5 (leb keyLimit k) (ltb (lastIn m) v) e in s .shows k v (leb-false keyLimit k (n .0)) (ltb-false (lastIn m) v (n .1)))
+      looked-same (firstOf (lookupTests (m .oldest) (lastIn m) k v)) (valueAt k v es) (find k (m .shows v))
+      (λ e. let n = two-fail 4 5 (leb keyLimit k) (beyond (lastIn m) (m .oldest) v) e in shown k v (leb-false keyLimit k (n .0)) (kept-by v (n .1)))
 
   range-same : (lo hi v room : ℕ) → range p lo hi v room ≡ rangedFrom m lo hi v room
   unfolding range
   range-same lo hi v room =
-      ranged-same (firstOf (rangeTests (lastIn m) lo hi v)) room (settings lo hi v es) (between lo hi (m .shows v))
+      ranged-same (firstOf (rangeTests (m .oldest) (lastIn m) lo hi v)) room (settings lo hi v es) (between lo hi (m .shows v))
       (λ e.
-      let n = two-fail 4 5 (leb keyLimit lo || leb keyLimit hi || ltb hi lo) (ltb (lastIn m) v) e in
+      let n = two-fail 4 5 (leb keyLimit lo || leb keyLimit hi || ltb hi lo) (beyond (lastIn m) (m .oldest) v) e in
       let f = three-fail (leb keyLimit lo) (leb keyLimit hi) (ltb hi lo) (n .0) in
       let high : hi < keyLimit = leb-false keyLimit hi (f .1) in
-      let h : v ≤ lastIn m = ltb-false (lastIn m) v (n .1) in
-      settings-are lo hi v es (m .shows v) (ltb-false hi lo (f .2)) (stands v h) (λ k i. s .shows k v (omega arith) h))
+      let h : Kept v = kept-by v (n .1) in
+      settings-are lo hi v es (m .shows v) (ltb-false hi lo (f .2)) (stands v h) (λ k i. shown k v (omega arith) h))
 
   difference-same : (u v room : ℕ) → difference p u v room ≡ toldFrom m u v room
   unfolding difference
   difference-same u v room =
-      told-same deltaNumbers 4 (firstOf (differenceTests (lastIn m) u v)) room (differs u v es) (differ (m .shows u) (m .shows v))
-      (λ e. let f = either-fails (ltb (lastIn m) u) (ltb (lastIn m) v) (one-fails 5 (ltb (lastIn m) u || ltb (lastIn m) v) e) in
-      differ-here u v (ltb-false (lastIn m) u (f .0)) (ltb-false (lastIn m) v (f .1)))
+      told-same deltaNumbers 4 (firstOf (differenceTests (m .oldest) (lastIn m) u v)) room (differs u v es) (differ (m .shows u) (m .shows v))
+      (λ e.
+      let f = either-fails (beyond (lastIn m) (m .oldest) u) (beyond (lastIn m) (m .oldest) v) (one-fails 5 (beyond (lastIn m) (m .oldest) u || beyond (lastIn m) (m .oldest) v) e) in
+      differ-here u v (kept-by u (f .0)) (kept-by v (f .1)))
 
   life-same : (k room : ℕ) → life p k room ≡ livedIn m k room
   unfolding life
   life-same k room =
-      told-same stretchNumbers 3 (firstOf (lifeTests k)) room (lifeOf (m .current) (λ (v : ℕ). valueAt k v es)) (lifeOf (m .current) (λ (v : ℕ). find k (m .shows v)))
+      told-same stretchNumbers 3 (firstOf (lifeTests k)) room (lifeOf (m .oldest) (m .current) (λ (v : ℕ). valueAt k v es)) (lifeOf (m .oldest) (m .current) (λ (v : ℕ). find k (m .shows v)))
       (λ e. let low : k < keyLimit = leb-false keyLimit k (one-fails 4 (leb keyLimit k) e) in
-      life-ext (m .current) (λ (v : ℕ). valueAt k v es) (λ (v : ℕ). find k (m .shows v)) (λ v h. s .shows k v low (omega (arith, current-last))))
+      life-ext (m .oldest) (m .current) (λ (v : ℕ). valueAt k v es) (λ (v : ℕ). find k (m .shows v)) (λ v f h. s .shows k v low f (omega (arith, current-last))))
 
   -- ---- calls that change
 
-  at-w : m .opened ≡ true → w ≤ lastIn m
-  at-w o = omega (arith, open-last o)
+  at-w : m .opened ≡ true → Kept w
+  at-w o = record { from = omega (arith, s .old); upto = omega (arith, open-last o) }
 
-  begins-then : (n : ℕ) → Gives (firstOf (openTests (m .opened) (m .current))) n → Then (changing begins) m n p (begin p .plain) 0
+  begins-then : (n : ℕ) → Gives (firstOf (openTests (m .opened) (m .current))) n → Then d (changing begins) m n p (begin p .plain) 0
   unfolding begin
   begins-then =
-      let q : Plain = record { current = m .current; opened = true; items = es } in
-      by-tests (λ f. (n : ℕ) → Gives f n → Then (changing begins) m n p (unless f p q .plain) 0) (openTests (m .opened) (m .current))
-      (refused (changing begins) m p q 0 at-p 7 refl, (refused (changing begins) m p q 0 at-p 8 refl, 0))
-      (λ f. done-or-out (changing begins) m p q 0 at-p
+      let q = standing p (m .current) true es in
+      by-tests (λ f. (n : ℕ) → Gives f n → Then d (changing begins) m n p (unless f p q .plain) 0) (openTests (m .opened) (m .current))
+      (refused d (changing begins) m p q 0 at-p 7 refl, (refused d (changing begins) m p q 0 at-p 8 refl, 0))
+      (λ f. done-or-out d (changing begins) m p q 0 at-p
       (record { follows = record { items = es; is = refl; shows = shows-begins m es s (f .0) (leb-false 1048574 (m .current) (f .1 .0)) }; few = omega arith }) refl refl)
 
-  commits-then : (n : ℕ) → Gives (firstOf (commitTests (m .opened) (isEmpty (differs (m .current) w es)))) n → Then (changing commits) m n p (commit p .plain) 0
+  commits-then : (n : ℕ) → Gives (firstOf (commitTests (m .opened) (isEmpty (differs (m .current) w es)))) n → Then d (changing commits) m n p (commit p .plain) 0
   unfolding commit
   commits-then =
-      let q : Plain = record { current = w; opened = false; items = es } in
-      by-tests (λ f. (n : ℕ) → Gives f n → Then (changing commits) m n p (unless f p q .plain) 0) (commitTests (m .opened) (isEmpty (differs (m .current) w es)))
-      (refused (changing commits) m p q 0 at-p 6 refl, (refused (changing commits) m p q 0 at-p 14 refl, 0))
-      (λ f. done-or-out (changing commits) m p q 0 at-p
+      let q = standing p w false es in
+      by-tests (λ f. (n : ℕ) → Gives f n → Then d (changing commits) m n p (unless f p q .plain) 0) (commitTests (m .opened) (isEmpty (differs (m .current) w es)))
+      (refused d (changing commits) m p q 0 at-p 6 refl, (refused d (changing commits) m p q 0 at-p 14 refl, 0))
+      (λ f. done-or-out d (changing commits) m p q 0 at-p
       (record { follows = record { items = es; is = refl; shows = shows-commits m es s (not-false (m .opened) (f .0)) }; few = omega arith }) refl refl)
 
-  abandoned-after : m .opened ≡ true → After (step m abandons) (record { current = m .current; opened = false; items = restoredEntries w es }) p 0
+  abandoned-after : m .opened ≡ true → After d (step m abandons) (standing p (m .current) false (restoredEntries w es)) p 0
   abandoned-after o = record { follows = record { items = restoredEntries w es; is = refl; shows = shows-abandons m es s o }; few = omega (arith, restored-shorter w es) }
 
-  abandons-then : (n : ℕ) → Gives (firstOf (endTests (m .opened))) n → Then (changing abandons) m n p (abandon p .plain) 0
+  abandons-then : (n : ℕ) → Gives (firstOf (endTests (m .opened))) n → Then d (changing abandons) m n p (abandon p .plain) 0
   unfolding abandon
   abandons-then =
-      let q : Plain = record { current = m .current; opened = false; items = restoredEntries w es } in
-      by-tests (λ f. (n : ℕ) → Gives f n → Then (changing abandons) m n p (unless f p q .plain) 0) (endTests (m .opened))
-      (refused (changing abandons) m p q 0 at-p 6 refl, 0)
-      (λ f. done-or-out (changing abandons) m p q 0 at-p (abandoned-after (not-false (m .opened) (f .0))) refl refl)
+      let q = standing p (m .current) false (restoredEntries w es) in
+      by-tests (λ f. (n : ℕ) → Gives f n → Then d (changing abandons) m n p (unless f p q .plain) 0) (endTests (m .opened))
+      (refused d (changing abandons) m p q 0 at-p 6 refl, 0)
+      (λ f. done-or-out d (changing abandons) m p q 0 at-p (abandoned-after (not-false (m .opened) (f .0))) refl refl)
 
-  inserts-then : (k y n : ℕ) → Gives (firstOf (insertTests k (m .opened) (isSome (valueAt k w es)))) n → Then (changing (inserts k y)) m n p (insert p k y .plain) 1
+  inserts-then : (k y n : ℕ) → Gives (firstOf (insertTests k (m .opened) (isSome (valueAt k w es)))) n → Then d (changing (inserts k y)) m n p (insert p k y .plain) 1
   unfolding insert
   inserts-then k y =
       let c = changing (inserts k y) in
       let q = holding p (setKey w k y es) in
-      by-tests (λ f. (n : ℕ) → Gives f n → Then c m n p (unless f p q .plain) 1) (insertTests k (m .opened) (isSome (valueAt k w es)))
-      (refused c m p q 1 at-p 4 refl, (refused c m p q 1 at-p 6 refl, (refused c m p q 1 at-p 9 refl, 0)))
+      by-tests (λ f. (n : ℕ) → Gives f n → Then d c m n p (unless f p q .plain) 1) (insertTests k (m .opened) (isSome (valueAt k w es)))
+      (refused d c m p q 1 at-p 4 refl, (refused d c m p q 1 at-p 6 refl, (refused d c m p q 1 at-p 9 refl, 0)))
       (λ f.
       let o = not-false (m .opened) (f .1 .0) in
       let low : k < keyLimit = omega (arith, leb-false benchLimit k (f .0)) in
-      let absent = sym (s .shows k w low (at-w o)) ∙ none-is (valueAt k w es) (f .1 .1 .0) in
-      done-or-out c m p q 1 at-p
+      let absent = sym (shown k w low (at-w o)) ∙ none-is (valueAt k w es) (f .1 .1 .0) in
+      done-or-out d c m p q 1 at-p
       (record { follows = record { items = setKey w k y es; is = refl; shows = shows-inserts m es s o k y low absent }; few = omega (arith, length-append es (born w (pair k y) ∷ [])) }) refl refl)
 
-  deletes-then : (k n : ℕ) → Gives (firstOf (deleteTests k (m .opened) (isSome (valueAt k w es)))) n → Then (changing (deletes k)) m n p (delete p k .plain) 0
+  deletes-then : (k n : ℕ) → Gives (firstOf (deleteTests k (m .opened) (isSome (valueAt k w es)))) n → Then d (changing (deletes k)) m n p (delete p k .plain) 0
   unfolding delete
   deletes-then k =
       let c = changing (deletes k) in
       let q = holding p (endKey w k es) in
-      by-tests (λ f. (n : ℕ) → Gives f n → Then c m n p (unless f p q .plain) 0) (deleteTests k (m .opened) (isSome (valueAt k w es)))
-      (refused c m p q 0 at-p 4 refl, (refused c m p q 0 at-p 6 refl, (refused c m p q 0 at-p 10 refl, 0)))
-      (λ f. done-or-out c m p q 0 at-p
+      by-tests (λ f. (n : ℕ) → Gives f n → Then d c m n p (unless f p q .plain) 0) (deleteTests k (m .opened) (isSome (valueAt k w es)))
+      (refused d c m p q 0 at-p 4 refl, (refused d c m p q 0 at-p 6 refl, (refused d c m p q 0 at-p 10 refl, 0)))
+      (λ f. done-or-out d c m p q 0 at-p
       (record {
         follows = record { items = endKey w k es; is = refl; shows = shows-deletes m es s (not-false (m .opened) (f .1 .0)) k };
         few = omega (arith, shorter (λ (e : Entry). eqb (e .key) k && liveAt w e) w es);
       }) refl refl)
 
   -- an abandon where an update is open
-  abandon-open : m .opened ≡ true → abandon p ≡ record { number = 0; plain = record { current = m .current; opened = false; items = restoredEntries w es } }
+  abandon-open : m .opened ≡ true → abandon p ≡ record { number = 0; plain = standing p (m .current) false (restoredEntries w es) }
   unfolding abandon
-  abandon-open o = ap (λ (b : Bool). unless (firstOf (rule 7 (not b) ∷ [])) p (record { current = m .current; opened = false; items = restoredEntries w es })) o
+  abandon-open o = ap (λ (b : Bool). unless (firstOf (rule 7 (not b) ∷ [])) p (standing p (m .current) false (restoredEntries w es))) o
 
   -- a return's own inserts, in the tree's words
   store-last : store.last (storeOf (x .bytes)) ≡ lastIn m
   store-last = ap₂ lastOf (a .agrees .opened) (a .agrees .current)
 
-  own-inserts : (v : ℕ) → v ≤ m .current → m .opened ≡ true
+  store-old : storeOf (x .bytes) .oldest ≡ m .oldest
+  store-old = a .agrees .oldest
+
+  own-inserts : (v : ℕ) → m .oldest ≤ v → v ≤ m .current → m .opened ≡ true
       → differs w v es ≡ differ (walk.settings (storeOf (x .bytes)) (store.next (storeOf (x .bytes)))) (walk.settings (storeOf (x .bytes)) v)
-  own-inserts v h o =
-      let old : v ≤ lastIn m = omega (arith, open-last o) in
+  own-inserts v f h o =
+      let old : Kept v = record { from = f; upto = omega (arith, open-last o) } in
       differ-here w v (at-w o) old
       ∙ ap₂ differ
-      (sym (a .agrees .shows (store.next (storeOf (x .bytes))) (omega (arith, store-last, a .agrees .current, at-w o)) ∙ ap (λ (c : ℕ). m .shows (suc c)) (a .agrees .current)))
-      (sym (a .agrees .shows v (omega (arith, store-last))))
+      (sym (a .agrees .shows (store.next (storeOf (x .bytes))) (omega (arith, store-last, store-old, a .agrees .current, at-w o .from, at-w o .upto)) ∙ ap (λ (c : ℕ). m .shows (suc c)) (a .agrees .current)))
+      (sym (a .agrees .shows v (omega (arith, store-last, store-old, old .upto))))
 
-  returns-then : (v n : ℕ) → Gives (firstOf (returnTests (m .current) (m .opened) v)) n
-      → Then (changing (returns v)) m n p (return p v .plain) (insertsBy (changing (returns v)) (storeOf (x .bytes)))
+  returns-then : (v n : ℕ) → Gives (firstOf (returnTests (m .oldest) (m .current) (m .opened) v)) n
+      → Then d (changing (returns v)) m n p (return p v .plain) (insertsBy (changing (returns v)) (storeOf (x .bytes)))
   unfolding return
   returns-then v =
       let c = changing (returns v) in
       let q = holding p (backTo w v es) in
       let cost = insertsBy (changing (returns v)) (storeOf (x .bytes)) in
-      by-tests (λ f. (n : ℕ) → Gives f n → Then c m n p (unless f p q .plain) cost) (returnTests (m .current) (m .opened) v)
-      (refused c m p q cost at-p 5 refl, (refused c m p q cost at-p 6 refl, 0))
+      by-tests (λ f. (n : ℕ) → Gives f n → Then d c m n p (unless f p q .plain) cost) (returnTests (m .oldest) (m .current) (m .opened) v)
+      (refused d c m p q cost at-p 5 refl, (refused d c m p q cost at-p 6 refl, 0))
       (λ f.
       let o = not-false (m .opened) (f .1 .0) in
-      let h : v ≤ m .current = ltb-false (m .current) v (f .0) in
-      let up = subst (λ (g : Given). After (step m abandons) (g .plain) p 0) (sym (abandon-open o)) (abandoned-after o) in
+      let e = either-fails (ltb (m .current) v) (ltb v (m .oldest)) (f .0) in
+      let h : v ≤ m .current = ltb-false (m .current) v (e .0) in
+      let i : m .oldest ≤ v = ltb-false v (m .oldest) (e .1) in
+      let up = subst (λ (g : Given). After d (step m abandons) (g .plain) p 0) (sym (abandon-open o)) (abandoned-after o) in
       let more = back-few w v (omega arith) (omega (arith, s .low, open-last o)) es in
-      done c m p q cost at-p
+      done d c m p q cost at-p
       (record {
-        follows = record { items = backTo w v es; is = refl; shows = shows-returns m es s o v h };
-        few = subst (λ (ds : List Delta). length (backTo w v es) ≤ length es + length (those comes ds)) (own-inserts v h o) more;
+        follows = record { items = backTo w v es; is = refl; shows = shows-returns m es s o v i h };
+        few = subst (λ (ds : List Delta). length (backTo w v es) ≤ length es + length (those comes ds)) (own-inserts v i h o) more;
       }) up up)
+
+  prunes-then : (v n : ℕ) → Gives (firstOf (rule 3 (eqb d 1) ∷ pruneTests (m .oldest) (m .current) (m .opened) v)) n → Then d (changing (prunes v)) m n p (prune p v .plain) 0
+  unfolding prune
+  prunes-then v =
+      let c = changing (prunes v) in
+      let q = pruned p v in
+      by-tests (λ f. (n : ℕ) → Gives f n → Then d c m n p (unless f p q .plain) 0) (rule 3 (eqb d 1) ∷ pruneTests (m .oldest) (m .current) (m .opened) v)
+      (refused d c m p q 0 at-p 2 refl, (refused d c m p q 0 at-p 5 refl, (refused d c m p q 0 at-p 7 refl, 0)))
+      (λ f.
+      let e = either-fails (ltb (m .current) v) (ltb v (m .oldest)) (f .1 .0) in
+      done-or-out d c m p q 0 at-p
+      (record {
+        follows = record { items = keptFrom v es; is = refl; shows = shows-prunes m es s v (ltb-false v (m .oldest) (e .1)) (ltb-false (m .current) v (e .0)) };
+        few = omega (arith, kept-shorter v es);
+      }) refl refl)
 
   -- ---- the numbers
 
@@ -359,7 +407,7 @@ module _ (x : Beside) (a : Agreed x) (es : List Entry) (s : Shows (x .machine) e
           → firstOf (rule 5 b ∷ rule 7 (not o) ∷ rule n (g (isSome (valueAt k w es))) ∷ []) ≡ firstOf (rule 5 b ∷ rule 7 (not o) ∷ rule n (g (aliveIn m k)) ∷ [])
       at true l o e = refl
       at false l false e = refl
-      at false l true e = ap (λ (v : Option ℕ). firstOf (rule n (g (isSome v)) ∷ [])) (s .shows k w (l refl) (at-w e))
+      at false l true e = ap (λ (v : Option ℕ). firstOf (rule n (g (isSome v)) ∷ [])) (shown k w (l refl) (at-w e))
 
   commit-same : firstOf (commitTests (m .opened) (isEmpty (differs (m .current) w es))) ≡ firstOf (commitTests (m .opened) (unchangedIn m))
   commit-same = at (m .opened) refl
@@ -368,7 +416,7 @@ module _ (x : Beside) (a : Agreed x) (es : List Entry) (s : Shows (x .machine) e
       at false e = refl
       at true e =
           ap (λ (b : Bool). firstOf (rule 15 b ∷ []))
-          (ap (λ (ds : List Delta). isEmpty ds) (differ-here (m .current) w current-last (at-w e)) ∙ sym (same-none (m .shows (m .current)) (m .shows w) (stands (m .current) current-last) (stands w (at-w e))))
+          (ap (λ (ds : List Delta). isEmpty ds) (differ-here (m .current) w current-kept (at-w e)) ∙ sym (same-none (m .shows (m .current)) (m .shows w) (stands (m .current) current-kept) (stands w (at-w e))))
 
   -- ---- one call
 
@@ -377,16 +425,16 @@ module _ (x : Beside) (a : Agreed x) (es : List Entry) (s : Shows (x .machine) e
 
   record Goes (c : Asked) (ns : List ℕ) : Type 0 where
     pub one : OneCall (x .bytes) p (turn c ns)
-    pub later : Then (kindOf c) m (ended c (x .bytes) ns .number) p (plainly c p ns .plain) (insertsBy (kindOf c) (storeOf (x .bytes)))
+    pub later : Then d (kindOf c) m (ended c (x .bytes) ns .number) p (plainly c p ns .plain) (insertsBy (kindOf c) (storeOf (x .bytes)))
 
   -- a call that reads
-  read-later : (n : ℕ) → Then reading m n p p 0
-  read-later zero = stay m p at-p
+  read-later : (n : ℕ) → Then d reading m n p p 0
+  read-later zero = stay d m p at-p
   read-later (suc n) = at (lacking (suc n))
     where
-      at : (b : Bool) → After m (pick b p p) p 0
-      at true = stay m p at-p
-      at false = stay m p at-p
+      at : (b : Bool) → After d m (pick b p p) p 0
+      at true = stay d m p at-p
+      at false = stay d m p at-p
 
   never : {A : Type 0} → false ≡ true → A
   never e = absurd (true-false (sym e))
@@ -480,7 +528,7 @@ module _ (x : Beside) (a : Agreed x) (es : List Entry) (s : Shows (x .machine) e
   goes-return : (v : ℕ) (ns : List ℕ) → Goes (toReturn v) ns
   unfolding return
   goes-return v ns =
-      let f = firstOf (returnTests (m .current) (m .opened) v) in
+      let f = firstOf (returnTests (m .oldest) (m .current) (m .opened) v) in
       let gives = says .returns v ns in
       record {
         one = record {
@@ -493,10 +541,26 @@ module _ (x : Beside) (a : Agreed x) (es : List Entry) (s : Shows (x .machine) e
       stopped : (f : ℕ) → lacking (suc f) ≡ false → (n : ℕ) → Gives (suc f) n → lacking n ≡ true → abandon p .number ≡ 0
       stopped f h n e l = absurd (true-false (sym l ∙ ap lacking e ∙ h))
 
-      accepted-abandon : (n : ℕ) → Gives (firstOf (returnTests (m .current) (m .opened) v)) n → lacking n ≡ true → abandon p .number ≡ 0
+      accepted-abandon : (n : ℕ) → Gives (firstOf (returnTests (m .oldest) (m .current) (m .opened) v)) n → lacking n ≡ true → abandon p .number ≡ 0
       accepted-abandon =
-          by-tests (λ f. (n : ℕ) → Gives f n → lacking n ≡ true → abandon p .number ≡ 0) (returnTests (m .current) (m .opened) v) (stopped 5 refl, (stopped 6 refl, 0))
+          by-tests (λ f. (n : ℕ) → Gives f n → lacking n ≡ true → abandon p .number ≡ 0) (returnTests (m .oldest) (m .current) (m .opened) v) (stopped 5 refl, (stopped 6 refl, 0))
           (λ f n g l. ap (λ (g : Given). g .number) (abandon-open (not-false (m .opened) (f .1 .0))))
+
+  -- the tree's edition and the plain store's
+  edition-one : eqb d 1 ≡ leb (leastOf (x .bytes)) 4
+  edition-one = at (leb (leastOf (x .bytes)) 4)
+    where
+      at : (b : Bool) → eqb (pick b 1 2) 1 ≡ b
+      at true = refl
+      at false = refl
+
+  goes-prune : (v : ℕ) (ns : List ℕ) → Goes (toPrune v) ns
+  unfolding prune
+  goes-prune v ns =
+      let f = firstOf (rule 3 (eqb d 1) ∷ pruneTests (m .oldest) (m .current) (m .opened) v) in
+      let same = ap (λ (b : Bool). firstOf (rule 3 b ∷ pruneTests (m .oldest) (m .current) (m .opened) v)) edition-one in
+      let gives = of-equal f _ (says .prunes v ns ∙ sym same) in
+      record { one = record { equal = equal-given (ended (toPrune v) (x .bytes) ns) ns f (prune p v) (unless-number f _ _) gives refl refl; abandons = never }; later = prunes-then v _ gives }
 
   goes : (c : Asked) → has c ≡ true → (ns : List ℕ) → Goes c ns
   goes toFresh h ns = never h
@@ -509,6 +573,7 @@ module _ (x : Beside) (a : Agreed x) (es : List Entry) (s : Shows (x .machine) e
   goes (toInsert k y) h ns = goes-insert k y ns
   goes (toDelete k) h ns = goes-delete k ns
   goes (toReturn v) h ns = goes-return v ns
+  goes (toPrune v) h ns = goes-prune v ns
   goes (toLookup k v) h ns = looks k v ns
   goes (toRange lo hi v) h ns = ranges lo hi v ns
   goes (toVisits k v) h ns = never h
@@ -517,31 +582,62 @@ module _ (x : Beside) (a : Agreed x) (es : List Entry) (s : Shows (x .machine) e
 
 -- ---- one after another
 
-fits-by : (m : Machine) (es : List Entry) → Shows m es → (room : ℕ) → length es ≤ room → Fits room (plainBy m es)
-fits-by m es s room h = record { items = h; version = at (m .opened) (s .low) }
+fits-by : (d : ℕ) (m : Machine) (es : List Entry) → Shows m es → (room : ℕ) → length es ≤ room → Fits room (plainBy d m es)
+fits-by d m es s room h = record { items = h; version = at (m .opened) (s .low) }
   where
     at : (b : Bool) → lastOf b (m .current) ≤ 1048574 → m .current ≤ 1048574
     at true l = omega arith
     at false l = l
 
-each-call : (ts : List Turn) → each fitting ts ≡ true → all (λ (t : Turn). has (t .call)) ts ≡ true → (x : Beside) → Agreed x → (p : Plain) → Follows (x .machine) p
+-- no call of the plain engine makes fresh, so the edition stays
+has-not-making : (c : Asked) → has c ≡ true → notMaking (kindOf c) ≡ true
+has-not-making toFresh h = h
+has-not-making toFreshSecond h = h
+has-not-making toCheck h = refl
+has-not-making toState h = refl
+has-not-making toOpen h = refl
+has-not-making toCommit h = refl
+has-not-making toAbandon h = refl
+has-not-making (toInsert k y) h = refl
+has-not-making (toDelete k) h = refl
+has-not-making (toReturn v) h = refl
+has-not-making (toPrune v) h = refl
+has-not-making (toLookup k v) h = refl
+has-not-making (toRange lo hi v) h = refl
+has-not-making (toVisits k v) h = refl
+has-not-making (toDifference u v) h = refl
+has-not-making (toLife k) h = refl
+
+same-edition : (x : Beside) → Agreed x → (t : Turn) → fitting (kindOf (t .call)) ≡ true → has (t .call) ≡ true → leastOf (x .bytes) ≡ leastOf (onward x t .bytes)
+same-edition x a t fit own =
+    sym (edition-stays (x .bytes) (a .accepted) (t ∷ []) (both-intro (fitting (kindOf (t .call))) true fit refl) (both-intro (notMaking (kindOf (t .call))) true (has-not-making (t .call) own) refl))
+
+each-call : (ts : List Turn) → each fitting ts ≡ true → all (λ (t : Turn). has (t .call)) ts ≡ true → (x : Beside) → Agreed x → (p : Plain) → Follows (editionOf (leastOf (x .bytes))) (x .machine) p
     → (room : ℕ) → length (p .items) + acceptedIn (x .bytes) ts ≤ room → EachCall room (x .bytes) p ts
 each-call [] f h x a p follows room fits =
-    subst (λ (q : Plain). length (q .items) + 0 ≤ room → Fits room q) (sym (follows .is)) (λ i. fits-by (x .machine) (follows .items) (follows .shows) room (omega (arith, i))) fits
+    subst (λ (q : Plain). length (q .items) + 0 ≤ room → Fits room q) (sym (follows .is))
+    (λ i. fits-by (editionOf (leastOf (x .bytes))) (x .machine) (follows .items) (follows .shows) room (omega (arith, i))) fits
 each-call (t ∷ ts) f h x a p follows room fits =
     let (fit, fits-on) = all-cons (λ (u : Turn). fitting (kindOf (u .call))) t ts f in
     let (own, own-on) = all-cons (λ (u : Turn). has (u .call)) t ts h in
     subst (λ (q : Plain). length (q .items) + acceptedIn (x .bytes) (t ∷ ts) ≤ room → EachCall room (x .bytes) q (t ∷ ts)) (sym (follows .is))
-    (at own (λ q g i. each-call ts fits-on own-on (onward x t) (one-turn x a t fit) q g room i)) fits
+    (at own (λ q g i.
+    each-call ts fits-on own-on (onward x t) (one-turn x a t fit) q (subst (λ (n : ℕ). Follows (editionOf n) (onward x t .machine) q) (same-edition x a t fit own) g) room i)) fits
   where
     at : has (t .call) ≡ true
-        → ((q : Plain) → Follows (onward x t .machine) q → length (q .items) + acceptedIn (onward x t .bytes) ts ≤ room → EachCall room (onward x t .bytes) q ts)
-        → length (follows .items) + acceptedIn (x .bytes) (t ∷ ts) ≤ room → EachCall room (x .bytes) (plainBy (x .machine) (follows .items)) (t ∷ ts)
+        → ((q : Plain) → Follows (editionOf (leastOf (x .bytes))) (onward x t .machine) q → length (q .items) + acceptedIn (onward x t .bytes) ts ≤ room → EachCall room (onward x t .bytes) q ts)
+        → length (follows .items) + acceptedIn (x .bytes) (t ∷ ts) ≤ room → EachCall room (x .bytes) (plainBy (editionOf (leastOf (x .bytes))) (x .machine) (follows .items)) (t ∷ ts)
     at own rest i =
         let now = goes x a (follows .items) (follows .shows) (t .call) own (t .list) in
         let few = now .later .few in
-        (fits-by (x .machine) (follows .items) (follows .shows) room (omega (arith, i)), now .one, rest (followed (turned (x .bytes) t .number) (plainBy (x .machine) (follows .items)) t) (now .later .follows) (omega (arith, few)))
+        (fits-by (editionOf (leastOf (x .bytes))) (x .machine) (follows .items) (follows .shows) room (omega (arith, i)), now .one, rest (followed (turned (x .bytes) t .number) (plainBy (editionOf (leastOf (x .bytes))) (x .machine) (follows .items)) t) (now .later .follows) (omega (arith, few)))
+
+fresh-edition : (least : ℕ) → OfEdition least → (n : ℕ) → 6 ≤ n → n ≤ 4096 → leastOf (encode least (fresh n)) ≡ least
+fresh-edition least e n six most =
+    let four : 4 ≤ least = edition-four least e in
+    encoded-sound least e (fresh n) (true-holds (sound least (fresh n)) (to-tests least (fresh n) (fresh-sound least (omega arith) n six most))) .edition
 
 pub side-by-side : SideBySide
 side-by-side least e n six most ts f h room fits =
-    each-call ts f h (fromFresh least n) (fresh-agreed least e n six most) empty (record { items = []; is = refl; shows = shows-start }) room (omega arith)
+    each-call ts f h (fromFresh least n) (fresh-agreed least e n six most) (empty (editionOf least))
+    (record { items = []; is = ap {B = Plain} (λ (l : ℕ). plainBy (editionOf l) start []) (sym (fresh-edition least e n six most)); shows = shows-start }) room (omega arith)

@@ -8,8 +8,8 @@ use Rattle.model.specs.declared.Looked.{Looked}
 use Rattle.model.specs.Layout.{bit}
 use Rattle.model.specs.Calls.{lookedNumber, lookedFound, lookedValue}
 use Rattle.model.specs.Lent.{Listed, listed}
-use Rattle.model.specs.Ended.{Asked, toFresh, toFreshSecond, toCheck, toState, toOpen, toCommit, toAbandon, toInsert, toDelete, toReturn, toLookup, toRange, toVisits, toDifference, toLife}
-use Rattle.plain.specs.Plain.{Plain, Given, begin, insert, delete, commit, abandon, return, lookup, range, difference, life}
+use Rattle.model.specs.Ended.{Asked, toFresh, toFreshSecond, toCheck, toState, toOpen, toCommit, toAbandon, toInsert, toDelete, toReturn, toPrune, toLookup, toRange, toVisits, toDifference, toLife}
+use Rattle.plain.specs.Plain.{Plain, Given, begin, insert, delete, commit, abandon, return, prune, lookup, range, difference, life}
 
 -- the calls that the plain engine has: it makes nothing fresh, and has no pages to check or to visit
 abbrev pub has : Asked → Bool
@@ -23,6 +23,7 @@ has toAbandon = true
 has (toInsert k x) = true
 has (toDelete k) = true
 has (toReturn v) = true
+has (toPrune v) = true
 has (toLookup k v) = true
 has (toRange lo hi v) = true
 has (toVisits k v) = false
@@ -60,6 +61,7 @@ plainly toAbandon p ns = ofGiven ns (abandon p)
 plainly (toInsert k x) p ns = ofGiven ns (insert p k x)
 plainly (toDelete k) p ns = ofGiven ns (delete p k)
 plainly (toReturn v) p ns = ofGiven ns (return p v)
+plainly (toPrune v) p ns = ofGiven ns (prune p v)
 plainly (toLookup k v) p ns = ofLooked p ns (lookup p k v)
 plainly (toRange lo hi v) p ns = ofListed p (listed ns (range p lo hi v (length ns)))
 plainly (toVisits k v) p ns = nothing p ns

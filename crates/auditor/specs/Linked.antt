@@ -6,9 +6,9 @@ use mathlib.Core.Bool.{true}
 use mathlib.Core.Path.{_≡_}
 use mathlib.Core.List.{List}
 use lib.ListN.{length}
-use Rattle.model.specs.Ended.{Asked, toFresh, toFreshSecond, toCheck, toState, toOpen, toCommit, toAbandon, toInsert, toDelete, toReturn, toLookup, toRange, toVisits, toDifference, toLife}
+use Rattle.model.specs.Ended.{Asked, toFresh, toFreshSecond, toCheck, toState, toOpen, toCommit, toAbandon, toInsert, toDelete, toReturn, toPrune, toLookup, toRange, toVisits, toDifference, toLife}
 use Rattle.plain.specs.Plain.{begin}
-use Rattle.plain.specs.Guard.{stateOf, isState, isLent, readPlain, guarded, ownInserts, insertGuarded, deleteGuarded, commitGuarded, abandonGuarded, returnGuarded, lookupGuarded, rangeGuarded, differenceGuarded, lifeGuarded}
+use Rattle.plain.specs.Guard.{stateOf, isState, isLent, readPlain, guarded, ownInserts, insertGuarded, deleteGuarded, commitGuarded, abandonGuarded, returnGuarded, pruneGuarded, lookupGuarded, rangeGuarded, differenceGuarded, lifeGuarded}
 use Rattle.auditor.specs.Engine.{Plainly, ofGiven, ofLooked, ofListed, nothing, plainly}
 
 -- what a function gives and leaves, by its contract: ns is the list of items and ms the state that were lent, us the caller's list
@@ -23,6 +23,7 @@ guardedly toAbandon ns ms us = ofGiven us (abandonGuarded ns ms)
 guardedly (toInsert k x) ns ms us = ofGiven us (insertGuarded ns ms k x)
 guardedly (toDelete k) ns ms us = ofGiven us (deleteGuarded ns ms k)
 guardedly (toReturn v) ns ms us = ofGiven us (returnGuarded ns ms v)
+guardedly (toPrune v) ns ms us = ofGiven us (pruneGuarded ns ms v)
 guardedly (toLookup k v) ns ms us = ofLooked (readPlain ns ms) us (lookupGuarded ns ms k v)
 guardedly (toRange lo hi v) ns ms us = ofListed (readPlain ns ms) (rangeGuarded ns ms lo hi v us)
 guardedly (toVisits k v) ns ms us = nothing (readPlain ns ms) us
@@ -41,6 +42,7 @@ mayInsert toAbandon ns ms = 0
 mayInsert (toInsert k x) ns ms = 1
 mayInsert (toDelete k) ns ms = 0
 mayInsert (toReturn v) ns ms = ownInserts (readPlain ns ms) v
+mayInsert (toPrune v) ns ms = 0
 mayInsert (toLookup k v) ns ms = 0
 mayInsert (toRange lo hi v) ns ms = 0
 mayInsert (toVisits k v) ns ms = 0

@@ -9,12 +9,13 @@ use mathlib.Core.Path.{_≡_}
 use mathlib.Core.List.{List, [], _∷_}
 use lib.ListN.{length}
 use Rattle.model.specs.Basic.{all, pick, those}
+use Rattle.model.specs.Limits.{editionOf}
 use Rattle.model.specs.Store.{Store, fresh, next}
 use Rattle.model.specs.Walk.{settings}
 use Rattle.model.specs.Layout.{encode}
 use Rattle.model.specs.Differ.{differ}
 use Rattle.model.specs.Return.{comes, lacking}
-use Rattle.model.specs.Histories.{begins, commits, abandons, inserts, deletes, returns}
+use Rattle.model.specs.Histories.{begins, commits, abandons, inserts, deletes, returns, prunes}
 use Rattle.model.specs.Ended.{Asked, Ended}
 use Rattle.promises.specs.Accepts.{storeOf, OfEdition}
 use Rattle.promises.specs.Runs.{Turn, turned, Kind, making, changing, reading, kindOf, givesUp, fitting, each}
@@ -51,6 +52,7 @@ insertsBy (changing abandons) s = 0
 insertsBy (changing (inserts k x)) s = 1
 insertsBy (changing (deletes k)) s = 0
 insertsBy (changing (returns v)) s = length (those comes (differ (settings s (next s)) (settings s v)))
+insertsBy (changing (prunes v)) s = 0
 insertsBy reading s = 0
 
 abbrev pub accepted : List ℕ → Turn → ℕ
@@ -74,4 +76,4 @@ EachCall room b p (t ∷ ts) = Fits room p × OneCall b p t × EachCall room (tu
 
 abbrev pub SideBySide : Type 0
 SideBySide = (least : ℕ) → OfEdition least → (n : ℕ) → 6 ≤ n → n ≤ 4096 → (ts : List Turn) → each fitting ts ≡ true → all (λ (t : Turn). has (t .call)) ts ≡ true
-    → (room : ℕ) → acceptedIn (encode least (fresh n)) ts ≤ room → EachCall room (encode least (fresh n)) empty ts
+    → (room : ℕ) → acceptedIn (encode least (fresh n)) ts ≤ room → EachCall room (encode least (fresh n)) (empty (editionOf least)) ts

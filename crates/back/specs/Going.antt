@@ -18,7 +18,8 @@ use Rattle.model.specs.Climb.{Result, done, refused}
 use Rattle.model.specs.Lent.{left}
 use Rattle.model.specs.Differ.{differ}
 use Rattle.model.specs.Return.{Ran, reached, stopped, orStopped, through}
-use Rattle.model.proofs.Given.{Sound}
+use Rattle.model.proofs.Given as given
+use Rattle.model.proofs.Given.{Sound, old-current}
 use Rattle.store.specs.Sure.{sure}
 use Rattle.written.specs.Encoded.{encoded-accepted, encoded-held}
 use Rattle.walk.specs.Sure.{Readable}
@@ -32,7 +33,7 @@ pub record Going (l : Limits) (b : List ℕ) (v w : ℕ) : Type 0 where
   pub edition : Edition l
   pub sound : isSound (l .least) b ≡ true
   pub opened : decode (l .least) b .opened ≡ true
-  pub old : v ≤ decode (l .least) b .current
+  pub old : given.Kept (decode (l .least) b) v
   pub is-next : w ≡ next (decode (l .least) b)
 
 module _ {l : Limits} {b : List ℕ} {v w : ℕ} (g : Going l b v w) where
@@ -43,10 +44,10 @@ module _ {l : Limits} {b : List ℕ} {v w : ℕ} (g : Going l b v w) where
   going-sound = sure (g .edition) b (g .sound)
 
   pub going-open : Readable l b w
-  going-open = record { edition = g .edition; sound = g .sound; version = omega (arith, g .is-next, open-last) }
+  going-open = record { edition = g .edition; sound = g .sound; version = omega (arith, g .is-next, open-last, old-current (l .least) (decode (l .least) b) (going-sound .old-low)) }
 
   pub going-old : Readable l b v
-  going-old = record { edition = g .edition; sound = g .sound; version = omega (arith, g .old, open-last) }
+  going-old = record { edition = g .edition; sound = g .sound; version = omega (arith, g .old .from, g .old .upto, open-last) }
 
 -- what steps leave, by the number that they gave
 pub record Went (l : Limits) (b : List ℕ) (v w r : ℕ) (ran : Ran) : Type 0 where
@@ -89,7 +90,7 @@ module _ {l : Limits} {b : List ℕ} {v w : ℕ} (g : Going l b v w) (one : Stor
               edition = g .edition;
               sound = eq-eqb (judged (l .least) b′ .number) 0 (ap (λ (x : List ℕ). judged (l .least) x .number) f ∙ encoded-accepted (l .least) (g .edition .four) (g .edition .eight) t (p .is-sound));
               opened = ap (λ (x : Store). x .opened) h ∙ p .opened;
-              old = omega (arith, g .old, p .current, ap (λ (x : Store). x .current) h);
+              old = omega (arith, g .old .from, g .old .upto, p .current, p .oldest, ap (λ (x : Store). x .current) h, ap (λ (x : Store). x .oldest) h);
               is-next = n ∙ ap next (sym h);
             };
             goes = λ z. ap (orStopped (through one []) s) e ∙ ap reached (sym h);
@@ -98,7 +99,7 @@ module _ {l : Limits} {b : List ℕ} {v w : ℕ} (g : Going l b v w) (one : Stor
           rest =
               ap₂ differ
               (ap₂ (λ (x : Store) (y : ℕ). atOrAbove (k + 1) (settings x y)) h (g .is-next) ∙ p .openly ∙ ap (λ (y : ℕ). atOrAbove (k + 1) (settings s y)) (sym (g .is-next)))
-              (ap (λ (x : Store). atOrAbove (k + 1) (settings x v)) h ∙ ap (atOrAbove (k + 1)) (p .earlier v (g .old)));
+              (ap (λ (x : Store). atOrAbove (k + 1) (settings x v)) h ∙ ap (atOrAbove (k + 1)) (p .earlier v (g .old .from) (g .old .upto)));
         }
 
   -- by the number that the change gave, which is 12 or 13 where it is refused

@@ -20,7 +20,7 @@ use Rattle.model.specs.Calls.{isSome, rawInsert, delete}
 use Rattle.model.specs.Needs.{deleting}
 use Rattle.model.specs.Return.{setOne}
 use Rattle.model.proofs.Members.{true-holds}
-use Rattle.model.proofs.Given.{Sound, to-tests}
+use Rattle.model.proofs.Given.{Sound, to-tests, old-current}
 use Rattle.model.proofs.Lookups.{lookup-is}
 use Rattle.model.proofs.Local.{applied}
 use Rattle.model.proofs.Main.{Changed}
@@ -37,7 +37,8 @@ pub record Left (least : ℕ) (s : Store) (k : ℕ) (t : Store) : Type 0 where
   pub opened : t .opened ≡ true
   pub current : t .current ≡ s .current
   pub openly : atOrAbove (k + 1) (settings t (next s)) ≡ atOrAbove (k + 1) (settings s (next s))
-  pub earlier : (u : ℕ) → u ≤ s .current → settings t u ≡ settings s u
+  pub oldest : t .oldest ≡ s .oldest
+  pub earlier : (u : ℕ) → s .oldest ≤ u → u ≤ s .current → settings t u ≡ settings s u
 
 behind-drop : (k : ℕ) (us : List Pair) → atOrAbove (k + 1) (those (λ (y : Pair). not (has (y .key) (k ∷ []))) us) ≡ atOrAbove (k + 1) us
 behind-drop k [] = refl
@@ -76,7 +77,8 @@ module _ (least : ℕ) (four : 4 ≤ least) (s : Store) (d : Sound least s) (o :
         opened = f .opened ∙ o;
         current = f .current;
         openly = ap (atOrAbove (k + 1)) e ∙ behind (settings s (next s));
-        earlier = λ u h. alike-settings s u t′ u (f .steady u (omega arith));
+        oldest = f .oldest;
+        earlier = λ u g h. alike-settings s u t′ u (f .steady u g (omega arith));
       })
     where
       store-of : Result → Store
@@ -87,7 +89,7 @@ module _ (least : ℕ) (four : 4 ≤ least) (s : Store) (d : Sound least s) (o :
       is u v z = ap store-of z
 
   at-open : lookup s k (next s) ≡ find k (settings s (next s))
-  at-open = let e : last s ≡ next s = ap (λ (b : Bool). lastOf b (s .current)) o in lookup-is least two s d k (next s) low (omega arith)
+  at-open = let e : last s ≡ next s = ap (λ (b : Bool). lastOf b (s .current)) o in lookup-is least two s d k (next s) low (omega (arith, old-current least s (d .old-low)))
 
   -- an insert of a key that is not alive
   module _ (away : find k (settings s (next s)) ≡ none) where

@@ -6,7 +6,7 @@ use store::edition_lent;
 use walk::Counted;
 ghost use mathlib.Core.Path.{_≡_};
 ghost use Rattle.model.specs.Lent.{leaving};
-ghost use Rattle.model.specs.Any.{openAny, insertAny, deleteAny, commitAny, abandonAny, returnAny, lookupAny, rangeAny, visitsAny, differenceAny, lifeAny, stateAny};
+ghost use Rattle.model.specs.Any.{openAny, insertAny, deleteAny, commitAny, abandonAny, returnAny, pruneAny, lookupAny, rangeAny, visitsAny, differenceAny, lifeAny, stateAny};
 ghost use Rattle.walk.specs.Counted.{withList};
 
 // Opens an update.
@@ -73,6 +73,18 @@ pub fn return_to(s: &mut [u8], v: u32) -> u32
         return e.number;
     }
     changes::return_in(s, e.limits, v)
+}
+
+// Makes version v the oldest: pages that ended at or before it are freed, slots not needed from it on go, and versions before it can be
+// read no more. Edition 1 has no oldest version, and gives 3.
+pub fn prune(s: &mut [u8], v: u32) -> u32
+    ensures { λ r. ⌜ leaving r (now (s .exit)) ≡ pruneAny (now (s .entry)) v ⌝ }
+{
+    let e = edition_lent(s);
+    if e.number != 0 {
+        return e.number;
+    }
+    changes::prune_in(s, e.limits, v)
 }
 
 // "lookup(s, key, version)": the value at the version, that the key is absent, or a number.
@@ -145,7 +157,8 @@ pub fn life(s: &[u8], key: u32, list: &mut [u32]) -> Counted
     reads::life_in(s, e.limits, key, list)
 }
 
-// What a store tells of itself: page count, current version, whether an update is open, roots used, edition and free pages.
+// What a store tells of itself: page count, current version, whether an update is open, roots used, edition, free pages and oldest
+// version.
 pub fn state(s: &[u8]) -> State
     ensures { λ r. ⌜ r ≡ stateAny (now (s .entry)) ⌝ }
 {

@@ -10,6 +10,7 @@ pub use any::insert;
 pub use any::life;
 pub use any::lookup;
 pub use any::open;
+pub use any::prune;
 pub use any::range;
 pub use any::return_to;
 pub use any::state;

@@ -2,3 +2,4 @@ pub mod Turning
 pub mod Committing
 pub mod Updating
 pub mod Returning
+pub mod Pruning

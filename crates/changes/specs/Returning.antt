@@ -1,11 +1,9 @@
 -- A return by its guard: 6, then 7. Assumes nothing.
-use Prim.Native.Nat.{ℕ, _+_, _≤_, _<_}
+use Prim.Native.Nat.{ℕ, _+_}
 use native.Mathlib.Omega.{arith}
 use mathlib.Core.Bool.{Bool, true, false, not}
 use mathlib.Core.Path.{_≡_, refl, ap, ap₂, sym, _∙_}
 use mathlib.Core.List.{List, [], _∷_}
-use lib.Dec.{ltb}
-use borrow.Author.Tests.{lt-ltb, le-ltb, ltb-false}
 use Rattle.model.specs.Store.{Store, next}
 use Rattle.model.specs.Walk.{settings}
 use Rattle.model.specs.Layout.{readHeader, decode}
@@ -13,16 +11,17 @@ use Rattle.model.specs.Judged.{judged}
 use Rattle.model.specs.declared.Header.{Header}
 use Rattle.model.specs.declared.Limits.{Limits}
 use Rattle.model.specs.Limits.{Edition}
-use Rattle.model.specs.Calls.{Rule, rule, firstOf}
+use Rattle.model.specs.Calls.{Rule, rule, firstOf, beyond}
 use Rattle.model.specs.Lent.{Outcome, leaving, leftBy, returnLent}
 use Rattle.model.specs.Differ.{differ}
 use Rattle.model.specs.Return.{Came, carried, orAbandoned, returnTests, unless, returned}
+use Rattle.model.proofs.Given.{kept-of}
 use Rattle.back.specs.Going.{Going}
 use Rattle.reads.specs.Guard.{guarded, chain-number, by-guard, guard-sound, guard-chain}
-use Rattle.changes.specs.Turning.{Goes, refused-so, done-so, current-in, flag, version}
+use Rattle.changes.specs.Turning.{Goes, refused-so, done-so, current-in, flag, beyond-of}
 
 abbrev pub returning : ℕ → Store → List Rule
-returning v s = returnTests (s .current) (s .opened) v
+returning v s = returnTests (s .oldest) (s .current) (s .opened) v
 
 -- by what its tests come to
 abbrev two : Bool → Bool → ℕ
@@ -51,17 +50,17 @@ module _ (least : ℕ) (b : List ℕ) (v : ℕ) where
 
   -- what the guard gives
   module _ (j : judged least b .number ≡ 0) (h : Header) (e : h ≡ readHeader least b) where
-    chain : (x y : Bool) → ltb (decode least b .current) v ≡ x → decode least b .opened ≡ y → two x y ≡ guarded least b (returning v)
-    chain x y f o = sym (ap₂ two f o) ∙ chain-number least b (returning v) j
+    chain : (x y : Bool) → beyond (h .current) (h .oldest) v ≡ x → decode least b .opened ≡ y → two x y ≡ guarded least b (returning v)
+    chain x y f o = sym (ap₂ two (beyond-of least b j h e v ∙ f) o) ∙ chain-number least b (returning v) j
 
-    pub gives-six : h .current < v → 6 ≡ guarded least b (returning v)
-    gives-six l = chain true (decode least b .opened) (lt-ltb (decode least b .current) v (omega (arith, version least b j h e))) refl
+    pub gives-six : beyond (h .current) (h .oldest) v ≡ true → 6 ≡ guarded least b (returning v)
+    gives-six f = chain true (decode least b .opened) f refl
 
-    pub gives-seven : v ≤ h .current → h .opened ≡ false → 7 ≡ guarded least b (returning v)
-    gives-seven l o = chain false false (le-ltb (decode least b .current) v (omega (arith, version least b j h e))) (flag least b j h e false o)
+    pub gives-seven : beyond (h .current) (h .oldest) v ≡ false → h .opened ≡ false → 7 ≡ guarded least b (returning v)
+    gives-seven f o = chain false false f (flag least b j h e false o)
 
-    pub gives-none : v ≤ h .current → h .opened ≡ true → 0 ≡ guarded least b (returning v)
-    gives-none l o = chain false true (le-ltb (decode least b .current) v (omega (arith, version least b j h e))) (flag least b j h e true o)
+    pub gives-none : beyond (h .current) (h .oldest) v ≡ false → h .opened ≡ true → 0 ≡ guarded least b (returning v)
+    gives-none f o = chain false true f (flag least b j h e true o)
 
 -- what the guard's 0 says
 none-holds : (x y : Bool) → two x y ≡ 0 → (x ≡ false) × (y ≡ true)
@@ -71,11 +70,11 @@ none-holds false true e = (refl, refl)
 
 pub goes-back : {l : Limits} → Edition l → (b : List ℕ) (v : ℕ) → guarded (l .least) b (returning v) ≡ 0 → (h : Header) → h ≡ readHeader (l .least) b → Going l b v (h .current + 1)
 goes-back {l} d b v z h e =
-    let (p, q) = none-holds (ltb (decode (l .least) b .current) v) (decode (l .least) b .opened) (guard-chain (l .least) b (returning v) z) in
+    let (p, q) = none-holds (beyond (decode (l .least) b .current) (decode (l .least) b .oldest) v) (decode (l .least) b .opened) (guard-chain (l .least) b (returning v) z) in
     record {
       edition = d;
       sound = guard-sound (l .least) b (returning v) z;
       opened = q;
-      old = ltb-false (decode (l .least) b .current) v p;
+      old = kept-of (decode (l .least) b) v p;
       is-next = omega (arith, current-in (l .least) b, ap (λ (y : Header). y .current) e);
     }

@@ -12,7 +12,7 @@ use Rattle.model.specs.Store.{Store}
 use Rattle.model.specs.Layout.{readHeader, decode, encode}
 use Rattle.model.specs.Judged.{judged}
 use Rattle.model.specs.Climb.{done}
-use Rattle.model.specs.Calls.{Rule, rule, firstOf, begin, committed, unchanged, commit, abandon, abandoned}
+use Rattle.model.specs.Calls.{Rule, rule, firstOf, beyond, begin, committed, unchanged, commit, abandon, abandoned}
 use Rattle.model.specs.Lent.{Outcome, leaving, judgedFirst, openLent, commitLent, abandonLent}
 use Rattle.turn.specs.Turned.{begun}
 use Rattle.reads.specs.Guard.{guarded, refused-by, goes-by, chain-number, lent-guard, guard-chain}
@@ -94,6 +94,10 @@ module _ (least : ℕ) (b : List ℕ) where
 
     pub version : decode least b .current ≡ h .current
     version = current-in ∙ sym (ap (λ (y : Header). y .current) e)
+
+    pub beyond-of : (v : ℕ) → beyond (decode least b .current) (decode least b .oldest) v ≡ beyond (h .current) (h .oldest) v
+    unfolding decode
+    beyond-of v = sym (ap (λ (y : Header). beyond (y .current) (y .oldest) v) e)
 
     abbrev two : Bool → Bool → ℕ
     two x y = firstOf (rule 8 x ∷ rule 9 y ∷ [])

@@ -18,6 +18,7 @@ use Rattle.model.specs.Climb.{update}
 use Rattle.model.specs.Calls.{isSome, Rule, rule, firstOf, benchLimit, insertTests, deleteTests, rawInsert, insert, delete, lookedAt, lookedFound}
 use Rattle.model.specs.Needs.{deleting}
 use Rattle.model.specs.Lent.{leaving, left, insertLent, deleteLent}
+use Rattle.model.proofs.Given.{old-last}
 use Rattle.walk.specs.Sure.{Readable}
 use Rattle.store.specs.Sure.{sure}
 use Rattle.update.specs.Single.{Enters, Ends}
@@ -113,7 +114,8 @@ open-readable {l} d b j h e f =
     let q : last (decode (l .least) b) ≡ h .current + 1
     = ap (λ (x : Bool). lastOf x (decode (l .least) b .current)) (flag (l .least) b j h e true f) ∙ omega (arith, version (l .least) b j h e) in
     let z : isSound (l .least) b ≡ true = zero-sound (l .least) b j in
-    (omega (arith, sure d b z .last-low), record { edition = d; sound = z; version = omega arith })
+    let o = old-last (l .least) (decode (l .least) b) (sure d b z .old-low) in
+    (omega (arith, sure d b z .last-low), record { edition = d; sound = z; version = record { from = omega arith; upto = omega arith } })
 
 -- ---- what the guard's 0 says
 

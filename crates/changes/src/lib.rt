@@ -1,15 +1,19 @@
 // The calls that change a store, for any bytes lent and the limits of an edition: each is its guard, which judges the store and then goes
 // through the call's refusals in order, and a core that rests on a sound store. A caller that is sure of its store has sure.rt.
+mod pruning;
 mod returning;
 pub mod sure;
 mod updating;
 
+use model::Header;
 use model::Limits;
+pub use pruning::prune_in;
 pub use returning::return_in;
 pub use updating::delete_in;
 pub use updating::insert_in;
 ghost use mathlib.Core.Path.{_≡_};
 ghost use Rattle.model.specs.Limits.{Edition};
+ghost use Rattle.model.specs.Calls.{beyond};
 ghost use Rattle.model.specs.Judged.{judged};
 ghost use Rattle.model.specs.Lent.{leaving, openLent, commitLent, abandonLent};
 ghost use Rattle.reads.specs.Guard.{guarded, Sure};
@@ -27,6 +31,16 @@ fn judge(s: &[u8], l: Limits, sure: bool) -> u32
         return 0;
     }
     quick::number(s, l)
+}
+
+// 6 for a return and a prune: "a version above the current one", or below the oldest.
+fn uncommitted(h: Header, v: u32) -> bool
+    ensures { λ r. ⌜ r ≡ beyond (h .current) (h .oldest) v ⌝ }
+{
+    if h.current < v {
+        return true;
+    }
+    v < h.oldest
 }
 
 // The guard of open: judging, then 8 and 9.

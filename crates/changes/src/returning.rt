@@ -6,7 +6,8 @@ ghost use Rattle.model.specs.Lent.{leaving, returnLent};
 ghost use Rattle.reads.specs.Guard.{guarded};
 ghost use Rattle.changes.specs.Returning.{returning};
 
-// The guard of a return: judging, then 6 and 7. "The call gives 6 for a version above the current one": the open one is above it.
+// The guard of a return: judging, then 6 and 7. "The call gives 6 for a version above the current one", which the open one is,
+// or below the oldest.
 fn guard_returning(s: &[u8], l: Limits, v: u32) -> u32
     requires { ⌜ Edition l ⌝ }
     ensures { λ r. ⌜ r ≡ guarded (l .least) (now (s .entry)) (returning v) ⌝ }
@@ -16,7 +17,7 @@ fn guard_returning(s: &[u8], l: Limits, v: u32) -> u32
         return n;
     }
     let h = store::header(s, l);
-    if h.current < v {
+    if crate::uncommitted(h, v) {
         return 6;
     }
     if !h.opened {

@@ -52,7 +52,7 @@ use Rattle.convert.specs.Version.{Replaying, source-sound}
 -- ---- the header alone, at version n
 
 abbrev pub moved : ℕ → Store → Store
-moved n t = record { current = n; opened = false; slots = t .slots; pages = t .pages }
+moved n t = record { current = n; opened = false; oldest = t .oldest; slots = t .slots; pages = t .pages }
 
 pub moved-bytes : (least : ℕ) → 4 ≤ least → least ≤ 8 → (b : List ℕ) → Kept least b → (n : ℕ) → n < 2 ^ 20
     → putHeader least b (withFlag (withVersion (readHeader least b) n) false) ≡ encode least (moved n (decode least b))
@@ -62,23 +62,23 @@ moved-bytes least four eight b k n low =
 
 -- ---- versions that show the same
 
-module _ (of : ℕ) (first : 4 ≤ of) (s : Store) (d : Sound of s) (least : ℕ) (four : 4 ≤ least) where
+module _ (of : ℕ) (first : 4 ≤ of) (s : Store) (d : Sound of s) (z : s .oldest ≡ 0) (least : ℕ) (four : 4 ≤ least) where
   still-moved : (v : ℕ) (t : Store) → Upto least s v t → t ≡ moved v t
-  still-moved v t p = ap₂ (λ (n : ℕ) (b : Bool). record { current = n; opened = b; slots = t .slots; pages = t .pages }) (p .current) (p .closed)
+  still-moved v t p = ap₂ (λ (n : ℕ) (b : Bool). record { current = n; opened = b; oldest = t .oldest; slots = t .slots; pages = t .pages }) (p .current) (p .closed)
 
   module _ (v : ℕ) (h : v < s .current) (t : Store) (p : Upto least s v t) (e : settings s (suc v) ≡ settings s v) where
     none : differ (settings s v) (settings s (suc v)) ≡ []
-    none = ap (differ (settings s v)) e ∙ none-differs (settings s v) (settings-rise of (omega arith) s d v (omega (arith, h, current-last s)))
+    none = ap (differ (settings s v)) e ∙ none-differs (settings s v) (settings-rise of (omega arith) s d v (record { from = omega (arith, z); upto = omega (arith, h, current-last s) }))
 
     ran : carried least (differ (settings s v) (settings s (suc v))) (begun t) ≡ reached (begun t)
     unfolding carried through
     ran = ap (λ (ds : List Delta). carried least ds (begun t)) none
 
     one-empty : replayed least (differ (settings s v) (settings s (suc v))) t ≡ reached (committed (begun t))
-    one-empty = replayed-is of first s d least four v h t p ∙ ap (andOn (λ (w : Store). reached (committed w))) ran
+    one-empty = replayed-is of first s d z least four v h t p ∙ ap (andOn (λ (w : Store). reached (committed w))) ran
 
     one-upto : Upto least s (suc v) (committed (begun t))
-    one-upto = one-more of first s d least four v h t p (begun t) (subst (Runs least (begun t) (settings s (suc v))) ran (runs of first s d least four v h t p))
+    one-upto = one-more of first s d z least four v h t p (begun t) (subst (Runs least (begun t) (settings s (suc v))) ran (runs of first s d z least four v h t p))
 
   pub skips : (k v : ℕ) (t : Store) → Upto least s v t → v + k ≤ s .current → ((u : ℕ) → v ≤ u → u ≤ v + k → settings s u ≡ settings s v)
       → Upto least s (v + k) (moved (v + k) t) × ((m : ℕ) → replay least s v (k + m) t ≡ replay least s (v + k) m (moved (v + k) t))
@@ -165,7 +165,7 @@ module _ {k : Limits} {a : List ℕ} {l : Limits} {b : List ℕ} {v : ℕ} (p : 
 
   both : Upto (l .least) (decode (k .least) a) (v + (w - v)) (moved (v + (w - v)) (decode (l .least) b)) × ((m : ℕ) → replay (l .least) (decode (k .least) a) v (w - v + m) (decode (l .least) b)
       ≡ replay (l .least) (decode (k .least) a) (v + (w - v)) m (moved (v + (w - v)) (decode (l .least) b)))
-  both = skips (k .least) (p .from .four) s (source-sound p) (l .least) (p .into .four) (w - v) v t (p .upto) (omega (arith, up, high)) (λ u x y. same u x (omega (arith, up, y)))
+  both = skips (k .least) (p .from .four) s (source-sound p) (p .whole) (l .least) (p .into .four) (w - v) v t (p .upto) (omega (arith, up, high)) (λ u x y. same u x (omega (arith, up, y)))
 
   there : Upto (l .least) (decode (k .least) a) w (moved w (decode (l .least) b))
   there = subst (λ (n : ℕ). Upto (l .least) s n (moved n t)) up (both .0)
@@ -177,6 +177,7 @@ module _ {k : Limits} {a : List ℕ} {l : Limits} {b : List ℕ} {v : ℕ} (p : 
   moves = record {
     from = p .from;
     source = p .source;
+    whole = p .whole;
     into = p .into;
     target = is-sound (p .into) (moved w t) (there .is-sound) b′ e;
     upto = subst (Upto (l .least) s w) (sym held) there;

@@ -28,6 +28,7 @@ use Rattle.convert.specs.Ready.{Ready, shown, Went, is-sound, is-held, i
 pub record Replaying (k : Limits) (a : List ℕ) (l : Limits) (b : List ℕ) (v : ℕ) : Type 0 where
   pub from : Edition k
   pub source : isSound (k .least) a ≡ true
+  pub whole : decode (k .least) a .oldest ≡ 0
   pub into : Edition l
   pub target : isSound (l .least) b ≡ true
   pub upto : Upto (l .least) (decode (k .least) a) v (decode (l .least) b)
@@ -50,16 +51,16 @@ module _ {k : Limits} {a : List ℕ} {l : Limits} {b : List ℕ} {v : ℕ} (p : 
 
   module _ (h : v < decode (k .least) a .current) where
     pub old-read : Readable k a v
-    old-read = record { edition = p .from; sound = p .source; version = omega (arith, h, current-last s) }
+    old-read = record { edition = p .from; sound = p .source; version = record { from = omega (arith, p .whole); upto = omega (arith, h, current-last s) } }
 
     pub new-read : Readable k a (v + 1)
-    new-read = record { edition = p .from; sound = p .source; version = omega (arith, h, current-last s) }
+    new-read = record { edition = p .from; sound = p .source; version = record { from = omega (arith, p .whole); upto = omega (arith, h, current-last s) } }
 
     -- ---- the update begun
 
     module _ (b₁ : List ℕ) (e : b₁ ≡ encode (l .least) (begun (decode (l .least) b))) where
       open-sound : Sound (l .least) (begun (decode (l .least) b))
-      open-sound = begun-sound (k .least) (p .from .four) s source-sound (l .least) (p .into .four) v h t (p .upto)
+      open-sound = begun-sound (k .least) (p .from .four) s source-sound (p .whole) (l .least) (p .into .four) v h t (p .upto)
 
       pub open-held : decode (l .least) b₁ ≡ begun (decode (l .least) b)
       open-held = is-held (p .into) (begun t) open-sound b₁ e
@@ -68,7 +69,7 @@ module _ {k : Limits} {a : List ℕ} {l : Limits} {b : List ℕ} {v : ℕ} (p : 
       open-ready = is-ready (p .into) (begun t) open-sound b₁ e refl
 
       pub open-shows : shown l b₁ ≡ settings (decode (k .least) a) v
-      open-shows = ap (λ (x : Store). settings x (next x)) open-held ∙ begun-shows (k .least) (p .from .four) s source-sound (l .least) (p .into .four) v h t (p .upto)
+      open-shows = ap (λ (x : Store). settings x (next x)) open-held ∙ begun-shows (k .least) (p .from .four) s source-sound (p .whole) (l .least) (p .into .four) v h t (p .upto)
 
       -- ---- its steps
 
@@ -79,7 +80,7 @@ module _ {k : Limits} {a : List ℕ} {l : Limits} {b : List ℕ} {v : ℕ} (p : 
             ∙ ap (λ (m : ℕ). carried (l .least) (differ (settings s v) (settings s m)) (begun t)) (let z : v + 1 ≡ suc v = omega arith in z)
 
         is : replayed (l .least) (differ (settings s v) (settings s (suc v))) t ≡ andOn (λ (x : Store). reached (committed x)) (carried (l .least) (differ (settings s v) (settings s (suc v))) (begun t))
-        is = replayed-is (k .least) (p .from .four) s source-sound (l .least) (p .into .four) v h t (p .upto)
+        is = replayed-is (k .least) (p .from .four) s source-sound (p .whole) (l .least) (p .into .four) v h t (p .upto)
 
         pub version-stops : (n ≡ 0 → ⊥) → Replayed l b₂ n (replayed (l .least) (between k a v (suc v)) (decode (l .least) b))
         version-stops z = record {
@@ -97,10 +98,10 @@ module _ {k : Limits} {a : List ℕ} {l : Limits} {b : List ℕ} {v : ℕ} (p : 
           stepped : Stepped (l .least) (begun t) (decode (l .least) b₂) (settings s (suc v))
           stepped =
               subst (Runs (l .least) (begun t) (settings s (suc v))) ran
-              (runs (k .least) (p .from .four) s source-sound (l .least) (p .into .four) v h t (p .upto))
+              (runs (k .least) (p .from .four) s source-sound (p .whole) (l .least) (p .into .four) v h t (p .upto))
 
           more : Upto (l .least) (decode (k .least) a) (suc v) (committed (decode (l .least) b₂))
-          more = one-more (k .least) (p .from .four) s source-sound (l .least) (p .into .four) v h t (p .upto) (decode (l .least) b₂) stepped
+          more = one-more (k .least) (p .from .four) s source-sound (p .whole) (l .least) (p .into .four) v h t (p .upto) (decode (l .least) b₂) stepped
 
           held : decode (l .least) b₃ ≡ committed (decode (l .least) b₂)
           held = is-held (p .into) (committed (decode (l .least) b₂)) (more .is-sound) b₃ f
@@ -139,11 +140,12 @@ module _ {k : Limits} {a : List ℕ} {l : Limits} {b : List ℕ} {v : ℕ} (p : 
       on-more z = record {
         from = p .from;
         source = p .source;
+        whole = p .whole;
         into = p .into;
         target = q .sound;
         upto =
             subst (λ (w : ℕ). Upto (l .least) s w (decode (l .least) b′)) one-up
-            (subst (Replays (l .least) s (suc v)) (q .goes z) (replayed-so (k .least) (p .from .four) s source-sound (l .least) (p .into .four) v h t (p .upto)));
+            (subst (Replays (l .least) s (suc v)) (q .goes z) (replayed-so (k .least) (p .from .four) s source-sound (p .whole) (l .least) (p .into .four) v h t (p .upto)));
       }
 
   -- ---- from the first to the last

@@ -5,8 +5,10 @@ use native.Mathlib.Omega.{arith}
 use mathlib.Core.Bool.{Bool, true}
 use mathlib.Core.Path.{_≡_, refl, ap, sym, subst, _∙_}
 use mathlib.Core.List.{List}
+use lib.Dec.{leb}
 use lib.ListN.{length}
 use Rattle.model.specs.declared.Limits.{Limits}
+use Rattle.model.specs.Basic.{pick}
 use Rattle.model.specs.Limits.{limits, Edition}
 use Rattle.model.specs.Field.{Bytes}
 use Rattle.model.specs.Store.{Store, fresh}
@@ -65,8 +67,14 @@ module _ (a b : List ℕ) (h : isSound 4 a ≡ true) (w : lengthOk 8 b ≡ true)
   source : Sound (k .least) (decode (k .least) a)
   source = sure one a sound
 
+  -- edition 1 has kept every version
+  kept-all : decode (k .least) a .oldest ≡ 0
+  kept-all =
+      let z : decode 4 a .oldest ≤ 0 = subst (λ (n : ℕ). decode n a .oldest ≤ pick (leb n 4) 0 (decode n a .current)) k4 (source .old-low) in
+      ap (λ (n : ℕ). decode n a .oldest) k4 ∙ omega (arith, z)
+
   start : Upto (l .least) (decode (k .least) a) 0 (fresh (sizeOf 8 b))
-  start = fresh-upto (k .least) (one .four) (decode (k .least) a) source (l .least) (two .four) (sizeOf 8 b) (long .six) (long .most)
+  start = fresh-upto (k .least) (one .four) (decode (k .least) a) source kept-all (l .least) (two .four) (sizeOf 8 b) (long .six) (long .most)
 
   module _ (b₁ : List ℕ) (e : b₁ ≡ encode 8 (fresh (sizeOf 8 b))) where
     e′ : b₁ ≡ encode (l .least) (fresh (sizeOf 8 b))
@@ -79,6 +87,7 @@ module _ (a b : List ℕ) (h : isSound 4 a ≡ true) (w : lengthOk 8 b ≡ true)
     starts = record {
       from = one;
       source = sound;
+      whole = kept-all;
       into = two;
       target = is-sound two (fresh (sizeOf 8 b)) (start .is-sound) b₁ e′;
       upto = subst (Upto (l .least) (decode (k .least) a) 0) (sym held) start;
@@ -96,7 +105,7 @@ module _ (a b : List ℕ) (h : isSound 4 a ≡ true) (w : lengthOk 8 b ≡ true)
       lacks : (n ≡ 0 → ⊥) → lacking n ≡ true
       lacks z =
           subst (Replays (l .least) (decode (k .least) a) _) (q .stops z)
-          (replay-so (k .least) (one .four) (decode (k .least) a) source (l .least) (two .four) (decode (k .least) a .current) 0 (decode (l .least) b₁) (omega arith)
+          (replay-so (k .least) (one .four) (decode (k .least) a) source kept-all (l .least) (two .four) (decode (k .least) a .current) 0 (decode (l .least) b₁) (omega arith)
           (subst (Upto (l .least) (decode (k .least) a) 0) (sym held) start))
 
       pub one-stops : (n ≡ 0 → ⊥) → (b₃ : List ℕ) → b₃ ≡ encode 8 (fresh (sizeOf 8 b)) → leaving n b₃ ≡ convertedTo a b

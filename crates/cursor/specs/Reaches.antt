@@ -10,13 +10,13 @@ use borrow.Author.Tests.{leb-true, leb-false, ltb-true, le-leb}
 use Rattle.model.specs.declared.Pair.{Pair}
 use Rattle.model.specs.Entry.{pair, within}
 use Rattle.model.specs.Page.{Page, pairsAt}
-use Rattle.model.specs.Store.{Store, page, last}
+use Rattle.model.specs.Store.{Store, page}
 use Rattle.model.specs.Walk.{followFrom, followed, rootAt, heightOf, settings, keyLimit}
 use Rattle.model.proofs.Lists.{both-true, all-cons}
 use Rattle.model.proofs.Tree.{Row, Holds, Tree, widen, row-le, row-keys}
 use Rattle.model.proofs.Local.{inRange, all-append}
 use Rattle.model.proofs.Main.{holds-range, row-range}
-use Rattle.model.proofs.Given.{Sound}
+use Rattle.model.proofs.Given.{Readable, Sound}
 use Rattle.model.proofs.Fits.{holds-all, root-level}
 use Rattle.walk.specs.Ends.{upto}
 use Rattle.walk.specs.Covers.{Covers}
@@ -38,14 +38,14 @@ pub record Reaches (least v : ℕ) (ps : List Page) (whole : List Pair) (up n k 
   pub lefts : inRange 0 low before ≡ true
   pub rights : inRange high keyLimit after ≡ true
 
-pub reaches-root : (least : ℕ) → 2 ≤ least → (s : Store) → Sound least s → (v k : ℕ) → v ≤ last s → k < keyLimit
+pub reaches-root : (least : ℕ) → 2 ≤ least → (s : Store) → Sound least s → (v k : ℕ) → Readable s v → k < keyLimit
     → Reaches least v (s .pages) (settings s v) (heightOf (s .pages) (rootAt (s .slots) v)) (rootAt (s .slots) v) k keyLimit
 reaches-root least two s d v k h low = record {
   low = 0;
   shown = settings s v;
   before = [];
   after = [];
-  level = root-level least two s d v;
+  level = root-level least two s d v (h .from);
   holds = holds-all least two s d v h;
   from = omega arith;
   below = low;

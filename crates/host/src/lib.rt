@@ -8,7 +8,7 @@ ghost use Rattle.model.specs.Layout.{bit};
 ghost use Rattle.model.specs.State.{stateNumbers};
 ghost use Rattle.model.specs.Calls.{lookedNumber, lookedFound, lookedValue};
 ghost use Rattle.model.specs.Lent.{leaving, freshLent};
-ghost use Rattle.model.specs.Any.{judgedAny, openAny, insertAny, deleteAny, commitAny, abandonAny, returnAny, lookupAny, rangeAny, lifeAny, differenceAny, visitsAny, stateAny};
+ghost use Rattle.model.specs.Any.{judgedAny, openAny, insertAny, deleteAny, commitAny, abandonAny, returnAny, pruneAny, lookupAny, rangeAny, lifeAny, differenceAny, visitsAny, stateAny};
 ghost use Rattle.model.specs.Convert.{convertLent};
 
 // Makes a fresh store of edition 1.
@@ -86,6 +86,14 @@ pub extern "C" fn rcst_return(store: &mut [u8], version: u32) -> u32
     ensures { λ r. ⌜ leaving r (now (store .exit)) ≡ returnAny (now (store .entry)) version ⌝ }
 {
     calls::return_to(store, version)
+}
+
+// Makes a committed version the oldest, and drops what ended at or before it.
+#[no_mangle]
+pub extern "C" fn rcst_prune(store: &mut [u8], version: u32) -> u32
+    ensures { λ r. ⌜ leaving r (now (store .exit)) ≡ pruneAny (now (store .entry)) version ⌝ }
+{
+    calls::prune(store, version)
 }
 
 // Converts a store of edition 1 into one of edition 2.
@@ -218,9 +226,10 @@ fn flag(b: bool) -> u32
     if b { 1 } else { 0 }
 }
 
-// What a store tells of itself goes to `state`: page count, current version, 1 if an update is open, roots used, edition, free pages.
+// What a store tells of itself goes to `state`: page count, current version, 1 if an update is open, roots used, edition, free pages, oldest
+// version.
 #[no_mangle]
-pub extern "C" fn rcst_state(store: &[u8], state: &mut [u32; 6]) -> u32
+pub extern "C" fn rcst_state(store: &[u8], state: &mut [u32; 7]) -> u32
     ensures number { λ r. ⌜ r ≡ stateAny (now (store .entry)) .number ⌝ }
     ensures told { λ _. ⌜ now (state .exit) ≡ stateNumbers (stateAny (now (store .entry))) ⌝ }
 {
@@ -232,6 +241,7 @@ pub extern "C" fn rcst_state(store: &[u8], state: &mut [u32; 6]) -> u32
         t.roots,
         t.edition,
         t.free,
+        t.oldest,
     ];
     t.number
 }

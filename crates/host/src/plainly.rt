@@ -1,13 +1,13 @@
-// The plain engine (2026-10) for programs in other languages. A plain store is a list of numbers, four an item, and a state of three: the
-// current version, 1 if an update is open, and how many items there are. They are handed on at each call.
+// The plain engine (2026-10) for programs in other languages. A plain store is a list of numbers, four an item, and a state of five: the
+// current version, 1 if an update is open, how many items there are, the oldest version and the edition. They are handed on at each call.
 ghost use mathlib.Core.Path.{_≡_};
 ghost use Rattle.model.specs.Layout.{bit};
 ghost use Rattle.model.specs.Calls.{lookedNumber, lookedFound, lookedValue};
-ghost use Rattle.plain.specs.Guard.{isState, isLent, leftLent, insertGuarded, deleteGuarded, commitGuarded, abandonGuarded, returnGuarded, lookupGuarded, rangeGuarded, differenceGuarded, lifeGuarded, OpensGuarded, Spared};
+ghost use Rattle.plain.specs.Guard.{isState, isLent, leftLent, insertGuarded, deleteGuarded, commitGuarded, abandonGuarded, returnGuarded, pruneGuarded, lookupGuarded, rangeGuarded, differenceGuarded, lifeGuarded, OpensGuarded, Spared};
 
 // Opens an update.
 #[no_mangle]
-pub extern "C" fn rcst_plain_open(state: &mut [u32; 3]) -> u32
+pub extern "C" fn rcst_plain_open(state: &mut [u32; 5]) -> u32
     ensures given { λ r. ⌜ OpensGuarded (now (state .entry)) r (now (state .exit)) ⌝ }
     ensures spared { λ _. ⌜ Spared (isState (now (state .entry))) (now (state .entry)) (now (state .exit)) ⌝ }
 {
@@ -18,7 +18,7 @@ pub extern "C" fn rcst_plain_open(state: &mut [u32; 3]) -> u32
 #[no_mangle]
 pub extern "C" fn rcst_plain_insert(
     items: &mut [u32],
-    state: &mut [u32; 3],
+    state: &mut [u32; 5],
     key: u32,
     value: u32,
 ) -> u32
@@ -31,7 +31,7 @@ pub extern "C" fn rcst_plain_insert(
 
 // Deletes a setting in the open update.
 #[no_mangle]
-pub extern "C" fn rcst_plain_delete(items: &mut [u32], state: &mut [u32; 3], key: u32) -> u32
+pub extern "C" fn rcst_plain_delete(items: &mut [u32], state: &mut [u32; 5], key: u32) -> u32
     ensures given { λ r. ⌜ leftLent r (now (items .exit)) (now (state .exit)) ≡ deleteGuarded (now (items .entry)) (now (state .entry)) key ⌝ }
     ensures spared { λ _. ⌜ Spared (isLent (now (items .entry)) (now (state .entry))) (now (state .entry)) (now (state .exit)) ⌝ }
     ensures untouched { λ _. ⌜ Spared (isLent (now (items .entry)) (now (state .entry))) (now (items .entry)) (now (items .exit)) ⌝ }
@@ -41,7 +41,7 @@ pub extern "C" fn rcst_plain_delete(items: &mut [u32], state: &mut [u32; 3], key
 
 // Commits the open update.
 #[no_mangle]
-pub extern "C" fn rcst_plain_commit(items: &[u32], state: &mut [u32; 3]) -> u32
+pub extern "C" fn rcst_plain_commit(items: &[u32], state: &mut [u32; 5]) -> u32
     ensures given { λ r. ⌜ leftLent r (now (items .entry)) (now (state .exit)) ≡ commitGuarded (now (items .entry)) (now (state .entry)) ⌝ }
     ensures spared { λ _. ⌜ Spared (isLent (now (items .entry)) (now (state .entry))) (now (state .entry)) (now (state .exit)) ⌝ }
 {
@@ -50,7 +50,7 @@ pub extern "C" fn rcst_plain_commit(items: &[u32], state: &mut [u32; 3]) -> u32
 
 // Abandons the open update.
 #[no_mangle]
-pub extern "C" fn rcst_plain_abandon(items: &mut [u32], state: &mut [u32; 3]) -> u32
+pub extern "C" fn rcst_plain_abandon(items: &mut [u32], state: &mut [u32; 5]) -> u32
     ensures given { λ r. ⌜ leftLent r (now (items .exit)) (now (state .exit)) ≡ abandonGuarded (now (items .entry)) (now (state .entry)) ⌝ }
     ensures spared { λ _. ⌜ Spared (isLent (now (items .entry)) (now (state .entry))) (now (state .entry)) (now (state .exit)) ⌝ }
     ensures untouched { λ _. ⌜ Spared (isLent (now (items .entry)) (now (state .entry))) (now (items .entry)) (now (items .exit)) ⌝ }
@@ -60,7 +60,7 @@ pub extern "C" fn rcst_plain_abandon(items: &mut [u32], state: &mut [u32; 3]) ->
 
 // Returns to a committed version.
 #[no_mangle]
-pub extern "C" fn rcst_plain_return(items: &mut [u32], state: &mut [u32; 3], version: u32) -> u32
+pub extern "C" fn rcst_plain_return(items: &mut [u32], state: &mut [u32; 5], version: u32) -> u32
     ensures given { λ r. ⌜ leftLent r (now (items .exit)) (now (state .exit)) ≡ returnGuarded (now (items .entry)) (now (state .entry)) version ⌝ }
     ensures spared { λ _. ⌜ Spared (isLent (now (items .entry)) (now (state .entry))) (now (state .entry)) (now (state .exit)) ⌝ }
     ensures untouched { λ _. ⌜ Spared (isLent (now (items .entry)) (now (state .entry))) (now (items .entry)) (now (items .exit)) ⌝ }
@@ -68,11 +68,21 @@ pub extern "C" fn rcst_plain_return(items: &mut [u32], state: &mut [u32; 3], ver
     plain::lent::return_to(items, state, version)
 }
 
+// Drops what ended at or before a committed version: the versions below it are not kept.
+#[no_mangle]
+pub extern "C" fn rcst_plain_prune(items: &mut [u32], state: &mut [u32; 5], version: u32) -> u32
+    ensures given { λ r. ⌜ leftLent r (now (items .exit)) (now (state .exit)) ≡ pruneGuarded (now (items .entry)) (now (state .entry)) version ⌝ }
+    ensures spared { λ _. ⌜ Spared (isLent (now (items .entry)) (now (state .entry))) (now (state .entry)) (now (state .exit)) ⌝ }
+    ensures untouched { λ _. ⌜ Spared (isLent (now (items .entry)) (now (state .entry))) (now (items .entry)) (now (items .exit)) ⌝ }
+{
+    plain::lent::prune(items, state, version)
+}
+
 // Looks a key up at a version: whether it is alive goes to `found`, its value to `value`.
 #[no_mangle]
 pub extern "C" fn rcst_plain_lookup(
     items: &[u32],
-    state: &[u32; 3],
+    state: &[u32; 5],
     key: u32,
     version: u32,
     found: &mut u32,
@@ -92,7 +102,7 @@ pub extern "C" fn rcst_plain_lookup(
 #[no_mangle]
 pub extern "C" fn rcst_plain_range(
     items: &[u32],
-    state: &[u32; 3],
+    state: &[u32; 5],
     low: u32,
     high: u32,
     version: u32,
@@ -112,7 +122,7 @@ pub extern "C" fn rcst_plain_range(
 #[no_mangle]
 pub extern "C" fn rcst_plain_difference(
     items: &[u32],
-    state: &[u32; 3],
+    state: &[u32; 5],
     old: u32,
     new: u32,
     list: &mut [u32],
@@ -131,7 +141,7 @@ pub extern "C" fn rcst_plain_difference(
 #[no_mangle]
 pub extern "C" fn rcst_plain_life(
     items: &[u32],
-    state: &[u32; 3],
+    state: &[u32; 5],
     key: u32,
     list: &mut [u32],
     count: &mut usize,

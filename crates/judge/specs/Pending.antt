@@ -12,7 +12,7 @@ use Rattle.model.specs.Page.{Page}
 use Rattle.model.specs.Store.{page}
 use Rattle.model.specs.Walk.{Seen, spread, seenAs, seenBelow, keyLimit}
 use Rattle.model.specs.Sound.{startsAt, fewest}
-use Rattle.model.specs.Layout.{readEntry, readEntries, decode}
+use Rattle.model.specs.Layout.{readHeader, readEntry, readEntries, decode}
 use Rattle.local.specs.Local.{IsPage, levelAt}
 use Rattle.judge.specs.declared.walk.Item.{Item}
 use Rattle.judge.specs.declared.walk.Walked.{Walked}
@@ -94,6 +94,7 @@ pub record Fine (least : ℕ) (s : List ℕ) (U k : ℕ) (it : Item) : Type 0 wh
   pub level : levelAt least s (it .page) ≡ it .up + 1
   pub place : k + 41 * it .up ≤ 41 * U
   pub some : it .from < it .upto
+  pub old : readHeader least s .oldest ≤ it .from
 
 -- ---- the live pairs of a page from place i on
 
@@ -106,6 +107,7 @@ pub record Next (p : List ℕ) (v i n r : ℕ) : Type 0 where
   pub high : r ≤ n
   pub same : pairsFrom p v i n ≡ pairsFrom p v r n
   pub live : r < n → pairsFrom p v r n ≡ pairOf (readEntry p (128 + 96 * r)) ∷ pairsFrom p v (r + 1) n
+  pub alive : r < n → liveAt v (readEntry p (128 + 96 * r)) ≡ true
 
 -- ---- what a walk from page r, up levels above the leaves, tells
 

@@ -1,7 +1,7 @@
 -- Rule 6 said by the walk's tests. Assumes nothing.
-use Prim.Native.Nat.{ℕ, suc, _+_}
+use Prim.Native.Nat.{ℕ, suc, _+_, _-_}
 use mathlib.Core.Bool.{Bool, true, _&&_}
-use mathlib.Core.Path.{_≡_, refl, ap, sym, _∙_}
+use mathlib.Core.Path.{_≡_, refl, ap, ap₂, sym, _∙_}
 use mathlib.Core.List.{List, [], _∷_}
 use native.Mathlib.Omega.{arith}
 use native.Mathlib.Numerals.{add-one}
@@ -15,6 +15,7 @@ use Rattle.model.specs.Walk.{Seen, seen}
 use Rattle.model.specs.Sound.{reachedWell, versions, rule6}
 use Rattle.model.specs.Layout.{readHeader, decode}
 use Rattle.model.proofs.Given.{numbers}
+use Rattle.store.specs.Read.{oldest-of}
 use Rattle.local.specs.First.{last-is}
 use Rattle.judge.specs.Pending.{openOk, stepOk, chainOk, passes}
 use Rattle.judge.specs.Versions.{versionOk}
@@ -33,10 +34,12 @@ module _ (least : ℕ) where
   -- over the versions as the code counts them, up to the last of the header h
   module _ (s : List ℕ) (h : Header) (e : h ≡ readHeader least s) where
     abbrev upto : List ℕ
-    upto = count 0 (lastOf (h .opened) (h .current) + 1)
+    upto = count (h .oldest) (lastOf (h .opened) (h .current) + 1 - h .oldest)
 
     versions-are : versions (decode least s) ≡ upto
-    versions-are = rw add-one (ap (λ (n : ℕ). count 0 (suc n)) (last-is least s ∙ ap (λ (x : Header). lastOf (x .opened) (x .current)) (sym e)))
+    versions-are =
+        rw add-one
+        (ap₂ (λ (o n : ℕ). count o (suc n - o)) (oldest-of least s ∙ ap (λ (x : Header). x .oldest) (sym e)) (last-is least s ∙ ap (λ (x : Header). lastOf (x .opened) (x .current)) (sym e)))
 
     pub six-is : rule6 (decode least s) ≡ all (versionOk least 6 s) upto
     unfolding rule6 versionOk

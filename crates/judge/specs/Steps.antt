@@ -1,13 +1,14 @@
 -- What the walk makes of what is known when it takes an entry of a page, and leaves the page. Assumes nothing.
 use Prim.Native.Nat.{ℕ, zero, suc, _+_, _*_, _-_, _<_, _≤_}
-use mathlib.Core.Path.{_≡_, refl, ap, _∙_}
+use mathlib.Core.Path.{_≡_, refl, ap, subst, _∙_}
 use mathlib.Core.Bool.{Bool, true, false, _&&_, _||_}
 use mathlib.Core.List.{List, _∷_, _++_, append-nil}
 use mathlib.Core.Logic.{⊎-elim}
-use lib.Dec.{ltb}
+use lib.Dec.{leb, ltb}
 use lib.ListN.{length, set, length-set}
 use lib.Seq.{getD-set-same, getD-set-other}
 use native.Mathlib.Omega.{arith}
+use borrow.Author.Tests.{ltb-true}
 use native.Mathlib.Nat.{mul-le-mul-right, add-mul, one-mul, mul-add, mul-one, mul-left-comm}
 use Rattle.bits.specs.Put.{less}
 use Rattle.model.specs.declared.Pair.{Pair}
@@ -16,8 +17,9 @@ use Rattle.model.specs.Entry.{pairOf}
 use Rattle.model.specs.Page.{Page, pairsAt}
 use Rattle.model.specs.Store.{page}
 use Rattle.model.specs.Walk.{Seen}
-use Rattle.model.specs.Layout.{readEntry, decode}
-use Rattle.local.specs.Local.{IsPage, countAt, levelAt}
+use Rattle.model.specs.Layout.{readEntry, readHeader, decode}
+use Rattle.model.proofs.Lists.{both-true}
+use Rattle.local.specs.Local.{IsPage, countAt, levelAt, entryAt}
 use Rattle.judge.specs.declared.walk.Item.{Item}
 use Rattle.notes.specs.Linked.{Linked}
 use Rattle.judge.specs.Pending.{firstKey, stepOk, chainOk, passes, here, spanOf, kidsIn, none, restOf, pend, weight, heft, weigh, Fine, pairsFrom, Next, wholeIn}
@@ -107,6 +109,7 @@ module _ (least : ℕ) (four : 4 ≤ least) (eight : least ≤ 8) (s : List ℕ)
             weighs = omega (arith, w .weighs, heavier);
             place = y .high;
             live = y .live;
+            alive = y .alive;
             done = w .done;
             same = rw (kids-leaf (it .up) ps (it .from) c (pairsFrom p (it .from) k count) (it .high) z) (rw (kids-leaf (it .up) ps (it .from) c (pairsFrom p (it .from) j count) (it .high) z) at (w .same));
             good = w .good;
@@ -127,13 +130,20 @@ module _ (least : ℕ) (four : 4 ≤ least) (eight : least ≤ 8) (s : List ℕ)
         cnt : j < countAt least s n
         cnt = rw (w .counted) at lt
 
+        -- the router has not ended by the oldest version
+        late : readHeader least s .oldest < entryAt least s n j .end
+        late =
+            let e : ltb (it .from) (readEntry p (128 + 96 * j) .end) ≡ true = both-true (leb (readEntry p (128 + 96 * j) .start) (it .from)) _ (w .alive lt) .1 in
+            subst (λ (q : List ℕ). readHeader least s .oldest < readEntry q (128 + 96 * j) .end) (w .bytes) (omega (arith, w .own .old, ltb-true (it .from) (readEntry p (128 + 96 * j) .end) e))
+
         new : Fine least s up top z
         new =
             record {
               isPage = rw (zp, w .bytes) (linked .child n j on-page deep cnt);
-              level = rw (zp, w .bytes) (omega (arith, linked .lower n j on-page deep cnt, rw (← w .number) at (w .own .level)));
+              level = rw (zp, w .bytes) (omega (arith, linked .lower n j on-page deep cnt late, rw (← w .number) at (w .own .level)));
               place = omega (arith, w .above, w .own .place, w .room);
               some = rw (zf, zt) (w .cut);
+              old = rw zf (w .own .old);
             }
 
         long : top < length items
@@ -167,6 +177,7 @@ module _ (least : ℕ) (four : 4 ≤ least) (eight : least ≤ 8) (s : List ℕ)
               weighs = omega (arith, w .weighs, heavier, weigh-push items top z long, heft-new);
               place = y .high;
               live = y .live;
+              alive = y .alive;
               done = w .done;
               same = λ g.
                   let h : List Seen = here ps (it .from) it ∷ w .done in

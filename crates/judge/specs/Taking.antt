@@ -16,7 +16,7 @@ use Rattle.model.specs.Basic.{all, any, pick}
 use Rattle.model.specs.Page.{Page, pairsAt}
 use Rattle.model.specs.Store.{page}
 use Rattle.model.specs.Walk.{Seen}
-use Rattle.model.specs.Layout.{pageOf, decode}
+use Rattle.model.specs.Layout.{readHeader, pageOf, decode}
 use Rattle.local.specs.Local.{IsPage, countAt, levelAt}
 use Rattle.judge.specs.declared.walk.Item.{Item}
 use Rattle.notes.specs.Linked.{Linked}
@@ -54,13 +54,13 @@ module _ (least : ℕ) (four : 4 ≤ least) (eight : least ≤ 8) (s : List ℕ)
   abbrev first : Item
   first = record { page = root; up = up; root = true; low = 0; high = 16777216; from = a; upto = b }
 
-  pub start : IsPage least s root → levelAt least s root ≡ up + 1 → a < b → Walking least s root up a b rule (replicate 4096 false) (replicate 288 first) 1
+  pub start : IsPage least s root → levelAt least s root ≡ up + 1 → a < b → readHeader least s .oldest ≤ a → Walking least s root up a b rule (replicate 4096 false) (replicate 288 first) 1
   unfolding pend spanOf seenOf wholeIn whole
-  start h l lt =
+  start h l lt from =
       record {
         slots = refl;
         size = length-replicate {A = Bool} 4096 false;
-        fine = λ k less. let e : k ≡ 0 = omega arith in rw e (record { isPage = h; level = l; place = omega arith; some = lt });
+        fine = λ k less. let e : k ≡ 0 = omega arith in rw e (record { isPage = h; level = l; place = omega arith; some = lt; old = from });
         done = [];
         same = λ g. ap (any g) (sym (append-nil (spanOf ps first)));
         good = refl;
@@ -165,7 +165,7 @@ module _ (least : ℕ) (four : 4 ≤ least) (eight : least ≤ 8) (s : List ℕ)
           (λ l. rw (getD-set-other items (top - 1) k z none (omega arith)) (w .fine k (omega arith)))
           (λ l. ⊎-elim
           (λ some. let e : k ≡ top - 1 = omega (arith, rw (lt-ltb c (it .upto) some) at me) in
-          rw (e, getD-set-same items (top - 1) z none long, zr) (record { isPage = own .isPage; level = own .level; place = own .place; some = some }))
+          rw (e, getD-set-same items (top - 1) z none long, zr) (record { isPage = own .isPage; level = own .level; place = own .place; some = some; old = omega (arith, own .old, sooner .above) }))
           (λ nothing. absurd (omega (arith, rw (le-ltb c (it .upto) nothing) at me))) (less c (it .upto)))
           (less k (top - 1))
 
@@ -182,12 +182,13 @@ module _ (least : ℕ) (four : 4 ≤ least) (eight : least ≤ 8) (s : List ℕ)
             slots = length-set items (top - 1) z ∙ w .slots;
             size = length-set marks n true ∙ w .size;
             cut = sooner .above;
-            own = record { isPage = own .isPage; level = own .level; place = omega (arith, own .place, small); some = own .some };
+            own = record { isPage = own .isPage; level = own .level; place = omega (arith, own .place, small); some = own .some; old = own .old };
             fine = fine-put;
             above = omega arith;
             weighs = omega arith;
             place = x .high;
             live = x .live;
+            alive = x .alive;
             done = w .done;
             same = rw (x .same) at taken;
             good = w .good;

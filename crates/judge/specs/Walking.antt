@@ -14,7 +14,7 @@ use borrow.Author.Tests.{lt-ltb, le-ltb}
 use Rattle.bits.specs.Put.{less}
 use Rattle.model.specs.declared.Pair.{Pair}
 use Rattle.model.specs.Basic.{all, any, pick}
-use Rattle.model.specs.Entry.{pairOf}
+use Rattle.model.specs.Entry.{pairOf, liveAt}
 use Rattle.model.specs.Page.{Page, pairsAt}
 use Rattle.model.specs.Store.{page}
 use Rattle.model.specs.Walk.{Seen, seenBelow}
@@ -62,6 +62,7 @@ pub record Entering (least : ℕ) (s : List ℕ) (root up a b rule : ℕ) (marks
   pub weighs : weigh items top ≤ weigh items₀ top₀ + j * ((c - it .from) * kidWeight (it .up))
   pub place : j ≤ count
   pub live : j < count → pairsFrom p (it .from) j count ≡ pairOf (readEntry p (128 + 96 * j)) ∷ pairsFrom p (it .from) (j + 1) count
+  pub alive : j < count → liveAt (it .from) (readEntry p (128 + 96 * j)) ≡ true
   pub done : List Seen
   pub same : Same (wholeIn least s up a b root)
       ((here (decode least s .pages) (it .from) it ∷ done) ++ (pend (decode least s .pages) items top ++ kidsIn (it .up) (decode least s .pages) (it .from) c (pairsFrom p (it .from) j count) (it .high)))

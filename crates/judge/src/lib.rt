@@ -8,14 +8,18 @@ mod reach;
 mod walk;
 
 pub use changes::page_change;
+use model::Header;
 use model::Limits;
 use model::Verdict;
 ghost use mathlib.Core.Path.{_≡_};
 ghost use Rattle.model.specs.Limits.{Edition};
+ghost use Rattle.model.specs.Basic.{pick};
+ghost use Rattle.model.specs.Sound.{rule7};
+ghost use Rattle.model.specs.Layout.{decode};
+ghost use Rattle.model.specs.Inner.{lowerIn};
 ghost use Rattle.model.specs.Judged.{brokenIn, judged};
 ghost use Rattle.model.specs.Any.{judgedAny};
-ghost use Rattle.model.specs.Inner.{lowerIn};
-ghost use Rattle.local.specs.Local.{Sized};
+ghost use Rattle.local.specs.Local.{Sized, Held};
 
 pub(crate) fn wide(x: u32) -> usize
     ensures { λ r. ⌜ r ≡ x ⌝ }
@@ -23,8 +27,19 @@ pub(crate) fn wide(x: u32) -> usize
     x as usize
 }
 
+// 7 if the bytes break that rule, else 0.
+fn seventh(s: &[u8], l: Limits, h: Header) -> u32
+    requires { ⌜ Edition l × Held (l .least) (now s) h ⌝ }
+    ensures { λ r. ⌜ r ≡ pick (rule7 (decode (l .least) (now (s .entry)))) 0 7 ⌝ }
+{
+    if local::seventh_rule(s, l, h) {
+        return 0;
+    }
+    7
+}
+
 // The lowest rule from 1 to 7 that the bytes break, or 0. Where `quick` does not find rules 4 to 6 to hold, rules 4 and 5 are named by the notes, in one
-// pass. Rule 6 is first looked for at the last version, by the reach walk, and then at every other by the sums and the slots. Rule 7 follows from rules 1 and 3 (model/proofs/Judging, `seventh-by`), so it is not tested.
+// pass. Rule 6 is first looked for at the last version, by the reach walk, and then at every other by the sums and the slots.
 fn lower(s: &[u8], l: Limits, size: usize) -> u32
     requires { ⌜ Edition l × Sized (l .least) (now s) size ⌝ }
     ensures { λ r. ⌜ r ≡ lowerIn (l .least) (now (s .entry)) ⌝ }
@@ -41,7 +56,7 @@ fn lower(s: &[u8], l: Limits, size: usize) -> u32
     }
     let fit = quick::led(s, l);
     if quick::surely(s, l, fit) {
-        return 0;
+        return seventh(s, l, h);
     }
     let rule = notes::broken(s, l, h);
     if rule != 0 {
@@ -53,7 +68,7 @@ fn lower(s: &[u8], l: Limits, size: usize) -> u32
     if !fit {
         return 6;
     }
-    0
+    seventh(s, l, h)
 }
 
 // The lowest rule that the bytes break, or 0: rule 8 is tested last.

@@ -54,7 +54,7 @@ fn reached(s: &[u8], l: Limits, h: Header, marks: [bool; 4096], v: u32) -> bool
 
 // Rule 6 at one version.
 pub(crate) fn version_ok(s: &[u8], l: Limits, h: Header, v: u32) -> bool
-    requires { ⌜ Edition l × Ready (l .least) (now s) h × (v ≤ 1048574) ⌝ }
+    requires { ⌜ Edition l × Ready (l .least) (now s) h × (v ≤ 1048574) × (h .oldest ≤ v) ⌝ }
     ensures { λ r. ⌜ r ≡ versionOk (l .least) 6 (now (s .entry)) v ⌝ }
 {
     let root = notes::root_at(s, l, h, v);

@@ -6,6 +6,7 @@ ghost use lib.Dec.{ltb, eqb};
 ghost use Prim.Native.Nat.{_+_, _≤_, _<_};
 ghost use Rattle.model.specs.Basic.{pick};
 ghost use Rattle.model.specs.Limits.{Edition};
+ghost use Rattle.model.specs.Layout.{readHeader};
 ghost use Rattle.local.specs.Local.{IsPage, levelAt};
 ghost use Rattle.notes.specs.Linked.{Linked};
 ghost use Rattle.judge.specs.Pending.{Tells, restOf};
@@ -67,7 +68,7 @@ fn only_marked(rule: u32, up: usize) -> bool
 // A page is tested once for each stretch in which nothing of it starts or ends; what is left of its versions waits below its routers.
 // So the pages that wait are at most 41 for each of the 7 levels, and the root.
 pub(crate) fn walk(s: &[u8], l: Limits, root: usize, up: usize, a: u32, b: u32, rule: u32) -> Walked
-    requires { ⌜ Edition l × Linked (l .least) (now s) × IsPage (l .least) (now s) root × (levelAt (l .least) (now s) root ≡ up + 1) × (up ≤ 6) × (a < b) ⌝ }
+    requires { ⌜ Edition l × Linked (l .least) (now s) × IsPage (l .least) (now s) root × (levelAt (l .least) (now s) root ≡ up + 1) × (up ≤ 6) × (a < b) × (readHeader (l .least) (now s) .oldest ≤ a) ⌝ }
     ensures { λ r. ⌜ Tells (l .least) (now (s .entry)) root up a b rule r ⌝ }
 {
     let mut marks = [false; 4096];

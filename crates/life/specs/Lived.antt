@@ -24,7 +24,8 @@ use Rattle.model.specs.Life.{stretchNumbers, lifeOf}
 use Rattle.model.specs.Inner.{Lasts}
 use Rattle.model.specs.Telling.{Shape}
 use Rattle.model.proofs.Lives.{stretch, toldOf, rest, rest-step, life-length}
-use Rattle.store.specs.Read.{current-of}
+use Rattle.model.proofs.Given.{old-current}
+use Rattle.store.specs.Read.{current-of, oldest-of}
 use Rattle.store.specs.Sure.{sure}
 use Rattle.walk.specs.Sure.{Readable}
 
@@ -74,23 +75,27 @@ shown-told c v r (some x) = refl
 -- ---- versions that can be read
 
 module _ {l : Limits} {b : List ℕ} {c : ℕ} (r : Readable l b c) where
-  pub reads-at : (v : ℕ) → v ≤ c → Readable l b v
-  reads-at v h = record { edition = r .edition; sound = r .sound; version = omega (arith, r .version) }
+  pub reads-at : (v : ℕ) → decode (l .least) b .oldest ≤ v → v ≤ c → Readable l b v
+  reads-at v from h = record { edition = r .edition; sound = r .sound; version = record { from = from; upto = omega (arith, r .version .upto) } }
 
   pub low : c ≤ 1048574
-  low = omega (arith, r .version, sure (r .edition) b (r .sound) .last-low)
+  low = omega (arith, r .version .upto, sure (r .edition) b (r .sound) .last-low)
 
 -- the current version
 module _ {l : Limits} (d : Edition l) (b : List ℕ) (h : isSound (l .least) b ≡ true) where
   pub reads-current : Readable l b (readHeader (l .least) b .current)
-  reads-current = record { edition = d; sound = h; version = omega (arith, current-of (l .least) b, at (decode (l .least) b .opened) (decode (l .least) b .current)) }
+  reads-current = record { edition = d; sound = h; version = omega (arith, current-of (l .least) b, old-current (l .least) (decode (l .least) b) (sure d b h .old-low), at (decode (l .least) b .opened) (decode (l .least) b .current)) }
     where
       at : (o : Bool) (n : ℕ) → n ≤ lastOf o n
       at true n = omega arith
       at false n = omega arith
 
-  pub few-stretches : (f : ℕ → Option ℕ) → length (lifeOf (readHeader (l .least) b .current) f) ≤ 2 ^ 40
-  few-stretches f = omega (arith, life-length (readHeader (l .least) b .current) f, low reads-current)
+  -- from the oldest version up to the current one
+  pub old-upto : readHeader (l .least) b .oldest ≤ readHeader (l .least) b .current
+  old-upto = omega (arith, current-of (l .least) b, oldest-of (l .least) b, old-current (l .least) (decode (l .least) b) (sure d b h .old-low))
+
+  pub few-stretches : (old : ℕ) (f : ℕ → Option ℕ) → length (lifeOf old (readHeader (l .least) b .current) f) ≤ 2 ^ 40
+  few-stretches old f = omega (arith, life-length (readHeader (l .least) b .current) f old, low reads-current)
 
 -- ---- the first change behind a version
 

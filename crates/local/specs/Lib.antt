@@ -6,6 +6,7 @@ pub mod First
 pub mod Ruled
 pub mod Second
 pub mod Third
+pub mod Seventh
 pub mod Linked
 pub mod Eighth
 pub mod Front

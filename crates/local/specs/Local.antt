@@ -12,7 +12,7 @@ use Rattle.model.specs.Entry.{before}
 use Rattle.model.specs.Page.{Page, isFree}
 use Rattle.model.specs.declared.Header.{Header}
 use Rattle.model.specs.Store.{Store, page, lastOf}
-use Rattle.model.specs.Sound.{entryOk, pageFine, inside, leadsWell}
+use Rattle.model.specs.Sound.{entryOk, pageFine, inside, leadsWell, liesWell}
 use Rattle.model.specs.Layout.{readEntry, pageOf, readPages, readSlot, readHeader, sizeOf}
 use Rattle.model.specs.Clean.{cleanPages}
 use Rattle.model.specs.Inner.{sooner}
@@ -65,6 +65,7 @@ pub record Held (least : ℕ) (s : List ℕ) (h : Header) : Type 0 where
   pub sized : Sized least s (h .pages)
   pub ruled : Ruled least s
   pub last : lastOf (h .opened) (h .current) ≤ 1048574
+  pub old : h .oldest ≤ lastOf (h .opened) (h .current)
 
 -- ---- what is tested
 
@@ -80,9 +81,13 @@ pagesFine least l size s n k = cleanPages least s n k && all (pageFine least l s
 unfoldable pub slotsOk : ℕ → List Slot → Bool
 slotsOk l xs = inOrder sooner xs && all (λ (x : Slot). leb (x .version) l) xs
 
+-- an entry of a page, expired or not
+abbrev pub linkFull : Store → Page → Entry → Bool
+linkFull t p e = inside e p && leadsWell t p e
+
 -- an entry of a page
 abbrev pub linkOk : Store → Page → Entry → Bool
-linkOk t p e = inside e p && leadsWell t p e
+linkOk t p e = liesWell t p e
 
 -- an entry's span lies in that of the page with the front h
 abbrev pub lies : Head → Entry → Bool

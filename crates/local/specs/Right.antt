@@ -6,9 +6,9 @@ use mathlib.Core.List.{List}
 use native.Mathlib.Omega.{arith}
 use lib.Dec.{leb, eqb}
 use lib.ListN.{length, List·getD-eq-default}
-use borrow.Author.Tests.{eq-eqb, ne-eqb, lt-leb, le-leb}
-use Rattle.model.specs.Basic.{all}
-use Rattle.model.specs.Limits.{rootBits}
+use borrow.Author.Tests.{eq-eqb, ne-eqb, lt-leb, le-leb, leb-true}
+use Rattle.model.specs.Basic.{all, pick}
+use Rattle.model.specs.Limits.{rootBits, oldestBits}
 use Rattle.model.specs.Page.{free, isFree}
 use Rattle.model.specs.Store.{page, last}
 use Rattle.model.specs.Sound.{isPage, pageOk, pageFine, rule2}
@@ -16,9 +16,10 @@ use Rattle.model.specs.Layout.{pageOf, decodePage, readHeader, readSlots, decod
 use Rattle.model.specs.Clean.{zeroFrom, cleanPage, cleanFront}
 use Rattle.model.specs.declared.Slot.{Slot}
 use Rattle.model.proofs.Lists.{both-true}
+use Rattle.model.proofs.Given.{old-last}
 use Rattle.page.specs.Head.{readHead}
 use Rattle.page.specs.Read.{level-of}
-use Rattle.store.specs.Read.{count-pages, page-at, front-free, slots-of}
+use Rattle.store.specs.Read.{count-pages, page-at, front-free, slots-of, oldest-of}
 use Rattle.local.specs.Local.{Sized}
 use Rattle.local.specs.First.{rooted}
 use Rattle.local.specs.Loops.{and-false, and-true}
@@ -36,7 +37,7 @@ module _ (least : ℕ) (s : List ℕ) (size : ℕ) (z : Sized least s size) wher
   roots = readHeader least s .roots
 
   abbrev spare : Bool
-  spare = zeroFrom s (74 + rootBits least) (512 * least)
+  spare = zeroFrom s (74 + rootBits least + oldestBits least) (512 * least)
 
   abbrev rest : Bool
   rest = zeroFrom s (512 * least + 32 * roots) (2560 * least)
@@ -65,27 +66,36 @@ module _ (least : ℕ) (s : List ℕ) (size : ℕ) (z : Sized least s size) wher
 
   -- ---- header and slots
 
+  abbrev old-low : Bool
+  old-low = leb (decode least s .oldest) (pick (leb least 4) 0 (decode least s .current))
+
   front-is : frontRight least s
-      ≡ (cleanFront least s && (leb (last (decode least s)) 1048574 && (rooted size (readSlots s (512 * least) roots) && rule2 (decode least s))))
+      ≡ (cleanFront least s && (leb (last (decode least s)) 1048574 && (old-low && (rooted size (readSlots s (512 * least) roots) && rule2 (decode least s)))))
   unfolding frontRight
   front-is = rw (count-pages least s (omega (arith, z .is, z .low)), z .is, slots-of least s)
 
   pub front-clean : cleanFront least s ≡ false → frontRight least s ≡ false
   front-clean a = front-is ∙ rw a
 
+  pub front-old : leb (decode least s .oldest) (pick (leb least 4) 0 (decode least s .current)) ≡ false → frontRight least s ≡ false
+  front-old k = front-is ∙ rw (k, and-false (leb (last (decode least s)) 1048574)) (and-false (cleanFront least s))
+
   module _ (a : cleanFront least s ≡ true) where
     pub front-last : 1048574 < last (decode least s) → frontRight least s ≡ false
     front-last b = front-is ∙ rw (a, lt-leb (last (decode least s)) 1048574 b)
 
-    module _ (b : last (decode least s) ≤ 1048574) where
+    module _ (b : last (decode least s) ≤ 1048574) (k : leb (decode least s .oldest) (pick (leb least 4) 0 (decode least s .current)) ≡ true) where
       pub front-none : roots ≡ 0 → frontRight least s ≡ false
-      front-none c = front-is ∙ rw (a, le-leb (last (decode least s)) 1048574 b, two-none least s c) (and-false (rooted size (readSlots s (512 * least) roots)))
+      front-none c = front-is ∙ rw (a, le-leb (last (decode least s)) 1048574 b, k, rule2-is least s, two-none least s c) (and-false (rooted size (readSlots s (512 * least) roots)))
 
-      pub front-slots : (n top : ℕ) → n ≡ roots → top ≡ last (decode least s) → 0 < n → frontRight least s ≡ slotsFrom size top 0 0 (readSlots s (512 * least) n)
-      front-slots n top e f h =
-          rw (e, f)
-          (front-is ∙ rw (a, le-leb (last (decode least s)) 1048574 b, rule2-is least s)
-          (sym (slots-all size (last (decode least s)) (readSlots s (512 * least) roots) (some-slots s (512 * least) roots (rw e at h)))))
+      pub front-slots : (n o top : ℕ) → n ≡ roots → o ≡ readHeader least s .oldest → top ≡ last (decode least s) → 0 < n
+          → frontRight least s ≡ slotsFrom size o top 0 o (readSlots s (512 * least) n)
+      front-slots n o top e g f h =
+          let low : decode least s .oldest ≤ last (decode least s) = old-last least (decode least s) (leb-true (decode least s .oldest) (pick (leb least 4) 0 (decode least s .current)) k) in
+          let old : readHeader least s .oldest ≤ last (decode least s) = omega (arith, low, oldest-of least s) in
+          rw (e, g, f)
+          (front-is ∙ rw (a, le-leb (last (decode least s)) 1048574 b, k, rule2-is least s)
+          (sym (slots-all size (readHeader least s .oldest) (last (decode least s)) old (readSlots s (512 * least) roots) (some-slots s (512 * least) roots (rw e at h)))))
 
   -- ---- one page
 
@@ -135,4 +145,4 @@ pub front-true : (least : ℕ) (s : List ℕ) → frontRight least s ≡ true �
 unfolding frontRight
 front-true least s e =
     let t = decode least s in
-    both-true (cleanFront least s) (leb (last t) 1048574 && (all (λ (x : Slot). isPage (length (t .pages)) (x .root)) (t .slots) && rule2 t)) e .0
+    both-true (cleanFront least s) (leb (last t) 1048574 && (leb (t .oldest) (pick (leb least 4) 0 (t .current)) && (all (λ (x : Slot). isPage (length (t .pages)) (x .root)) (t .slots) && rule2 t))) e .0

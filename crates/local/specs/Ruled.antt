@@ -12,16 +12,17 @@ use Rattle.model.specs.declared.Entry.{Entry}
 use Rattle.model.specs.declared.Slot.{Slot}
 use Rattle.model.specs.Basic.{all, inOrder, pick}
 use Rattle.model.specs.Entry.{before}
-use Rattle.model.specs.Limits.{rootBits}
+use Rattle.model.specs.Limits.{rootBits, oldestBits}
 use Rattle.model.specs.Store.{last}
 use Rattle.model.specs.Sound.{spanOk, entryOk, pageFine, isPage, rule1}
 use Rattle.model.specs.Layout.{pageOf, readEntries, decodePage, readHeader, readSlots, readPages, decode, sizeOf}
 use Rattle.model.specs.Clean.{zeroFrom, cleanPages, cleanFront, clean}
 use Rattle.model.proofs.Lists.{both-true}
+use Rattle.model.proofs.Given.{old-last}
 use Rattle.local.specs.Local.{Sized, Ruled, IsPage, headAt, levelAt, countAt, entryAt, slotAt, entriesOk}
 use Rattle.local.specs.Loops.{page-of-all, entry-of-all, slot-of-all, clean-at}
 use Rattle.local.specs.Pages.{clean-count, fine-free, fine-used}
-use Rattle.local.specs.First.{rooted, rule1-is}
+use Rattle.local.specs.First.{rooted, oldLow, rule1-is}
 
 module _ (least : ℕ) (s : List ℕ) (size : ℕ) (z : Sized least s size) (r : clean least s ≡ true) where
   abbrev roots : ℕ
@@ -41,16 +42,22 @@ module _ (least : ℕ) (s : List ℕ) (size : ℕ) (z : Sized least s size) (r :
   unfolding cleanFront
   counted =
       eqb-true (readHeader least s .pages) (sizeOf least s)
-      (both-true (eqb (readHeader least s .pages) (sizeOf least s)) (zeroFrom s (74 + rootBits least) (512 * least) && (leb roots (64 * least) && zeroFrom s (512 * least + 32 * roots) (2560 * least))) (both .0) .0)
+      (both-true (eqb (readHeader least s .pages) (sizeOf least s)) (zeroFrom s (74 + rootBits least + oldestBits least) (512 * least) && (leb roots (64 * least) && zeroFrom s (512 * least + 32 * roots) (2560 * least))) (both .0) .0)
 
-  parts : ((leb roots (64 * least) && leb l 1048574 && rooted size (readSlots s (512 * least) roots)) ≡ true) × (all (pageFine least l size) (readPages least s 5 (size - 5)) ≡ true)
+  parts : ((leb roots (64 * least) && leb l 1048574 && oldLow least s size z && rooted size (readSlots s (512 * least) roots)) ≡ true) × (all (pageFine least l size) (readPages least s 5 (size - 5)) ≡ true)
   parts =
-      both-true (leb roots (64 * least) && leb l 1048574 && rooted size (readSlots s (512 * least) roots)) (all (pageFine least l size) (readPages least s 5 (size - 5)))
+      both-true (leb roots (64 * least) && leb l 1048574 && oldLow least s size z && rooted size (readSlots s (512 * least) roots)) (all (pageFine least l size) (readPages least s 5 (size - 5)))
       (sym (rule1-is least s size z) ∙ both-true (cleanPages least s 5 (sizeOf least s - 5)) (rule1 least (decode least s)) (both .1) .1)
+
+  -- the oldest version is at most the last
+  pub old-low : decode least s .oldest ≤ last (decode least s)
+  old-low =
+      old-last least (decode least s) (leb-true (decode least s .oldest) (pick (leb least 4) 0 (decode least s .current))
+      (both-true (leb roots (64 * least) && leb l 1048574) (oldLow least s size z) (both-true (leb roots (64 * least) && leb l 1048574 && oldLow least s size z) (rooted size (readSlots s (512 * least) roots)) (parts .0) .0) .1))
 
   numbers : (roots ≤ 64 * least) × (l ≤ 1048574)
   numbers =
-      let (a, b) = both-true (leb roots (64 * least)) (leb l 1048574) (both-true (leb roots (64 * least) && leb l 1048574) (rooted size (readSlots s (512 * least) roots)) (parts .0) .0) in
+      let (a, b) = both-true (leb roots (64 * least)) (leb l 1048574) (both-true (leb roots (64 * least) && leb l 1048574) (oldLow least s size z) (both-true (leb roots (64 * least) && leb l 1048574 && oldLow least s size z) (rooted size (readSlots s (512 * least) roots)) (parts .0) .0) .0) in
       (leb-true roots (64 * least) a, leb-true l 1048574 b)
 
   pub last-low : l ≤ 1048574
@@ -111,6 +118,6 @@ module _ (least : ℕ) (s : List ℕ) (size : ℕ) (z : Sized least s size) (r :
         child = λ n i h a lt. child n h i a lt;
         roots = numbers .0;
         root = λ i lt. page-num (slotAt least s i .root)
-            (slot-of-all (λ (x : Slot). isPage size (x .root)) s (512 * least) roots i (both-true (leb roots (64 * least) && leb l 1048574) (rooted size (readSlots s (512 * least) roots)) (parts .0) .1) lt);
+            (slot-of-all (λ (x : Slot). isPage size (x .root)) s (512 * least) roots i (both-true (leb roots (64 * least) && leb l 1048574 && oldLow least s size z) (rooted size (readSlots s (512 * least) roots)) (parts .0) .1) lt);
         pages = counted;
       }

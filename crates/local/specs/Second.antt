@@ -5,7 +5,8 @@ use mathlib.Core.Path.{_≡_, refl, ap, sym, _∙_}
 use mathlib.Core.List.{List}
 use native.Mathlib.Omega.{arith}
 use lib.Dec.{leb, ltb, eqb}
-use borrow.Author.Tests.{eq-eqb, ne-eqb, eqb-true}
+use lib.ListN.{drop}
+use borrow.Author.Tests.{lt-leb, le-leb, leb-true}
 use Rattle.model.specs.declared.Slot.{Slot}
 use Rattle.model.specs.Basic.{all, inOrder}
 use Rattle.model.specs.Store.{last}
@@ -15,7 +16,7 @@ use Rattle.model.specs.Inner.{firstOk, sooner}
 use Rattle.model.proofs.Lists.{both-true}
 use Rattle.model.proofs.Members.{not-both}
 use Rattle.model.proofs.Rising.{in-order-step, sooner-carries}
-use Rattle.store.specs.Read.{slots-step, slots-end, slots-of}
+use Rattle.store.specs.Read.{slots-step, slots-end, slots-of, oldest-of}
 use Rattle.local.specs.Local.{slotAt, slotsOk}
 use Rattle.local.specs.Loops.{and-assoc, and-four}
 
@@ -49,10 +50,10 @@ module _ (l : ℕ) (s : List ℕ) (o i n : ℕ) where
 
 -- ---- the rule
 
-first-version : (s : List ℕ) (o n : ℕ) → 0 < n → firstVersion (readSlots s o n) ≡ readSlot s (o + 32 * 0) .version
+first-version : (old : ℕ) (s : List ℕ) (o n : ℕ) → 0 < n → firstVersion old (readSlots s o n) ≡ readSlot s (o + 32 * 0) .version
 unfolding readSlots
-first-version s o zero h = absurd (omega arith)
-first-version s o (suc n) h = let e : o + 32 * 0 ≡ o = omega arith in rw e
+first-version old s o zero h = absurd (omega arith)
+first-version old s o (suc n) h = let e : o + 32 * 0 ≡ o = omega arith in rw e
 
 module _ (least : ℕ) (s : List ℕ) where
   abbrev roots : ℕ
@@ -61,30 +62,60 @@ module _ (least : ℕ) (s : List ℕ) where
   abbrev xs : List Slot
   xs = readSlots s (512 * least) roots
 
-  pub rule2-is : rule2 (decode least s) ≡ (eqb (firstVersion xs) 0 && slotsOk (last (decode least s)) xs)
-  unfolding rule2 slotsOk
-  rule2-is = rw (slots-of least s) (and-assoc (eqb (firstVersion xs) 0) (inOrder sooner xs) (all (λ (x : Slot). leb (x .version) (last (decode least s))) xs))
+  abbrev pub old : ℕ
+  old = readHeader least s .oldest
 
-  -- "Directory versions begin at 0"
-  pub two-none : roots ≡ 0 → rule2 (decode least s) ≡ false
+  -- the slots but the first are above the oldest version
+  abbrev pub newer : Bool
+  newer = all (λ (x : Slot). ltb old (x .version)) (drop 1 xs)
+
+  -- the rest of the rule
+  abbrev pub begun : Bool
+  begun = leb (firstVersion old xs) old && slotsOk (last (decode least s)) xs
+
+  pub rule2-is : rule2 (decode least s) ≡ (begun && newer)
+  unfolding rule2 slotsOk
+  rule2-is = rw (slots-of least s, oldest-of least s)
+      (ap (λ (b : Bool). b && newer) (and-assoc (leb (firstVersion old xs) old) (inOrder sooner xs) (all (λ (x : Slot). leb (x .version) (last (decode least s))) xs)))
+
+  -- "Directory versions begin at 0", or at most at the oldest
+  pub two-none : roots ≡ 0 → begun ≡ false
   unfolding readSlots
-  two-none e = rule2-is ∙ rw e
+  two-none e = rw (e, lt-leb (suc old) old (omega arith))
 
   module _ (h : 0 < roots) where
-    pub two-first : (slotAt least s 0 .version ≡ 0 → ⊥) → rule2 (decode least s) ≡ false
-    two-first e = rule2-is ∙ rw (first-version s (512 * least) roots h, ne-eqb (slotAt least s 0 .version) 0 e)
+    pub two-first : old < slotAt least s 0 .version → begun ≡ false
+    two-first e = rw (first-version old s (512 * least) roots h, lt-leb (slotAt least s 0 .version) old e)
 
-    pub two-rest : slotAt least s 0 .version ≡ 0 → rule2 (decode least s) ≡ slotsOk (last (decode least s)) xs
-    two-rest e = rule2-is ∙ rw (first-version s (512 * least) roots h, eq-eqb (slotAt least s 0 .version) 0 e)
+    pub two-rest : slotAt least s 0 .version ≤ old → begun ≡ slotsOk (last (decode least s)) xs
+    two-rest e = rw (first-version old s (512 * least) roots h, le-leb (slotAt least s 0 .version) old e)
 
   -- what it gives
   pub some-root : rule2 (decode least s) ≡ true → 0 < roots
   some-root e = at roots refl
     where
       at : (n : ℕ) → readHeader least s .roots ≡ n → 0 < n
-      at zero q = absurd (not-both (rule2 (decode least s)) e (two-none q))
+      at zero q = absurd (not-both begun (both-true begun newer (sym rule2-is ∙ e) .0) (two-none q))
       at (suc n) q = omega arith
 
-  pub root-zero : rule2 (decode least s) ≡ true → slotAt least s 0 .version ≡ 0
-  root-zero e =
-      sym (first-version s (512 * least) roots (some-root e)) ∙ eqb-true (firstVersion xs) 0 (both-true (eqb (firstVersion xs) 0) (slotsOk (last (decode least s)) xs) (sym rule2-is ∙ e) .0)
+  pub root-first : rule2 (decode least s) ≡ true → slotAt least s 0 .version ≤ old
+  root-first e =
+      omega (arith, first-version old s (512 * least) roots (some-root e), leb-true (firstVersion old xs) old (both-true (leb (firstVersion old xs) old) (slotsOk (last (decode least s)) xs) (both-true begun newer (sym rule2-is ∙ e) .0) .0))
+
+-- ---- the slots from slot i on are newer
+
+pub newer-start : (least : ℕ) (s : List ℕ) → newer least s ≡ all (λ (x : Slot). ltb (old least s) (x .version)) (readSlots s (512 * least + 32 * 1) (readHeader least s .roots - 1))
+unfolding readSlots
+newer-start least s = at (readHeader least s .roots)
+  where
+    at : (n : ℕ) → all (λ (x : Slot). ltb (old least s) (x .version)) (drop 1 (readSlots s (512 * least) n)) ≡ all (λ (x : Slot). ltb (old least s) (x .version)) (readSlots s (512 * least + 32 * 1) (n - 1))
+    at zero = refl
+    at (suc n) = let e : 512 * least + 32 * 1 ≡ 512 * least + 32 = omega arith in let f : suc n - 1 ≡ n = omega arith in rw (e, f)
+
+module _ (l : ℕ) (s : List ℕ) (o i n : ℕ) where
+  pub newer-step : i < n → all (λ (x : Slot). ltb l (x .version)) (readSlots s (o + 32 * i) (n - i))
+      ≡ (ltb l (readSlot s (o + 32 * i) .version) && all (λ (x : Slot). ltb l (x .version)) (readSlots s (o + 32 * (i + 1)) (n - (i + 1))))
+  newer-step h = ap (all (λ (x : Slot). ltb l (x .version))) (slots-step s o i n h)
+
+  pub newer-end : n ≤ i → all (λ (x : Slot). ltb l (x .version)) (readSlots s (o + 32 * i) (n - i)) ≡ true
+  newer-end h = ap (all (λ (x : Slot). ltb l (x .version))) (slots-end s (o + 32 * i) i n h)

@@ -1,26 +1,27 @@
 -- Laws of rule 3, in the order in which the code tests it. Assumes nothing.
-use Prim.Native.Nat.{ℕ, _+_, _*_, _-_}
+use Prim.Native.Nat.{ℕ, suc, _+_, _*_, _-_}
 use mathlib.Core.Bool.{Bool, true, false, _&&_, _||_, not}
-use mathlib.Core.Path.{_≡_, ap, _∙_}
+use mathlib.Core.Path.{_≡_, ap, ap₂, _∙_}
 use mathlib.Core.List.{List}
 use native.Mathlib.Numerals.{add-one}
-use lib.Dec.{eqb}
+use lib.Dec.{leb, eqb}
 use borrow.Author.Tests.{eq-eqb, ne-eqb, eqb-true}
 use Rattle.model.specs.declared.Entry.{Entry}
 use Rattle.model.specs.declared.Slot.{Slot}
 use Rattle.model.specs.Basic.{all}
-use Rattle.model.specs.Sound.{rule3}
+use Rattle.model.specs.Sound.{inside, rule3}
+use Rattle.model.specs.Store.{page}
 use Rattle.model.specs.Layout.{pageOf, readEntries, decodePage, readHeader, readSlots, readPages, decode, sizeOf}
 use Rattle.model.proofs.Lists.{both-true}
 use Rattle.page.specs.declared.Head.{Head}
 use Rattle.page.specs.Read.{level-of, start-of, end-of, entries-of}
-use Rattle.store.specs.Read.{page-at, behind, slots-of}
-use Rattle.local.specs.Local.{IsPage, headAt, levelAt, countAt, linkOk, lies, linkBy, linksOk, rootUsed}
+use Rattle.store.specs.Read.{page-at, behind, slots-of, oldest-of}
+use Rattle.local.specs.Local.{IsPage, headAt, levelAt, countAt, linkFull, linkOk, lies, linkBy, linksOk, rootUsed}
 
 -- ---- an entry of page n
 
 module _ (least : ℕ) (s : List ℕ) (n : ℕ) (e : Entry) where
-  pub link-is : IsPage least s (e .value) → linkOk (decode least s) (decodePage least (pageOf least s n)) e ≡ linkBy (headAt least s n) (headAt least s (e .value)) e
+  pub link-is : IsPage least s (e .value) → linkFull (decode least s) (decodePage least (pageOf least s n)) e ≡ linkBy (headAt least s n) (headAt least s (e .value)) e
   unfolding linkBy
   link-is h =
       rw (
@@ -34,20 +35,33 @@ module _ (least : ℕ) (s : List ℕ) (n : ℕ) (e : Entry) where
         add-one,
       )
 
+  -- "rule 3 skips routers whose span ended at or before the oldest"
+  abbrev pub skips : Bool
+  skips = not (eqb (levelAt least s n) 1) && leb (e .end) (readHeader least s .oldest)
+
+  pub link-out : skips ≡ true → linkOk (decode least s) (decodePage least (pageOf least s n)) e ≡ true
+  link-out z = rw (oldest-of least s, level-of least (pageOf least s n), z)
+
+  pub link-kept : skips ≡ false → linkOk (decode least s) (decodePage least (pageOf least s n)) e ≡ linkFull (decode least s) (decodePage least (pageOf least s n)) e
+  link-kept z =
+      let p = decodePage least (pageOf least s n) in
+      ap₂ (λ (x y : ℕ). (not (eqb x 1) && leb (e .end) y) || linkFull (decode least s) p e) (level-of least (pageOf least s n)) (oldest-of least s)
+      ∙ ap (λ (b : Bool). b || linkFull (decode least s) p e) z
+
   -- one test after the other
-  pub link-own : lies (headAt least s n) e ≡ false → linkOk (decode least s) (decodePage least (pageOf least s n)) e ≡ false
+  pub link-own : lies (headAt least s n) e ≡ false → linkFull (decode least s) (decodePage least (pageOf least s n)) e ≡ false
   link-own a = rw (start-of least (pageOf least s n), end-of least (pageOf least s n), a)
 
   module _ (a : lies (headAt least s n) e ≡ true) where
-    pub link-leaf : levelAt least s n ≡ 1 → linkOk (decode least s) (decodePage least (pageOf least s n)) e ≡ true
+    pub link-leaf : levelAt least s n ≡ 1 → linkFull (decode least s) (decodePage least (pageOf least s n)) e ≡ true
     link-leaf d = rw (start-of least (pageOf least s n), end-of least (pageOf least s n), level-of least (pageOf least s n), a, eq-eqb (levelAt least s n) 1 d)
 
     module _ (d : levelAt least s n ≡ 1 → ⊥) (h : IsPage least s (e .value)) where
-      pub link-child : lies (headAt least s (e .value)) e ≡ false → linkOk (decode least s) (decodePage least (pageOf least s n)) e ≡ false
+      pub link-child : lies (headAt least s (e .value)) e ≡ false → linkFull (decode least s) (decodePage least (pageOf least s n)) e ≡ false
       unfolding linkBy
       link-child b = link-is h ∙ rw (a, ne-eqb (levelAt least s n) 1 d, b)
 
-      pub link-level : lies (headAt least s (e .value)) e ≡ true → linkOk (decode least s) (decodePage least (pageOf least s n)) e ≡ eqb (levelAt least s (e .value) + 1) (levelAt least s n)
+      pub link-level : lies (headAt least s (e .value)) e ≡ true → linkFull (decode least s) (decodePage least (pageOf least s n)) e ≡ eqb (levelAt least s (e .value) + 1) (levelAt least s n)
       unfolding linkBy
       link-level b = link-is h ∙ rw (a, ne-eqb (levelAt least s n) 1 d, b)
 

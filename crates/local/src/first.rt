@@ -3,7 +3,10 @@ use model::Limits;
 ghost use mathlib.Core.Path.{_≡_};
 ghost use Prim.Native.Nat.{_*_, _≤_};
 ghost use Rattle.model.specs.Limits.{Edition};
-ghost use Rattle.model.specs.Layout.{readSlots};
+ghost use mathlib.Core.Bool.{true};
+ghost use lib.Dec.{leb};
+ghost use Rattle.model.specs.Basic.{pick};
+ghost use Rattle.model.specs.Layout.{readSlots, decode};
 ghost use Rattle.model.specs.Clean.{clean};
 ghost use Rattle.local.specs.Local.{Sized};
 ghost use Rattle.local.specs.First.{rooted};
@@ -24,9 +27,9 @@ pub(crate) fn roots_ok(s: &[u8], l: Limits, roots: usize, size: usize) -> bool
     true
 }
 
-// Rule 1 of lent bytes, which make `size` pages.
-pub fn first_rule(s: &[u8], l: Limits, size: usize) -> bool
-    requires { ⌜ Edition l × Sized (l .least) (now s) size ⌝ }
+// Rule 1 of lent bytes, which make `size` pages, where the oldest version is right.
+fn first_rest(s: &[u8], l: Limits, size: usize) -> bool
+    requires { ⌜ Edition l × Sized (l .least) (now s) size × (leb (decode (l .least) (now s) .oldest) (pick (leb (l .least) 4) 0 (decode (l .least) (now s) .current)) ≡ true) ⌝ }
     ensures { λ r. ⌜ r ≡ clean (l .least) (now (s .entry)) ⌝ }
 {
     let h = store::header(s, l);
@@ -41,4 +44,17 @@ pub fn first_rule(s: &[u8], l: Limits, size: usize) -> bool
         return false;
     }
     crate::pages::pages_ok(s, l, size, last)
+}
+
+// Rule 1 of lent bytes, which make `size` pages.
+pub fn first_rule(s: &[u8], l: Limits, size: usize) -> bool
+    requires { ⌜ Edition l × Sized (l .least) (now s) size ⌝ }
+    ensures { λ r. ⌜ r ≡ clean (l .least) (now (s .entry)) ⌝ }
+{
+    let h = store::header(s, l);
+    let most = crate::front::oldest_most(l, h);
+    if most < h.oldest {
+        return false;
+    }
+    first_rest(s, l, size)
 }

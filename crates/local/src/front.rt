@@ -3,13 +3,34 @@ use model::Header;
 use model::Limits;
 use model::Slot;
 ghost use mathlib.Core.Path.{_≡_};
-ghost use Prim.Native.Nat.{_*_, _≤_};
-ghost use Rattle.model.specs.Limits.{Edition};
-ghost use Rattle.model.specs.Layout.{readHeader, readSlots};
+ghost use Prim.Native.Nat.{_+_, _*_, _≤_};
+ghost use mathlib.Core.Bool.{true};
+ghost use lib.Dec.{leb};
+ghost use Rattle.model.specs.Basic.{pick};
+ghost use Rattle.model.specs.Limits.{Edition, rootBits, oldestBits};
+ghost use Rattle.model.specs.Layout.{readHeader, readSlots, decode};
 ghost use Rattle.model.specs.Clean.{cleanFront};
 ghost use Rattle.local.specs.Local.{Sized};
-ghost use Rattle.local.specs.Front.{slotFits, slotsFrom};
+ghost use Rattle.local.specs.Front.{above, slotFits, slotsFrom};
 ghost use Rattle.model.specs.Near.{frontRight};
+
+// The bits of the header that are defined.
+fn header_bits(l: Limits) -> usize
+    requires { ⌜ Edition l ⌝ }
+    ensures { λ r. ⌜ r ≡ 74 + rootBits (l .least) + oldestBits (l .least) ⌝ }
+{
+    74 + l.rooter + l.aged
+}
+
+// The latest version that the oldest may be: "at most the current version", and 0 in edition 1.
+pub(crate) fn oldest_most(l: Limits, h: Header) -> u32
+    ensures { λ r. ⌜ r ≡ pick (leb (l .least) 4) 0 (h .current) ⌝ }
+{
+    if l.least <= 4 {
+        return 0;
+    }
+    h.current
+}
 
 // The header's page count and undefined bits, the number of roots, and the unused slots.
 pub(crate) fn header_right(s: &[u8], l: Limits, h: Header, size: usize) -> bool
@@ -20,7 +41,7 @@ pub(crate) fn header_right(s: &[u8], l: Limits, h: Header, size: usize) -> bool
         return false;
     }
     let front = 8 * l.bytes;
-    if !crate::pages::zero_from(s, 74 + l.rooter, front) {
+    if !crate::pages::zero_from(s, header_bits(l), front) {
         return false;
     }
     let roots = crate::wide(h.roots);
@@ -43,29 +64,41 @@ fn slot_fits(low: u32, top: u32, size: usize, x: Slot) -> bool
     crate::entry::is_page(size, x.root)
 }
 
-// The used slots, each read once: the first has version 0, each later one a higher version, at most last, and all lead to pages.
-fn slots_right(s: &[u8], l: Limits, roots: usize, last: u32, size: usize) -> bool
-    requires { ⌜ Edition l × Sized (l .least) (now s) size × (roots ≤ 64 * l .least) × (last ≤ 1048574) ⌝ }
-    ensures { λ r. ⌜ r ≡ slotsFrom size last 0 0 (readSlots (now (s .entry)) (512 * l .least) roots) ⌝ }
+// The version behind a slot's and behind the oldest.
+fn next_low(old: u32, x: Slot) -> u32
+    requires { ⌜ (old ≤ 1048574) × (x .version ≤ 1048574) ⌝ }
+    ensures { λ r. ⌜ r ≡ above old x ⌝ }
+{
+    if old <= x.version {
+        return x.version + 1;
+    }
+    old + 1
+}
+
+// The used slots, each read once: the first has at most the oldest version, each later one a higher one than both, at most last, and all
+// lead to pages.
+fn slots_right(s: &[u8], l: Limits, roots: usize, old: u32, last: u32, size: usize) -> bool
+    requires { ⌜ Edition l × Sized (l .least) (now s) size × (roots ≤ 64 * l .least) × (last ≤ 1048574) × (old ≤ 1048574) ⌝ }
+    ensures { λ r. ⌜ r ≡ slotsFrom size old last 0 old (readSlots (now (s .entry)) (512 * l .least) roots) ⌝ }
 {
     let mut low = 0;
-    let mut top = 0;
+    let mut top = old;
     let mut i = 0;
     while i < roots {
         let x = store::slot(s, l, i);
         if !slot_fits(low, top, size, x) {
             return false;
         }
-        low = x.version + 1;
+        low = next_low(old, x);
         top = last;
         i += 1;
     }
     true
 }
 
-// "the header, a directory slot .. breaks rules 1 or 2 of 01 locally": whether none does, in bytes that make `size` pages.
-pub fn front_right(s: &[u8], l: Limits, size: usize) -> bool
-    requires { ⌜ Edition l × Sized (l .least) (now s) size ⌝ }
+// Whether header and slots are right in bytes that make `size` pages, where the oldest version is.
+fn front_rest(s: &[u8], l: Limits, size: usize) -> bool
+    requires { ⌜ Edition l × Sized (l .least) (now s) size × (leb (decode (l .least) (now s) .oldest) (pick (leb (l .least) 4) 0 (decode (l .least) (now s) .current)) ≡ true) ⌝ }
     ensures { λ r. ⌜ r ≡ frontRight (l .least) (now (s .entry)) ⌝ }
 {
     let h = store::header(s, l);
@@ -80,5 +113,18 @@ pub fn front_right(s: &[u8], l: Limits, size: usize) -> bool
     if roots == 0 {
         return false;
     }
-    slots_right(s, l, roots, last, size)
+    slots_right(s, l, roots, h.oldest, last, size)
+}
+
+// "the header, a directory slot .. breaks rules 1 or 2 of 01 locally": whether none does, in bytes that make `size` pages.
+pub fn front_right(s: &[u8], l: Limits, size: usize) -> bool
+    requires { ⌜ Edition l × Sized (l .least) (now s) size ⌝ }
+    ensures { λ r. ⌜ r ≡ frontRight (l .least) (now (s .entry)) ⌝ }
+{
+    let h = store::header(s, l);
+    let most = oldest_most(l, h);
+    if most < h.oldest {
+        return false;
+    }
+    front_rest(s, l, size)
 }

@@ -9,6 +9,7 @@ ghost use Rattle.model.specs.Sound.{rule2};
 ghost use Rattle.model.specs.Layout.{readSlots, decode};
 ghost use Rattle.model.specs.Inner.{firstOk, sooner};
 ghost use Rattle.local.specs.Local.{Held, slotAt};
+ghost use Rattle.local.specs.Second.{begun, newer};
 
 // The slot behind place i, if there is one, has a higher version.
 fn slot_rises(s: &[u8], l: Limits, i: usize, n: usize) -> bool
@@ -23,16 +24,17 @@ fn slot_rises(s: &[u8], l: Limits, i: usize, n: usize) -> bool
     x.version < y.version
 }
 
-pub fn second_rule(s: &[u8], l: Limits, h: Header) -> bool
+// All of the rule but that the slots behind the first are above the oldest version.
+fn slots_begin(s: &[u8], l: Limits, h: Header) -> bool
     requires { ⌜ Edition l × Held (l .least) (now s) h ⌝ }
-    ensures { λ r. ⌜ r ≡ rule2 (decode (l .least) (now (s .entry))) ⌝ }
+    ensures { λ r. ⌜ r ≡ begun (l .least) (now (s .entry)) ⌝ }
 {
     let roots = crate::wide(h.roots);
     if roots == 0 {
         return false;
     }
     let first = store::slot(s, l, 0);
-    if first.version != 0 {
+    if h.oldest < first.version {
         return false;
     }
     let last = h.last();
@@ -48,4 +50,31 @@ pub fn second_rule(s: &[u8], l: Limits, h: Header) -> bool
         i += 1;
     }
     true
+}
+
+// The slots from slot 1 on are above the oldest version.
+fn slots_newer(s: &[u8], l: Limits, h: Header) -> bool
+    requires { ⌜ Edition l × Held (l .least) (now s) h ⌝ }
+    ensures { λ r. ⌜ r ≡ newer (l .least) (now (s .entry)) ⌝ }
+{
+    let roots = crate::wide(h.roots);
+    let mut i = 1;
+    while i < roots {
+        let x = store::slot(s, l, i);
+        if x.version <= h.oldest {
+            return false;
+        }
+        i += 1;
+    }
+    true
+}
+
+pub fn second_rule(s: &[u8], l: Limits, h: Header) -> bool
+    requires { ⌜ Edition l × Held (l .least) (now s) h ⌝ }
+    ensures { λ r. ⌜ r ≡ rule2 (decode (l .least) (now (s .entry))) ⌝ }
+{
+    if !slots_begin(s, l, h) {
+        return false;
+    }
+    slots_newer(s, l, h)
 }

@@ -6,12 +6,14 @@ use model::Limits;
 use page::Head;
 ghost use mathlib.Core.Path.{_≡_};
 ghost use Prim.Native.Nat.{_*_, _-_, _^_, _≤_};
+ghost use mathlib.Core.Bool.{_&&_, not};
+ghost use lib.Dec.{leb, eqb};
 ghost use lib.ListN.{length};
 ghost use Rattle.model.specs.Basic.{all};
 ghost use Rattle.model.specs.Limits.{Edition};
 ghost use Rattle.model.specs.Sound.{rule3};
 ghost use Rattle.model.specs.Layout.{pageOf, decodePage, readPages, readSlots, readHeader, decode, sizeOf};
-ghost use Rattle.local.specs.Local.{Held, Ruled, IsPage, headAt, lies, linkOk, linksOk, rootUsed};
+ghost use Rattle.local.specs.Local.{Held, Ruled, IsPage, headAt, lies, linkFull, linkOk, linksOk, rootUsed};
 
 // The entry's span lies in that of the page with the front h.
 fn lies_in(h: Head, e: Entry) -> bool
@@ -26,7 +28,7 @@ fn lies_in(h: Head, e: Entry) -> bool
 // An entry of page n, whose front is h. An index page's leads to a page.
 fn link_ok(s: &[u8], l: Limits, n: usize, h: Head, e: Entry) -> bool
     requires { ⌜ Edition l × (length (now s) ≤ 2 ^ 21) × (h ≡ headAt (l .least) (now s) n) × ((h .level ≡ 1 → ⊥) → IsPage (l .least) (now s) (e .value)) ⌝ }
-    ensures { λ r. ⌜ r ≡ linkOk (decode (l .least) (now (s .entry))) (decodePage (l .least) (pageOf (l .least) (now (s .entry)) n)) e ⌝ }
+    ensures { λ r. ⌜ r ≡ linkFull (decode (l .least) (now (s .entry))) (decodePage (l .least) (pageOf (l .least) (now (s .entry)) n)) e ⌝ }
 {
     if !lies_in(h, e) {
         return false;
@@ -42,9 +44,30 @@ fn link_ok(s: &[u8], l: Limits, n: usize, h: Head, e: Entry) -> bool
     c.level + 1 == h.level
 }
 
+// A router that ended at or before the oldest version.
+fn skips(level: u32, e: Entry, old: u32) -> bool
+    ensures { λ r. ⌜ r ≡ (not (eqb level 1) && leb (e .end) old) ⌝ }
+{
+    if level == 1 {
+        return false;
+    }
+    e.end <= old
+}
+
+// The same; "rule 3 skips routers whose span ended at or before the oldest".
+fn link_fine(s: &[u8], l: Limits, n: usize, h: Head, e: Entry, old: u32) -> bool
+    requires { ⌜ Edition l × (length (now s) ≤ 2 ^ 21) × (h ≡ headAt (l .least) (now s) n) × ((h .level ≡ 1 → ⊥) → IsPage (l .least) (now s) (e .value)) × (old ≡ readHeader (l .least) (now s) .oldest) ⌝ }
+    ensures { λ r. ⌜ r ≡ linkOk (decode (l .least) (now (s .entry))) (decodePage (l .least) (pageOf (l .least) (now (s .entry)) n)) e ⌝ }
+{
+    if skips(h.level, e, old) {
+        return true;
+    }
+    link_ok(s, l, n, h, e)
+}
+
 // The entries of page n, unless it is free.
-fn links_ok(s: &[u8], l: Limits, n: usize) -> bool
-    requires { ⌜ Edition l × (length (now s) ≤ 2 ^ 21) × Ruled (l .least) (now s) × IsPage (l .least) (now s) n ⌝ }
+fn links_ok(s: &[u8], l: Limits, n: usize, old: u32) -> bool
+    requires { ⌜ Edition l × (length (now s) ≤ 2 ^ 21) × Ruled (l .least) (now s) × IsPage (l .least) (now s) n × (old ≡ readHeader (l .least) (now s) .oldest) ⌝ }
     ensures { λ r. ⌜ r ≡ linksOk (decode (l .least) (now (s .entry))) (decodePage (l .least) (pageOf (l .least) (now (s .entry)) n)) ⌝ }
 {
     let p = store::part(s, l, n);
@@ -56,7 +79,7 @@ fn links_ok(s: &[u8], l: Limits, n: usize) -> bool
     let mut i = 0;
     while i < count {
         let e = page::entry_at(p, i);
-        if !link_ok(s, l, n, h, e) {
+        if !link_fine(s, l, n, h, e, old) {
             return false;
         }
         i += 1;
@@ -71,7 +94,7 @@ fn pages_linked(s: &[u8], l: Limits, h: Header) -> bool
     let size = crate::wide(h.pages);
     let mut n = 5;
     while n < size {
-        if !links_ok(s, l, n) {
+        if !links_ok(s, l, n, h.oldest) {
             return false;
         }
         n += 1;

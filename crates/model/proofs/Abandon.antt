@@ -2,7 +2,7 @@
 -- Assumes nothing.
 use Prim.Native.Nat.{ℕ, zero, suc, _≤_, _<_, pred}
 use native.Mathlib.Omega.{arith}
-use mathlib.Core.Bool.{Bool, true, false, _&&_, not}
+use mathlib.Core.Bool.{Bool, true, false, _&&_, _||_, not}
 use mathlib.Core.Path.{_≡_, refl, ap, sym, _∙_, subst}
 use mathlib.Core.Logic.{_⊎_, inl, inr, _≢_}
 use mathlib.Core.List.{List, [], _∷_, map}
@@ -17,14 +17,14 @@ use Rattle.model.specs.Page.{Page, free, isFree, active, pairsAt}
 use Rattle.model.specs.declared.Slot.{Slot}
 use Rattle.model.specs.Store.{Store, page, next, last}
 use Rattle.model.specs.Walk.{rootAt, heightOf, Seen, seen}
-use Rattle.model.specs.Sound.{isPage, entryOk, inside, leadsWell, keysOk}
+use Rattle.model.specs.Sound.{isPage, entryOk, inside, liesWell, keysOk}
 use Rattle.model.specs.Calls.{revivedEnd, revived, restoredEntries, restored, backBy, back}
 use Rattle.model.proofs.Lists.{both-true, both-intro}
 use Rattle.model.proofs.Members.{not-both, either-true, either-left, either-right, In, all-in, all-by, in-map, in-those}
 use Rattle.model.proofs.Old.{old-none}
-use Rattle.model.proofs.Given.{Sound, GoodPage, GoodEntry, Span, span-of, of-span, entry-of, ok-entry, spansWell, livesAt, enough}
+use Rattle.model.proofs.Given.{Readable, old-current, Sound, GoodPage, GoodEntry, Span, span-of, of-span, entry-of, ok-entry, Spoken, leadsIfSpoken, rule7-shut, spansWell, livesAt, enough}
 use Rattle.model.proofs.Fits.{tame-all, limit, last-is, root-used, root-lives}
-use Rattle.model.proofs.Past.{back-lives, back-level, root-slot, root-kept, those-rise, those-all-of, those-first}
+use Rattle.model.proofs.Past.{back-lives, back-level, stands, root-kept, those-rise, those-all-of, those-first, kept-newer}
 use Rattle.model.proofs.Alike.{Alike, alike-seen}
 
 -- entries as abandon leaves them, at an older version
@@ -69,7 +69,7 @@ module _ (least : ℕ) (two-or-more : 2 ≤ least) (s : Store) (d : Sound least 
   xs = those (λ (x : Slot). not (eqb (x .version) w)) (s .slots)
 
   abbrev t : Store
-  t = record { current = c; opened = false; slots = xs; pages = qs }
+  t = record { current = c; opened = false; oldest = s .oldest; slots = xs; pages = qs }
 
   lim : w < alive
   lim = limit least two-or-more s d o
@@ -110,17 +110,23 @@ module _ (least : ℕ) (two-or-more : 2 ≤ least) (s : Store) (d : Sound least 
   lives-kept : (v : ℕ) → v < w → (n : ℕ) → livesAt v (page qs n) ≡ livesAt v (page ps n)
   lives-kept v h n = ap (livesAt v) (page-is n) ∙ back-lives v w h lim (page ps n)
 
-  root-lives-at : (v : ℕ) → v < w → livesAt v (page ps (rootAt (s .slots) v)) ≡ true
-  root-lives-at v h = both-intro _ _ (ap not (root-used least two-or-more s d v)) (root-lives least two-or-more s d v (omega (arith, last-w)))
+  old-low : s .oldest < w
+  old-low = omega (arith, old-current least s (d .old-low))
 
-  height-kept : (v : ℕ) → v < w → heightOf qs (rootAt (s .slots) v) ≡ heightOf ps (rootAt (s .slots) v)
-  height-kept v h = ap pred (ap (λ (p : Page). p .level) (page-is (rootAt (s .slots) v)) ∙ back-level v w h lim (page ps (rootAt (s .slots) v)) (root-lives-at v h))
+  sooner : (v : ℕ) → s .oldest ≤ v → v < w → Readable s v
+  sooner v from h = record { from = from; upto = omega (arith, last-w) }
 
-  pub steady-kept : (v : ℕ) → v < w → Alike s v t v
-  steady-kept v h = record { root = root-kept w v h (s .slots); height = height-kept v h; shows = pairs-kept v h }
+  root-lives-at : (v : ℕ) → s .oldest ≤ v → v < w → livesAt v (page ps (rootAt (s .slots) v)) ≡ true
+  root-lives-at v from h = both-intro _ _ (ap not (root-used least two-or-more s d v from)) (root-lives least two-or-more s d v (sooner v from h))
 
-  seen-kept : (v : ℕ) → v < w → seen t v ≡ seen s v
-  seen-kept v h = alike-seen s v t v (steady-kept v h)
+  height-kept : (v : ℕ) → s .oldest ≤ v → v < w → heightOf qs (rootAt (s .slots) v) ≡ heightOf ps (rootAt (s .slots) v)
+  height-kept v from h = ap pred (ap (λ (p : Page). p .level) (page-is (rootAt (s .slots) v)) ∙ back-level v w h lim (page ps (rootAt (s .slots) v)) (root-lives-at v from h))
+
+  pub steady-kept : (v : ℕ) → s .oldest ≤ v → v < w → Alike s v t v
+  steady-kept v from h = record { root = root-kept w v h (s .slots); height = height-kept v from h; shows = pairs-kept v h }
+
+  seen-kept : (v : ℕ) → s .oldest ≤ v → v < w → seen t v ≡ seen s v
+  seen-kept v from h = alike-seen s v t v (steady-kept v from h)
 
   -- pages
   revived-span : (a b : ℕ) → Span (last s) a b → a ≢ w → Span c a (revivedEnd w b)
@@ -178,16 +184,29 @@ module _ (least : ℕ) (two-or-more : 2 ≤ least) (s : Store) (d : Sound least 
         span = revived-span (e .start) (e .end) (g .span) early;
         key = g .key;
         kind = subst (λ (b : Bool). pick (eqb (page ps n .level) 1) (leb 1 (e .start) && ltb (e .value) 4294967296) b ≡ true) (sym (isPage-is (e .value))) (g .kind);
-        later = g .later;
-        sooner = revived-le (e .end) (page ps n .end) (g .span .ends) (ends-of n u) (g .sooner);
-        leads = lead (page ps n .level) refl (either-true (eqb (page ps n .level) 1) _ (g .leads)) (g .span .ends) (g .span .starts);
+        later = λ z. g .later (was-spoken z);
+        sooner = λ z. revived-le (e .end) (page ps n .end) (g .span .ends) (ends-of n u) (g .sooner (was-spoken z));
+        leads = lead (page ps n .level) refl (either-true (eqb (page ps n .level) 1 || leb (e .end) (s .oldest)) _ (g .leads)) (g .span .ends) (g .span .starts);
       }
     where
-      lead : (l : ℕ) → page ps n .level ≡ l → (eqb (page ps n .level) 1 ≡ true) ⊎ ((inside e (page ps (e .value)) && eqb (suc (page ps (e .value) .level)) (page ps n .level)) ≡ true)
-          → (e .end ≤ last s) ⊎ (e .end ≡ alive) → e .start ≤ last s → leadsWell t (restored w (page ps n)) (revived w e) ≡ true
+      was-spoken : Spoken (s .oldest) (page ps n .level) (revived w e) → Spoken (s .oldest) (page ps n .level) e
+      was-spoken (inl z) = inl z
+      was-spoken (inr z) = inr (at (eqb (e .end) w) refl z)
+        where
+          at : (b : Bool) → eqb (e .end) w ≡ b → s .oldest < pick b alive (e .end) → s .oldest < e .end
+          at true q h = omega (arith, eqb-true (e .end) w q, old-low)
+          at false q h = h
+
+      -- an end at or before the oldest version is not the open one
+      still-out : (eqb (page ps n .level) 1 ≡ true) ⊎ (leb (e .end) (s .oldest) ≡ true) → (eqb (page ps n .level) 1 || leb (revivedEnd w (e .end)) (s .oldest)) ≡ true
+      still-out (inl q) = either-left (eqb (page ps n .level) 1) _ q
+      still-out (inr q) = either-right (eqb (page ps n .level) 1) _ (ap (λ (b : Bool). leb (pick b alive (e .end)) (s .oldest)) (ne-eqb (e .end) w (λ (z : e .end ≡ w). omega (arith, leb-true (e .end) (s .oldest) q, old-low))) ∙ q)
+
+      lead : (l : ℕ) → page ps n .level ≡ l → ((eqb (page ps n .level) 1 || leb (e .end) (s .oldest)) ≡ true) ⊎ ((inside e (page ps (e .value)) && eqb (suc (page ps (e .value) .level)) (page ps n .level)) ≡ true)
+          → (e .end ≤ last s) ⊎ (e .end ≡ alive) → e .start ≤ last s → leadsIfSpoken t (restored w (page ps n)) (revived w e) ≡ true
       lead zero z q y k = absurd (not-both (isFree (page ps n)) (eq-eqb (page ps n .level) 0 z) u)
-      lead (suc zero) z q y k = either-left (eqb (page ps n .level) 1) _ (eq-eqb (page ps n .level) 1 z)
-      lead (suc (suc j)) z (inl q) y k = either-left (eqb (page ps n .level) 1) _ q
+      lead (suc zero) z q y k = either-left (eqb (page ps n .level) 1 || leb (revivedEnd w (e .end)) (s .oldest)) _ (still-out (inl (eq-eqb (page ps n .level) 1 z)))
+      lead (suc (suc j)) z (inl q) y k = either-left (eqb (page ps n .level) 1 || leb (revivedEnd w (e .end)) (s .oldest)) _ (still-out (either-true (eqb (page ps n .level) 1) (leb (e .end) (s .oldest)) q))
       lead (suc (suc j)) z (inr q) y k =
           let (a, b) = both-true (inside e (page ps (e .value))) (eqb (suc (page ps (e .value) .level)) (page ps n .level)) q in
           let (x₁, x₂) = both-true (leb (page ps (e .value) .start) (e .start)) (leb (e .end) (page ps (e .value) .end)) a in
@@ -196,9 +215,9 @@ module _ (least : ℕ) (two-or-more : 2 ≤ least) (s : Store) (d : Sound least 
           by (became (e .value)) (leb-true (page ps (e .value) .start) (e .start) x₁) (leb-true (e .end) (page ps (e .value) .end) x₂) b child
         where
           by : Became (e .value) → page ps (e .value) .start ≤ e .start → e .end ≤ page ps (e .value) .end → eqb (suc (page ps (e .value) .level)) (page ps n .level) ≡ true → isFree (page ps (e .value)) ≡ false
-              → leadsWell t (restored w (page ps n)) (revived w e) ≡ true
+              → leadsIfSpoken t (restored w (page ps n)) (revived w e) ≡ true
           by (freed r q′) a b f child = let ne : e .start ≡ w → ⊥ = early in absurd (omega (arith, last-w))
-          by (stays r q′) a b f child = either-right (eqb (page ps n .level) 1) _
+          by (stays r q′) a b f child = either-right (eqb (page ps n .level) 1 || leb (revivedEnd w (e .end)) (s .oldest)) _
               (subst (λ (p : Page). (inside (revived w e) p && eqb (suc (p .level)) (page ps n .level)) ≡ true) (sym q′)
               (both-intro _ _ (both-intro _ _ (le-leb (page ps (e .value) .start) (e .start) a) (le-leb (revivedEnd w (e .end)) (revivedEnd w (page ps (e .value) .end)) (revived-le (e .end) (page ps (e .value) .end) y (ends-of (e .value) child) b))) f))
 
@@ -245,7 +264,7 @@ module _ (least : ℕ) (two-or-more : 2 ≤ least) (s : Store) (d : Sound least 
   good-spans n u =
       let (a, b, e) = used-before n u in
       subst (λ (p : Page). spansWell t p ≡ true) (sym e)
-      (all-by (λ (f : Entry). inside f (restored w (page ps n)) && leadsWell t (restored w (page ps n)) f) (restoredEntries w (page ps n .entries)) (λ f i. ok-entry t (restored w (page ps n)) f (good-entry n a b f i) .1))
+      (all-by (liesWell t (restored w (page ps n))) (restoredEntries w (page ps n .entries)) (λ f i. ok-entry t (restored w (page ps n)) f (good-entry n a b f i) .1))
 
   zeros-kept : (n : ℕ) → isFree (page qs n) ≡ true → page qs n ≡ free
   zeros-kept n h = at (became n)
@@ -261,8 +280,10 @@ module _ (least : ℕ) (two-or-more : 2 ≤ least) (s : Store) (d : Sound least 
   used-root : (x : Slot) → In x (s .slots) → x .version ≢ w → isFree (page qs (x .root)) ≡ false
   used-root x i n =
       let z : x .version < w = version-low x i n in
-      subst (λ (m : ℕ). isFree (page qs m) ≡ false) (root-slot 0 (s .slots) (d .rises) x i)
-      (not-true (isFree (page qs (rootAt (s .slots) (x .version)))) (both-true (not (isFree (page qs (rootAt (s .slots) (x .version))))) _ (lives-kept (x .version) z (rootAt (s .slots) (x .version)) ∙ root-lives-at (x .version) z) .0))
+      let y = stands (s .oldest) (s .slots) (d .begins) (d .rises) (d .newer) x i in
+      let b : y .at < w = omega (arith, y .upto, old-low) in
+      subst (λ (m : ℕ). isFree (page qs m) ≡ false) (y .is)
+      (not-true (isFree (page qs (rootAt (s .slots) (y .at)))) (both-true (not (isFree (page qs (rootAt (s .slots) (y .at))))) _ (lives-kept (y .at) b (rootAt (s .slots) (y .at)) ∙ root-lives-at (y .at) (y .from) b) .0))
 
   front-kept : (n : ℕ) → n < 5 → isFree (page qs n) ≡ true
   front-kept n h = ap isFree (page-is n ∙ ap (back w) (d .zeros n (d .front n h)) ∙ back-free)
@@ -277,16 +298,22 @@ module _ (least : ℕ) (two-or-more : 2 ≤ least) (s : Store) (d : Sound least 
     front = front-kept;
     zeros = zeros-kept;
     pages = good-page;
-    begins = those-first w (s .slots) (omega arith) (d .begins);
+    old-low = d .old-low;
+    begins = those-first w (s .oldest) old-low (s .slots) (d .begins);
+    newer = kept-newer w (s .oldest) old-low (s .slots) (d .begins) (d .newer);
     rises = those-rise w (s .slots) (d .rises);
     upto = those-all-of w (λ (x : Slot). leb (x .version) c) (s .slots) (λ x i n. le-leb (x .version) c (omega (arith, version-low x i n)));
     spans = good-spans;
     root-used = those-all-of w (λ (x : Slot). not (isFree (page qs (x .root)))) (s .slots) (λ x i n. ap not (used-root x i n));
-    keys = λ v h. ap (all keysOk) (seen-kept v (omega arith)) ∙ d .keys v (omega (arith, last-w));
-    counts = λ v h. ap (all (enough least)) (seen-kept v (omega arith)) ∙ d .counts v (omega (arith, last-w));
-    reached = λ v h n five inn. lives-kept v (omega arith) n ∙ d .reached v (omega (arith, last-w)) n five (omega (arith, long-is ps)) ∙ ap (λ (ys : List Seen). has n (map (λ (x : Seen). x .number) ys)) (sym (seen-kept v (omega arith)));
+    keys = λ v h. ap (all keysOk) (seen-kept v (h .from) (less v h)) ∙ d .keys v (sooner v (h .from) (less v h));
+    counts = λ v h. ap (all (enough least)) (seen-kept v (h .from) (less v h)) ∙ d .counts v (sooner v (h .from) (less v h));
+    reached = λ v h n five inn. lives-kept v (less v h) n ∙ d .reached v (sooner v (h .from) (less v h)) n five (omega (arith, long-is ps)) ∙ ap (λ (ys : List Seen). has n (map (λ (x : Seen). x .number) ys)) (sym (seen-kept v (h .from) (less v h)));
+    young = rule7-shut t refl;
   }
     where
+      less : (v : ℕ) → Readable t v → v < w
+      less v h = omega (arith, h .upto)
+
       fewer : (ys : List Slot) → length (those (λ (x : Slot). not (eqb (x .version) w)) ys) ≤ length ys
       fewer [] = omega arith
       fewer (y ∷ ys) = at (not (eqb (y .version) w)) (fewer ys)

@@ -2,12 +2,12 @@
 -- Assumes nothing.
 use Prim.Native.Nat.{ℕ, zero, suc, _+_, _*_, _≤_, _<_, pred}
 use native.Mathlib.Omega.{arith}
-use mathlib.Core.Bool.{Bool, true, false, _&&_, not}
+use mathlib.Core.Bool.{Bool, true, false, _&&_, _||_, not}
 use mathlib.Core.Path.{_≡_, refl, ap, sym, _∙_, subst}
 use mathlib.Core.Logic.{_⊎_, inl, inr, _≢_}
 use mathlib.Core.List.{List, map}
 use lib.Dec.{leb, ltb, eqb, eqb·zero-suc}
-use lib.ListN.{length}
+use lib.ListN.{length, drop}
 use borrow.Author.Tests.{leb-true, ltb-true, ltb-false, eqb-true, le-leb, lt-ltb, eq-eqb, not-true}
 use Rattle.model.specs.Basic.{all, has, pick, those, inOrder}
 use Rattle.model.specs.declared.Pair.{Pair}
@@ -17,11 +17,11 @@ use Rattle.model.specs.Page.{Page, free, isFree, pairsAt}
 use Rattle.model.specs.declared.Slot.{Slot}
 use Rattle.model.specs.Store.{Store, page, next, last}
 use Rattle.model.specs.Walk.{rootAt, heightOf, Seen, seenUnder, seenBelow, seen, keyLimit}
-use Rattle.model.specs.Sound.{isPage, entryOk, inside, leadsWell, keysOk, firstVersion}
+use Rattle.model.specs.Sound.{isPage, entryOk, liesWell, keysOk, firstVersion}
 use Rattle.model.specs.Calls.{back}
 use Rattle.model.proofs.Lists.{both-true, both-intro}
 use Rattle.model.proofs.Members.{not-both, either-left, either-right, bool-cases, In, all-in, all-by, all-implies, in-map, map-in, those-in, has-in, in-has}
-use Rattle.model.proofs.Given.{Sound, GoodPage, GoodEntry, Span, of-span, ok-entry, spansWell, numbers, livesAt, enough, used-in}
+use Rattle.model.proofs.Given.{Readable, old-current, Sound, GoodPage, GoodEntry, Span, of-span, ok-entry, leadsIfSpoken, rule7-by, spansWell, numbers, livesAt, enough, used-in}
 use Rattle.model.proofs.Walks.{Reach, Self, reach-self, reach-on, seen-reached, IsSeen, reached-under}
 use Rattle.model.proofs.Tree.{Holds}
 use Rattle.model.proofs.Shows.{Shows, RootFair, same?}
@@ -29,12 +29,12 @@ use Rattle.model.proofs.Main.{height-is}
 use Rattle.model.proofs.Bridge.{passesAt}
 use Rattle.model.proofs.Fits.{used-level, level-used, within-of, of-within, root-lives, last-is, limit, root-used}
 use Rattle.model.proofs.Fitted.{EntryFit, PageFit}
-use Rattle.model.proofs.Inv.{Lives, Held, OldLead, Final, Inv, lives-used}
+use Rattle.model.proofs.Inv.{Skips, Lives, Held, OldLead, Final, Inv, lives-used}
 use Rattle.model.proofs.Keeps.{Kept}
 use Rattle.model.proofs.Count.{root-low}
 use Rattle.model.proofs.Nodes.{Node, reach-node, shows-pass}
 use Rattle.model.proofs.Alike.{Alike, alike-seen}
-use Rattle.model.proofs.Past.{lives-alike, level-alike, root-slot}
+use Rattle.model.proofs.Past.{lives-alike, level-alike, stands}
 
 module _ (least : ℕ) (four : 4 ≤ least) (s : Store) (d : Sound least s) (o : s .opened ≡ true) where
   pub two-of : 2 ≤ least
@@ -52,24 +52,34 @@ module _ (least : ℕ) (four : 4 ≤ least) (s : Store) (d : Sound least s) (o :
   abbrev pub N : ℕ
   N = length (s .pages)
 
+  abbrev pub old : ℕ
+  old = s .oldest
+
+  pub low-old : old < w
+  low-old = omega (arith, old-current least s (d .old-low))
+
   last-w : last s ≡ w
   last-w = last-is least two-of s d o
+
+  before : (v : ℕ) → old ≤ v → v < w → Readable s v
+  before v from h = record { from = from; upto = omega (arith, last-w) }
 
   -- what is asked of the directory
   pub record SlotsOk (xs : List Slot) (r : ℕ) : Type 0 where
     pub few : length xs ≤ 64 * least
-    pub begins : firstVersion xs ≡ 0
+    pub begins : firstVersion old xs ≤ old
+    pub newer : all (λ (x : Slot). ltb old (x .version)) (drop 1 xs) ≡ true
     pub rises : inOrder (λ (x y : Slot). ltb (x .version) (y .version)) xs ≡ true
     pub upto : all (λ (x : Slot). leb (x .version) w) xs ≡ true
     pub now : rootAt xs w ≡ r
     pub past : (v : ℕ) → v < w → rootAt xs v ≡ rootAt (s .slots) v
 
-  module _ (xs : List Slot) (qs : List Page) (r : ℕ) (zs : List Pair) (shows : Shows least w qs r zs) (kept : Kept least two-of w lim pos N qs r)
-      (same : map (back w) qs ≡ map (back w) (s .pages)) (old : (v : ℕ) → v < w → (m : ℕ) → pairsAt v (page qs m) ≡ pairsAt v (page (s .pages) m)) (slots : SlotsOk xs r) where
+  module _ (xs : List Slot) (qs : List Page) (r : ℕ) (zs : List Pair) (shows : Shows least w qs r zs) (kept : Kept least two-of w lim pos N old low-old qs r)
+      (same : map (back w) qs ≡ map (back w) (s .pages)) (older : (v : ℕ) → v < w → (m : ℕ) → pairsAt v (page qs m) ≡ pairsAt v (page (s .pages) m)) (slots : SlotsOk xs r) where
     abbrev pub t : Store
-    t = record { current = s .current; opened = s .opened; slots = xs; pages = qs }
+    t = record { current = s .current; opened = s .opened; oldest = s .oldest; slots = xs; pages = qs }
 
-    abbrev v′ : Inv least two-of w lim pos N qs (λ (m : ℕ). m ≡ r) (Final least two-of w lim pos N qs)
+    abbrev v′ : Inv least two-of w lim pos N old low-old qs (λ (m : ℕ). m ≡ r) (Final least two-of w lim pos N old low-old qs)
     v′ = kept .inv
 
     last-t : last t ≡ w
@@ -110,19 +120,19 @@ module _ (least : ℕ) (four : 4 ≤ least) (s : Store) (d : Sound least s) (o :
         let q : H ≡ j = omega (arith, ap (λ (i : ℕ). page qs i .level) z, level-r) in
         subst (λ (i : ℕ). Reach qs w H r j i) (sym z) (subst (λ (i : ℕ). Reach qs w H r i r) q (reach-self qs w H r))
 
-    reach-by : (f m j : ℕ) → Lives least two-of w lim pos N qs m → page qs m .level ≡ suc j → 8 ≤ j + f → Reach qs w H r j m
+    reach-by : (f m j : ℕ) → Lives least two-of w lim pos N old low-old qs m → page qs m .level ≡ suc j → 8 ≤ j + f → Reach qs w H r j m
     reach-by zero m j h e b = absurd (omega (arith, low m))
     reach-by (suc f) m j h e b = at (v′ .held m h) (λ p l g. reach-by f p (suc j) l g (omega arith))
       where
-        at : (m ≡ r) ⊎ Held least two-of w lim pos N qs (Final least two-of w lim pos N qs) m
-            → ((p : ℕ) → Lives least two-of w lim pos N qs p → page qs p .level ≡ suc (suc j) → Reach qs w H r (suc j) p) → Reach qs w H r j m
+        at : (m ≡ r) ⊎ Held least two-of w lim pos N old low-old qs (Final least two-of w lim pos N old low-old qs) m
+            → ((p : ℕ) → Lives least two-of w lim pos N old low-old qs p → page qs p .level ≡ suc (suc j) → Reach qs w H r (suc j) p) → Reach qs w H r j m
         at (inl z) ih = root-case m j e z
         at (inr k) ih = subst (Reach qs w H r j) (k .leads) (reach-on qs w H r j (k .parent) (k .router) (ih (k .parent) (k .lives) (k .level ∙ ap suc e)) (k .shows))
 
-    reached : (m j : ℕ) → Lives least two-of w lim pos N qs m → page qs m .level ≡ suc j → Reach qs w H r j m
+    reached : (m j : ℕ) → Lives least two-of w lim pos N old low-old qs m → page qs m .level ≡ suc j → Reach qs w H r j m
     reached m j h e = reach-by 8 m j h e (omega arith)
 
-    lives-of : (m j : ℕ) → Reach qs w H r j m → Lives least two-of w lim pos N qs m
+    lives-of : (m j : ℕ) → Reach qs w H r j m → Lives least two-of w lim pos N old low-old qs m
     lives-of m j h = let n = reach-node least w qs H r root-node j m h in both-intro _ _ (ap not (level-used (page qs m) j (n .level))) (n .lives)
 
     -- where a router that is alive leads
@@ -131,7 +141,7 @@ module _ (least : ℕ) (four : 4 ≤ least) (s : Store) (d : Sound least s) (o :
       pub used : isFree (page qs n) ≡ false
       pub endless : page qs n .end ≡ alive
 
-    kid-of : (m j : ℕ) (x : Pair) → Lives least two-of w lim pos N qs m → page qs m .level ≡ suc (suc j) → In x (pairsAt w (page qs m)) → Kid j (x .value)
+    kid-of : (m j : ℕ) (x : Pair) → Lives least two-of w lim pos N old low-old qs m → page qs m .level ≡ suc (suc j) → In x (pairsAt w (page qs m)) → Kid j (x .value)
     kid-of m j x h e i =
         let n = reach-node least w qs H r root-node j (x .value) (reach-on qs w H r j m x (reached m (suc j) h e) i) in
         let u : isFree (page qs (x .value)) ≡ false = level-used (page qs (x .value)) j (n .level) in
@@ -146,13 +156,13 @@ module _ (least : ℕ) (four : 4 ≤ least) (s : Store) (d : Sound least s) (o :
       abbrev p : Page
       p = page qs m
 
-      abbrev g : PageFit least N w (page qs m)
+      abbrev g : PageFit least N w old (page qs m)
       g = v′ .fit m u
 
-      lives-entry : (e : Entry) → In e (p .entries) → liveAt w e ≡ true → Lives least two-of w lim pos N qs m
+      lives-entry : (e : Entry) → In e (p .entries) → liveAt w e ≡ true → Lives least two-of w lim pos N old low-old qs m
       lives-entry e i h =
           let (a, b) = within-of (e .start) (e .end) w h in
-          both-intro _ _ (ap not u) (of-within (p .start) (p .end) w (omega (arith, g .entries e i .later)) (omega (arith, g .entries e i .sooner)))
+          both-intro _ _ (ap not u) (of-within (p .start) (p .end) w (omega (arith, g .entries e i .later (inr (omega (arith, low-old, b))))) (omega (arith, g .entries e i .sooner (inr (omega (arith, low-old, b))))))
 
       end-alive : (e : Entry) → In e (p .entries) → e .end ≤ alive
       end-alive e i = at (g .entries e i .span .ends)
@@ -161,10 +171,18 @@ module _ (least : ℕ) (four : 4 ≤ least) (s : Store) (d : Sound least s) (o :
           at (inl z) = omega (arith, lim)
           at (inr z) = omega arith
 
-      leads-to : (e : Entry) → (page qs (e .value) .start ≤ e .start) → (e .end ≤ page qs (e .value) .end) → suc (page qs (e .value) .level) ≡ p .level → leadsWell t p e ≡ true
-      leads-to e a b c = either-right (eqb (p .level) 1) _ (both-intro _ _ (both-intro _ _ (le-leb (page qs (e .value) .start) (e .start) a) (le-leb (e .end) (page qs (e .value) .end) b)) (eq-eqb (suc (page qs (e .value) .level)) (p .level) c))
+      -- a leaf entry, or a router that ended at or before the oldest version
+      skipped : (e : Entry) → Skips least two-of w lim pos N old low-old (p .level) e → leadsIfSpoken t p e ≡ true
+      skipped e h = either-left (eqb (p .level) 1 || leb (e .end) old) _ (at h)
+        where
+          at : (p .level ≡ 1) ⊎ (e .end ≤ old) → (eqb (p .level) 1 || leb (e .end) old) ≡ true
+          at (inl z) = either-left (eqb (p .level) 1) _ (eq-eqb (p .level) 1 z)
+          at (inr z) = either-right (eqb (p .level) 1) _ (le-leb (e .end) old z)
 
-      live-lead : (e : Entry) → In e (p .entries) → liveAt w e ≡ true → ((e .start < w → page qs (e .value) .start ≤ e .start)) → leadsWell t p e ≡ true
+      leads-to : (e : Entry) → (page qs (e .value) .start ≤ e .start) → (e .end ≤ page qs (e .value) .end) → suc (page qs (e .value) .level) ≡ p .level → leadsIfSpoken t p e ≡ true
+      leads-to e a b c = either-right (eqb (p .level) 1 || leb (e .end) old) _ (both-intro _ _ (both-intro _ _ (le-leb (page qs (e .value) .start) (e .start) a) (le-leb (e .end) (page qs (e .value) .end) b)) (eq-eqb (suc (page qs (e .value) .level)) (p .level) c))
+
+      live-lead : (e : Entry) → In e (p .entries) → liveAt w e ≡ true → ((e .start < w → page qs (e .value) .start ≤ e .start)) → leadsIfSpoken t p e ≡ true
       live-lead e i h early = at (p .level) refl
         where
           e-in : In (pairOf e) (pairsAt w p)
@@ -178,40 +196,40 @@ module _ (least : ℕ) (four : 4 ≤ least) (s : Store) (d : Sound least s) (o :
           split (inl z) = inl (ltb-true (e .start) w z)
           split (inr z) = inr (ltb-false (e .start) w z)
 
-          at : (l : ℕ) → p .level ≡ l → leadsWell t p e ≡ true
+          at : (l : ℕ) → p .level ≡ l → leadsIfSpoken t p e ≡ true
           at zero z = absurd (not-both (isFree p) (eq-eqb (p .level) 0 z) u)
-          at (suc zero) z = either-left (eqb (p .level) 1) _ (eq-eqb (p .level) 1 z)
+          at (suc zero) z = skipped e (inl z)
           at (suc (suc j)) z =
               let k = kid-of m j (pairOf e) (lives-entry e i h) z e-in in
               leads-to e (start-by j k (split (bool-cases (ltb (e .start) w)))) (omega (arith, k .endless, end-alive e i)) (ap suc (k .level) ∙ sym z)
 
-      lead-entry : (e : Entry) → In e (p .entries) → leadsWell t p e ≡ true
+      lead-entry : (e : Entry) → In e (p .entries) → leadsIfSpoken t p e ≡ true
       lead-entry e i = at (bool-cases (liveAt w e))
         where
-          f : EntryFit N w p e
+          f : EntryFit N w old p e
           f = g .entries e i
 
-          early : (e .start < w) → (p .level ≡ 1) ⊎ OldLead least two-of w lim pos N qs (p .level) e
+          early : (e .start < w) → Skips least two-of w lim pos N old low-old (p .level) e ⊎ OldLead least two-of w lim pos N old low-old qs (p .level) e
           early z = v′ .leads m e u i z
 
-          start-leaf : (p .level ≡ 1) ⊎ OldLead least two-of w lim pos N qs (p .level) e → (leadsWell t p e ≡ true) ⊎ (page qs (e .value) .start ≤ e .start)
-          start-leaf (inl z) = inl (either-left (eqb (p .level) 1) _ (eq-eqb (p .level) 1 z))
+          start-leaf : Skips least two-of w lim pos N old low-old (p .level) e ⊎ OldLead least two-of w lim pos N old low-old qs (p .level) e → (leadsIfSpoken t p e ≡ true) ⊎ (page qs (e .value) .start ≤ e .start)
+          start-leaf (inl z) = inl (skipped e z)
           start-leaf (inr z) = inr (z .starts)
 
-          live-by : liveAt w e ≡ true → (leadsWell t p e ≡ true) ⊎ (e .start < w → page qs (e .value) .start ≤ e .start) → leadsWell t p e ≡ true
+          live-by : liveAt w e ≡ true → (leadsIfSpoken t p e ≡ true) ⊎ (e .start < w → page qs (e .value) .start ≤ e .start) → leadsIfSpoken t p e ≡ true
           live-by h (inl z) = z
           live-by h (inr z) = live-lead e i h z
 
-          early-by : (ltb (e .start) w ≡ true) ⊎ (ltb (e .start) w ≡ false) → (leadsWell t p e ≡ true) ⊎ (e .start < w → page qs (e .value) .start ≤ e .start)
+          early-by : (ltb (e .start) w ≡ true) ⊎ (ltb (e .start) w ≡ false) → (leadsIfSpoken t p e ≡ true) ⊎ (e .start < w → page qs (e .value) .start ≤ e .start)
           early-by (inr z) = inr (λ (y : e .start < w). absurd (omega (arith, ltb-false (e .start) w z)))
           early-by (inl z) = by (start-leaf (early (ltb-true (e .start) w z)))
             where
-              by : (leadsWell t p e ≡ true) ⊎ (page qs (e .value) .start ≤ e .start) → (leadsWell t p e ≡ true) ⊎ (e .start < w → page qs (e .value) .start ≤ e .start)
+              by : (leadsIfSpoken t p e ≡ true) ⊎ (page qs (e .value) .start ≤ e .start) → (leadsIfSpoken t p e ≡ true) ⊎ (e .start < w → page qs (e .value) .start ≤ e .start)
               by (inl y) = inl y
               by (inr y) = inr (λ _. y)
 
-          dead-lead : e .end ≤ w → (p .level ≡ 1) ⊎ OldLead least two-of w lim pos N qs (p .level) e → leadsWell t p e ≡ true
-          dead-lead h (inl z) = either-left (eqb (p .level) 1) _ (eq-eqb (p .level) 1 z)
+          dead-lead : e .end ≤ w → Skips least two-of w lim pos N old low-old (p .level) e ⊎ OldLead least two-of w lim pos N old low-old qs (p .level) e → leadsIfSpoken t p e ≡ true
+          dead-lead h (inl z) = skipped e z
           dead-lead h (inr z) = leads-to e (z .starts) (ends (z .ends)) (z .down)
             where
               ends : (e .end ≤ page qs (e .value) .end) ⊎ (w ≤ page qs (e .value) .end) → e .end ≤ page qs (e .value) .end
@@ -222,7 +240,7 @@ module _ (least : ℕ) (four : 4 ≤ least) (s : Store) (d : Sound least s) (o :
           dead-end h (inl z) = absurd (not-both (liveAt w e) (both-intro _ _ (le-leb (e .start) w (f .span .starts)) z) h)
           dead-end h (inr z) = ltb-false w (e .end) z
 
-          at : (liveAt w e ≡ true) ⊎ (liveAt w e ≡ false) → leadsWell t p e ≡ true
+          at : (liveAt w e ≡ true) ⊎ (liveAt w e ≡ false) → leadsIfSpoken t p e ≡ true
           at (inl h) = live-by h (early-by (bool-cases (ltb (e .start) w)))
           at (inr h) = let z : e .end ≤ w = dead-end h (bool-cases (ltb w (e .end))) in dead-lead z (early (omega (arith, f .span .some)))
 
@@ -253,21 +271,21 @@ module _ (least : ℕ) (four : 4 ≤ least) (s : Store) (d : Sound least s) (o :
       }
 
       good-spans : spansWell t p ≡ true
-      good-spans = all-by (λ (e : Entry). inside e p && leadsWell t p e) (p .entries) (λ e i. ok-entry t p e (good-entry e i) .1)
+      good-spans = all-by (liesWell t p) (p .entries) (λ e i. ok-entry t p e (good-entry e i) .1)
 
     -- older versions
     back-free : back w free ≡ free
     back-free = rw (eqb·zero-suc (s .current), eqb·zero-suc (s .current))
 
-    past-root : (v : ℕ) → v < w → livesAt v (page (s .pages) (rootAt (s .slots) v)) ≡ true
-    past-root v h = both-intro _ _ (ap not (root-used least two-of s d v)) (root-lives least two-of s d v (omega (arith, last-w)))
+    past-root : (v : ℕ) → old ≤ v → v < w → livesAt v (page (s .pages) (rootAt (s .slots) v)) ≡ true
+    past-root v from h = both-intro _ _ (ap not (root-used least two-of s d v from)) (root-lives least two-of s d v (before v from h))
 
     -- they look as they did
-    pub steady-past : (v : ℕ) → v < w → Alike s v t v
-    steady-past v h = record { root = slots .past v h; height = ap pred (level-alike w lim (s .pages) qs same back-free v h (rootAt (s .slots) v) (past-root v h)); shows = old v h }
+    pub steady-past : (v : ℕ) → old ≤ v → v < w → Alike s v t v
+    steady-past v from h = record { root = slots .past v h; height = ap pred (level-alike w lim (s .pages) qs same back-free v h (rootAt (s .slots) v) (past-root v from h)); shows = older v h }
 
-    seen-past : (v : ℕ) → v < w → seen t v ≡ seen s v
-    seen-past v h = alike-seen s v t v (steady-past v h)
+    seen-past : (v : ℕ) → old ≤ v → v < w → seen t v ≡ seen s v
+    seen-past v from h = alike-seen s v t v (steady-past v from h)
 
     seen-now : seen t w ≡ seenBelow H qs w true 0 keyLimit r
     seen-now = ap (λ (n : ℕ). seenBelow (heightOf qs n) qs w true 0 keyLimit n) (slots .now)
@@ -283,18 +301,18 @@ module _ (least : ℕ) (four : 4 ≤ least) (s : Store) (d : Sound least s) (o :
         at (inl z) = inl (ltb-true v w z)
         at (inr z) = inr (omega (arith, ltb-false v w z, last-t))
 
-    keys-t : (v : ℕ) → v ≤ last t → all keysOk (seen t v) ≡ true
-    keys-t v h = at (split-at v h)
+    keys-t : (v : ℕ) → Readable t v → all keysOk (seen t v) ≡ true
+    keys-t v h = at (split-at v (h .upto))
       where
         at : (v < w) ⊎ (v ≡ w) → all keysOk (seen t v) ≡ true
-        at (inl z) = ap (all keysOk) (seen-past v z) ∙ d .keys v (omega (arith, last-w))
+        at (inl z) = ap (all keysOk) (seen-past v (h .from) z) ∙ d .keys v (before v (h .from) z)
         at (inr z) = subst (λ (u : ℕ). all keysOk (seen t u) ≡ true) (sym z) (all-implies (passesAt least) keysOk (λ x q. both-true (keysOk x) _ q .0) (seen t w) passes-now)
 
-    counts-t : (v : ℕ) → v ≤ last t → all (enough least) (seen t v) ≡ true
-    counts-t v h = at (split-at v h)
+    counts-t : (v : ℕ) → Readable t v → all (enough least) (seen t v) ≡ true
+    counts-t v h = at (split-at v (h .upto))
       where
         at : (v < w) ⊎ (v ≡ w) → all (enough least) (seen t v) ≡ true
-        at (inl z) = ap (all (enough least)) (seen-past v z) ∙ d .counts v (omega (arith, last-w))
+        at (inl z) = ap (all (enough least)) (seen-past v (h .from) z) ∙ d .counts v (before v (h .from) z)
         at (inr z) = subst (λ (u : ℕ). all (enough least) (seen t u) ≡ true) (sym z) (all-implies (passesAt least) (enough least) (λ x q. both-true (keysOk x) (enough least x) q .1) (seen t w) passes-now)
 
     abbrev nowNumbers : List ℕ
@@ -305,7 +323,7 @@ module _ (least : ℕ) (four : 4 ≤ least) (s : Store) (d : Sound least s) (o :
       where
         seen-it : livesAt w (page qs n) ≡ true → has n nowNumbers ≡ true
         seen-it h =
-            let u : isFree (page qs n) ≡ false = lives-used least two-of w lim pos N (page qs n) h in
+            let u : isFree (page qs n) ≡ false = lives-used least two-of w lim pos N old low-old (page qs n) h in
             in-has n nowNumbers (by (reached-under qs w H keyLimit r (pred (page qs n .level)) n (reached n (pred (page qs n .level)) h (used-level (page qs n) u))))
           where
             by : Self qs w H r (pred (page qs n .level)) n ⊎ ((x : Seen) × (In x (seenUnder H qs w keyLimit r)) × (IsSeen qs w (pred (page qs n .level)) n x)) → In n nowNumbers
@@ -323,23 +341,26 @@ module _ (least : ℕ) (four : 4 ≤ least) (s : Store) (d : Sound least s) (o :
         at true false p q = absurd (not-both (has n nowNumbers) (seen-it p) q)
         at false true p q = absurd (not-both (livesAt w (page qs n)) (lives-it q) p)
 
-    reached-t : (v : ℕ) → v ≤ last t → (n : ℕ) → 5 ≤ n → n < length qs → livesAt v (page qs n) ≡ has n (numbers t v)
-    reached-t v h n five inn = at (split-at v h)
+    reached-t : (v : ℕ) → Readable t v → (n : ℕ) → 5 ≤ n → n < length qs → livesAt v (page qs n) ≡ has n (numbers t v)
+    reached-t v h n five inn = at (split-at v (h .upto))
       where
         at : (v < w) ⊎ (v ≡ w) → livesAt v (page qs n) ≡ has n (numbers t v)
         at (inl z) =
-            lives-alike w lim (s .pages) qs same back-free v z n ∙ d .reached v (omega (arith, last-w)) n five (omega (arith, v′ .long))
-            ∙ ap (λ (ys : List Seen). has n (map (λ (x : Seen). x .number) ys)) (sym (seen-past v z))
+            lives-alike w lim (s .pages) qs same back-free v z n ∙ d .reached v (before v (h .from) z) n five (omega (arith, v′ .long))
+            ∙ ap (λ (ys : List Seen). has n (map (λ (x : Seen). x .number) ys)) (sym (seen-past v (h .from) z))
         at (inr z) = subst (λ (u : ℕ). livesAt u (page qs n) ≡ has n (numbers t u)) (sym z) (has-now n ∙ ap (λ (ys : List Seen). has n (map (λ (x : Seen). x .number) ys)) (sym seen-now))
 
     -- the roots
     used-root : (x : Slot) → In x xs → isFree (page qs (x .root)) ≡ false
-    used-root x i = subst (λ (n : ℕ). isFree (page qs n) ≡ false) (root-slot 0 xs (slots .rises) x i) (at (split-at (x .version) (omega (arith, last-t, leb-true (x .version) w (all-in (λ (y : Slot). leb (y .version) w) x xs (slots .upto) i)))))
+    used-root x i =
+        let y = stands old xs (slots .begins) (slots .rises) (slots .newer) x i in
+        subst (λ (n : ℕ). isFree (page qs n) ≡ false) (y .is)
+        (at (y .at) (y .from) (split-at (y .at) (omega (arith, last-t, y .upto, low-old, leb-true (x .version) w (all-in (λ (y : Slot). leb (y .version) w) x xs (slots .upto) i)))))
       where
-        at : (x .version < w) ⊎ (x .version ≡ w) → isFree (page qs (rootAt xs (x .version))) ≡ false
-        at (inl z) = subst (λ (n : ℕ). isFree (page qs n) ≡ false) (sym (slots .past (x .version) z))
-            (not-true (isFree (page qs (rootAt (s .slots) (x .version)))) (both-true (not (isFree (page qs (rootAt (s .slots) (x .version))))) _ (lives-alike w lim (s .pages) qs same back-free (x .version) z (rootAt (s .slots) (x .version)) ∙ past-root (x .version) z) .0))
-        at (inr z) = subst (λ (v : ℕ). isFree (page qs (rootAt xs v)) ≡ false) (sym z) (subst (λ (n : ℕ). isFree (page qs n) ≡ false) (sym (slots .now)) (level-used (page qs r) H level-r))
+        at : (v : ℕ) → old ≤ v → (v < w) ⊎ (v ≡ w) → isFree (page qs (rootAt xs v)) ≡ false
+        at v from (inl z) = subst (λ (n : ℕ). isFree (page qs n) ≡ false) (sym (slots .past v z))
+            (not-true (isFree (page qs (rootAt (s .slots) v))) (both-true (not (isFree (page qs (rootAt (s .slots) v)))) _ (lives-alike w lim (s .pages) qs same back-free v z (rootAt (s .slots) v) ∙ past-root v from z) .0))
+        at v from (inr z) = subst (λ (v : ℕ). isFree (page qs (rootAt xs v)) ≡ false) (sym z) (subst (λ (n : ℕ). isFree (page qs n) ≡ false) (sym (slots .now)) (level-used (page qs r) H level-r))
 
     five-t : (n : ℕ) → isFree (page qs n) ≡ false → 5 ≤ n
     five-t n u = at (bool-cases (ltb n 5))
@@ -358,7 +379,9 @@ module _ (least : ℕ) (four : 4 ≤ least) (s : Store) (d : Sound least s) (o :
       front = v′ .front;
       zeros = v′ .zeros;
       pages = λ n u. good-page n u;
+      old-low = d .old-low;
       begins = slots .begins;
+      newer = slots .newer;
       rises = slots .rises;
       upto = subst (λ (l : ℕ). all (λ (x : Slot). leb (x .version) l) xs ≡ true) (sym last-t) (slots .upto);
       spans = λ n u. good-spans n u;
@@ -366,4 +389,5 @@ module _ (least : ℕ) (four : 4 ≤ least) (s : Store) (d : Sound least s) (o :
       keys = keys-t;
       counts = counts-t;
       reached = reached-t;
+      young = rule7-by t (λ _ n u z e i. v′ .fit n u .entries e i .young z);
     }

@@ -31,7 +31,7 @@ use Rattle.model.proofs.Returned.{Stepped, Runs, way-runs}
 
 -- an update begun
 abbrev pub begun : Store → Store
-begun t = record { current = t .current; opened = true; slots = t .slots; pages = t .pages }
+begun t = record { current = t .current; opened = true; oldest = t .oldest; slots = t .slots; pages = t .pages }
 
 pub current-last : (s : Store) → s .current ≤ last s
 current-last s = at (s .opened)
@@ -45,6 +45,7 @@ pub record Upto (least : ℕ) (s : Store) (v : ℕ) (t : Store) : Type 0 where
   pub is-sound : Sound least t
   pub closed : t .opened ≡ false
   pub current : t .current ≡ v
+  pub oldest : t .oldest ≡ 0
   pub same : (u : ℕ) → u ≤ v → settings t u ≡ settings s u
 
 -- what a replay up to v comes to
@@ -52,7 +53,7 @@ abbrev pub Replays : ℕ → Store → ℕ → Ran → Type 0
 Replays least s v (reached t) = Upto least s v t
 Replays least s v (stopped n t) = lacking n ≡ true
 
-module _ (of : ℕ) (first : 4 ≤ of) (s : Store) (d : Sound of s) (least : ℕ) (four : 4 ≤ least) where
+module _ (of : ℕ) (first : 4 ≤ of) (s : Store) (d : Sound of s) (from-first : s .oldest ≡ 0) (least : ℕ) (four : 4 ≤ least) where
   two : 2 ≤ of
   two = omega arith
 
@@ -62,41 +63,42 @@ module _ (of : ℕ) (first : 4 ≤ of) (s : Store) (d : Sound of s) (least : ℕ
     pub way : Way small (settings s v) (settings s (suc v)) (differ (settings s v) (settings s (suc v)))
     way =
         let l = current-last s in
-        the-way small (settings s v) (settings s (suc v)) (settings-small of two s d v (omega (arith, l))) (settings-small of two s d (suc v) (omega (arith, l)))
-        (settings-rise of two s d v (omega (arith, l))) (settings-rise of two s d (suc v) (omega (arith, l)))
+        the-way small (settings s v) (settings s (suc v)) (settings-small of two s d v (omega (arith, l, from-first))) (settings-small of two s d (suc v) (omega (arith, l, from-first)))
+        (settings-rise of two s d v (omega (arith, l, from-first))) (settings-rise of two s d (suc v) (omega (arith, l, from-first)))
 
     module _ (t : Store) (p : Upto least s v t) where
       room : t .current < 1048574
       room = omega (arith, p .current, d .last-low, current-last s)
 
-      shut : Sound least (store (t .current) false (t .slots) (t .pages))
-      shut = subst (λ (b : Bool). Sound least (store (t .current) b (t .slots) (t .pages))) (p .closed) (p .is-sound)
+      shut : Sound least (store (t .current) false (t .oldest) (t .slots) (t .pages))
+      shut = subst (λ (b : Bool). Sound least (store (t .current) b (t .oldest) (t .slots) (t .pages))) (p .closed) (p .is-sound)
 
       pub begin-is : begin t ≡ done (begun t)
       unfolding begin
       begin-is = rw (p .closed, lt-leb 1048574 (t .current) room) refl
 
       pub begun-sound : Sound least (begun t)
-      begun-sound = begin-sound least (t .current) (t .slots) (t .pages) shut room
+      begun-sound = begin-sound least (t .current) (t .oldest) (t .slots) (t .pages) shut room
 
       pub begun-shows : settings (begun t) (next (begun t)) ≡ settings s v
-      begun-shows = begin-shows least (t .current) (t .slots) (t .pages) shut room ∙ ap (settings t) (p .current) ∙ p .same v (omega arith)
+      begun-shows = begin-shows least (t .current) (t .oldest) (t .slots) (t .pages) shut room ∙ ap (settings t) (p .current) ∙ p .same v (omega arith)
 
       pub runs : Runs least (begun t) (settings s (suc v)) (carried least (differ (settings s v) (settings s (suc v))) (begun t))
       runs = way-runs least four (begun t) begun-sound refl (settings s v) (settings s (suc v)) (differ (settings s v) (settings s (suc v))) begun-shows way
 
       pub one-more : (w : Store) → Stepped least (begun t) w (settings s (suc v)) → Upto least s (suc v) (committed w)
       one-more w g = record {
-        is-sound = commit-sound least (w .current) (w .slots) (w .pages) (subst (λ (b : Bool). Sound least (store (w .current) b (w .slots) (w .pages))) (g .opened) (g .is-sound));
+        is-sound = commit-sound least (w .current) (w .oldest) (w .slots) (w .pages) (subst (λ (b : Bool). Sound least (store (w .current) b (w .oldest) (w .slots) (w .pages))) (g .opened) (g .is-sound));
         closed = refl;
         current = ap suc (g .current ∙ p .current);
+        oldest = g .oldest ∙ p .oldest;
         same = λ u z. at u z (bool-cases (leb u v));
       }
         where
           at : (u : ℕ) → u ≤ suc v → (leb u v ≡ true) ⊎ (leb u v ≡ false) → settings (committed w) u ≡ settings s u
           at u z (inl q) =
               let low : u ≤ v = leb-true u v q in
-              alike-settings (begun t) u w u (g .steady u (omega (arith, p .current))) ∙ p .same u low
+              alike-settings (begun t) u w u (g .steady u (omega (arith, p .oldest)) (omega (arith, p .current))) ∙ p .same u low
           at u z (inr q) =
               let is : u ≡ suc v = omega (arith, leb-false u v q) in
               let top : suc v ≡ next w = omega (arith, g .current, p .current) in
@@ -134,9 +136,10 @@ module _ (of : ℕ) (first : 4 ≤ of) (s : Store) (d : Sound of s) (least : ℕ
     is-sound = fresh-sound least (omega arith) n six most;
     closed = refl;
     current = refl;
+    oldest = refl;
     same = λ u z.
         let e : u ≡ 0 = omega (arith, z) in
-        ap (settings (fresh n)) e ∙ fresh-shows least (omega arith) n six most ∙ sym (none-at-first of two s d) ∙ ap (settings s) (sym e);
+        ap (settings (fresh n)) e ∙ fresh-shows least (omega arith) n six most ∙ sym (none-at-first of two s d from-first) ∙ ap (settings s) (sym e);
   }
 
   -- What a conversion comes to: the whole store, or a fresh one.

@@ -49,6 +49,10 @@ module _ {b t : List ℕ} (p : Passed b t) where
   pub source-sound : Sound 4 (decode 4 b)
   source-sound = accepted-sound 4 b (accepted 4 b is-judged)
 
+  -- edition 1 has kept every version
+  pub source-whole : decode 4 b .oldest ≡ 0
+  source-whole = let h : decode 4 b .oldest ≤ 0 = source-sound .old-low in omega (arith, h)
+
   sized : (6 ≤ sizeOf 8 t) × (sizeOf 8 t ≤ 4096)
   unfolding lengthOk
   sized =
@@ -80,4 +84,4 @@ lent-by P b t early whole up = at (firstOf (convertTests b t)) refl
         never z = omega (arith, z)
     at zero e =
         let p = passes b t e in
-        converted-by 4 (omega arith) (decode 4 b) (source-sound p) 8 (omega arith) (λ (q : Came). P (leftBy 8 t q)) (sizeOf 8 t) (six p) (most p) (λ u r q. whole e p u r q) (λ n u l q. up e p n u l q)
+        converted-by 4 (omega arith) (decode 4 b) (source-sound p) (source-whole p) 8 (omega arith) (λ (q : Came). P (leftBy 8 t q)) (sizeOf 8 t) (six p) (most p) (λ u r q. whole e p u r q) (λ n u l q. up e p n u l q)

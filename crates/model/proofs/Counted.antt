@@ -2,7 +2,7 @@
 -- Assumes nothing.
 use Prim.Native.Nat.{ℕ, _≤_, _<_}
 use native.Mathlib.Omega.{arith}
-use mathlib.Core.Bool.{Bool, true, false, _&&_}
+use mathlib.Core.Bool.{Bool, true, false, _&&_, not}
 use mathlib.Core.Path.{_≡_, refl, ap, sym, _∙_}
 use mathlib.Core.Logic.{_⊎_, inl, inr}
 use mathlib.Core.List.{List, [], _∷_}
@@ -14,10 +14,11 @@ use Rattle.model.specs.Entry.{alive, liveAt}
 use Rattle.model.specs.Page.{Page, isFree}
 use Rattle.model.specs.Store.{Store, page, last}
 use Rattle.model.specs.Walk.{keyLimit}
-use Rattle.model.specs.Sound.{isPage, spanOk, entryOk, inside, leadsWell}
+use Rattle.model.specs.Sound.{isPage, spanOk, entryOk, inside, leadsWell, skipped, liesWell}
 use Rattle.model.specs.Layout.{lives}
 use Rattle.model.proofs.Lists.{both-true, all-cons}
-use Rattle.model.proofs.Given.{Span, span-of, Sound}
+use Rattle.model.proofs.Members.{either-true}
+use Rattle.model.proofs.Given.{Span, span-of, old-last, Sound}
 
 module _ (l size level : ℕ) (low : l ≤ 1048574) where
   pub alive-last : (e : Entry) → entryOk l size level e ≡ true → liveAt l e ≡ lives e
@@ -47,16 +48,19 @@ module _ (l size level : ℕ) (low : l ≤ 1048574) where
       let (here, rest) = all-cons (entryOk l size level) e es ok in
       ap (λ (b : Bool). keep b e (those (liveAt l) es)) (alive-last e here) ∙ ap (keep (lives e) e) (those-last es rest)
 
--- ---- a page that ended: what stands in it ended with it at the latest, by rule 3
+-- ---- a page that ended: what stands in it ended with it at the latest, by rule 3, or by the oldest version
 
-none-live : (s : Store) (p : Page) (l : ℕ) → p .end ≤ l → (es : List Entry) → all (λ (e : Entry). inside e p && leadsWell s p e) es ≡ true → those (liveAt l) es ≡ []
-none-live s p l h [] ok = refl
-none-live s p l h (e ∷ es) ok =
-    let (here, rest) = all-cons (λ (x : Entry). inside x p && leadsWell s p x) e es ok in
-    let ends = leb-true (e .end) (p .end) (both-true (leb (p .start) (e .start)) (leb (e .end) (p .end)) (both-true (inside e p) (leadsWell s p e) here .0) .1) in
-    let over : ltb l (e .end) ≡ false = le-ltb l (e .end) (omega (arith, ends)) in
-    rw over (dead (leb (e .start) l)) ∙ none-live s p l h es rest
+none-live : (s : Store) (p : Page) (l : ℕ) → p .end ≤ l → s .oldest ≤ l → (es : List Entry) → all (liesWell s p) es ≡ true → those (liveAt l) es ≡ []
+none-live s p l h o [] ok = refl
+none-live s p l h o (e ∷ es) ok =
+    let (here, rest) = all-cons (liesWell s p) e es ok in
+    let over : ltb l (e .end) ≡ false = le-ltb l (e .end) (ends (either-true (skipped s p e) (inside e p && leadsWell s p e) here)) in
+    rw over (dead (leb (e .start) l)) ∙ none-live s p l h o es rest
   where
+    ends : (skipped s p e ≡ true) ⊎ ((inside e p && leadsWell s p e) ≡ true) → e .end ≤ l
+    ends (inl x) = omega (arith, leb-true (e .end) (s .oldest) (both-true (not (eqb (p .level) 1)) (leb (e .end) (s .oldest)) x .1))
+    ends (inr x) = omega (arith, leb-true (e .end) (p .end) (both-true (leb (p .start) (e .start)) (leb (e .end) (p .end)) (both-true (inside e p) (leadsWell s p e) x .0) .1))
+
     dead : (b : Bool) → keep (b && false) e (those (liveAt l) es) ≡ those (liveAt l) es
     dead true = refl
     dead false = refl
@@ -69,5 +73,5 @@ killed-none least s d n u k = at (span-of (last s) (p .start) (p .end) (d .pages
     p = page (s .pages) n
 
     at : (p .end ≤ last s) ⊎ (p .end ≡ alive) → those (liveAt (last s)) (p .entries) ≡ []
-    at (inl h) = none-live s p (last s) h (p .entries) (d .spans n u)
+    at (inl h) = none-live s p (last s) h (old-last least s (d .old-low)) (p .entries) (d .spans n u)
     at (inr e) = absurd (k e)

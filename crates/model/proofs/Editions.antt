@@ -24,7 +24,7 @@ use Rattle.model.specs.State.{untold}
 use Rattle.model.specs.Lent
 use Rattle.model.specs.Any
 use Rattle.model.specs.Any.{judgedAny}
-use Rattle.model.specs.Ended.{Asked, toFresh, toFreshSecond, toCheck, toOpen, toCommit, toAbandon, toInsert, toDelete, toReturn, toLookup, toRange, toLife, toDifference, toVisits, toState, Ended, ofOutcome, ofVerdict, ofLooked, ofListed, ofState, ended, endedBy, makes, Untouched, Refuses}
+use Rattle.model.specs.Ended.{Asked, toFresh, toFreshSecond, toCheck, toOpen, toCommit, toAbandon, toInsert, toDelete, toReturn, toPrune, toLookup, toRange, toLife, toDifference, toVisits, Ended, ofOutcome, ofVerdict, ofLooked, ofListed, ended, endedBy, makes, Untouched, Refuses, toState, ofState}
 use Rattle.model.proofs.Lists.{both-true}
 use Rattle.model.proofs.Judging.{accepted}
 
@@ -82,7 +82,7 @@ least-is b = at (ltb (length b) 5) (magicOk b) (editionOk 4 b) (editionOk 8 b)
 
 module _ (b ns : List ℕ) where
   pub ended-goes : (c : Asked) → makes c ≡ false → lentNumber b ≡ 0 → ended c b ns ≡ endedBy (leastOf b) c b ns
-  unfolding Any.openAny Any.insertAny Any.deleteAny Any.commitAny Any.abandonAny Any.returnAny Any.lookupAny Any.rangeAny Any.visitsAny Any.differenceAny Any.lifeAny Any.stateAny Any.judgedAny
+  unfolding Any.openAny Any.insertAny Any.deleteAny Any.commitAny Any.abandonAny Any.returnAny Any.pruneAny Any.lookupAny Any.rangeAny Any.visitsAny Any.differenceAny Any.lifeAny Any.judgedAny Any.stateAny
   ended-goes toFresh m z = cc
   ended-goes toFreshSecond m z = cc
   ended-goes toCheck m z = ap (ofVerdict b ns) (goes {A = Verdict} b (λ (n : ℕ). verdict n 0) (λ (l : ℕ). judged l b) z)
@@ -92,6 +92,7 @@ module _ (b ns : List ℕ) where
   ended-goes (toInsert k x) m z = ap (ofOutcome ns) (goes {A = Lent.Outcome} b (λ (n : ℕ). record { number = n; store = b }) (λ (l : ℕ). Lent.insertLent l b k x) z)
   ended-goes (toDelete k) m z = ap (ofOutcome ns) (goes {A = Lent.Outcome} b (λ (n : ℕ). record { number = n; store = b }) (λ (l : ℕ). Lent.deleteLent l b k) z)
   ended-goes (toReturn v) m z = ap (ofOutcome ns) (goes {A = Lent.Outcome} b (λ (n : ℕ). record { number = n; store = b }) (λ (l : ℕ). Lent.returnLent l b v) z)
+  ended-goes (toPrune v) m z = ap (ofOutcome ns) (goes {A = Lent.Outcome} b (λ (n : ℕ). record { number = n; store = b }) (λ (l : ℕ). Lent.pruneLent l b v) z)
   ended-goes (toLookup k v) m z = ap (ofLooked b ns) (goes {A = Looked} b (λ (n : ℕ). Refused n) (λ (l : ℕ). Lent.lookupLent l b k v) z)
   ended-goes (toRange lo hi v) m z = ap (ofListed b) (goes {A = Lent.Listed} b (λ (n : ℕ). record { number = n; count = 0; list = ns }) (λ (l : ℕ). Lent.rangeLent l b lo hi v ns) z)
   ended-goes (toVisits k v) m z = ap (ofListed b) (goes {A = Lent.Listed} b (λ (n : ℕ). record { number = n; count = 0; list = ns }) (λ (l : ℕ). Lent.visitsLent l b k v ns) z)
@@ -115,7 +116,7 @@ module _ (b ns : List ℕ) where
   refused-state n = record { number = refl; untouched = record { store = refl; list = refl }; zeros = refl }
 
   pub ended-refuses : (c : Asked) → makes c ≡ false → lentNumber b ≢ 0 → Refuses (lentNumber b) b ns (ended c b ns)
-  unfolding Any.openAny Any.insertAny Any.deleteAny Any.commitAny Any.abandonAny Any.returnAny Any.lookupAny Any.rangeAny Any.visitsAny Any.differenceAny Any.lifeAny Any.stateAny Any.judgedAny
+  unfolding Any.openAny Any.insertAny Any.deleteAny Any.commitAny Any.abandonAny Any.returnAny Any.pruneAny Any.lookupAny Any.rangeAny Any.visitsAny Any.differenceAny Any.lifeAny Any.judgedAny Any.stateAny
   ended-refuses toFresh m z = absurd (true≢false m)
   ended-refuses toFreshSecond m z = absurd (true≢false m)
   ended-refuses toCheck m z = subst (λ (x : Verdict). Refuses (lentNumber b) b ns (ofVerdict b ns x)) (sym (refuses {A = Verdict} b (λ (n : ℕ). verdict n 0) (λ (l : ℕ). judged l b) z)) (refused-verdict (lentNumber b))
@@ -125,6 +126,7 @@ module _ (b ns : List ℕ) where
   ended-refuses (toInsert k x) m z = subst (λ (x : Lent.Outcome). Refuses (lentNumber b) b ns (ofOutcome ns x)) (sym (refuses {A = Lent.Outcome} b (λ (n : ℕ). record { number = n; store = b }) (λ (l : ℕ). Lent.insertLent l b k x) z)) (refused-outcome (lentNumber b))
   ended-refuses (toDelete k) m z = subst (λ (x : Lent.Outcome). Refuses (lentNumber b) b ns (ofOutcome ns x)) (sym (refuses {A = Lent.Outcome} b (λ (n : ℕ). record { number = n; store = b }) (λ (l : ℕ). Lent.deleteLent l b k) z)) (refused-outcome (lentNumber b))
   ended-refuses (toReturn v) m z = subst (λ (x : Lent.Outcome). Refuses (lentNumber b) b ns (ofOutcome ns x)) (sym (refuses {A = Lent.Outcome} b (λ (n : ℕ). record { number = n; store = b }) (λ (l : ℕ). Lent.returnLent l b v) z)) (refused-outcome (lentNumber b))
+  ended-refuses (toPrune v) m z = subst (λ (x : Lent.Outcome). Refuses (lentNumber b) b ns (ofOutcome ns x)) (sym (refuses {A = Lent.Outcome} b (λ (n : ℕ). record { number = n; store = b }) (λ (l : ℕ). Lent.pruneLent l b v) z)) (refused-outcome (lentNumber b))
   ended-refuses (toLookup k v) m z = subst (λ (x : Looked). Refuses (lentNumber b) b ns (ofLooked b ns x)) (sym (refuses {A = Looked} b (λ (n : ℕ). Refused n) (λ (l : ℕ). Lent.lookupLent l b k v) z)) (refused-looked (lentNumber b))
   ended-refuses (toRange lo hi v) m z = subst (λ (x : Lent.Listed). Refuses (lentNumber b) b ns (ofListed b x)) (sym (refuses {A = Lent.Listed} b (λ (n : ℕ). record { number = n; count = 0; list = ns }) (λ (l : ℕ). Lent.rangeLent l b lo hi v ns) z)) (refused-listed (lentNumber b))
   ended-refuses (toVisits k v) m z = subst (λ (x : Lent.Listed). Refuses (lentNumber b) b ns (ofListed b x)) (sym (refuses {A = Lent.Listed} b (λ (n : ℕ). record { number = n; count = 0; list = ns }) (λ (l : ℕ). Lent.visitsLent l b k v ns) z)) (refused-listed (lentNumber b))
@@ -152,6 +154,7 @@ module _ (b ns : List ℕ) where
       at (toInsert k x) true m by = absurd (true≢false (sym m))
       at (toDelete k) true m by = absurd (true≢false (sym m))
       at (toReturn v) true m by = absurd (true≢false (sym m))
+      at (toPrune v) true m by = absurd (true≢false (sym m))
       at (toLookup k v) true m by = absurd (true≢false (sym m))
       at (toRange lo hi v) true m by = absurd (true≢false (sym m))
       at (toVisits k v) true m by = absurd (true≢false (sym m))

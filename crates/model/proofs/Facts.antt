@@ -18,7 +18,7 @@ use Rattle.model.specs.Store.{Store, page, last}
 use Rattle.model.specs.Walk.{heightOf, keyLimit, settings}
 use Rattle.model.proofs.Lists.{both-true}
 use Rattle.model.proofs.Members.{In}
-use Rattle.model.proofs.Given.{Sound, span-of, entry-of, livesAt, used-in, high-used}
+use Rattle.model.proofs.Given.{Readable, Sound, span-of, entry-of, livesAt, used-in, high-used}
 use Rattle.model.proofs.Walks.{Reach, Self, Above, last-step}
 use Rattle.model.proofs.Fits.{level-used, within-of, shown-by, child-of, root, root-used, root-level, holds-all, lives-by, reached-of, reach-level, many-all}
 use Rattle.model.proofs.Parents.{above-one, reach-height}
@@ -40,16 +40,16 @@ module _ (least : ℕ) (two : 2 ≤ least) (s : Store) (d : Sound least s) where
   pub used-number : (n : ℕ) → isFree (page pages n) ≡ false → Numbered n
   used-number n u = record { five = high-used s n (d .front) u; inside = used-in pages n u }
 
-  pub root-number : (v : ℕ) → Numbered (root least two s d v)
-  root-number v = used-number (root least two s d v) (root-used least two s d v)
+  pub root-number : (v : ℕ) → s .oldest ≤ v → Numbered (root least two s d v)
+  root-number v from = used-number (root least two s d v) (root-used least two s d v from)
 
   -- the page that a live router of an index page leads to
-  pub router-number : (v n l : ℕ) (x : Pair) → page pages n .level ≡ suc (suc l) → In x (pairsAt v (page pages n)) → Numbered (x .value)
-  router-number v n l x e i = used-number (x .value) (level-used (page pages (x .value)) l (child-of least two s d v n l x e i .level))
+  pub router-number : (v : ℕ) → s .oldest ≤ v → (n l : ℕ) (x : Pair) → page pages n .level ≡ suc (suc l) → In x (pairsAt v (page pages n)) → Numbered (x .value)
+  router-number v from n l x e i = used-number (x .value) (level-used (page pages (x .value)) l (child-of least two s d v from n l x e i .level))
 
   -- each page that a walk reaches
-  pub reached-number : (v j m : ℕ) → Reach pages v (heightOf pages (root least two s d v)) (root least two s d v) j m → Numbered m
-  reached-number v j m r = used-number m (level-used (page pages m) j (reach-level least two s d v (heightOf pages (root least two s d v)) (root least two s d v) j m (root-level least two s d v) r))
+  pub reached-number : (v : ℕ) → s .oldest ≤ v → (j m : ℕ) → Reach pages v (heightOf pages (root least two s d v)) (root least two s d v) j m → Numbered m
+  reached-number v from j m r = used-number m (level-used (page pages m) j (reach-level least two s d v from (heightOf pages (root least two s d v)) (root least two s d v) j m (root-level least two s d v from) r))
 
   -- ---- "End 1,048,575 means alive": what is alive at last has no end
 
@@ -71,7 +71,7 @@ module _ (least : ℕ) (two : 2 ≤ least) (s : Store) (d : Sound least s) where
 
   -- ---- one router
 
-  module _ (v : ℕ) (h : v ≤ last s) where
+  module _ (v : ℕ) (h : Readable s v) where
     abbrev r : ℕ
     r = root least two s d v
 
@@ -82,8 +82,8 @@ module _ (least : ℕ) (two : 2 ≤ least) (s : Store) (d : Sound least s) where
     router-above : (m l : ℕ) (x : Pair) → page pages m .level ≡ suc (suc l) → In x (pairsAt v (page pages m)) → Reach pages v height r (suc l) m
     router-above m l x e i =
         let w = shown-by v (page pages m) x i in
-        let (j, p) = reached-of least two s d v h m (lives-by least two s d v m (w .entry) (level-used (page pages m) (suc l) e) (w .is-in) (w .live)) in
-        let g : j ≡ suc l = omega (arith, e, reach-level least two s d v height r j m (root-level least two s d v) p) in
+        let (j, p) = reached-of least two s d v h m (lives-by least two s d v (h .from) m (w .entry) (level-used (page pages m) (suc l) e) (w .is-in) (w .live)) in
+        let g : j ≡ suc l = omega (arith, e, reach-level least two s d v (h .from) height r j m (root-level least two s d v (h .from)) p) in
         subst (λ (k : ℕ). Reach pages v height r k m) g p
 
     -- page n has this router alive, in an index page, and no other
@@ -99,7 +99,7 @@ module _ (least : ℕ) (two : 2 ≤ least) (s : Store) (d : Sound least s) where
     pub root-alone : (m l : ℕ) (x : Pair) → page pages m .level ≡ suc (suc l) → In x (pairsAt v (page pages m)) → x .value ≢ r
     root-alone m l x e i q =
         let p = router-above m l x e i in
-        omega (arith, reach-height least v pages height r (suc l) m p, child-of least two s d v m l x e i .level, ap (λ (k : ℕ). page pages k .level) q, root-level least two s d v)
+        omega (arith, reach-height least v pages height r (suc l) m p, child-of least two s d v (h .from) m l x e i .level, ap (λ (k : ℕ). page pages k .level) q, root-level least two s d v (h .from))
 
     pub one-router : (n : ℕ) → livesAt v (page pages n) ≡ true → (n ≡ r) ⊎ OneRouter n
     one-router n z = let (j, p) = reached-of least two s d v h n z in at j p (last-step pages v height r j n p)
@@ -113,16 +113,16 @@ module _ (least : ℕ) (two : 2 ≤ least) (s : Store) (d : Sound least s) where
           leads = a .leads;
           level = up ∙ ap suc (sym own);
           only = λ m l x e i q.
-              let k : l ≡ j = omega (arith, own, child-of least two s d v m l x e i .level, ap (λ (u : ℕ). page pages u .level) q) in
+              let k : l ≡ j = omega (arith, own, child-of least two s d v (h .from) m l x e i .level, ap (λ (u : ℕ). page pages u .level) q) in
               let b : Above pages v height r j n = record { parent = m; is-reached = subst (λ (u : ℕ). Reach pages v height r (suc u) m) k (router-above m l x e i); router = x; is-in = i; leads = q } in
               above-one least v pages height 0 keyLimit r (settings s v) (holds-all least two s d v h) j n b a;
         })
           where
             own : page pages n .level ≡ suc j
-            own = reach-level least two s d v height r j n (root-level least two s d v) p
+            own = reach-level least two s d v (h .from) height r j n (root-level least two s d v (h .from)) p
 
             up : page pages (a .parent) .level ≡ suc (suc j)
-            up = reach-level least two s d v height r (suc j) (a .parent) (root-level least two s d v) (a .is-reached)
+            up = reach-level least two s d v (h .from) height r (suc j) (a .parent) (root-level least two s d v (h .from)) (a .is-reached)
 
     -- "the live entries of its neighbour under the same parent": a live router is never alone in its page
     pub neighbour : (m l : ℕ) (x : Pair) → page pages m .level ≡ suc (suc l) → In x (pairsAt v (page pages m)) → 2 ≤ length (pairsAt v (page pages m))

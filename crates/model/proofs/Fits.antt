@@ -2,7 +2,7 @@
 -- Assumes nothing.
 use Prim.Native.Nat.{ℕ, zero, suc, _*_, _≤_, _<_, pred}
 use native.Mathlib.Omega.{arith}
-use mathlib.Core.Bool.{Bool, true, false, _&&_, not}
+use mathlib.Core.Bool.{Bool, true, false, _&&_, _||_, not}
 use mathlib.Core.Option.{Option, none, some}
 use mathlib.Core.Path.{_≡_, refl, ap, sym, _∙_, subst}
 use mathlib.Core.Logic.{_⊎_, inl, inr, _≢_}
@@ -21,7 +21,7 @@ use Rattle.model.specs.Walk.{Around, around, rootFrom, rootAt, heightOf,
 use Rattle.model.specs.Sound.{sound, isPage, inside, keysOk, fewest, firstVersion}
 use Rattle.model.proofs.Lists.{both-true, both-intro, all-cons, shorter}
 use Rattle.model.proofs.Members.{holds-true, not-both, either-true, either-left, either-right, bool-cases, In, in-left, in-right, all-in, all-by, all-implies, in-map, map-in, in-those, has-in, in-has}
-use Rattle.model.proofs.Given.{Sound, from-tests, GoodEntry, span-of, entry-of, numbers, livesAt, enough, used-in, high-used}
+use Rattle.model.proofs.Given.{Readable, old-current, Sound, from-tests, GoodEntry, span-of, entry-of, young-of, numbers, livesAt, enough, used-in, high-used}
 use Rattle.model.proofs.Walks.{Reach, Self, reach-self, seen-reached, IsSeen, reached-under}
 use Rattle.model.proofs.Back.{endsWell}
 use Rattle.model.specs.Climb.{Result, refused, update}
@@ -47,9 +47,9 @@ root-from P v (x ∷ xs) r h a =
     at true here = here
     at false here = h
 
-pub root-is : (P : ℕ → Bool) (v : ℕ) (xs : List Slot) → firstVersion xs ≡ 0 → all (λ (x : Slot). P (x .root)) xs ≡ true → P (rootAt xs v) ≡ true
-root-is P v [] e a = absurd (omega arith)
-root-is P v (x ∷ xs) e a =
+pub root-is : (P : ℕ → Bool) (v old : ℕ) (xs : List Slot) → old ≤ v → firstVersion old xs ≤ old → all (λ (x : Slot). P (x .root)) xs ≡ true → P (rootAt xs v) ≡ true
+root-is P v old [] f e a = absurd (omega arith)
+root-is P v old (x ∷ xs) f e a =
     let (here, rest) = all-cons (λ (y : Slot). P (y .root)) x xs a in
     root-from P v xs _ (subst (λ (b : Bool). P (pick b (x .root) 0) ≡ true) (sym (le-leb (x .version) v (omega arith))) here) rest
 
@@ -87,15 +87,19 @@ module _ (least : ℕ) (two-or-more : 2 ≤ least) (s : Store) (d : Sound least 
     pub level : page ps n .level ≡ suc l
     pub lives : within (page ps n .start) (page ps n .end) v ≡ true
 
-  pub child-of : (v n l : ℕ) (x : Pair) → page ps n .level ≡ suc (suc l) → In x (pairsAt v (page ps n)) → Child v l (x .value)
-  child-of v n l x e i =
+  pub child-of : (v : ℕ) → s .oldest ≤ v → (n l : ℕ) (x : Pair) → page ps n .level ≡ suc (suc l) → In x (pairsAt v (page ps n)) → Child v l (x .value)
+  child-of v from n l x e i =
       let h = shown-by v (page ps n) x i in
       let g = entry-of least s d n (level-used (page ps n) (suc l) e) (h .entry) (h .is-in) in
       let (a, b) = within-of (h .entry .start) (h .entry .end) v (h .live) in
-      subst (λ (z : Pair). Child v l (z .value)) (sym (h .is)) (at (h .entry) a b (either-true (eqb (page ps n .level) 1) _ (g .leads)))
+      subst (λ (z : Pair). Child v l (z .value)) (sym (h .is)) (at (h .entry) a b (either-true (eqb (page ps n .level) 1 || leb (h .entry .end) (s .oldest)) _ (g .leads)))
     where
-      at : (y : Entry) → y .start ≤ v → v < y .end → (eqb (page ps n .level) 1 ≡ true) ⊎ ((inside y (page ps (y .value)) && eqb (suc (page ps (y .value) .level)) (page ps n .level)) ≡ true) → Child v l (y .value)
-      at y a b (inl z) = absurd (omega (arith, eqb-true (page ps n .level) 1 z))
+      at : (y : Entry) → y .start ≤ v → v < y .end → ((eqb (page ps n .level) 1 || leb (y .end) (s .oldest)) ≡ true) ⊎ ((inside y (page ps (y .value)) && eqb (suc (page ps (y .value) .level)) (page ps n .level)) ≡ true) → Child v l (y .value)
+      at y a b (inl z) = absurd (by (either-true (eqb (page ps n .level) 1) (leb (y .end) (s .oldest)) z))
+        where
+          by : (eqb (page ps n .level) 1 ≡ true) ⊎ (leb (y .end) (s .oldest) ≡ true) → ⊥
+          by (inl q) = omega (arith, eqb-true (page ps n .level) 1 q)
+          by (inr q) = omega (arith, leb-true (y .end) (s .oldest) q)
       at y a b (inr z) =
           let (i, f) = both-true (inside y (page ps (y .value))) (eqb (suc (page ps (y .value) .level)) (page ps n .level)) z in
           let (p, q) = both-true (leb (page ps (y .value) .start) (y .start)) (leb (y .end) (page ps (y .value) .end)) i in
@@ -104,43 +108,43 @@ module _ (least : ℕ) (two-or-more : 2 ≤ least) (s : Store) (d : Sound least 
             lives = of-within _ _ v (omega (arith, leb-true (page ps (y .value) .start) (y .start) p)) (omega (arith, leb-true (y .end) (page ps (y .value) .end) q));
           }
 
-  pub levels : (v m l : ℕ) → page ps m .level ≡ suc (suc l)
+  pub levels : (v : ℕ) → s .oldest ≤ v → (m l : ℕ) → page ps m .level ≡ suc (suc l)
       → all (λ (r : Pair). eqb (page ps (r .value) .level) (suc l) && within (page ps (r .value) .start) (page ps (r .value) .end) v) (pairsAt v (page ps m)) ≡ true
-  levels v m l e = all-by _ (pairsAt v (page ps m)) (λ x i. both-intro _ _ (eq-eqb (page ps (x .value) .level) (suc l) (child-of v m l x e i .level)) (child-of v m l x e i .lives))
+  levels v from m l e = all-by _ (pairsAt v (page ps m)) (λ x i. both-intro _ _ (eq-eqb (page ps (x .value) .level) (suc l) (child-of v from m l x e i .level)) (child-of v from m l x e i .lives))
 
   -- the root of a version
   abbrev pub root : ℕ → ℕ
   root v = rootAt (s .slots) v
 
-  pub root-used : (v : ℕ) → isFree (page ps (root v)) ≡ false
-  root-used v = not-true (isFree (page ps (root v))) (root-is (λ (n : ℕ). not (isFree (page ps n))) v (s .slots) (d .begins) (d .root-used))
+  pub root-used : (v : ℕ) → s .oldest ≤ v → isFree (page ps (root v)) ≡ false
+  root-used v from = not-true (isFree (page ps (root v))) (root-is (λ (n : ℕ). not (isFree (page ps n))) v (s .oldest) (s .slots) from (d .begins) (d .root-used))
 
-  pub root-level : (v : ℕ) → page ps (root v) .level ≡ suc (heightOf ps (root v))
-  root-level v = used-level (page ps (root v)) (root-used v)
+  pub root-level : (v : ℕ) → s .oldest ≤ v → page ps (root v) .level ≡ suc (heightOf ps (root v))
+  root-level v from = used-level (page ps (root v)) (root-used v from)
 
   both-all : {A : Type 0} (f g : A → Bool) (xs : List A) → all f xs ≡ true → all g xs ≡ true → all (λ (x : A). f x && g x) xs ≡ true
   both-all f g xs a b = all-by _ xs (λ x i. both-intro _ _ (all-in f x xs a i) (all-in g x xs b i))
 
-  pub holds-all : (v : ℕ) → v ≤ last s → Holds least v (heightOf ps (root v)) ps 0 keyLimit (pairsAt v (page ps (root v))) (settings s v)
-  holds-all v h = root-passes least two-or-more v ps (levels v) (heightOf ps (root v)) (root v) (root-level v) (both-all keysOk (enough least) (seen s v) (d .keys v h) (d .counts v h))
+  pub holds-all : (v : ℕ) → Readable s v → Holds least v (heightOf ps (root v)) ps 0 keyLimit (pairsAt v (page ps (root v))) (settings s v)
+  holds-all v h = root-passes least two-or-more v ps (levels v (h .from)) (heightOf ps (root v)) (root v) (root-level v (h .from)) (both-all keysOk (enough least) (seen s v) (d .keys v h) (d .counts v h))
 
-  pub lives-of : (v : ℕ) → v ≤ last s → (n : ℕ) → 5 ≤ n → n < length ps → (j : ℕ) → Reach ps v (heightOf ps (root v)) (root v) j n → livesAt v (page ps n) ≡ true
+  pub lives-of : (v : ℕ) → Readable s v → (n : ℕ) → 5 ≤ n → n < length ps → (j : ℕ) → Reach ps v (heightOf ps (root v)) (root v) j n → livesAt v (page ps n) ≡ true
   lives-of v h n five inn j r = d .reached v h n five inn ∙ in-has n (numbers s v) (at (reached-under ps v (heightOf ps (root v)) keyLimit (root v) j n r))
     where
       at : Self ps v (heightOf ps (root v)) (root v) j n ⊎ ((x : Seen) × (In x (seenUnder (heightOf ps (root v)) ps v keyLimit (root v))) × (IsSeen ps v j n x)) → In n (numbers s v)
       at (inl z) = inl (z .number)
       at (inr z) = inr (subst (λ (k : ℕ). In k (map (λ (x : Seen). x .number) (seenUnder (heightOf ps (root v)) ps v keyLimit (root v)))) (z .2 .number) (map-in (λ (x : Seen). x .number) (z .0) (seenUnder (heightOf ps (root v)) ps v keyLimit (root v)) (z .1)))
 
-  pub root-lives : (v : ℕ) → v ≤ last s → within (page ps (root v) .start) (page ps (root v) .end) v ≡ true
+  pub root-lives : (v : ℕ) → Readable s v → within (page ps (root v) .start) (page ps (root v) .end) v ≡ true
   root-lives v h =
-      let i = root-is (isPage (length (s .pages))) v (s .slots) (d .begins) (d .roots) in
+      let i = root-is (isPage (length (s .pages))) v (s .oldest) (s .slots) (h .from) (d .begins) (d .roots) in
       let (a, b) = both-true (leb 5 (root v)) (ltb (root v) (length ps)) i in
       both-true (not (isFree (page ps (root v)))) _ (lives-of v h (root v) (leb-true 5 (root v) a) (ltb-true (root v) (length ps) b) (heightOf ps (root v)) (reach-self ps v (heightOf ps (root v)) (root v))) .1
 
-  pub shows-all : (v : ℕ) → v ≤ last s → Shows least v ps (root v) (settings s v)
+  pub shows-all : (v : ℕ) → Readable s v → Shows least v ps (root v) (settings s v)
   shows-all v h = record {
     height = heightOf ps (root v);
-    level = root-level v;
+    level = root-level v (h .from);
     holds = holds-all v h;
     fair = record {
       lives = root-lives v h;
@@ -149,13 +153,13 @@ module _ (least : ℕ) (two-or-more : 2 ≤ least) (s : Store) (d : Sound least 
   }
 
   -- a page with a live entry lives, and so is reached
-  pub lives-by : (v n : ℕ) (e : Entry) → isFree (page ps n) ≡ false → In e (page ps n .entries) → liveAt v e ≡ true → livesAt v (page ps n) ≡ true
-  lives-by v n e u i h =
+  pub lives-by : (v : ℕ) → s .oldest ≤ v → (n : ℕ) (e : Entry) → isFree (page ps n) ≡ false → In e (page ps n .entries) → liveAt v e ≡ true → livesAt v (page ps n) ≡ true
+  lives-by v from n e u i h =
       let g = entry-of least s d n u e i in
       let (a, b) = within-of (e .start) (e .end) v h in
-      both-intro _ _ (ap not u) (of-within _ _ v (omega (arith, g .later)) (omega (arith, g .sooner)))
+      both-intro _ _ (ap not u) (of-within _ _ v (omega (arith, g .later (inr (omega (arith, b))))) (omega (arith, g .sooner (inr (omega (arith, b))))))
 
-  pub reached-of : (v : ℕ) → v ≤ last s → (n : ℕ) → livesAt v (page ps n) ≡ true → (j : ℕ) × (Reach ps v (heightOf ps (root v)) (root v) j n)
+  pub reached-of : (v : ℕ) → Readable s v → (n : ℕ) → livesAt v (page ps n) ≡ true → (j : ℕ) × (Reach ps v (heightOf ps (root v)) (root v) j n)
   reached-of v h n z =
       let u : isFree (page ps n) ≡ false = not-true (isFree (page ps n)) (both-true (not (isFree (page ps n))) _ z .0) in
       let i = has-in n (numbers s v) (sym (d .reached v h n (high-used s n (d .front) u) (used-in ps n u)) ∙ z) in
@@ -164,13 +168,13 @@ module _ (least : ℕ) (two-or-more : 2 ≤ least) (s : Store) (d : Sound least 
       (x .up, subst (λ (k : ℕ). Reach ps v (heightOf ps (root v)) (root v) (x .up) k) (sym e) (o .is-reached))
 
   -- the level of a page that is reached
-  pub reach-level : (v l n j m : ℕ) → page ps n .level ≡ suc l → Reach ps v l n j m → page ps m .level ≡ suc j
-  reach-level v zero n j m e r = ap (λ (k : ℕ). page ps k .level) (r .number) ∙ e ∙ ap suc (sym (r .height))
-  reach-level v (suc l) n j m e (inl r) = ap (λ (k : ℕ). page ps k .level) (r .number) ∙ e ∙ ap suc (sym (r .height))
-  reach-level v (suc l) n j m e (inr r) = reach-level v l (r .router .value) j m (child-of v n l (r .router) e (r .is-in) .level) (r .rest)
+  pub reach-level : (v : ℕ) → s .oldest ≤ v → (l n j m : ℕ) → page ps n .level ≡ suc l → Reach ps v l n j m → page ps m .level ≡ suc j
+  reach-level v from zero n j m e r = ap (λ (k : ℕ). page ps k .level) (r .number) ∙ e ∙ ap suc (sym (r .height))
+  reach-level v from (suc l) n j m e (inl r) = ap (λ (k : ℕ). page ps k .level) (r .number) ∙ e ∙ ap suc (sym (r .height))
+  reach-level v from (suc l) n j m e (inr r) = reach-level v from l (r .router .value) j m (child-of v from n l (r .router) e (r .is-in) .level) (r .rest)
 
   -- how many pairs it has
-  pub count-of : (v : ℕ) → v ≤ last s → (j m : ℕ) → Reach ps v (heightOf ps (root v)) (root v) j m
+  pub count-of : (v : ℕ) → Readable s v → (j m : ℕ) → Reach ps v (heightOf ps (root v)) (root v) j m
       → ((m ≡ root v) × (fewest least true j ≤ length (pairsAt v (page ps m)))) ⊎ (least ≤ length (pairsAt v (page ps m)))
   count-of v h j m r = at (reached-under ps v (heightOf ps (root v)) keyLimit (root v) j m r)
     where
@@ -187,11 +191,11 @@ module _ (least : ℕ) (two-or-more : 2 ≤ least) (s : Store) (d : Sound least 
           let c = leb-true _ _ (all-in (enough least) x (seen s v) counts (inr (z .1))) in
           inr (subst (λ (us : List Pair). least ≤ length us) (z .2 .pairs) (subst (λ (b : Bool). fewest least b (x .up) ≤ length (x .pairs)) (z .2 .root) c))
 
-  pub many-all : (v : ℕ) → v ≤ last s → (m l : ℕ) → page ps m .level ≡ suc (suc l) → Some least v (pairsAt v (page ps m)) → 2 ≤ length (pairsAt v (page ps m))
+  pub many-all : (v : ℕ) → Readable s v → (m l : ℕ) → page ps m .level ≡ suc (suc l) → Some least v (pairsAt v (page ps m)) → 2 ≤ length (pairsAt v (page ps m))
   many-all v h m l e o =
       let x = shown-by v (page ps m) (o .first) (subst (In (o .first)) (sym (o .is)) (inl refl)) in
-      let (j, r) = reached-of v h m (lives-by v m (x .entry) (level-used (page ps m) (suc l) e) (x .is-in) (x .live)) in
-      let up : j ≡ suc l = omega (arith, reach-level v (heightOf ps (root v)) (root v) j m (root-level v) r) in
+      let (j, r) = reached-of v h m (lives-by v (h .from) m (x .entry) (level-used (page ps m) (suc l) e) (x .is-in) (x .live)) in
+      let up : j ≡ suc l = omega (arith, reach-level v (h .from) (heightOf ps (root v)) (root v) j m (root-level v (h .from)) r) in
       at j up (count-of v h j m r)
     where
       at : (j : ℕ) → j ≡ suc l → ((m ≡ root v) × (fewest least true j ≤ length (pairsAt v (page ps m)))) ⊎ (least ≤ length (pairsAt v (page ps m))) → 2 ≤ length (pairsAt v (page ps m))
@@ -225,9 +229,13 @@ module _ (least : ℕ) (two-or-more : 2 ≤ least) (s : Store) (d : Sound least 
     tame-all n = record {
       zeroed = d .zeros n;
       well = every-entry (endsWell w) n (λ e u g. at e (g .span .ends));
-      young = λ a. every-entry (λ (e : Entry). leb w (e .start)) n (λ e u g. le-leb w (e .start) (omega (arith, eqb-true (page ps n .start) w a, g .later)));
+      young = λ a. young a (bool-cases (isFree (page ps n)));
     }
       where
+        young : eqb (page ps n .start) w ≡ true → (isFree (page ps n) ≡ true) ⊎ (isFree (page ps n) ≡ false) → all (λ (e : Entry). leb w (e .start)) (page ps n .entries) ≡ true
+        young a (inl z) = ap (all (λ (e : Entry). leb w (e .start))) (free-entries n z)
+        young a (inr u) = all-by (λ (e : Entry). leb w (e .start)) (page ps n .entries) (λ e i. le-leb w (e .start) (omega (arith, young-of least s d o n u (eqb-true (page ps n .start) w a) e i .starts)))
+
         at : (e : Entry) → (e .end ≤ last s) ⊎ (e .end ≡ alive) → endsWell w e ≡ true
         at e (inl z) = either-left (leb (e .end) w) (eqb (e .end) alive) (le-leb (e .end) w (omega (arith, last-is)))
         at e (inr z) = either-right (leb (e .end) w) (eqb (e .end) alive) (eq-eqb (e .end) alive z)
@@ -252,8 +260,8 @@ module _ (least : ℕ) (two-or-more : 2 ≤ least) (s : Store) (d : Sound least 
         at (inl z) = ap (inOrder (byKey w)) (free-entries n z)
         at (inr u) = by-key (page ps n .entries) (d .pages n u .order)
 
-    now : w ≤ last s
-    now = omega (arith, last-is)
+    now : Readable s w
+    now = record { from = omega (arith, old-current least s (d .old-low)); upto = omega (arith, last-is) }
 
     -- a page that lives at w has no end
     pub endless : (n : ℕ) → isFree (page ps n) ≡ false → within (page ps n .start) (page ps n .end) w ≡ true → page ps n .end ≡ alive
@@ -276,7 +284,7 @@ module _ (least : ℕ) (two-or-more : 2 ≤ least) (s : Store) (d : Sound least 
       beside l lo hi n zs a e f =
           let here = touched-tree least two-or-more w limit ps l (f .low) (f .mid) (f .low) (f .mid) (a .own .value) (f .mine) (omega arith) (omega arith) (f .here) in
           record {
-            own = child-good l _ (child-of w n l (a .own) e (subst (In (a .own)) (sym (f .split)) (in-right (a .own) (f .before) (a .own ∷ f .after) (inl refl))));
+            own = child-good l _ (child-of w (now .from) n l (a .own) e (subst (In (a .own)) (sym (f .split)) (in-right (a .own) (f .before) (a .own ∷ f .after) (inl refl))));
             left = left (a .left) (f .leftIs) here;
             right = right (a .right) (f .rightIs) here;
           }
@@ -284,7 +292,7 @@ module _ (least : ℕ) (two-or-more : 2 ≤ least) (s : Store) (d : Sound least 
           left : (x : Option Pair) → LastIs least w (f .before) x → Touched least w ps (suc l) (f .low) (f .mid) (a .own .value) → Next least (s .current) l ps (a .own .value) x
           left none i t = tt
           left (some x) i t = (
-            child-good l _ (child-of w n l x e (subst (In x) (sym (f .split)) (in-left x (f .before) (a .own ∷ f .after) (subst (In x) (sym (i .1)) (in-right x (i .0) (x ∷ []) (inl refl)))))),
+            child-good l _ (child-of w (now .from) n l x e (subst (In x) (sym (f .split)) (in-left x (f .before) (a .own ∷ f .after) (subst (In x) (sym (i .1)) (in-right x (i .0) (x ∷ []) (inl refl)))))),
             λ (z : x .value ≡ a .own .value).
                 let r = row-split (Tree least w l ps) (f .low) (i .0) (x ∷ []) lo (f .befores) (subst (λ (us : List Pair). Row (Tree least w l ps) (f .low) us lo (f .befores)) (i .1) (f .lefts)) in
                 let q = r .two in
@@ -294,7 +302,7 @@ module _ (least : ℕ) (two-or-more : 2 ≤ least) (s : Store) (d : Sound least 
           right : (x : Option Pair) → HeadIs least w (f .after) x → Touched least w ps (suc l) (f .low) (f .mid) (a .own .value) → Next least (s .current) l ps (a .own .value) x
           right none i t = tt
           right (some x) i t = (
-            child-good l _ (child-of w n l x e (subst (In x) (sym (f .split)) (in-right x (f .before) (a .own ∷ f .after) (inr (subst (In x) (sym (i .1)) (inl refl)))))),
+            child-good l _ (child-of w (now .from) n l x e (subst (In x) (sym (f .split)) (in-right x (f .before) (a .own ∷ f .after) (inr (subst (In x) (sym (i .1)) (inl refl)))))),
             λ (z : x .value ≡ a .own .value).
                 let q = subst (λ (us : List Pair). Row (Tree least w l ps) hi us (f .mid) (f .afters)) (i .1) (f .rights) in
                 apart-tree least two-or-more w limit ps l (f .low) (f .mid) (f .mid) (q .mid) (a .own .value) (x .value) (q .mine) (f .here .level) t (q .here) (inr (omega arith)) (sym z),
@@ -311,8 +319,8 @@ module _ (least : ℕ) (two-or-more : 2 ≤ least) (s : Store) (d : Sound least 
     pub ready : (k : ℕ) → k < keyLimit → Ready least s k
     ready k h = record {
       tame = tame-all;
-      leads = good-down k (heightOf ps (root w)) [] 0 keyLimit (root w) (settings s w) (root-level w) (holds-all w now) (omega arith) h
-          (record { level = root-level w; endless = endless (root w) (root-used w) (root-lives w now) });
+      leads = good-down k (heightOf ps (root w)) [] 0 keyLimit (root w) (settings s w) (root-level w (now .from)) (holds-all w now) (omega arith) h
+          (record { level = root-level w (now .from); endless = endless (root w) (root-used w (now .from)) (root-lives w now) });
     }
 
     few-entries : (n : ℕ) → length (page ps n .entries) ≤ 5 * least

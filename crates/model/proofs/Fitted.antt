@@ -19,24 +19,25 @@ use Rattle.model.proofs.Lists.{both-true, both-intro, all-enter, all-en
 use Rattle.model.proofs.Members.{not-both, either-true, either-left, either-right, bool-cases, In, all-in, all-by, in-map, map-in, in-those, those-in}
 use Rattle.model.proofs.Place.{byKey, shown, show-enter, show-end, born-live}
 use Rattle.model.proofs.Edit.{lt}
-use Rattle.model.proofs.Given.{Span}
+use Rattle.model.proofs.Given.{Span, Spoken, Young}
 
 -- a pair that may stand in a page of a level, in a store of N pages
 abbrev pub kindOk : ℕ → ℕ → Pair → Bool
 kindOk N level x = ltb (x .key) keyLimit && pick (eqb level 1) (ltb (x .value) 4294967296) (leb 5 (x .value) && ltb (x .value) N)
 
-pub record EntryFit (N w : ℕ) (p : Page) (e : Entry) : Type 0 where
+pub record EntryFit (N w old : ℕ) (p : Page) (e : Entry) : Type 0 where
   pub span : Span w (e .start) (e .end)
   pub kind : kindOk N (p .level) (pairOf e) ≡ true
   pub leaf : p .level ≡ 1 → 1 ≤ e .start
-  pub later : p .start ≤ e .start
-  pub sooner : e .end ≤ p .end
+  pub later : Spoken old (p .level) e → p .start ≤ e .start
+  pub sooner : Spoken old (p .level) e → e .end ≤ p .end
+  pub young : p .start ≡ w → Young w e
 
-pub record PageFit (least N w : ℕ) (p : Page) : Type 0 where
+pub record PageFit (least N w old : ℕ) (p : Page) : Type 0 where
   pub few : length (p .entries) ≤ 5 * least
   pub span : Span w (p .start) (p .end)
   pub order : inOrder before (p .entries) ≡ true
-  pub entries : (e : Entry) → In e (p .entries) → EntryFit N w p e
+  pub entries : (e : Entry) → In e (p .entries) → EntryFit N w old p e
 
 -- the order of entries
 abbrev Before : Entry → Entry → Type 0
@@ -252,32 +253,41 @@ module _ (w : ℕ) (lim : w < alive) where
       born-order xs (enter (born w x) es) (enter-order w x es o (λ f i. (h f i .starts, λ same z. n (pairOf f) (map-in pairOf f (those (liveAt w) es) (those-in (liveAt w) f es (h f i .live z) i)) same)))
       (lively-enter x es h) (subst (λ (us : List Pair). inOrder lt (enterAll xs us) ≡ true) (sym e) r)
 
-  module _ (least N : ℕ) (pos : 1 ≤ w) where
-    lively-of : (p : Page) → PageFit least N w p → (e : Entry) → In e (p .entries) → Lively e
+  module _ (least N : ℕ) (pos : 1 ≤ w) (old : ℕ) (low-old : old < w) where
+    lively-of : (p : Page) → PageFit least N w old p → (e : Entry) → In e (p .entries) → Lively e
     lively-of p g e i = record { starts = g .entries e i .span .starts; live = λ z. both-intro _ _ (le-leb (e .start) w (omega arith)) (lt-ltb w (e .end) (omega (arith, g .entries e i .span .some))) }
 
+    -- one alive at w has not ended by the oldest version
+    late-live : (e : Entry) → liveAt w e ≡ true → old < e .end
+    late-live e h = omega (arith, ltb-true w (e .end) (both-true (leb (e .start) w) (ltb w (e .end)) h .1))
+
     -- an entry ended at w
-    ended-fit : (p q : Page) (e : Entry) → q .level ≡ p .level → q .start ≡ p .start → w ≤ q .end → e .start ≢ w → EntryFit N w p e → EntryFit N w q (endedAt w e)
-    ended-fit p q e l s h n g = record {
+    ended-fit : (p q : Page) (e : Entry) → q .level ≡ p .level → q .start ≡ p .start → w ≤ q .end → e .start ≢ w → (Spoken old (p .level) e) → EntryFit N w old p e → EntryFit N w old q (endedAt w e)
+    ended-fit p q e l s h n k g = record {
       span = record { starts = g .span .starts; ends = inl (omega arith); some = less (g .span .starts) };
       kind = subst (λ (k : ℕ). kindOk N k (pairOf e) ≡ true) (sym l) (g .kind);
       leaf = λ z. g .leaf (sym l ∙ z);
-      later = omega (arith, g .later);
-      sooner = h;
+      later = λ _. omega (arith, g .later k);
+      sooner = λ _. h;
+      young = λ z. absurd (n (g .young (sym s ∙ z) .starts));
     }
       where
         less : e .start ≤ w → e .start < w
         less a = omega arith
 
-    stay-fit : (p q : Page) (e : Entry) → q .level ≡ p .level → q .start ≡ p .start → e .end ≤ q .end → EntryFit N w p e → EntryFit N w q e
-    stay-fit p q e l s h g = record { span = g .span; kind = subst (λ (k : ℕ). kindOk N k (pairOf e) ≡ true) (sym l) (g .kind); leaf = λ z. g .leaf (sym l ∙ z); later = omega (arith, g .later); sooner = h }
+    stay-fit : (p q : Page) (e : Entry) → q .level ≡ p .level → q .start ≡ p .start → (Spoken old (p .level) e → e .end ≤ q .end) → EntryFit N w old p e → EntryFit N w old q e
+    stay-fit p q e l s h g = record { span = g .span; kind = subst (λ (k : ℕ). kindOk N k (pairOf e) ≡ true) (sym l) (g .kind); leaf = λ z. g .leaf (sym l ∙ z); later = λ z. omega (arith, g .later (spoken-at l z)); sooner = λ z. h (spoken-at l z); young = λ z. g .young (sym s ∙ z) }
+      where
+        spoken-at : q .level ≡ p .level → Spoken old (q .level) e → Spoken old (p .level) e
+        spoken-at l (inl z) = inl (sym l ∙ z)
+        spoken-at l (inr z) = inr z
 
-    born-fit : (q : Page) (x : Pair) → q .start ≤ w → alive ≤ q .end → kindOk N (q .level) x ≡ true → EntryFit N w q (born w x)
-    born-fit q x s h k = record { span = record { starts = omega arith; ends = inr refl; some = lim }; kind = k; leaf = λ _. pos; later = s; sooner = h }
+    born-fit : (q : Page) (x : Pair) → q .start ≤ w → alive ≤ q .end → kindOk N (q .level) x ≡ true → EntryFit N w old q (born w x)
+    born-fit q x s h k = record { span = record { starts = omega arith; ends = inr refl; some = lim }; kind = k; leaf = λ _. pos; later = λ _. s; sooner = λ _. h; young = λ _. record { starts = refl; endless = refl } }
 
     -- a change in place
-    pub changed-fit : (c : Change) (p : Page) → PageFit least N w p → p .end ≡ alive → length (changed w c p .entries) ≤ 5 * least → all (kindOk N (p .level)) (c .take) ≡ true
-        → inOrder lt (wanted w c p) ≡ true → PageFit least N w (changed w c p)
+    pub changed-fit : (c : Change) (p : Page) → PageFit least N w old p → p .end ≡ alive → length (changed w c p .entries) ≤ 5 * least → all (kindOk N (p .level)) (c .take) ≡ true
+        → inOrder lt (wanted w c p) ≡ true → PageFit least N w old (changed w c p)
     changed-fit c p g h few kinds rise = record {
       few = few;
       span = g .span;
@@ -289,25 +299,25 @@ module _ (w : ℕ) (lim : w < alive) where
         drop : Entry → Bool
         drop e = liveAt w e && has (e .key) (c .drop)
 
-        old : (e : Entry) → In e (endThose drop w (p .entries)) → EntryFit N w (changed w c p) e
-        old e′ i = by (in-end drop w e′ (p .entries) i)
+        stood : (e : Entry) → In e (endThose drop w (p .entries)) → EntryFit N w old (changed w c p) e
+        stood e′ i = by (in-end drop w e′ (p .entries) i)
           where
-            by : (e : Entry) × (In e (p .entries)) × (Since drop w e′ e) → EntryFit N w (changed w c p) e′
+            by : (e : Entry) × (In e (p .entries)) × (Since drop w e′ e) → EntryFit N w old (changed w c p) e′
             by (e, j, z) = from z
               where
-                from : Since drop w e′ e → EntryFit N w (changed w c p) e′
-                from (stayed q y) = subst (EntryFit N w (changed w c p)) (sym q) (stay-fit p (changed w c p) e refl refl (g .entries e j .sooner) (g .entries e j))
-                from (ended q y n) = subst (EntryFit N w (changed w c p)) (sym q) (ended-fit p (changed w c p) e refl refl (omega arith) n (g .entries e j))
+                from : Since drop w e′ e → EntryFit N w old (changed w c p) e′
+                from (stayed q y) = subst (EntryFit N w old (changed w c p)) (sym q) (stay-fit p (changed w c p) e refl refl (g .entries e j .sooner) (g .entries e j))
+                from (ended q y n) = subst (EntryFit N w old (changed w c p)) (sym q) (ended-fit p (changed w c p) e refl refl (omega arith) n (inr (late-live e (both-true (liveAt w e) _ y .0))) (g .entries e j))
 
         lively : (e : Entry) → In e (endThose drop w (p .entries)) → Lively e
-        lively e i = let f = old e i in record { starts = f .span .starts; live = λ z. both-intro _ _ (le-leb (e .start) w (omega arith)) (lt-ltb w (e .end) (omega (arith, f .span .some))) }
+        lively e i = let f = stood e i in record { starts = f .span .starts; live = λ z. both-intro _ _ (le-leb (e .start) w (omega arith)) (lt-ltb w (e .end) (omega (arith, f .span .some))) }
 
-        at : (e : Entry) → ((x : Pair) × (In x (c .take)) × (e ≡ born w x)) ⊎ In e (endThose drop w (p .entries)) → EntryFit N w (changed w c p) e
-        at e (inl z) = subst (EntryFit N w (changed w c p)) (sym (z .2)) (born-fit (changed w c p) (z .0) (g .span .starts) (omega arith) (all-in (kindOk N (p .level)) (z .0) (c .take) kinds (z .1)))
-        at e (inr z) = old e z
+        at : (e : Entry) → ((x : Pair) × (In x (c .take)) × (e ≡ born w x)) ⊎ In e (endThose drop w (p .entries)) → EntryFit N w old (changed w c p) e
+        at e (inl z) = subst (EntryFit N w old (changed w c p)) (sym (z .2)) (born-fit (changed w c p) (z .0) (g .span .starts) (omega arith) (all-in (kindOk N (p .level)) (z .0) (c .take) kinds (z .1)))
+        at e (inr z) = stood e z
 
     -- a page killed
-    pub killed-fit : (p : Page) → PageFit least N w p → p .start < w → PageFit least N w (killed w p)
+    pub killed-fit : (p : Page) → PageFit least N w old p → p .start < w → PageFit least N w old (killed w p)
     killed-fit p g h = record {
       few = omega (arith, g .few, shorter (liveAt w) w (p .entries));
       span = record { starts = omega arith; ends = inl (omega arith); some = h };
@@ -315,16 +325,16 @@ module _ (w : ℕ) (lim : w < alive) where
       entries = λ e i. by e (in-end (liveAt w) w e (p .entries) i);
     }
       where
-        by : (e′ : Entry) → (e : Entry) × (In e (p .entries)) × (Since (liveAt w) w e′ e) → EntryFit N w (killed w p) e′
+        by : (e′ : Entry) → (e : Entry) × (In e (p .entries)) × (Since (liveAt w) w e′ e) → EntryFit N w old (killed w p) e′
         by e′ (e, j, z) = from z
           where
-            from : Since (liveAt w) w e′ e → EntryFit N w (killed w p) e′
-            from (stayed q y) = subst (EntryFit N w (killed w p)) (sym q) (stay-fit p (killed w p) e refl refl (dead (bool-cases (ltb w (e .end)))) (g .entries e j))
+            from : Since (liveAt w) w e′ e → EntryFit N w old (killed w p) e′
+            from (stayed q y) = subst (EntryFit N w old (killed w p)) (sym q) (stay-fit p (killed w p) e refl refl (λ _. dead (bool-cases (ltb w (e .end)))) (g .entries e j))
               where
                 dead : (ltb w (e .end) ≡ true) ⊎ (ltb w (e .end) ≡ false) → e .end ≤ w
                 dead (inl k) = absurd (not-both (liveAt w e) (both-intro _ _ (le-leb (e .start) w (g .entries e j .span .starts)) k) y)
                 dead (inr k) = ltb-false w (e .end) k
-            from (ended q y n) = subst (EntryFit N w (killed w p)) (sym q) (ended-fit p (killed w p) e refl refl (omega arith) n (g .entries e j))
+            from (ended q y n) = subst (EntryFit N w old (killed w p)) (sym q) (ended-fit p (killed w p) e refl refl (omega arith) n (inr (late-live e y)) (g .entries e j))
 
     -- a page filled
     filled-order : (xs : List Pair) → inOrder lt xs ≡ true → inOrder before (map (born w) xs) ≡ true
@@ -340,7 +350,7 @@ module _ (w : ℕ) (lim : w < alive) where
     length-map [] = refl
     length-map (x ∷ xs) = ap suc (length-map xs)
 
-    pub filled-fit : (level : ℕ) (xs : List Pair) → length xs ≤ 5 * least → inOrder lt xs ≡ true → all (kindOk N level) xs ≡ true → PageFit least N w (filled w level xs)
+    pub filled-fit : (level : ℕ) (xs : List Pair) → length xs ≤ 5 * least → inOrder lt xs ≡ true → all (kindOk N level) xs ≡ true → PageFit least N w old (filled w level xs)
     filled-fit level xs few o kinds = record {
       few = omega (arith, length-map xs);
       span = record { starts = omega arith; ends = inr refl; some = lim };
@@ -348,17 +358,17 @@ module _ (w : ℕ) (lim : w < alive) where
       entries = λ e i. at e (in-map (born w) e xs i);
     }
       where
-        at : (e : Entry) → (x : Pair) × (In x xs) × (e ≡ born w x) → EntryFit N w (filled w level xs) e
-        at e z = subst (EntryFit N w (filled w level xs)) (sym (z .2)) (born-fit (filled w level xs) (z .0) (omega arith) (omega arith) (all-in (kindOk N level) (z .0) xs kinds (z .1)))
+        at : (e : Entry) → (x : Pair) × (In x xs) × (e ≡ born w x) → EntryFit N w old (filled w level xs) e
+        at e z = subst (EntryFit N w old (filled w level xs)) (sym (z .2)) (born-fit (filled w level xs) (z .0) (omega arith) (omega arith) (all-in (kindOk N level) (z .0) xs kinds (z .1)))
 
     -- the pairs that a page shows fit its level
-    pub shown-kinds : (p : Page) → PageFit least N w p → all (kindOk N (p .level)) (pairsAt w p) ≡ true
+    pub shown-kinds : (p : Page) → PageFit least N w old p → all (kindOk N (p .level)) (pairsAt w p) ≡ true
     shown-kinds p g = all-by (kindOk N (p .level)) (pairsAt w p) (λ x i. at x (in-map pairOf x (those (liveAt w) (p .entries)) i))
       where
         at : (x : Pair) → (e : Entry) × (In e (those (liveAt w) (p .entries))) × (x ≡ pairOf e) → kindOk N (p .level) x ≡ true
         at x z = subst (λ (y : Pair). kindOk N (p .level) y ≡ true) (sym (z .2)) (g .entries (z .0) (in-those (liveAt w) (z .0) (p .entries) (z .1) .1) .kind)
 
-    pub wanted-kinds : (c : Change) (p : Page) → PageFit least N w p → all (kindOk N (p .level)) (c .take) ≡ true → all (kindOk N (p .level)) (wanted w c p) ≡ true
+    pub wanted-kinds : (c : Change) (p : Page) → PageFit least N w old p → all (kindOk N (p .level)) (c .take) ≡ true → all (kindOk N (p .level)) (wanted w c p) ≡ true
     wanted-kinds c p g t = all-by (kindOk N (p .level)) (wanted w c p) (λ x i. at x (enterAll-in (c .take) x _ i))
       where
         at : (x : Pair) → In x (c .take) ⊎ In x (those (λ (y : Pair). not (has (y .key) (c .drop))) (pairsAt w p)) → kindOk N (p .level) x ≡ true

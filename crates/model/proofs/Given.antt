@@ -9,7 +9,7 @@ use mathlib.Core.List.{List, [], _∷_, map}
 use lib.Dec.{leb, ltb, eqb}
 use lib.ListN.{length, take, drop, length-drop, List·getD-eq-default}
 use lib.Seq.{getD-drop, getD-take, length-take-le}
-use borrow.Author.Tests.{leb-true, ltb-true, eqb-true, le-leb, lt-ltb, eq-eqb, not-true, ltb-false}
+use borrow.Author.Tests.{leb-true, ltb-true, eqb-true, le-leb, lt-ltb, eq-eqb, not-true, ltb-false, le-ltb, lt-leb, leb-false}
 use Rattle.model.specs.Basic.{all, has, isEmpty, pick, inOrder}
 use Rattle.model.specs.declared.Entry.{Entry}
 use Rattle.model.specs.Entry.{alive, within, before}
@@ -17,9 +17,30 @@ use Rattle.model.specs.Page.{Page, free, isFree}
 use Rattle.model.specs.declared.Slot.{Slot}
 use Rattle.model.specs.Store.{Store, page, next, lastOf, last}
 use Rattle.model.specs.Walk.{Seen, seen, keyLimit}
-use Rattle.model.specs.Sound.{pagesPass, isPage, spanOk, entryOk, pageOk, zeroed, pageFine, firstVersion, inside, leadsWell, versions, keysOk, fewest, same, reachedWell, sound, rule1, rule2, rule3, rule4, rule5, rule6, rule7}
+use Rattle.model.specs.Sound.{pagesPass, isPage, spanOk, entryOk, pageOk, zeroed, pageFine, firstVersion, inside, leadsWell, skipped, liesWell, versions, keysOk, fewest, same, reachedWell, sound, rule1, rule2, rule3, rule4, rule5, rule6, rule7}
+use Rattle.model.specs.Calls.{beyond, unreadable}
 use Rattle.model.proofs.Lists.{both-true, both-intro}
-use Rattle.model.proofs.Members.{not-both, either-true, either-left, either-right, bool-cases, In, all-in, all-by, all-at, all-places, in-count, count-in}
+use Rattle.model.proofs.Members.{not-both, neither, either-true, either-left, either-right, bool-cases, In, all-in, all-by, all-at, all-places, in-count, count-in}
+
+-- the versions that rules 4 to 6 speak of
+pub record Readable (s : Store) (v : ℕ) : Type 0 where
+  pub from : s .oldest ≤ v
+  pub upto : v ≤ last s
+
+-- the committed ones among them
+pub record Kept (s : Store) (v : ℕ) : Type 0 where
+  pub from : s .oldest ≤ v
+  pub upto : v ≤ s .current
+
+-- none of them gives 6
+pub readable-of : (s : Store) (v : ℕ) → unreadable s v ≡ false → Readable s v
+readable-of s v e = let (a, b) = neither (ltb (last s) v) (ltb v (s .oldest)) e in record { from = ltb-false v (s .oldest) b; upto = ltb-false (last s) v a }
+
+pub of-readable : (s : Store) (v : ℕ) → Readable s v → unreadable s v ≡ false
+of-readable s v r = rw (le-ltb (last s) v (r .upto), le-ltb v (s .oldest) (r .from)) refl
+
+pub kept-of : (s : Store) (v : ℕ) → beyond (s .current) (s .oldest) v ≡ false → Kept s v
+kept-of s v e = let (a, b) = neither (ltb (s .current) v) (ltb v (s .oldest)) e in record { from = ltb-false v (s .oldest) b; upto = ltb-false (s .current) v a }
 
 -- a used page as rule 1 has it
 pub record GoodPage (least : ℕ) (s : Store) (p : Page) : Type 0 where
@@ -30,7 +51,7 @@ pub record GoodPage (least : ℕ) (s : Store) (p : Page) : Type 0 where
   pub entries : all (entryOk (last s) (length (s .pages)) (p .level)) (p .entries) ≡ true
 
 abbrev pub spansWell : Store → Page → Bool
-spansWell s p = all (λ (e : Entry). inside e p && leadsWell s p e) (p .entries)
+spansWell s p = all (liesWell s p) (p .entries)
 
 abbrev pub numbers : Store → ℕ → List ℕ
 numbers s v = map (λ (x : Seen). x .number) (seen s v)
@@ -51,13 +72,15 @@ pub record Front (least : ℕ) (s : Store) : Type 0 where
   pub front : (n : ℕ) → n < 5 → isFree (page (s .pages) n) ≡ true
   pub zeros : (n : ℕ) → isFree (page (s .pages) n) ≡ true → page (s .pages) n ≡ free
   pub pages : (n : ℕ) → isFree (page (s .pages) n) ≡ false → GoodPage least s (page (s .pages) n)
-  pub begins : firstVersion (s .slots) ≡ 0
+  pub old-low : s .oldest ≤ pick (leb least 4) 0 (s .current)
+  pub begins : firstVersion (s .oldest) (s .slots) ≤ s .oldest
+  pub newer : all (λ (x : Slot). ltb (s .oldest) (x .version)) (drop 1 (s .slots)) ≡ true
   pub rises : inOrder (λ (x y : Slot). ltb (x .version) (y .version)) (s .slots) ≡ true
   pub upto : all (λ (x : Slot). leb (x .version) (last s)) (s .slots) ≡ true
   pub spans : (n : ℕ) → isFree (page (s .pages) n) ≡ false → spansWell s (page (s .pages) n) ≡ true
   pub root-used : all (λ (x : Slot). not (isFree (page (s .pages) (x .root)))) (s .slots) ≡ true
 
--- rules 1 to 6; rule 7 follows
+-- rules 1 to 7
 pub record Sound (least : ℕ) (s : Store) : Type 0 where
   pub long : 6 ≤ length (s .pages)
   pub short : length (s .pages) ≤ 4096
@@ -67,14 +90,17 @@ pub record Sound (least : ℕ) (s : Store) : Type 0 where
   pub front : (n : ℕ) → n < 5 → isFree (page (s .pages) n) ≡ true
   pub zeros : (n : ℕ) → isFree (page (s .pages) n) ≡ true → page (s .pages) n ≡ free
   pub pages : (n : ℕ) → isFree (page (s .pages) n) ≡ false → GoodPage least s (page (s .pages) n)
-  pub begins : firstVersion (s .slots) ≡ 0
+  pub old-low : s .oldest ≤ pick (leb least 4) 0 (s .current)
+  pub begins : firstVersion (s .oldest) (s .slots) ≤ s .oldest
+  pub newer : all (λ (x : Slot). ltb (s .oldest) (x .version)) (drop 1 (s .slots)) ≡ true
   pub rises : inOrder (λ (x y : Slot). ltb (x .version) (y .version)) (s .slots) ≡ true
   pub upto : all (λ (x : Slot). leb (x .version) (last s)) (s .slots) ≡ true
   pub spans : (n : ℕ) → isFree (page (s .pages) n) ≡ false → spansWell s (page (s .pages) n) ≡ true
   pub root-used : all (λ (x : Slot). not (isFree (page (s .pages) (x .root)))) (s .slots) ≡ true
-  pub keys : (v : ℕ) → v ≤ last s → all keysOk (seen s v) ≡ true
-  pub counts : (v : ℕ) → v ≤ last s → all (enough least) (seen s v) ≡ true
-  pub reached : (v : ℕ) → v ≤ last s → (n : ℕ) → 5 ≤ n → n < length (s .pages) → livesAt v (page (s .pages) n) ≡ has n (numbers s v)
+  pub keys : (v : ℕ) → Readable s v → all keysOk (seen s v) ≡ true
+  pub counts : (v : ℕ) → Readable s v → all (enough least) (seen s v) ≡ true
+  pub reached : (v : ℕ) → Readable s v → (n : ℕ) → 5 ≤ n → n < length (s .pages) → livesAt v (page (s .pages) n) ≡ has n (numbers s v)
+  pub young : rule7 s ≡ true
 
 same-eq : (a b : Bool) → same a b ≡ true → a ≡ b
 same-eq true b e = sym e
@@ -189,8 +215,26 @@ to-fine least l size p h g = at (bool-cases (isFree p))
     at (inl e) = ap (pageFine least l size) (h e)
     at (inr e) = subst (λ (b : Bool). pick b (zeroed p) (pageOk least l size p) ≡ true) (sym e) (g e)
 
-pub version-in : (s : Store) (v : ℕ) → v ≤ last s → In v (versions s)
-version-in s v h = in-count v 0 (suc (last s)) (omega arith) (omega arith)
+pub version-in : (s : Store) (v : ℕ) → Readable s v → In v (versions s)
+version-in s v h = in-count v (s .oldest) (suc (last s) - s .oldest) (h .from) (omega (arith, h .from, h .upto))
+
+pub in-version : (s : Store) (v : ℕ) → In v (versions s) → Readable s v
+in-version s v i = let (a, b) = count-in v (s .oldest) (suc (last s) - s .oldest) i in record { from = a; upto = omega arith }
+
+-- the oldest version is committed
+pub old-current : (least : ℕ) (s : Store) → s .oldest ≤ pick (leb least 4) 0 (s .current) → s .oldest ≤ s .current
+old-current least s h = at (leb least 4) h
+  where
+    at : (b : Bool) → s .oldest ≤ pick b 0 (s .current) → s .oldest ≤ s .current
+    at true z = omega arith
+    at false z = z
+
+pub old-last : (least : ℕ) (s : Store) → s .oldest ≤ pick (leb least 4) 0 (s .current) → s .oldest ≤ last s
+old-last least s h = at (s .opened) (old-current least s h)
+  where
+    at : (b : Bool) → s .oldest ≤ s .current → s .oldest ≤ lastOf b (s .current)
+    at true z = omega arith
+    at false z = z
 
 -- From the tests to the records.
 module _ (least : ℕ) (s : Store) where
@@ -221,15 +265,19 @@ module _ (least : ℕ) (s : Store) where
       let low : Bool = leb (last s) 1048574 in
       let roots : Bool = all (λ (x : Slot). isPage (length (s .pages)) (x .root)) (s .slots) in
       let front : Bool = all (λ (p : Page). isFree p && zeroed p) (take 5 (s .pages)) in
-      let (a5, pass) = both-true (long && short && few && low && roots && front) (all (pageFine least (last s) (length (s .pages))) (drop 5 (s .pages))) r1 in
-      let (a4, fr) = both-true (long && short && few && low && roots) front a5 in
-      let (a3, ro) = both-true (long && short && few && low) roots a4 in
+      let kept : Bool = leb (s .oldest) (pick (leb least 4) 0 (s .current)) in
+      let (a6, pass) = both-true (long && short && few && low && kept && roots && front) (all (pageFine least (last s) (length (s .pages))) (drop 5 (s .pages))) r1 in
+      let (a5, fr) = both-true (long && short && few && low && kept && roots) front a6 in
+      let (a4, ro) = both-true (long && short && few && low && kept) roots a5 in
+      let (a3, ol) = both-true (long && short && few && low) kept a4 in
       let (a2, lo) = both-true (long && short && few) low a3 in
       let (a1, fe) = both-true (long && short) few a2 in
       let (lg, sh) = both-true long short a1 in
-      let first : Bool = eqb (firstVersion (s .slots)) 0 in
+      let first : Bool = leb (firstVersion (s .oldest) (s .slots)) (s .oldest) in
       let rising : Bool = inOrder (λ (x y : Slot). ltb (x .version) (y .version)) (s .slots) in
-      let (b1, up) = both-true (first && rising) (all (λ (x : Slot). leb (x .version) (last s)) (s .slots)) r2 in
+      let atMost : Bool = all (λ (x : Slot). leb (x .version) (last s)) (s .slots) in
+      let (b2, ne) = both-true (first && rising && atMost) (all (λ (x : Slot). ltb (s .oldest) (x .version)) (drop 1 (s .slots))) r2 in
+      let (b1, up) = both-true (first && rising) atMost b2 in
       let (fi, ri) = both-true first rising b1 in
       let (sp, us) = both-true (pagesPass (spansWell s) s) (all (λ (x : Slot). not (isFree (page (s .pages) (x .root)))) (s .slots)) r3 in
       let long-enough : 6 ≤ length (s .pages) = leb-true 6 (length (s .pages)) lg in
@@ -245,7 +293,9 @@ module _ (least : ℕ) (s : Store) where
         zeros = λ n e. at-zero n e (bool-cases (ltb n 5)) (bool-cases (ltb n (length (s .pages)))) (front-at (s .pages) fr long-enough) pass;
         pages = λ n u. good-page least s (page (s .pages) n)
             (fine-used least (last s) (length (s .pages)) (page (s .pages) n) (fine-at n (high-used s n fronts u) (used-in (s .pages) n u) pass) u);
-        begins = eqb-true (firstVersion (s .slots)) 0 fi;
+        old-low = leb-true (s .oldest) (pick (leb least 4) 0 (s .current)) ol;
+        begins = leb-true (firstVersion (s .oldest) (s .slots)) (s .oldest) fi;
+        newer = ne;
         rises = ri;
         upto = up;
         spans = λ n u. passes-at (spansWell s) s sp fronts n u;
@@ -271,7 +321,9 @@ module _ (least : ℕ) (s : Store) where
         front = f .front;
         zeros = f .zeros;
         pages = f .pages;
+        old-low = f .old-low;
         begins = f .begins;
+        newer = f .newer;
         rises = f .rises;
         upto = f .upto;
         spans = f .spans;
@@ -283,6 +335,7 @@ module _ (least : ℕ) (s : Store) where
             ap (livesAt v) (ap (page (s .pages)) (back n five) ∙ sym (getD-drop 5 (s .pages) (n - 5) free))
             ∙ reached-at v (numbers s v) 5 (drop 5 (s .pages)) q (n - 5) (omega (arith, length-drop 5 (s .pages)))
             ∙ ap (λ (k : ℕ). has k (numbers s v)) (sym (back n five));
+        young = r7;
       }
 
 -- a span as rule 1 has it
@@ -308,75 +361,132 @@ of-span l a b h = both-intro _ _ (both-intro _ _ (le-leb a l (h .starts)) (at (h
     at (inl e) = either-left (leb b l) (eqb b alive) (le-leb b l e)
     at (inr e) = either-right (leb b l) (eqb b alive) (eq-eqb b alive e)
 
+-- what rule 3 speaks of: a setting, or a router that has not ended by the oldest version
+abbrev pub Spoken : ℕ → ℕ → Entry → Type 0
+Spoken old level e = (level ≡ 1) ⊎ (old < e .end)
+
+-- a router that it speaks of leads well
+abbrev pub leadsIfSpoken : Store → Page → Entry → Bool
+leadsIfSpoken s p e = (eqb (p .level) 1 || leb (e .end) (s .oldest)) || (inside e (page (s .pages) (e .value)) && eqb (suc (page (s .pages) (e .value) .level)) (p .level))
+
 -- an entry of a page as rules 1 and 3 have it
 pub record GoodEntry (s : Store) (p : Page) (e : Entry) : Type 0 where
   pub span : Span (last s) (e .start) (e .end)
   pub key : e .key < keyLimit
   pub kind : pick (eqb (p .level) 1) (leb 1 (e .start) && ltb (e .value) 4294967296) (isPage (length (s .pages)) (e .value)) ≡ true
-  pub later : p .start ≤ e .start
-  pub sooner : e .end ≤ p .end
-  pub leads : leadsWell s p e ≡ true
+  pub later : Spoken (s .oldest) (p .level) e → p .start ≤ e .start
+  pub sooner : Spoken (s .oldest) (p .level) e → e .end ≤ p .end
+  pub leads : leadsIfSpoken s p e ≡ true
 
-pub entry-ok : (s : Store) (p : Page) (e : Entry) → entryOk (last s) (length (s .pages)) (p .level) e ≡ true → (inside e p && leadsWell s p e) ≡ true → GoodEntry s p e
+pub entry-ok : (s : Store) (p : Page) (e : Entry) → entryOk (last s) (length (s .pages)) (p .level) e ≡ true → liesWell s p e ≡ true → GoodEntry s p e
 entry-ok s p e h g =
     let kind : Bool = pick (eqb (p .level) 1) (leb 1 (e .start) && ltb (e .value) 4294967296) (isPage (length (s .pages)) (e .value)) in
     let (a, k) = both-true (spanOk (last s) (e .start) (e .end) && ltb (e .key) keyLimit) kind h in
     let (b, c) = both-true (spanOk (last s) (e .start) (e .end)) (ltb (e .key) keyLimit) a in
-    let (i, l) = both-true (inside e p) (leadsWell s p e) g in
-    let (x, y) = both-true (leb (p .start) (e .start)) (leb (e .end) (p .end)) i in
-    record { span = span-of (last s) (e .start) (e .end) b; key = ltb-true (e .key) keyLimit c; kind = k; later = leb-true (p .start) (e .start) x; sooner = leb-true (e .end) (p .end) y; leads = l }
+    record {
+      span = span-of (last s) (e .start) (e .end) b;
+      key = ltb-true (e .key) keyLimit c;
+      kind = k;
+      later = λ z. leb-true (p .start) (e .start) (both-true (leb (p .start) (e .start)) (leb (e .end) (p .end)) (in-page z) .0);
+      sooner = λ z. leb-true (e .end) (p .end) (both-true (leb (p .start) (e .start)) (leb (e .end) (p .end)) (in-page z) .1);
+      leads = led (eqb (p .level) 1) (leb (e .end) (s .oldest)) g;
+    }
+  where
+    down : Bool
+    down = inside e (page (s .pages) (e .value)) && eqb (suc (page (s .pages) (e .value) .level)) (p .level)
 
-pub ok-entry : (s : Store) (p : Page) (e : Entry) → GoodEntry s p e → (entryOk (last s) (length (s .pages)) (p .level) e ≡ true) × ((inside e p && leadsWell s p e) ≡ true)
+    led : (a b : Bool) → ((not a && b) || (inside e p && (a || down))) ≡ true → ((a || b) || down) ≡ true
+    led true b z = refl
+    led false true z = refl
+    led false false z = both-true (inside e p) down z .1
+
+    asked : (a b : Bool) → (a ≡ true) ⊎ (b ≡ false) → ((not a && b) || (inside e p && (a || down))) ≡ true → inside e p ≡ true
+    asked true b q z = both-true (inside e p) true z .0
+    asked false false q z = both-true (inside e p) down z .0
+    asked false true (inl q) z = absurd (not-both true refl (sym q))
+    asked false true (inr q) z = absurd (not-both true refl q)
+
+    in-page : Spoken (s .oldest) (p .level) e → inside e p ≡ true
+    in-page (inl z) = asked (eqb (p .level) 1) (leb (e .end) (s .oldest)) (inl (eq-eqb (p .level) 1 z)) g
+    in-page (inr z) = asked (eqb (p .level) 1) (leb (e .end) (s .oldest)) (inr (lt-leb (e .end) (s .oldest) z)) g
+
+pub ok-entry : (s : Store) (p : Page) (e : Entry) → GoodEntry s p e → (entryOk (last s) (length (s .pages)) (p .level) e ≡ true) × (liesWell s p e ≡ true)
 ok-entry s p e g = (
   both-intro _ _ (both-intro _ _ (of-span (last s) (e .start) (e .end) (g .span)) (lt-ltb (e .key) keyLimit (g .key))) (g .kind),
-  both-intro _ _ (both-intro _ _ (le-leb (p .start) (e .start) (g .later)) (le-leb (e .end) (p .end) (g .sooner))) (g .leads),
+  at (eqb (p .level) 1) refl (leb (e .end) (s .oldest)) refl (g .leads),
 )
+  where
+    down : Bool
+    down = inside e (page (s .pages) (e .value)) && eqb (suc (page (s .pages) (e .value) .level)) (p .level)
+
+    in-page : Spoken (s .oldest) (p .level) e → inside e p ≡ true
+    in-page z = both-intro _ _ (le-leb (p .start) (e .start) (g .later z)) (le-leb (e .end) (p .end) (g .sooner z))
+
+    at : (a : Bool) → eqb (p .level) 1 ≡ a → (b : Bool) → leb (e .end) (s .oldest) ≡ b → ((a || b) || down) ≡ true → ((not a && b) || (inside e p && (a || down))) ≡ true
+    at true x b y z = both-intro _ _ (in-page (inl (eqb-true (p .level) 1 x))) refl
+    at false x true y z = refl
+    at false x false y z = both-intro _ _ (in-page (inr (leb-false (e .end) (s .oldest) y))) z
 
 pub entry-of : (least : ℕ) (s : Store) → Sound least s → (n : ℕ) → isFree (page (s .pages) n) ≡ false → (e : Entry) → In e (page (s .pages) n .entries) → GoodEntry s (page (s .pages) n) e
 entry-of least s d n u e i =
     entry-ok s (page (s .pages) n) e (all-in (entryOk (last s) (length (s .pages)) ((page (s .pages) n) .level)) e (page (s .pages) n .entries) (d .pages n u .entries) i)
-    (all-in (λ (x : Entry). inside x (page (s .pages) n) && leadsWell s (page (s .pages) n) x) e (page (s .pages) n .entries) (d .spans n u) i)
+    (all-in (liesWell s (page (s .pages) n)) e (page (s .pages) n .entries) (d .spans n u) i)
 
 open-last : (s : Store) → s .opened ≡ true → last s ≡ next s
 open-last s o = ap (λ (b : Bool). lastOf b (s .current)) o
 
--- rule 7 follows from rules 1 and 3
-pub seventh : (least : ℕ) (s : Store) → Sound least s → rule7 s ≡ true
-unfolding rule7
-seventh least s d = at (bool-cases (s .opened))
-  where
-    f : Page → Bool
-    f p = not (eqb (p .start) (next s)) || all (λ (e : Entry). eqb (e .start) (next s) && eqb (e .end) alive) (p .entries)
+-- an entry of a page that starts at the open version, as rule 7 has it
+pub record Young (w : ℕ) (e : Entry) : Type 0 where
+  pub starts : e .start ≡ w
+  pub endless : e .end ≡ alive
 
-    by : s .opened ≡ true → (n : ℕ) → isFree (page (s .pages) n) ≡ false → (eqb (page (s .pages) n .start) (next s) ≡ true) ⊎ (eqb (page (s .pages) n .start) (next s) ≡ false) → f (page (s .pages) n) ≡ true
-    by o n u (inr z) = either-left (not (eqb (page (s .pages) n .start) (next s))) _ (ap not z)
-    by o n u (inl z) = either-right (not (eqb (page (s .pages) n .start) (next s))) _ (all-by _ (page (s .pages) n .entries) (λ e i. each e (entry-of least s d n u e i)))
-      where
-        each : (e : Entry) → GoodEntry s (page (s .pages) n) e → (eqb (e .start) (next s) && eqb (e .end) alive) ≡ true
-        each e g =
-            let l : last s ≡ next s = open-last s o in
-            let same-start : e .start ≡ next s = omega (arith, eqb-true (page (s .pages) n .start) (next s) z, g .later, g .span .starts) in
-            both-intro _ _ (eq-eqb (e .start) (next s) same-start) (eq-eqb (e .end) alive (ends l same-start (g .span .ends)))
-          where
-            ends : last s ≡ next s → e .start ≡ next s → (e .end ≤ last s) ⊎ (e .end ≡ alive) → e .end ≡ alive
-            ends l q (inl x) = absurd (omega (arith, g .span .some))
-            ends l q (inr x) = x
+module _ (s : Store) where
+  abbrev youngAll : Page → Bool
+  youngAll p = not (eqb (p .start) (next s)) || all (λ (e : Entry). eqb (e .start) (next s) && eqb (e .end) alive) (p .entries)
 
-    at : (s .opened ≡ true) ⊎ (s .opened ≡ false) → (not (s .opened) || pagesPass f s) ≡ true
-    at (inr o) = either-left (not (s .opened)) (pagesPass f s) (ap not o)
-    at (inl o) = either-right (not (s .opened)) (pagesPass f s) (at-passes f s (λ n u. by o n u (bool-cases (eqb (page (s .pages) n .start) (next s)))))
+  pub rule7-at : rule7 s ≡ true → ((n : ℕ) → n < 5 → isFree (page (s .pages) n) ≡ true) → s .opened ≡ true → (n : ℕ) → isFree (page (s .pages) n) ≡ false → page (s .pages) n .start ≡ next s
+      → (e : Entry) → In e (page (s .pages) n .entries) → Young (next s) e
+  unfolding rule7
+  rule7-at h front o n u z e i =
+      let pass : pagesPass youngAll s ≡ true = subst (λ (b : Bool). (not b || pagesPass youngAll s) ≡ true) o h in
+      let here : youngAll (page (s .pages) n) ≡ true = passes-at youngAll s pass front n u in
+      let each = subst (λ (b : Bool). (not b || all (λ (f : Entry). eqb (f .start) (next s) && eqb (f .end) alive) (page (s .pages) n .entries)) ≡ true) (eq-eqb (page (s .pages) n .start) (next s) z) here in
+      let (a, b) = both-true (eqb (e .start) (next s)) (eqb (e .end) alive) (all-in (λ (f : Entry). eqb (f .start) (next s) && eqb (f .end) alive) e (page (s .pages) n .entries) each i) in
+      record { starts = eqb-true (e .start) (next s) a; endless = eqb-true (e .end) alive b }
+
+  pub rule7-by : (s .opened ≡ true → (n : ℕ) → isFree (page (s .pages) n) ≡ false → page (s .pages) n .start ≡ next s → (e : Entry) → In e (page (s .pages) n .entries) → Young (next s) e) → rule7 s ≡ true
+  unfolding rule7
+  rule7-by f = at (s .opened) refl
+    where
+      by : s .opened ≡ true → (n : ℕ) → isFree (page (s .pages) n) ≡ false → (eqb (page (s .pages) n .start) (next s) ≡ true) ⊎ (eqb (page (s .pages) n .start) (next s) ≡ false) → youngAll (page (s .pages) n) ≡ true
+      by o n u (inr z) = either-left (not (eqb (page (s .pages) n .start) (next s))) _ (ap not z)
+      by o n u (inl z) = either-right (not (eqb (page (s .pages) n .start) (next s))) _
+          (all-by _ (page (s .pages) n .entries) (λ e i. let y = f o n u (eqb-true (page (s .pages) n .start) (next s) z) e i in both-intro _ _ (eq-eqb (e .start) (next s) (y .starts)) (eq-eqb (e .end) alive (y .endless))))
+
+      at : (b : Bool) → s .opened ≡ b → (not b || pagesPass youngAll s) ≡ true
+      at false o = refl
+      at true o = at-passes youngAll s (λ n u. by o n u (bool-cases (eqb (page (s .pages) n .start) (next s))))
+
+  -- with no update open nothing is asked
+  pub rule7-shut : s .opened ≡ false → rule7 s ≡ true
+  unfolding rule7
+  rule7-shut o = rw o refl
+
+pub young-of : (least : ℕ) (s : Store) → Sound least s → s .opened ≡ true → (n : ℕ) → isFree (page (s .pages) n) ≡ false → page (s .pages) n .start ≡ next s → (e : Entry) → In e (page (s .pages) n .entries)
+    → Young (next s) e
+young-of least s d = rule7-at s (d .young) (d .front)
 
 -- From the record to the tests.
 pub to-tests : (least : ℕ) (s : Store) → Sound least s → sound least s ≡ true
 unfolding sound rule1 rule2 rule3 rule4 rule5 rule6
 to-tests least s d =
-    both-intro _ _ (both-intro _ _ (both-intro _ _ (both-intro _ _ (both-intro _ _ (both-intro (rule1 least s) (rule2 s) first second) third) fourth) fifth) sixth) (seventh least s d)
+    both-intro _ _ (both-intro _ _ (both-intro _ _ (both-intro _ _ (both-intro _ _ (both-intro (rule1 least s) (rule2 s) first second) third) fourth) fifth) sixth) (d .young)
   where
     first : rule1 least s ≡ true
     first =
-        both-intro _ _ (both-intro _ _ (both-intro _ _ (both-intro _ _ (both-intro _ _ (both-intro _ _
+        both-intro _ _ (both-intro _ _ (both-intro _ _ (both-intro _ _ (both-intro _ _ (both-intro _ _ (both-intro _ _
         (le-leb 6 (length (s .pages)) (d .long)) (le-leb (length (s .pages)) 4096 (d .short))) (le-leb (length (s .slots)) (64 * least) (d .slots-few))) (le-leb (last s) 1048574 (d .last-low)))
-        (d .roots)) (at-front (s .pages) (d .long) (λ n q. d .zeros n (d .front n q))))
+        (le-leb (s .oldest) (pick (leb least 4) 0 (s .current)) (d .old-low))) (d .roots)) (at-front (s .pages) (d .long) (λ n q. d .zeros n (d .front n q))))
         (all-places fine free (drop 5 (s .pages))
         (λ n l. ap fine (getD-drop 5 (s .pages) n free) ∙ to-fine least (last s) (length (s .pages)) (page (s .pages) (5 + n)) (d .zeros (5 + n)) (λ u. page-good least s (page (s .pages) (5 + n)) (d .pages (5 + n) u))))
       where
@@ -384,13 +494,13 @@ to-tests least s d =
         fine = pageFine least (last s) (length (s .pages))
 
     second : rule2 s ≡ true
-    second = both-intro _ _ (both-intro _ _ (eq-eqb (firstVersion (s .slots)) 0 (d .begins)) (d .rises)) (d .upto)
+    second = both-intro _ _ (both-intro _ _ (both-intro _ _ (le-leb (firstVersion (s .oldest) (s .slots)) (s .oldest) (d .begins)) (d .rises)) (d .upto)) (d .newer)
 
     third : rule3 s ≡ true
     third = both-intro _ _ (at-passes (spansWell s) s (d .spans)) (d .root-used)
 
-    upto : (v : ℕ) → In v (versions s) → v ≤ last s
-    upto v i = omega (arith, count-in v 0 (suc (last s)) i .1)
+    upto : (v : ℕ) → In v (versions s) → Readable s v
+    upto v i = in-version s v i
 
     fourth : rule4 s ≡ true
     fourth = all-by (λ (u : ℕ). all keysOk (seen s u)) (versions s) (λ v i. d .keys v (upto v i))

@@ -25,12 +25,16 @@ use Rattle.model.proofs.Given.{livesAt}
 use Rattle.model.proofs.Fitted.{kindOk, PageFit, in-born, Since, stayed, ended, in-end, changed-fit, killed-fit, filled-fit}
 use Rattle.model.proofs.Redo.{values, page-set-at, Fill, unused, member, Now, same, went, came, Stands, Redone}
 
-module _ (least : ℕ) (two-or-more : 2 ≤ least) (w : ℕ) (lim : w < alive) (pos : 1 ≤ w) (N : ℕ) where
+module _ (least : ℕ) (two-or-more : 2 ≤ least) (w : ℕ) (lim : w < alive) (pos : 1 ≤ w) (N : ℕ) (old : ℕ) (low-old : old < w) where
   abbrev pub Lives : List Page → ℕ → Type 0
   Lives ps m = livesAt w (page ps m) ≡ true
 
   pub lives-used : (p : Page) → livesAt w p ≡ true → isFree p ≡ false
   lives-used p h = not-true (isFree p) (both-true (not (isFree p)) (within (p .start) (p .end) w) h .0)
+
+  -- what rule 3 does not ask of where it leads: a leaf entry, a router that ended at or before the oldest version
+  abbrev pub Skips : ℕ → Entry → Type 0
+  Skips level e = (level ≡ 1) ⊎ (e .end ≤ old)
 
   -- where an entry that starts before w leads
   pub record OldLead (ps : List Page) (level : ℕ) (e : Entry) : Type 0 where
@@ -59,8 +63,8 @@ module _ (least : ℕ) (two-or-more : 2 ≤ least) (w : ℕ) (lim : w < alive) (
     pub long : length ps ≡ N
     pub front : (m : ℕ) → m < 5 → isFree (page ps m) ≡ true
     pub zeros : (m : ℕ) → isFree (page ps m) ≡ true → page ps m ≡ free
-    pub fit : (m : ℕ) → isFree (page ps m) ≡ false → PageFit least N w (page ps m)
-    pub leads : (m : ℕ) (e : Entry) → isFree (page ps m) ≡ false → In e (page ps m .entries) → e .start < w → (page ps m .level ≡ 1) ⊎ OldLead ps (page ps m .level) e
+    pub fit : (m : ℕ) → isFree (page ps m) ≡ false → PageFit least N w old (page ps m)
+    pub leads : (m : ℕ) (e : Entry) → isFree (page ps m) ≡ false → In e (page ps m .entries) → e .start < w → Skips (page ps m .level) e ⊎ OldLead ps (page ps m .level) e
     pub held : (m : ℕ) → Lives ps m → R m ⊎ Held ps W m
 
   -- what may become of a page
@@ -100,22 +104,23 @@ module _ (least : ℕ) (two-or-more : 2 ≤ least) (w : ℕ) (lim : w < alive) (
 
   -- entries of a page after ending some
   lead-since : (ps : List Page) (p : Page) (g : Entry → Bool) → ((e : Entry) → g e ≡ true → w < e .end)
-      → ((e : Entry) → In e (p .entries) → e .start < w → (p .level ≡ 1) ⊎ OldLead ps (p .level) e)
-      → (e : Entry) → In e (endThose g w (p .entries)) → e .start < w → (p .level ≡ 1) ⊎ OldLead ps (p .level) e
+      → ((e : Entry) → In e (p .entries) → e .start < w → Skips (p .level) e ⊎ OldLead ps (p .level) e)
+      → (e : Entry) → In e (endThose g w (p .entries)) → e .start < w → Skips (p .level) e ⊎ OldLead ps (p .level) e
   lead-since ps p g y h e′ i z = at (in-end g w e′ (p .entries) i)
     where
-      ended-at : (e : Entry) → w < e .end → (p .level ≡ 1) ⊎ OldLead ps (p .level) e → (p .level ≡ 1) ⊎ OldLead ps (p .level) (endedAt w e)
-      ended-at e l (inl o) = inl o
+      ended-at : (e : Entry) → w < e .end → Skips (p .level) e ⊎ OldLead ps (p .level) e → Skips (p .level) (endedAt w e) ⊎ OldLead ps (p .level) (endedAt w e)
+      ended-at e l (inl (inl o)) = inl (inl o)
+      ended-at e l (inl (inr o)) = absurd (omega arith)
       ended-at e l (inr o) = inr (lead-ended ps (p .level) e l o)
 
-      at : (e : Entry) × (In e (p .entries)) × (Since g w e′ e) → (p .level ≡ 1) ⊎ OldLead ps (p .level) e′
+      at : (e : Entry) × (In e (p .entries)) × (Since g w e′ e) → Skips (p .level) e′ ⊎ OldLead ps (p .level) e′
       at (e, j, s) = from s
         where
-          from : Since g w e′ e → (p .level ≡ 1) ⊎ OldLead ps (p .level) e′
-          from (stayed q k) = subst (λ (f : Entry). (p .level ≡ 1) ⊎ OldLead ps (p .level) f) (sym q) (h e j (subst (λ (f : Entry). f .start < w) q z))
-          from (ended q k n) = subst (λ (f : Entry). (p .level ≡ 1) ⊎ OldLead ps (p .level) f) (sym q) (ended-at e (y e k) (h e j (subst (λ (f : Entry). f .start < w) q z)))
+          from : Since g w e′ e → Skips (p .level) e′ ⊎ OldLead ps (p .level) e′
+          from (stayed q k) = subst (λ (f : Entry). Skips (p .level) f ⊎ OldLead ps (p .level) f) (sym q) (h e j (subst (λ (f : Entry). f .start < w) q z))
+          from (ended q k n) = subst (λ (f : Entry). Skips (p .level) f ⊎ OldLead ps (p .level) f) (sym q) (ended-at e (y e k) (h e j (subst (λ (f : Entry). f .start < w) q z)))
 
-  or-move : (ps qs : List Page) (level : ℕ) (e : Entry) → e .start < w → ((i : ℕ) → Step (page ps i) (page qs i)) → (level ≡ 1) ⊎ OldLead ps level e → (level ≡ 1) ⊎ OldLead qs level e
+  or-move : (ps qs : List Page) (level : ℕ) (e : Entry) → e .start < w → ((i : ℕ) → Step (page ps i) (page qs i)) → Skips level e ⊎ OldLead ps level e → Skips level e ⊎ OldLead qs level e
   or-move ps qs level e h f (inl z) = inl z
   or-move ps qs level e h f (inr z) = inr (lead-move ps qs level e h z (f (e .value)))
 
@@ -222,26 +227,26 @@ module _ (least : ℕ) (two-or-more : 2 ≤ least) (w : ℕ) (lim : w < alive) (
         zero-at m h (inl z) = absurd (not-both (isFree (page ps m)) (sym (free-is m) ∙ h) (ap (λ (i : ℕ). isFree (page ps i)) (z .0) ∙ used))
         zero-at m h (inr z) = z .1 ∙ v .zeros m (sym (free-is m) ∙ h)
 
-        fit-at : (m : ℕ) → isFree (page placed m) ≡ false → At m → PageFit least N w (page placed m)
-        fit-at m u (inl z) = subst (PageFit least N w) (sym (z .1))
-            (changed-fit w lim least N pos c (page ps n) (v .fit n used) endless room (subst (λ (k : ℕ). all (kindOk N k) (c .take) ≡ true) (sym e) takes) rise)
-        fit-at m u (inr z) = subst (PageFit least N w) (sym (z .1)) (v .fit m (sym (free-is m) ∙ u))
+        fit-at : (m : ℕ) → isFree (page placed m) ≡ false → At m → PageFit least N w old (page placed m)
+        fit-at m u (inl z) = subst (PageFit least N w old) (sym (z .1))
+            (changed-fit w lim least N pos old low-old c (page ps n) (v .fit n used) endless room (subst (λ (k : ℕ). all (kindOk N k) (c .take) ≡ true) (sym e) takes) rise)
+        fit-at m u (inr z) = subst (PageFit least N w old) (sym (z .1)) (v .fit m (sym (free-is m) ∙ u))
 
         drop : Entry → Bool
         drop f = liveAt w f && has (f .key) (c .drop)
 
-        changed-lead : (f : Entry) → In f (q .entries) → f .start < w → (page ps n .level ≡ 1) ⊎ OldLead ps (page ps n .level) f
+        changed-lead : (f : Entry) → In f (q .entries) → f .start < w → Skips (page ps n .level) f ⊎ OldLead ps (page ps n .level) f
         changed-lead f i h = by (in-born w (c .take) f _ i)
           where
-            by : ((x : Pair) × (In x (c .take)) × (f ≡ born w x)) ⊎ In f (endThose (λ (g : Entry). liveAt w g && has (g .key) (c .drop)) w (page ps n .entries)) → (page ps n .level ≡ 1) ⊎ OldLead ps (page ps n .level) f
+            by : ((x : Pair) × (In x (c .take)) × (f ≡ born w x)) ⊎ In f (endThose (λ (g : Entry). liveAt w g && has (g .key) (c .drop)) w (page ps n .entries)) → Skips (page ps n .level) f ⊎ OldLead ps (page ps n .level) f
             by (inl z) = absurd (omega (arith, ap (λ (g : Entry). g .start) (z .2)))
             by (inr z) = lead-since ps (page ps n) (λ (g : Entry). liveAt w g && has (g .key) (c .drop)) (λ g y. live-end g (both-true (liveAt w g) (has (g .key) (c .drop)) y .0)) (λ g j y. v .leads n g used j y) f z h
 
-        lead-at : (m : ℕ) (f : Entry) → isFree (page placed m) ≡ false → In f (page placed m .entries) → f .start < w → At m → (page placed m .level ≡ 1) ⊎ OldLead placed (page placed m .level) f
+        lead-at : (m : ℕ) (f : Entry) → isFree (page placed m) ≡ false → In f (page placed m .entries) → f .start < w → At m → Skips (page placed m .level) f ⊎ OldLead placed (page placed m .level) f
         lead-at m f u i h (inl z) =
-            subst (λ (x : Page). (x .level ≡ 1) ⊎ OldLead placed (x .level) f) (sym (z .1)) (or-move ps placed (page ps n .level) f h steps (changed-lead f (subst (λ (x : Page). In f (x .entries)) (z .1) i) h))
+            subst (λ (x : Page). Skips (x .level) f ⊎ OldLead placed (x .level) f) (sym (z .1)) (or-move ps placed (page ps n .level) f h steps (changed-lead f (subst (λ (x : Page). In f (x .entries)) (z .1) i) h))
         lead-at m f u i h (inr z) =
-            subst (λ (x : Page). (x .level ≡ 1) ⊎ OldLead placed (x .level) f) (sym (z .1))
+            subst (λ (x : Page). Skips (x .level) f ⊎ OldLead placed (x .level) f) (sym (z .1))
             (or-move ps placed (page ps m .level) f h steps (v .leads m f (sym (free-is m) ∙ u) (subst (λ (x : Page). In f (x .entries)) (z .1) i) h))
 
         held-at : (m : ℕ) → R m ⊎ Held ps (Pend ps n (wanted w c (page ps n))) m → R m ⊎ Held placed (Final placed) m
@@ -299,37 +304,37 @@ module _ (least : ℕ) (two-or-more : 2 ≤ least) (w : ℕ) (lim : w < alive) (
         at (went i e) = by e i (gone-cases (page ps m))
         at (came xs e s f z) = absurd (not-both (isFree (page qs m)) h (ap isFree e ∙ ne-eqb (suc l) 0 (λ (y : suc l ≡ 0). omega arith)))
 
-    fit-redone : (m : ℕ) → isFree (page qs m) ≡ false → PageFit least N w (page qs m)
+    fit-redone : (m : ℕ) → isFree (page qs m) ≡ false → PageFit least N w old (page qs m)
     fit-redone m u = at (d .now m)
       where
-        less : (p : Page) → PageFit least N w p → p .start ≢ w → p .start < w
+        less : (p : Page) → PageFit least N w old p → p .start ≢ w → p .start < w
         less p g y = let h : p .start ≤ w = g .span .starts in omega arith
 
-        by : page qs m ≡ gone w (page ps m) → In m (values rs) → ((page ps m .start ≡ w) × (gone w (page ps m) ≡ free)) ⊎ ((page ps m .start ≢ w) × (gone w (page ps m) ≡ killed w (page ps m))) → PageFit least N w (page qs m)
+        by : page qs m ≡ gone w (page ps m) → In m (values rs) → ((page ps m .start ≡ w) × (gone w (page ps m) ≡ free)) ⊎ ((page ps m .start ≢ w) × (gone w (page ps m) ≡ killed w (page ps m))) → PageFit least N w old (page qs m)
         by e i (inl z) = absurd (not-both (isFree (page qs m)) (ap isFree (e ∙ z .1)) u)
         by e i (inr z) =
             let g = v .fit m (used-mem m i) in
-            subst (PageFit least N w) (sym (e ∙ z .1)) (killed-fit w lim least N pos (page ps m) g (less (page ps m) g (z .0)))
+            subst (PageFit least N w old) (sym (e ∙ z .1)) (killed-fit w lim least N pos old low-old (page ps m) g (less (page ps m) g (z .0)))
 
-        at : N′ m → PageFit least N w (page qs m)
-        at (same e x) = subst (PageFit least N w) (sym e) (v .fit m (ap isFree (sym e) ∙ u))
+        at : N′ m → PageFit least N w old (page qs m)
+        at (same e x) = subst (PageFit least N w old) (sym e) (v .fit m (ap isFree (sym e) ∙ u))
         at (went i e) = by e i (gone-cases (page ps m))
-        at (came xs e s f z) = subst (PageFit least N w) (sym e) (filled-fit w lim least N pos (suc l) xs (f .few) (f .rise) (f .kinds))
+        at (came xs e s f z) = subst (PageFit least N w old) (sym e) (filled-fit w lim least N pos old low-old (suc l) xs (f .few) (f .rise) (f .kinds))
 
-    leads-redone : (m : ℕ) (e : Entry) → isFree (page qs m) ≡ false → In e (page qs m .entries) → e .start < w → (page qs m .level ≡ 1) ⊎ OldLead qs (page qs m .level) e
+    leads-redone : (m : ℕ) (e : Entry) → isFree (page qs m) ≡ false → In e (page qs m .entries) → e .start < w → Skips (page qs m .level) e ⊎ OldLead qs (page qs m .level) e
     leads-redone m e u i h = at (d .now m)
       where
         by : page qs m ≡ gone w (page ps m) → In m (values rs) → ((page ps m .start ≡ w) × (gone w (page ps m) ≡ free)) ⊎ ((page ps m .start ≢ w) × (gone w (page ps m) ≡ killed w (page ps m)))
-            → (page qs m .level ≡ 1) ⊎ OldLead qs (page qs m .level) e
+            → Skips (page qs m .level) e ⊎ OldLead qs (page qs m .level) e
         by z j (inl y) = absurd (not-both (isFree (page qs m)) (ap isFree (z ∙ y .1)) u)
         by z j (inr y) =
             let k : page qs m ≡ killed w (page ps m) = z ∙ y .1 in
-            subst (λ (x : Page). (x .level ≡ 1) ⊎ OldLead qs (x .level) e) (sym k)
+            subst (λ (x : Page). Skips (x .level) e ⊎ OldLead qs (x .level) e) (sym k)
             (or-move ps qs (page ps m .level) e h steps-all
             (lead-since ps (page ps m) (liveAt w) live-end (λ f t r. v .leads m f (used-mem m j) t r) e (subst (λ (x : Page). In e (x .entries)) k i) h))
 
-        at : N′ m → (page qs m .level ≡ 1) ⊎ OldLead qs (page qs m .level) e
-        at (same z x) = subst (λ (y : Page). (y .level ≡ 1) ⊎ OldLead qs (y .level) e) (sym z)
+        at : N′ m → Skips (page qs m .level) e ⊎ OldLead qs (page qs m .level) e
+        at (same z x) = subst (λ (y : Page). Skips (y .level) e ⊎ OldLead qs (y .level) e) (sym z)
             (or-move ps qs (page ps m .level) e h steps-all (v .leads m e (ap isFree (sym z) ∙ u) (subst (λ (y : Page). In e (y .entries)) z i) h))
         at (went j z) = by z j (gone-cases (page ps m))
         at (came xs z s f y) = absurd (filled-start (suc l) xs e (subst (λ (x : Page). In e (x .entries)) z i) h)
@@ -531,13 +536,13 @@ module _ (least : ℕ) (two-or-more : 2 ≤ least) (w : ℕ) (lim : w < alive) (
         zero-at m h (inl z) = absurd (not-both (isFree (page crowned m)) h (ap isFree (z .1) ∙ used-F))
         zero-at m h (inr z) = z .1 ∙ v .zeros m (ap isFree (sym (z .1)) ∙ h)
 
-        fit-at : (m : ℕ) → isFree (page crowned m) ≡ false → Atₙ m → PageFit least N w (page crowned m)
-        fit-at m u (inl z) = subst (PageFit least N w) (sym (z .1)) (filled-fit w lim least N pos (suc (suc l)) news (fill .few) (fill .rise) (fill .kinds))
-        fit-at m u (inr z) = subst (PageFit least N w) (sym (z .1)) (v .fit m (ap isFree (sym (z .1)) ∙ u))
+        fit-at : (m : ℕ) → isFree (page crowned m) ≡ false → Atₙ m → PageFit least N w old (page crowned m)
+        fit-at m u (inl z) = subst (PageFit least N w old) (sym (z .1)) (filled-fit w lim least N pos old low-old (suc (suc l)) news (fill .few) (fill .rise) (fill .kinds))
+        fit-at m u (inr z) = subst (PageFit least N w old) (sym (z .1)) (v .fit m (ap isFree (sym (z .1)) ∙ u))
 
-        lead-at : (m : ℕ) (f : Entry) → isFree (page crowned m) ≡ false → In f (page crowned m .entries) → f .start < w → Atₙ m → (page crowned m .level ≡ 1) ⊎ OldLead crowned (page crowned m .level) f
+        lead-at : (m : ℕ) (f : Entry) → isFree (page crowned m) ≡ false → In f (page crowned m .entries) → f .start < w → Atₙ m → Skips (page crowned m .level) f ⊎ OldLead crowned (page crowned m .level) f
         lead-at m f u i h (inl z) = absurd (filled-start (suc (suc l)) news f (subst (λ (x : Page). In f (x .entries)) (z .1) i) h)
-        lead-at m f u i h (inr z) = subst (λ (x : Page). (x .level ≡ 1) ⊎ OldLead crowned (x .level) f) (sym (z .1))
+        lead-at m f u i h (inr z) = subst (λ (x : Page). Skips (x .level) f ⊎ OldLead crowned (x .level) f) (sym (z .1))
             (or-move qs crowned (page qs m .level) f h crown-steps (v .leads m f (ap isFree (sym (z .1)) ∙ u) (subst (λ (x : Page). In f (x .entries)) (z .1) i) h))
 
         n-lives : Lives crowned n

@@ -1,83 +1,22 @@
--- What the numbers of check say: rule 7 follows from rules 1 and 3, and the number 0 means clean bytes that hold a sound store, with right
--- live counts.
+-- What the numbers of check say; the number 0 means clean bytes that hold a sound store, with right live counts.
 -- Assumes nothing.
-use Prim.Native.Nat.{ℕ, zero, suc, _*_, _-_, _≤_, _<_}
+use Prim.Native.Nat.{ℕ, zero, suc, _-_}
 use native.Mathlib.Omega.{arith}
-use mathlib.Core.Bool.{Bool, true, false, _&&_, _||_, not}
-use mathlib.Core.Path.{_≡_, refl, ap, sym, _∙_, subst}
-use mathlib.Core.Logic.{_⊎_, inl, inr}
+use mathlib.Core.Bool.{Bool, true, false, _&&_}
+use mathlib.Core.Path.{_≡_, refl, ap, sym, _∙_}
 use mathlib.Core.List.{List, [], _∷_}
-use lib.Dec.{leb, ltb, eqb}
-use lib.ListN.{length, take, drop}
-use borrow.Author.Tests.{leb-true, eqb-true, eq-eqb, ne-eqb}
-use Rattle.model.specs.Basic.{all, pick, inOrder}
-use Rattle.model.specs.declared.Entry.{Entry}
-use Rattle.model.specs.declared.Slot.{Slot}
-use Rattle.model.specs.Entry.{alive, before}
-use Rattle.model.specs.Page.{Page, isFree}
-use Rattle.model.specs.Store.{Store, page, last, lastOf, next}
-use Rattle.model.specs.Walk.{keyLimit}
-use Rattle.model.specs.Sound.{isPage, spanOk, entryOk, pageOk, pageFine, zeroed, inside, leadsWell, firstBroken, sound, rule1, rule2, rule3, rule4, rule5, rule6, rule7}
+use lib.Dec.{eqb}
+use borrow.Author.Tests.{eq-eqb, ne-eqb}
+use Rattle.model.specs.Basic.{pick}
+use Rattle.model.specs.Store.{Store}
+use Rattle.model.specs.Sound.{firstBroken, sound, rule1, rule2, rule3, rule4, rule5, rule6, rule7}
 use Rattle.model.specs.Layout.{decode, sizeOf}
 use Rattle.model.specs.Clean.{cleanFront, cleanPages, clean}
 use Rattle.model.specs.Counted.{rule8}
 use Rattle.model.specs.Inner.{lowerIn}
 use Rattle.model.specs.Judged.{lengthOk, magicOk, editionOk, brokenIn, verdict, ruled, judged}
-use Rattle.model.proofs.Lists.{both-true, both-intro}
-use Rattle.model.proofs.Members.{all-in, all-by}
-use Rattle.model.proofs.Given.{Sound, from-tests, spansWell, span-of}
-
--- ---- rule 7
-
-module _ (least size : ℕ) (s : Store) (p : Page) (starts : p .start ≡ last s) where
-  new-entry : (e : Entry) → entryOk (last s) size (p .level) e ≡ true → (inside e p && leadsWell s p e) ≡ true → (eqb (e .start) (last s) && eqb (e .end) alive) ≡ true
-  new-entry e ok link =
-      let kind : Bool = pick (eqb (p .level) 1) (leb 1 (e .start) && ltb (e .value) 4294967296) (isPage size (e .value)) in
-      let span = span-of (last s) (e .start) (e .end) (both-true (spanOk (last s) (e .start) (e .end)) (ltb (e .key) keyLimit) (both-true (spanOk (last s) (e .start) (e .end) && ltb (e .key) keyLimit) kind ok .0) .0) in
-      let later = leb-true (p .start) (e .start) (both-true (leb (p .start) (e .start)) (leb (e .end) (p .end)) (both-true (inside e p) (leadsWell s p e) link .0) .0) in
-      let at : e .start ≡ last s = omega (arith, span .starts) in
-      both-intro _ _ (eq-eqb (e .start) (last s) at) (eq-eqb (e .end) alive (ends at (span .some) (span .ends)))
-    where
-      ends : e .start ≡ last s → e .start < e .end → (e .end ≤ last s) ⊎ (e .end ≡ alive) → e .end ≡ alive
-      ends q l (inl x) = absurd (omega arith)
-      ends q l (inr x) = x
-
-  new-page : isFree p ≡ false → pageFine least (last s) size p ≡ true → spansWell s p ≡ true → all (λ (e : Entry). eqb (e .start) (last s) && eqb (e .end) alive) (p .entries) ≡ true
-  new-page used fine spans =
-      let ok : pageOk least (last s) size p ≡ true = subst (λ (b : Bool). pick b (zeroed p) (pageOk least (last s) size p) ≡ true) used fine in
-      let each = both-true (leb (p .level) 7 && leb (length (p .entries)) (5 * least) && spanOk (last s) (p .start) (p .end) && inOrder before (p .entries)) (all (entryOk (last s) size (p .level)) (p .entries)) ok .1 in
-      all-by _ (p .entries)
-      (λ e i. new-entry e (all-in (entryOk (last s) size (p .level)) e (p .entries) each i) (all-in (λ (x : Entry). inside x p && leadsWell s p x) e (p .entries) spans i))
-
--- "A page that starts at the open version holds only alive entries that start there."
-pub seventh-by : (least : ℕ) (s : Store) → rule1 least s ≡ true → rule3 s ≡ true → rule7 s ≡ true
-unfolding rule1 rule3 rule7
-seventh-by least s one three = at (s .opened) refl
-  where
-    fine : all (pageFine least (last s) (length (s .pages))) (drop 5 (s .pages)) ≡ true
-    fine =
-        both-true (leb 6 (length (s .pages)) && leb (length (s .pages)) 4096 && leb (length (s .slots)) (64 * least) && leb (last s) 1048574 && all (λ (x : Slot). isPage (length (s .pages)) (x .root)) (s .slots)
-        && all (λ (p : Page). isFree p && zeroed p) (take 5 (s .pages))) (all (pageFine least (last s) (length (s .pages))) (drop 5 (s .pages))) one .1
-
-    spans : all (λ (p : Page). isFree p || spansWell s p) (drop 5 (s .pages)) ≡ true
-    spans = both-true (all (λ (p : Page). isFree p || spansWell s p) (drop 5 (s .pages))) (all (λ (x : Slot). not (isFree (page (s .pages) (x .root)))) (s .slots)) three .0
-
-    young : ℕ → Page → Bool
-    young w p = not (eqb (p .start) w) || all (λ (e : Entry). eqb (e .start) w && eqb (e .end) alive) (p .entries)
-
-    each : (w : ℕ) → w ≡ last s → (p : Page) → pageFine least (last s) (length (s .pages)) p ≡ true → (isFree p || spansWell s p) ≡ true → (isFree p || young w p) ≡ true
-    each w same p f g = by (isFree p) refl (eqb (p .start) w) refl
-      where
-        by : (b : Bool) → isFree p ≡ b → (t : Bool) → eqb (p .start) w ≡ t → (b || (not t || all (λ (e : Entry). eqb (e .start) w && eqb (e .end) alive) (p .entries))) ≡ true
-        by true b t e = refl
-        by false b false e = refl
-        by false b true e = subst (λ (x : ℕ). all (λ (e : Entry). eqb (e .start) x && eqb (e .end) alive) (p .entries) ≡ true) (sym same) (new-page least (length (s .pages)) s p (eqb-true (p .start) w e ∙ same) b f (subst (λ (c : Bool). (c || spansWell s p) ≡ true) b g))
-
-    at : (b : Bool) → s .opened ≡ b → (not b || all (λ (p : Page). isFree p || young (next s) p) (drop 5 (s .pages))) ≡ true
-    at false e = refl
-    at true e =
-        all-by _ (drop 5 (s .pages)) (λ p i. each (next s) (sym (ap (λ (b : Bool). lastOf b (s .current)) e)) p
-        (all-in (pageFine least (last s) (length (s .pages))) p (drop 5 (s .pages)) fine i) (all-in (λ (q : Page). isFree q || spansWell s q) p (drop 5 (s .pages)) spans i))
+use Rattle.model.proofs.Lists.{both-true}
+use Rattle.model.proofs.Given.{Sound, from-tests}
 
 -- ---- the lowest broken rule
 
@@ -118,10 +57,14 @@ module _ (least : ℕ) (b : List ℕ) where
             unfolding lowerIn
             lower-six r6 = rw (r1, r2, r3, r4, r5, r6)
 
-            -- 7 is never the lowest
-            pub lower-none : rule6 (decode least b) ≡ true → lowerIn least b ≡ 0
-            unfolding lowerIn
-            lower-none r6 = rw (r1, r2, r3, r4, r5, r6, seventh-by least (decode least b) (clean-first r1) r3)
+            module _ (r6 : rule6 (decode least b) ≡ true) where
+              pub lower-seven : rule7 (decode least b) ≡ false → lowerIn least b ≡ 7
+              unfolding lowerIn
+              lower-seven r7 = rw (r1, r2, r3, r4, r5, r6, r7)
+
+              pub lower-none : rule7 (decode least b) ≡ true → lowerIn least b ≡ 0
+              unfolding lowerIn
+              lower-none r7 = rw (r1, r2, r3, r4, r5, r6, r7)
 
   -- 0 is given exactly for clean bytes that hold a sound store
   pub unbroken : lowerIn least b ≡ 0 → (clean least b ≡ true) × (sound least (decode least b) ≡ true)

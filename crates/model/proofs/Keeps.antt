@@ -59,21 +59,21 @@ shown-few w (e ∷ es) = at (liveAt w e) (shown-few w es)
     at true ih = omega arith
     at false ih = omega arith
 
-module _ (least : ℕ) (two-or-more : 2 ≤ least) (w : ℕ) (lim : w < alive) (pos : 1 ≤ w) (N : ℕ) where
+module _ (least : ℕ) (two-or-more : 2 ≤ least) (w : ℕ) (lim : w < alive) (pos : 1 ≤ w) (N : ℕ) (old : ℕ) (low-old : old < w) where
   pub record Keeps (ps : List Page) (r n l : ℕ) (c : Change) : Type 0 where
-    pub inv : Inv least two-or-more w lim pos N ps (λ (m : ℕ). m ≡ r) (Pend least two-or-more w lim pos N ps n (wanted w c (page ps n)))
+    pub inv : Inv least two-or-more w lim pos N old low-old ps (λ (m : ℕ). m ≡ r) (Pend least two-or-more w lim pos N old low-old ps n (wanted w c (page ps n)))
     pub low : (m : ℕ) → page ps m .level ≤ 7
     pub takes : all (kindOk N (suc l)) (c .take) ≡ true
     pub upper : length (wanted w c (page ps n)) ≤ suc (5 * least)
 
   pub record Kept (qs : List Page) (n : ℕ) : Type 0 where
-    pub inv : Inv least two-or-more w lim pos N qs (λ (m : ℕ). m ≡ n) (Final least two-or-more w lim pos N qs)
+    pub inv : Inv least two-or-more w lim pos N old low-old qs (λ (m : ℕ). m ≡ n) (Final least two-or-more w lim pos N old low-old qs)
     pub low : (m : ℕ) → m ≢ n → page qs m .level ≤ 7
 
   used : (p : Page) (l : ℕ) → p .level ≡ suc l → isFree p ≡ false
   used p l e = ne-eqb (p .level) 0 (λ (z : p .level ≡ 0). omega arith)
 
-  endless-by : (p : Page) → PageFit least N w p → within (p .start) (p .end) w ≡ true → p .end ≡ alive
+  endless-by : (p : Page) → PageFit least N w old p → within (p .start) (p .end) w ≡ true → p .end ≡ alive
   endless-by p g h = at (g .span .ends)
     where
       at : (p .end ≤ w) ⊎ (p .end ≡ alive) → p .end ≡ alive
@@ -96,7 +96,7 @@ module _ (least : ℕ) (two-or-more : 2 ≤ least) (w : ℕ) (lim : w < alive) (
 
       at : Now least two-or-more w N ps qs (suc l) rs news m → page qs m .level ≤ 7
       at (same e x) = omega (arith, ap (λ (p : Page). p .level) e, h m)
-      at (went i e) = by e (gone-cases least two-or-more w lim pos N (page ps m))
+      at (went i e) = by e (gone-cases least two-or-more w lim pos N old low-old (page ps m))
       at (came xs e s f z) = omega (arith, ap (λ (p : Page). p .level) e)
 
   members-in : (T : ℕ → Type 0) (ps : List Page) (l : ℕ) (sp : (m : ℕ) → page ps m .level ≡ 0 → T m) (rs : List Pair) → Members least w lim T ps l sp rs → (m : ℕ) → In m (values rs)
@@ -114,17 +114,17 @@ module _ (least : ℕ) (two-or-more : 2 ≤ least) (w : ℕ) (lim : w < alive) (
     abbrev wish : List Pair
     wish = wanted w c (page ps (p .n))
 
-    abbrev v : Inv least two-or-more w lim pos N ps (λ (m : ℕ). m ≡ r) (Pend least two-or-more w lim pos N ps (p .n) wish)
+    abbrev v : Inv least two-or-more w lim pos N old low-old ps (λ (m : ℕ). m ≡ r) (Pend least two-or-more w lim pos N old low-old ps (p .n) wish)
     v = k .inv
 
-    own-fit : PageFit least N w (page ps (p .n))
+    own-fit : PageFit least N w old (page ps (p .n))
     own-fit = v .fit (p .n) (used (page ps (p .n)) l (p .level))
 
     wish-kinds : all (kindOk N (suc l)) wish ≡ true
-    wish-kinds = subst (λ (i : ℕ). all (kindOk N i) wish ≡ true) (p .level) (wanted-kinds w lim least N pos c (page ps (p .n)) own-fit (subst (λ (i : ℕ). all (kindOk N i) (c .take) ≡ true) (sym (p .level)) (k .takes)))
+    wish-kinds = subst (λ (i : ℕ). all (kindOk N i) wish ≡ true) (p .level) (wanted-kinds w lim least N pos old low-old c (page ps (p .n)) own-fit (subst (λ (i : ℕ). all (kindOk N i) (c .take) ≡ true) (sym (p .level)) (k .takes)))
 
     level-kinds : (m : ℕ) → page ps m .level ≡ suc l → all (kindOk N (suc l)) (pairsAt w (page ps m)) ≡ true
-    level-kinds m e = subst (λ (i : ℕ). all (kindOk N i) (pairsAt w (page ps m)) ≡ true) e (shown-kinds w lim least N pos (page ps m) (v .fit m (used (page ps m) l e)))
+    level-kinds m e = subst (λ (i : ℕ). all (kindOk N i) (pairsAt w (page ps m)) ≡ true) e (shown-kinds w lim least N pos old low-old (page ps m) (v .fit m (used (page ps m) l e)))
 
     level-few : (m i : ℕ) → page ps m .level ≡ suc i → length (pairsAt w (page ps m)) ≤ 5 * least
     level-few m i e = omega (arith, shown-few w (page ps m .entries), v .fit m (used (page ps m) i e) .few)
@@ -198,7 +198,7 @@ module _ (least : ℕ) (two-or-more : 2 ≤ least) (w : ℕ) (lim : w < alive) (
     handed rs us g i (rebuilt qs news) t d = (
       rise least two-or-more w lim ps qs r l up total rs us news g t,
       record {
-        inv = inv-up least two-or-more w lim pos N ps qs (p .n) l wish rs us news (λ (m : ℕ). m ≡ r) v d mem (p .level) (i .own-us) (i .other-us) (g .parent) (exchange rs news) (g .before) (g .after) (g .level)
+        inv = inv-up least two-or-more w lim pos N old low-old ps qs (p .n) l wish rs us news (λ (m : ℕ). m ≡ r) v d mem (p .level) (i .own-us) (i .other-us) (g .parent) (exchange rs news) (g .before) (g .after) (g .level)
             (both-intro _ _ (ap not (used (page ps (g .parent)) (suc l) (g .level))) (standing-lives least two-or-more w lim up (suc l) (page ps (g .parent)) (g .standing))) (g .live) made;
         low = low-redone ps qs l rs us news d (k .low) (omega (arith, k .low (p .n), p .level));
         takes = all-by (kindOk N (suc (suc l))) (those (λ (z : Pair). not (any (samePair z) rs)) news) (λ y j. all-in (kindOk N (suc (suc l))) y news (d .kinds) (in-those (λ (z : Pair). not (any (samePair z) rs)) y news j .1));
@@ -243,7 +243,7 @@ module _ (least : ℕ) (two-or-more : 2 ≤ least) (w : ℕ) (lim : w < alive) (
         router-kinds : all (kindOk N (suc (suc l))) (g .routers) ≡ true
         router-kinds =
             let kinds : all (kindOk N (suc (suc l))) (pairsAt w (page ps (q .parent))) ≡ true =
-            subst (λ (i : ℕ). all (kindOk N i) (pairsAt w (page ps (q .parent))) ≡ true) (q .level) (shown-kinds w lim least N pos (page ps (q .parent)) (v .fit (q .parent) (used (page ps (q .parent)) (suc l) (q .level)))) in
+            subst (λ (i : ℕ). all (kindOk N i) (pairsAt w (page ps (q .parent))) ≡ true) (q .level) (shown-kinds w lim least N pos old low-old (page ps (q .parent)) (v .fit (q .parent) (used (page ps (q .parent)) (suc l) (q .level)))) in
             all-left (kindOk N (suc (suc l))) (g .routers) (q .after)
             (all-right (kindOk N (suc (suc l))) (q .before) (g .routers ++ q .after) (subst (λ (zs : List Pair). all (kindOk N (suc (suc l))) zs ≡ true) (q .live) kinds))
 
@@ -259,7 +259,7 @@ module _ (least : ℕ) (two-or-more : 2 ≤ least) (w : ℕ) (lim : w < alive) (
     work-by true t =
         subst (λ (i : ℕ). Kept (set ps i (changed w c (page ps (p .n)))) r) (sym own-value)
         (record {
-          inv = inv-placed least two-or-more w lim pos N ps (p .n) l c (λ (m : ℕ). m ≡ r) v (p .level) (p .tidy .order) (p .tidy .starts) (endless-by (page ps (p .n)) own-fit (p .lives))
+          inv = inv-placed least two-or-more w lim pos N old low-old ps (p .n) l c (λ (m : ℕ). m ≡ r) v (p .level) (p .tidy .order) (p .tidy .starts) (endless-by (page ps (p .n)) own-fit (p .lives))
               (leb-true _ (5 * least) (both-true (roomy least w c (page ps (p .n))) (leb least (length wish)) t .0)) (k .takes) (holds-order least w ps l (p .lo) (p .hi) wish (p .zs) (p .holds));
           low = λ m d. low-placed m;
         })
@@ -296,17 +296,17 @@ module _ (least : ℕ) (two-or-more : 2 ≤ least) (w : ℕ) (lim : w < alive) (
     abbrev hope : List Pair
     hope = wanted w c (page ps r)
 
-    abbrev vr : Inv least two-or-more w lim pos N ps (λ (m : ℕ). m ≡ r) (Pend least two-or-more w lim pos N ps r hope)
+    abbrev vr : Inv least two-or-more w lim pos N old low-old ps (λ (m : ℕ). m ≡ r) (Pend least two-or-more w lim pos N old low-old ps r hope)
     vr = k .inv
 
-    root-fit : PageFit least N w (page ps r)
+    root-fit : PageFit least N w old (page ps r)
     root-fit = vr .fit r (used (page ps r) l level)
 
     hope-order : inOrder lt hope ≡ true
     hope-order = holds-order least w ps l 0 keyLimit hope total holds
 
     hope-kinds : all (kindOk N (suc l)) hope ≡ true
-    hope-kinds = subst (λ (i : ℕ). all (kindOk N i) hope ≡ true) level (wanted-kinds w lim least N pos c (page ps r) root-fit (subst (λ (i : ℕ). all (kindOk N i) (c .take) ≡ true) (sym level) (k .takes)))
+    hope-kinds = subst (λ (i : ℕ). all (kindOk N i) hope ≡ true) level (wanted-kinds w lim least N pos old low-old c (page ps r) root-fit (subst (λ (i : ℕ). all (kindOk N i) (c .take) ≡ true) (sym level) (k .takes)))
 
     abbrev olds : List Pair
     olds = pair 0 r ∷ []
@@ -367,8 +367,8 @@ module _ (least : ℕ) (two-or-more : 2 ≤ least) (w : ℕ) (lim : w < alive) (
     crowned-by qs news (n ∷ ns) f d o =
         let (x, y, z) = in-frees qs n (f n (inl refl)) in
         record {
-          inv = inv-crowned least two-or-more w lim pos N qs l n news
-              (inv-root least two-or-more w lim pos N ps qs r l hope olds hope news (λ (m : ℕ). m ≡ r) vr d level-olds level (λ x i. i) not-others
+          inv = inv-crowned least two-or-more w lim pos N old low-old qs l n news
+              (inv-root least two-or-more w lim pos N old low-old ps qs r l hope olds hope news (λ (m : ℕ). m ≡ r) vr d level-olds level (λ x i. i) not-others
               (λ (m : ℕ). (In m (values news)) × (page qs m .level ≡ suc l)) (λ m i e. (i, e)) (λ m e a. absurd (R-olds m e a)))
               x y z (record { few = omega (arith, d .news-few); rise = o; kinds = d .kinds });
           low = λ m e. omega (arith, ap (λ (p : Page). p .level) (getD-set-other qs n m (filled w (suc (suc l)) news) free e), low-redone ps qs l olds hope news d (k .low) (omega (arith, k .low r, level)) m);
@@ -379,7 +379,7 @@ module _ (least : ℕ) (two-or-more : 2 ≤ least) (w : ℕ) (lim : w < alive) (
     root-handed short d o = tt
     root-handed (rebuilt qs []) d o = tt
     root-handed (rebuilt qs (x ∷ [])) d o = record {
-      inv = inv-root least two-or-more w lim pos N ps qs r l hope olds hope (x ∷ []) (λ (m : ℕ). m ≡ r) vr d level-olds level (λ x i. i) not-others (λ (m : ℕ). m ≡ x .value) (λ m i e. only m i) (λ m e a. absurd (R-olds m e a));
+      inv = inv-root least two-or-more w lim pos N old low-old ps qs r l hope olds hope (x ∷ []) (λ (m : ℕ). m ≡ r) vr d level-olds level (λ x i. i) not-others (λ (m : ℕ). m ≡ x .value) (λ m i e. only m i) (λ m e a. absurd (R-olds m e a));
       low = λ m e. low-redone ps qs l olds hope (x ∷ []) d (k .low) (omega (arith, k .low r, level)) m;
     }
       where
@@ -391,7 +391,7 @@ module _ (least : ℕ) (two-or-more : 2 ≤ least) (w : ℕ) (lim : w < alive) (
     root-stay : (b : Bool) → roomy least w c (page ps r) ≡ b → RootedKeeps r (Climb.rootStay least b w ps r c (page ps r))
     unfolding Climb.rootStay Rules.rebuild Rules.parts
     root-stay true e = record {
-      inv = inv-placed least two-or-more w lim pos N ps r l c (λ (m : ℕ). m ≡ r) vr level (tidy .order) (tidy .starts) (endless-by (page ps r) root-fit lives) (leb-true _ (5 * least) e) (k .takes) hope-order;
+      inv = inv-placed least two-or-more w lim pos N old low-old ps r l c (λ (m : ℕ). m ≡ r) vr level (tidy .order) (tidy .starts) (endless-by (page ps r) root-fit lives) (leb-true _ (5 * least) e) (k .takes) hope-order;
       low = λ m d. omega (arith, ap (λ (p : Page). p .level) (getD-set-other ps r m (changed w c (page ps r)) free d), k .low m);
     }
     root-stay false e =
@@ -401,7 +401,7 @@ module _ (least : ℕ) (two-or-more : 2 ≤ least) (w : ℕ) (lim : w < alive) (
     root-go : (b : Bool) (us : List Pair) → hope ≡ us → RootedKeeps r (Climb.rootGo least b w ps r c (page ps r) us)
     unfolding Climb.rootGo
     root-go true (x ∷ []) f = record {
-      inv = inv-deposed least two-or-more w lim pos N ps r l x (subst (λ (us : List Pair). Inv least two-or-more w lim pos N ps (λ (m : ℕ). m ≡ r) (Pend least two-or-more w lim pos N ps r us)) f vr) level;
+      inv = inv-deposed least two-or-more w lim pos N old low-old ps r l x (subst (λ (us : List Pair). Inv least two-or-more w lim pos N old low-old ps (λ (m : ℕ). m ≡ r) (Pend least two-or-more w lim pos N old low-old ps r us)) f vr) level;
       low = λ m d. low-deposed m (page-set-at ps r m (gone w (page ps r)) (in-list ps r l level));
     }
       where
@@ -410,7 +410,7 @@ module _ (least : ℕ) (two-or-more : 2 ≤ least) (w : ℕ) (lim : w < alive) (
         gone-low (inr z) = omega (arith, ap (λ (p : Page). p .level) (z .1), k .low r)
 
         low-deposed : (m : ℕ) → ((m ≡ r) × (page (set ps r (gone w (page ps r))) m ≡ gone w (page ps r))) ⊎ ((m ≢ r) × (page (set ps r (gone w (page ps r))) m ≡ page ps m)) → page (set ps r (gone w (page ps r))) m .level ≤ 7
-        low-deposed m (inl z) = omega (arith, ap (λ (p : Page). p .level) (z .1), gone-low (gone-cases least two-or-more w lim pos N (page ps r)))
+        low-deposed m (inl z) = omega (arith, ap (λ (p : Page). p .level) (z .1), gone-low (gone-cases least two-or-more w lim pos N old low-old (page ps r)))
         low-deposed m (inr z) = omega (arith, ap (λ (p : Page). p .level) (z .1), k .low m)
     root-go true [] f = root-stay _ refl
     root-go true (x ∷ y ∷ zs) f = root-stay _ refl

@@ -44,6 +44,7 @@ pub mod Abandon
 pub mod Stops
 pub mod Returned
 pub mod Converted
+pub mod Prune
 pub mod History
 pub mod Undone
 pub mod Theorems

@@ -152,9 +152,9 @@ unfoldable pub rest : ℕ → (ℕ → Option ℕ) → ℕ → List Stretch
 rest c f v = map (shownTo c) (runs f v (suc c - v))
 
 module _ (c : ℕ) (f : ℕ → Option ℕ) where
-  pub rest-start : rest c f 0 ≡ lifeOf c f
+  pub rest-start : (old : ℕ) → rest c f old ≡ lifeOf old c f
   unfolding rest lifeOf
-  rest-start = let e : suc c - 0 ≡ suc c = omega arith in rw e
+  rest-start old = refl
 
   pub rest-end : (v : ℕ) → c < v → rest c f v ≡ []
   unfolding rest
@@ -178,9 +178,9 @@ module _ (c : ℕ) (f : ℕ → Option ℕ) where
           (runs-some f (r - suc v) x v (suc c - r) (λ w a b. l .same w a (omega (arith, behind)) ∙ q) ∙ ap (λ (u : ℕ). join (stretch v u x) (runs f u (suc c - r))) behind
           ∙ runs-apart f (stretch v r x) r (suc c - r) refl (λ g z. l .other (omega arith) (z ∙ sym q)))
 
-  pub life-length : length (lifeOf c f) ≤ suc c
+  pub life-length : (old : ℕ) → length (lifeOf old c f) ≤ suc c
   unfolding lifeOf
-  life-length = omega (arith, length-map (runs f 0 (suc c)) (shownTo c), runs-length f 0 (suc c))
+  life-length old = omega (arith, length-map (runs f old (suc c - old)) (shownTo c), runs-length f old (suc c - old))
 
 -- ---- answers that agree
 
@@ -188,6 +188,6 @@ runs-ext : (f g : ℕ → Option ℕ) (n v : ℕ) → ((w : ℕ) → v ≤ w →
 runs-ext f g zero v h = refl
 runs-ext f g (suc n) v h = runs-step f v n ∙ ap₂ (front v) (h v (omega arith) (omega arith)) (runs-ext f g n (suc v) (λ w a b. h w (omega arith) (omega arith))) ∙ sym (runs-step g v n)
 
-pub life-ext : (c : ℕ) (f g : ℕ → Option ℕ) → ((v : ℕ) → v ≤ c → f v ≡ g v) → lifeOf c f ≡ lifeOf c g
+pub life-ext : (old c : ℕ) (f g : ℕ → Option ℕ) → ((v : ℕ) → old ≤ v → v ≤ c → f v ≡ g v) → lifeOf old c f ≡ lifeOf old c g
 unfolding lifeOf
-life-ext c f g h = ap (map (shownTo c)) (runs-ext f g (suc c) 0 (λ w a b. h w (omega arith)))
+life-ext old c f g h = ap (map (shownTo c)) (runs-ext f g (suc c - old) old (λ w a b. h w a (omega arith)))

@@ -23,7 +23,7 @@ use Rattle.model.proofs.Tree.{Row, Holds, Tree}
 use Rattle.model.proofs.Local.{inRange, order-append}
 use Rattle.model.proofs.Descend.{found-in}
 use Rattle.model.proofs.Main.{row-range, holds-range}
-use Rattle.model.proofs.Given.{Sound, from-tests}
+use Rattle.model.proofs.Given.{Readable, Sound, from-tests}
 use Rattle.model.proofs.Fits.{holds-all}
 
 -- keys elsewhere
@@ -75,15 +75,15 @@ module _ (least v : ℕ) (ps : List Page) where
   holds-rising (suc l) lo hi us zs h = rising-row l (holds-rising l) hi us lo zs h
 
 module _ (least : ℕ) (two-or-more : 2 ≤ least) (s : Store) (d : Sound least s) where
-  pub lookup-is : (k v : ℕ) → k < keyLimit → v ≤ last s → lookup s k v ≡ find k (settings s v)
+  pub lookup-is : (k v : ℕ) → k < keyLimit → Readable s v → lookup s k v ≡ find k (settings s v)
   lookup-is k v low h = look-down least v k (s .pages) (rootAt (s .slots) v) (heightOf (s .pages) (rootAt (s .slots) v)) [] 0 keyLimit (rootAt (s .slots) v) (settings s v) refl (holds-all least two-or-more s d v h) (omega arith) low
 
-  pub settings-rise : (v : ℕ) → v ≤ last s → rising (settings s v) ≡ true
+  pub settings-rise : (v : ℕ) → Readable s v → rising (settings s v) ≡ true
   settings-rise v h = holds-rising least v (s .pages) (heightOf (s .pages) (rootAt (s .slots) v)) 0 keyLimit (pairsAt v (page (s .pages) (rootAt (s .slots) v))) (settings s v) (holds-all least two-or-more s d v h)
 
-  pub settings-low : (v : ℕ) → v ≤ last s → inRange 0 keyLimit (settings s v) ≡ true
+  pub settings-low : (v : ℕ) → Readable s v → inRange 0 keyLimit (settings s v) ≡ true
   settings-low v h = holds-range least v (s .pages) (heightOf (s .pages) (rootAt (s .slots) v)) 0 keyLimit (pairsAt v (page (s .pages) (rootAt (s .slots) v))) (settings s v) (holds-all least two-or-more s d v h)
 
 -- For every sound store, key and version: the way down finds what the walk over all settings finds.
-pub lookup-sound : (least : ℕ) → 2 ≤ least → (s : Store) → T (sound least s) → (k v : ℕ) → k < keyLimit → v ≤ last s → lookup s k v ≡ find k (settings s v)
+pub lookup-sound : (least : ℕ) → 2 ≤ least → (s : Store) → T (sound least s) → (k v : ℕ) → k < keyLimit → Readable s v → lookup s k v ≡ find k (settings s v)
 lookup-sound least two s sure k v low h = lookup-is least two s (from-tests least s (holds-true (sound least s) sure)) k v low h

@@ -23,6 +23,10 @@ pub not-both : (b : Bool) → b ≡ true → b ≡ false → ⊥
 not-both true p q = let z : _≡_ {A = ℕ} 0 1 = cc in omega arith
 not-both false p q = let z : _≡_ {A = ℕ} 0 1 = cc in omega arith
 
+pub neither : (a b : Bool) → (a || b) ≡ false → (a ≡ false) × (b ≡ false)
+neither true b e = absurd (not-both true refl e)
+neither false b e = (refl, e)
+
 pub either-true : (a b : Bool) → (a || b) ≡ true → (a ≡ true) ⊎ (b ≡ true)
 either-true true b e = inl refl
 either-true false b e = inr e

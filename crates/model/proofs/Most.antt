@@ -14,11 +14,11 @@ use borrow.Author.Tests.{eqb-true, ltb-true, ltb-false}
 use Rattle.model.specs.Basic.{pick}
 use Rattle.model.specs.declared.Pair.{Pair}
 use Rattle.model.specs.Page.{Page, isFree, pairsAt}
-use Rattle.model.specs.Store.{Store, page, last}
+use Rattle.model.specs.Store.{Store, page}
 use Rattle.model.specs.Walk.{settings, rootAt, keyLimit}
 use Rattle.model.specs.Sound.{sound}
 use Rattle.model.proofs.Members.{holds-true, not-both, bool-cases}
-use Rattle.model.proofs.Given.{Sound, from-tests}
+use Rattle.model.proofs.Given.{Readable, Sound, from-tests}
 use Rattle.model.proofs.Tree.{Row, Holds, Tree, row-le}
 use Rattle.model.proofs.Shows.{Shows}
 use Rattle.model.proofs.Fits.{shows-all}
@@ -73,7 +73,7 @@ module _ (least w : ℕ) (ps : List Page) (room : ℕ) (few : (m : ℕ) → leng
   root-most r (suc l) zs long front h = omega (arith, row-most l (tree-most l) keyLimit (pairsAt w (page ps r)) 0 zs h, mul-le-mul-right room (behind front))
 
 -- No version of a sound store has more settings than its pages from 5 on have room for.
-pub settings-most : (least : ℕ) → 2 ≤ least → (s : Store) → T (sound least s) → (v : ℕ) → v ≤ last s → length (settings s v) ≤ (length (s .pages) - 5) * (5 * least)
+pub settings-most : (least : ℕ) → 2 ≤ least → (s : Store) → T (sound least s) → (v : ℕ) → Readable s v → length (settings s v) ≤ (length (s .pages) - 5) * (5 * least)
 settings-most least two s sure v h =
     let shown : Shows least v (s .pages) (rootAt (s .slots) v) (settings s v) = shows-all least two s d v h in
     root-most least v (s .pages) (5 * least) few (rootAt (s .slots) v) (shown .height) (settings s v) (d .long) (d .front) (shown .holds)

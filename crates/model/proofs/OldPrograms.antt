@@ -11,7 +11,6 @@ use lib.Dec.{leb, ltb}
 use lib.ListN.{length}
 use Rattle.model.specs.Basic.{pick}
 use Rattle.model.specs.declared.Pair.{Pair}
-use Rattle.model.specs.Store.{last}
 use Rattle.model.specs.Walk.{keyLimit, lookup, rangeOf}
 use Rattle.model.specs.Layout.{decode}
 use Rattle.model.specs.Judged
@@ -19,15 +18,16 @@ use Rattle.model.specs.Judged.{lengthOk, magicOk, editionOk, verdict, ju
 use Rattle.model.specs.Near
 use Rattle.model.specs.Near.{early, fromRoot, downRight, rangeRight}
 use Rattle.model.specs.Calls
-use Rattle.model.specs.Calls.{Rule, rule, firstOf}
+use Rattle.model.specs.Calls.{Rule, rule, firstOf, unreadable}
 use Rattle.model.specs.Lent
-use Rattle.model.specs.Ended.{Asked, toFresh, toFreshSecond, toCheck, toOpen, toCommit, toAbandon, toInsert, toDelete, toReturn, toLookup, toRange, toLife, toDifference, toVisits, toState, Ended, ofLooked, ofListed, endedBy, makes, Refuses}
+use Rattle.model.specs.Ended.{Asked, toFresh, toFreshSecond, toCheck, toOpen, toCommit, toAbandon, toInsert, toDelete, toReturn, toPrune, toLookup, toRange, toLife, toDifference, toVisits, Ended, ofLooked, ofListed, endedBy, makes, Refuses, toState}
 use Rattle.model.proofs.Editions.{Lends, lends-names, lends-second}
 
--- all calls but making fresh, and lookup and range, which judge what they read
+-- all calls but making fresh; prune, which edition 1 does not have; and lookup and range, which judge what they read
 abbrev judgesWhole : Asked → Bool
 judgesWhole toFresh = false
 judgesWhole toFreshSecond = false
+judgesWhole (toPrune v) = false
 judgesWhole (toLookup k v) = false
 judgesWhole (toRange lo hi v) = false
 judgesWhole toCheck = true
@@ -79,6 +79,7 @@ module _ (b ns : List ℕ) (l : Lends 8 b) where
   whole toState n e j = rw e (record { number = refl; untouched = record { store = refl; list = refl }; zeros = refl })
   whole toFresh n e j = absurd (true≢false (sym j))
   whole toFreshSecond n e j = absurd (true≢false (sym j))
+  whole (toPrune v) n e j = absurd (true≢false (sym j))
   whole (toLookup k v) n e j = absurd (true≢false (sym j))
   whole (toRange lo hi v) n e j = absurd (true≢false (sym j))
 
@@ -96,17 +97,18 @@ module _ (b ns : List ℕ) (l : Lends 8 b) where
   ranged n room xs (inr e) = rw e (inr (record { number = refl; untouched = record { store = refl; list = refl }; zeros = refl }))
 
   pub old-programs : (c : Asked) → makes c ≡ false → OneOrThree b ns (endedBy 4 c b ns)
-  unfolding Lent.lookupLent Lent.rangeLent Near.lookupNear Near.rangeNear
+  unfolding Lent.pruneLent Lent.lookupLent Lent.rangeLent Near.lookupNear Near.rangeNear
   old-programs toFresh m = absurd (true≢false m)
   old-programs toFreshSecond m = absurd (true≢false m)
+  old-programs (toPrune v) m = inr (record { number = refl; untouched = record { store = refl; list = refl }; zeros = refl })
   old-programs (toLookup k v) m =
       looked _ (lookup (decode 4 b) k v)
       (early-old
-      (rule 5 (leb keyLimit k) ∷ rule 6 (ltb (last (decode 4 b)) v) ∷ rule 4 (not (fromRoot 4 b v (λ up n. downRight 4 b v up k n))) ∷ []))
+      (rule 5 (leb keyLimit k) ∷ rule 6 (unreadable (decode 4 b) v) ∷ rule 4 (not (fromRoot 4 b v (λ up n. downRight 4 b v up k n))) ∷ []))
   old-programs (toRange lo hi v) m =
       ranged _ (length ns) (rangeOf (decode 4 b) lo hi v)
       (early-old
-      (rule 5 (leb keyLimit lo || leb keyLimit hi || ltb hi lo) ∷ rule 6 (ltb (last (decode 4 b)) v) ∷ rule 4 (not (fromRoot 4 b v (λ up n. rangeRight 4 b v up hi lo n))) ∷ []))
+      (rule 5 (leb keyLimit lo || leb keyLimit hi || ltb hi lo) ∷ rule 6 (unreadable (decode 4 b) v) ∷ rule 4 (not (fromRoot 4 b v (λ up n. rangeRight 4 b v up hi lo n))) ∷ []))
   old-programs toCheck m = by-whole toCheck refl
   old-programs toOpen m = by-whole toOpen refl
   old-programs toCommit m = by-whole toCommit refl

@@ -18,7 +18,7 @@ use Rattle.model.proofs.Members.{In, in-append, all-by, all-in}
 use Rattle.model.proofs.Tree.{Row, Tree}
 use Rattle.model.proofs.Walks.{Reach, reach-self}
 use Rattle.model.proofs.Nodes.{Node, reach-node}
-use Rattle.model.proofs.Given.{Sound, numbers}
+use Rattle.model.proofs.Given.{Readable, Sound, numbers}
 use Rattle.model.proofs.Fits.{root, root-level, root-lives, holds-all}
 use Rattle.model.proofs.Parents.{Mark, mark-apart, row-marks, tree-marks, reach-height}
 
@@ -118,9 +118,9 @@ module _ (ps : List Page) (v : ℕ) where
         (row-once l (λ a b i xs t. node-once l i (record { lo = a; hi = b; zs = xs; level = t .level; holds = t .holds; lives = t .fair .lives })) (d .hi) (pairsAt v (page ps n)) (d .lo) (d .zs) (d .holds))
 
 -- "walk from its root": no page is met twice
-pub numbers-once : (least : ℕ) → 2 ≤ least → (s : Store) → Sound least s → (v : ℕ) → v ≤ last s → inOrder differs (numbers s v) ≡ true
+pub numbers-once : (least : ℕ) → 2 ≤ least → (s : Store) → Sound least s → (v : ℕ) → Readable s v → inOrder differs (numbers s v) ≡ true
 numbers-once least two s d v h =
     let r = root least two s d v in
     let l = heightOf (s .pages) r in
     ap (inOrder differs) (below-met (s .pages) v l true 0 keyLimit r)
-    ∙ node-once (s .pages) v least l r (record { lo = 0; hi = keyLimit; zs = settings s v; level = root-level least two s d v; holds = holds-all least two s d v h; lives = root-lives least two s d v h })
+    ∙ node-once (s .pages) v least l r (record { lo = 0; hi = keyLimit; zs = settings s v; level = root-level least two s d v (h .from); holds = holds-all least two s d v h; lives = root-lives least two s d v h })

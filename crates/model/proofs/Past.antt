@@ -1,13 +1,13 @@
 -- Older versions: pages that abandon leaves alike live alike then, and the directory has the same roots.
 -- Assumes nothing.
-use Prim.Native.Nat.{ℕ, _≤_, _<_}
+use Prim.Native.Nat.{ℕ, _≤_, _<_, max}
 use native.Mathlib.Omega.{arith}
 use mathlib.Core.Bool.{Bool, true, false, _&&_, not}
 use mathlib.Core.Path.{_≡_, refl, ap, sym, _∙_, subst}
 use mathlib.Core.Logic.{_⊎_, inl, inr, _≢_}
 use mathlib.Core.List.{List, [], _∷_, _++_, map}
 use lib.Dec.{leb, ltb, eqb}
-use lib.ListN.{getD, List·getD-map}
+use lib.ListN.{getD, drop, List·getD-map}
 use borrow.Author.Tests.{ltb-true, leb-true, eqb-true, eqb-false, lt-ltb, le-leb, lt-leb, ne-eqb, not-true}
 use Rattle.model.specs.Basic.{all, those, keep, pick, inOrder}
 use Rattle.model.specs.Entry.{alive, within}
@@ -145,12 +145,54 @@ module _ (w : ℕ) where
   pub those-all-of : (f : Slot → Bool) (xs : List Slot) → ((x : Slot) → In x xs → x .version ≢ w → f x ≡ true) → all f (those older xs) ≡ true
   those-all-of f xs g = all-by f (those older xs) (λ x i. let (a, b) = in-those older x xs i in g x b (eqb-false (x .version) w (not-true (eqb (x .version) w) a)))
 
-  -- the first slot, of version 0, stays
-  pub put-first : (n : ℕ) (xs : List Slot) → 0 < w → firstVersion xs ≡ 0 → firstVersion (Climb.putSlot w n xs) ≡ 0
-  unfolding Climb.putSlot
-  put-first n [] h e = absurd (omega arith)
-  put-first n (x ∷ xs) h e = ap (λ (b : Bool). firstVersion (keep (not b) x (those older xs) ++ (record { version = w; root = n } ∷ []))) (ne-eqb (x .version) w (λ (z : x .version ≡ w). omega arith)) ∙ e
+  -- the first slot stays, and the others are above the oldest version
+  module _ (old : ℕ) (h : old < w) where
+    abbrev newer : List Slot → Bool
+    newer ys = all (λ (y : Slot). ltb old (y .version)) (drop 1 ys)
 
-  pub those-first : (xs : List Slot) → 0 < w → firstVersion xs ≡ 0 → firstVersion (those older xs) ≡ 0
-  those-first [] h e = absurd (omega arith)
-  those-first (x ∷ xs) h e = ap (λ (b : Bool). firstVersion (keep (not b) x (those older xs))) (ne-eqb (x .version) w (λ (z : x .version ≡ w). omega arith)) ∙ e
+    first-old : (x : Slot) → x .version ≤ old → older x ≡ true
+    first-old x e = ap not (ne-eqb (x .version) w (λ (z : x .version ≡ w). omega arith))
+
+    pub put-first : (n : ℕ) (xs : List Slot) → firstVersion old xs ≤ old → firstVersion old (Climb.putSlot w n xs) ≤ old
+    unfolding Climb.putSlot
+    put-first n [] e = absurd (omega arith)
+    put-first n (x ∷ xs) e = subst (λ (b : Bool). firstVersion old (keep b x (those older xs) ++ (record { version = w; root = n } ∷ [])) ≤ old) (sym (first-old x e)) e
+
+    pub those-first : (xs : List Slot) → firstVersion old xs ≤ old → firstVersion old (those older xs) ≤ old
+    those-first [] e = absurd (omega arith)
+    those-first (x ∷ xs) e = subst (λ (b : Bool). firstVersion old (keep b x (those older xs)) ≤ old) (sym (first-old x e)) e
+
+    those-newer : (xs : List Slot) → all (λ (y : Slot). ltb old (y .version)) xs ≡ true → all (λ (y : Slot). ltb old (y .version)) (those older xs) ≡ true
+    those-newer xs a = all-by _ (those older xs) (λ y i. all-in (λ (z : Slot). ltb old (z .version)) y xs a (in-those older y xs i .1))
+
+    pub put-newer : (n : ℕ) (xs : List Slot) → firstVersion old xs ≤ old → newer xs ≡ true → newer (Climb.putSlot w n xs) ≡ true
+    unfolding Climb.putSlot
+    put-newer n [] e a = absurd (omega arith)
+    put-newer n (x ∷ xs) e a = subst (λ (b : Bool). newer (keep b x (those older xs) ++ (record { version = w; root = n } ∷ [])) ≡ true) (sym (first-old x e))
+        (all-append (λ (y : Slot). ltb old (y .version)) (those older xs) (record { version = w; root = n } ∷ []) (those-newer xs a) (both-intro _ _ (lt-ltb old w h) refl))
+
+    pub kept-newer : (xs : List Slot) → firstVersion old xs ≤ old → newer xs ≡ true → newer (those older xs) ≡ true
+    kept-newer [] e a = absurd (omega arith)
+    kept-newer (x ∷ xs) e a = subst (λ (b : Bool). newer (keep b x (those older xs)) ≡ true) (sym (first-old x e)) (those-newer xs a)
+
+-- each slot's root is the root of a version from the oldest on
+pub record Stands (old : ℕ) (xs : List Slot) (x : Slot) : Type 0 where
+  pub at : ℕ
+  pub from : old ≤ at
+  pub upto : at ≤ max old (x .version)
+  pub is : rootAt xs at ≡ x .root
+
+pub stands : (old : ℕ) (xs : List Slot) → firstVersion old xs ≤ old → inOrder bySlot xs ≡ true → all (λ (y : Slot). ltb old (y .version)) (drop 1 xs) ≡ true → (x : Slot) → In x xs → Stands old xs x
+stands old [] e o a x i = absurd i
+stands old (y ∷ ys) e o a x (inl z) = record {
+  at = old;
+  from = omega arith;
+  upto = omega arith;
+  is = ap (λ (b : Bool). rootFrom (pick b (y .root) 0) ys old) (le-leb (y .version) old e) ∙ root-above old (y .root) ys a ∙ ap (λ (q : Slot). q .root) (sym z);
+}
+stands old (y ∷ ys) e o a x (inr i) = record {
+  at = x .version;
+  from = omega (arith, ltb-true old (x .version) (all-in (λ (q : Slot). ltb old (q .version)) x ys a i));
+  upto = omega arith;
+  is = root-slot 0 (y ∷ ys) o x (inr i);
+}

@@ -3,7 +3,7 @@
 -- Assumes nothing.
 use Prim.Native.Nat.{ℕ, zero, suc, _+_, _≤_, _<_}
 use native.Mathlib.Omega.{arith}
-use mathlib.Core.Bool.{Bool, true, false, _&&_}
+use mathlib.Core.Bool.{Bool, true, false, _&&_, _||_}
 use mathlib.Core.Path.{_≡_, refl, ap, sym, _∙_, subst}
 use mathlib.Core.Logic.{_⊎_, inl, inr, _≢_}
 use mathlib.Core.List.{List, [], _∷_, _++_}
@@ -227,14 +227,18 @@ module _ (w l level : ℕ) (ps : List Page) (rs : List Pair) (g : Pages w l ps r
 
 -- a live router to an active page starts at the open version
 pub router-young : (least : ℕ) → 2 ≤ least → (s : Store) (d : Sound least s) → s .opened ≡ true → (n l : ℕ) → page (s .pages) n .level ≡ suc (suc l) → (e : Entry) → In e (page (s .pages) n .entries)
-    → active (next s) (page (s .pages) (e .value)) ≡ true → e .start ≡ next s
-router-young least twice s d o n l up e i a = at (either-true (eqb (page (s .pages) n .level) 1) _ (g .leads))
+    → s .oldest < e .end → active (next s) (page (s .pages) (e .value)) ≡ true → e .start ≡ next s
+router-young least twice s d o n l up e i live a = at (either-true (eqb (page (s .pages) n .level) 1 || leb (e .end) (s .oldest)) _ (g .leads))
   where
     g : GoodEntry s (page (s .pages) n) e
     g = entry-of least s d n (level-used (page (s .pages) n) (suc l) up) e i
 
-    at : (eqb (page (s .pages) n .level) 1 ≡ true) ⊎ ((inside e (page (s .pages) (e .value)) && eqb (suc (page (s .pages) (e .value) .level)) (page (s .pages) n .level)) ≡ true) → e .start ≡ next s
-    at (inl z) = absurd (omega (arith, eqb-true (page (s .pages) n .level) 1 z))
+    not-out : (eqb (page (s .pages) n .level) 1 ≡ true) ⊎ (leb (e .end) (s .oldest) ≡ true) → ⊥
+    not-out (inl z) = omega (arith, eqb-true (page (s .pages) n .level) 1 z)
+    not-out (inr z) = omega (arith, leb-true (e .end) (s .oldest) z)
+
+    at : ((eqb (page (s .pages) n .level) 1 || leb (e .end) (s .oldest)) ≡ true) ⊎ ((inside e (page (s .pages) (e .value)) && eqb (suc (page (s .pages) (e .value) .level)) (page (s .pages) n .level)) ≡ true) → e .start ≡ next s
+    at (inl z) = absurd (not-out (either-true (eqb (page (s .pages) n .level) 1) (leb (e .end) (s .oldest)) z))
     at (inr z) =
         let (b, c) = both-true (inside e (page (s .pages) (e .value))) (eqb (suc (page (s .pages) (e .value) .level)) (page (s .pages) n .level)) z in
         let (x, y) = both-true (leb (page (s .pages) (e .value) .start) (e .start)) (leb (e .end) (page (s .pages) (e .value) .end)) b in

@@ -126,7 +126,7 @@ way-long (suc l) ps v k n acc =
     let a : Around = around k (pairsAt v (page ps n)) in
     omega (arith, way-long l ps v k (a .own .value) (a ∷ acc))
 
-pub way-few : (least : ℕ) → 2 ≤ least → (s : Store) → Sound least s → (v k : ℕ) → length (way s v k) ≤ 6
-way-few least twice s d v k =
+pub way-few : (least : ℕ) → 2 ≤ least → (s : Store) → Sound least s → (v k : ℕ) → s .oldest ≤ v → length (way s v k) ≤ 6
+way-few least twice s d v k from =
     let r : ℕ = rootAt (s .slots) v in
-    omega (arith, way-long (heightOf (s .pages) r) (s .pages) v k r [], root-level least twice s d v, d .pages r (root-used least twice s d v) .low)
+    omega (arith, way-long (heightOf (s .pages) r) (s .pages) v k r [], root-level least twice s d v from, d .pages r (root-used least twice s d v from) .low)

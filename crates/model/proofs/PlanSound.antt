@@ -59,12 +59,12 @@ module _ (least : ℕ) (two : 2 ≤ least) (s : Store) (d : Sound least s) where
 
   done-slot : (b : Bool) (xs : List Slot) (qs : List Page) → numberOf (Climb.slotted b s xs qs) ≡ 0 → (t : Store) × (Climb.slotted b s xs qs ≡ done t)
   unfolding Climb.slotted
-  done-slot true xs qs e = (record { current = s .current; opened = s .opened; slots = xs; pages = qs }, refl)
+  done-slot true xs qs e = (record { current = s .current; opened = s .opened; oldest = s .oldest; slots = xs; pages = qs }, refl)
   done-slot false xs qs e = absurd (omega arith)
 
   done-by : (x : Rooted) → numberOf (rooted least s x) ≡ 0 → (t : Store) × (rooted least s x ≡ done t)
   unfolding Climb.rooted
-  done-by (stays qs) e = (record { current = s .current; opened = s .opened; slots = s .slots; pages = qs }, refl)
+  done-by (stays qs) e = (record { current = s .current; opened = s .opened; oldest = s .oldest; slots = s .slots; pages = qs }, refl)
   done-by (moves n qs) e = done-slot _ _ qs e
   done-by lacks e = absurd (omega arith)
 

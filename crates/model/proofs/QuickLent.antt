@@ -7,14 +7,14 @@ use mathlib.Core.Path.{_≡_, refl, ap, sym, _∙_}
 use mathlib.Core.List.{List}
 use Rattle.model.specs.Basic.{pick}
 use Rattle.model.specs.Store.{Store}
-use Rattle.model.specs.Sound.{rule2, rule3, rule4, rule5, rule6}
+use Rattle.model.specs.Sound.{rule2, rule3, rule4, rule5, rule6, rule7}
 use Rattle.model.specs.Layout.{decode}
 use Rattle.model.specs.Clean.{clean}
 use Rattle.model.specs.Counted.{rule8}
 use Rattle.model.specs.Judged.{lengthOk, magicOk, editionOk, brokenIn, verdict, ruled, judged}
 use Rattle.model.specs.Quick.{quick, quickIn}
+use Rattle.model.proofs.Judging.{clean-first, lower-one, lower-two, lower-three, lower-four, lower-five, lower-six, lower-seven, lower-none, broken-lower, broken-eight, broken-none}
 use Rattle.model.specs.Inner.{lowerIn}
-use Rattle.model.proofs.Judging.{clean-first, lower-one, lower-two, lower-three, lower-four, lower-five, lower-six, lower-none, broken-lower, broken-eight, broken-none}
 use Rattle.model.proofs.Quick.{quick-rules}
 
 module _ (least : ℕ) (two : 2 ≤ least) (b : List ℕ) where
@@ -25,18 +25,20 @@ module _ (least : ℕ) (two : 2 ≤ least) (b : List ℕ) where
   unfolding quickIn
   lower-quickly = at (clean least b) (rule2 s) (rule3 s) refl refl refl
     where
-      by : clean least b ≡ true → rule2 s ≡ true → rule3 s ≡ true → (d e f : Bool) → rule4 s ≡ d → rule5 least s ≡ e → rule6 s ≡ f → ruled (lowerIn least b) .number ≡ pick (d && e && f) 0 4
-      by p q r false e f u v w = ap (λ (n : ℕ). ruled n .number) (lower-four least b p q r u)
-      by p q r true false f u v w = ap (λ (n : ℕ). ruled n .number) (lower-five least b p q r u v)
-      by p q r true true false u v w = ap (λ (n : ℕ). ruled n .number) (lower-six least b p q r u v w)
-      by p q r true true true u v w = ap (λ (n : ℕ). ruled n .number) (lower-none least b p q r u v w)
+      by : clean least b ≡ true → rule2 s ≡ true → rule3 s ≡ true → (d e f g : Bool) → rule4 s ≡ d → rule5 least s ≡ e → rule6 s ≡ f → rule7 s ≡ g
+          → ruled (lowerIn least b) .number ≡ pick (d && e && f && g) 0 4
+      by p q r false e f g u v w x = ap (λ (n : ℕ). ruled n .number) (lower-four least b p q r u)
+      by p q r true false f g u v w x = ap (λ (n : ℕ). ruled n .number) (lower-five least b p q r u v)
+      by p q r true true false g u v w x = ap (λ (n : ℕ). ruled n .number) (lower-six least b p q r u v w)
+      by p q r true true true false u v w x = ap (λ (n : ℕ). ruled n .number) (lower-seven least b p q r u v w x)
+      by p q r true true true true u v w x = ap (λ (n : ℕ). ruled n .number) (lower-none least b p q r u v w x)
 
-      at : (x y z : Bool) → clean least b ≡ x → rule2 s ≡ y → rule3 s ≡ z → ruled (lowerIn least b) .number ≡ pick (x && y && z && quick least s) 0 4
+      at : (x y z : Bool) → clean least b ≡ x → rule2 s ≡ y → rule3 s ≡ z → ruled (lowerIn least b) .number ≡ pick (x && y && z && quick least s && rule7 s) 0 4
       at false y z p q r = ap (λ (n : ℕ). ruled n .number) (lower-one least b p)
       at true false z p q r = ap (λ (n : ℕ). ruled n .number) (lower-two least b p q)
       at true true false p q r = ap (λ (n : ℕ). ruled n .number) (lower-three least b p q r)
       at true true true p q r =
-          by p q r (rule4 s) (rule5 least s) (rule6 s) refl refl refl ∙ ap (λ (t : Bool). pick t 0 4) (sym (quick-rules least two s (clean-first least b p) q r))
+          by p q r (rule4 s) (rule5 least s) (rule6 s) (rule7 s) refl refl refl refl ∙ ap (λ (t : Bool). pick (t && rule7 s) 0 4) (sym (quick-rules least two s (clean-first least b p) q r))
 
   -- rules 1 to 7, and rule 8
   pub ruled-quickly : ruled (brokenIn least b) .number ≡ pick (quickIn least b && rule8 least b) 0 4

@@ -80,9 +80,9 @@ module _ (n v : ℕ) (low : v < alive) where
           ∙ ap (λ (r : ℕ). one (eqb r n)) (sym (root-late v (x .root) ys (λ w i. late-all v y ys l order w (inr i))))
 
   -- "The root of v is the last slot at or below v": the one slot in whose stretch v lies
-  pub roots-at : (xs : List Slot) → firstVersion xs ≡ 0 → inOrder sooner xs ≡ true → rootsAt n v xs ≡ one (eqb (rootAt xs v) n)
-  roots-at [] e o = absurd (omega arith)
-  roots-at (x ∷ xs) e o =
+  pub roots-at : (old : ℕ) (xs : List Slot) → old ≤ v → firstVersion old xs ≤ old → inOrder sooner xs ≡ true → rootsAt n v xs ≡ one (eqb (rootAt xs v) n)
+  roots-at old [] from e o = absurd (omega arith)
+  roots-at old (x ∷ xs) from e o =
       roots-from xs x (omega arith) o ∙ ap (λ (b : Bool). one (eqb (rootFrom (pick b (x .root) 0) xs v) n)) (sym (le-leb (x .version) v (omega arith)))
 
 -- ---- all ways
@@ -119,28 +119,28 @@ module _ (least : ℕ) (two : 2 ≤ least) (s : Store) (d : Front least s) where
           let high : 1 < page ps m .level = leb-false (page ps m .level) 1 e in
           record { up = page ps m .level - 2; level = omega arith; router = x; is-in = i; leads = q }
 
-  parent-child : (v n m : ℕ) (p : Parent v n m) → page ps n .level ≡ suc (p .up)
-  parent-child v n m p = subst (λ (k : ℕ). page ps k .level ≡ suc (p .up)) (p .leads) (child-at least two s d v m (p .up) (p .router) (p .level) (p .is-in) .level)
+  parent-child : (v : ℕ) → s .oldest ≤ v → (n m : ℕ) (p : Parent v n m) → page ps n .level ≡ suc (p .up)
+  parent-child v from n m p = subst (λ (k : ℕ). page ps k .level ≡ suc (p .up)) (p .leads) (child-at least two s d v from m (p .up) (p .router) (p .level) (p .is-in) .level)
 
-  pub parent-lives : (v n m : ℕ) → Parent v n m → livesAt v (page ps m) ≡ true
-  parent-lives v n m p =
+  pub parent-lives : (v : ℕ) → s .oldest ≤ v → (n m : ℕ) → Parent v n m → livesAt v (page ps m) ≡ true
+  parent-lives v from n m p =
       let w = shows-of v (page ps m .entries) (p .router) (p .is-in) in
-      lives-with least two s d v m (w .entry) (level-used (page ps m) (suc (p .up)) (p .level)) (w .is-in) (w .live)
+      lives-with least two s d v from m (w .entry) (level-used (page ps m) (suc (p .up)) (p .level)) (w .is-in) (w .live)
 
-  pub parent-higher : (v n m : ℕ) → Parent v n m → page ps n .level < page ps m .level
-  parent-higher v n m p = omega (arith, p .level, parent-child v n m p)
+  pub parent-higher : (v : ℕ) → s .oldest ≤ v → (n m : ℕ) → Parent v n m → page ps n .level < page ps m .level
+  parent-higher v from n m p = omega (arith, p .level, parent-child v from n m p)
 
-  parent-reach : (v n m : ℕ) (p : Parent v n m) → Reached v m → Reach ps v (height least two s d v) (root least two s d v) (suc (p .up)) m
-  parent-reach v n m p (j, r) =
-      let e : j ≡ suc (p .up) = omega (arith, p .level, reach-level least two s d v (height least two s d v) (root least two s d v) j m (root-level least two s d v) r) in
+  parent-reach : (v : ℕ) → s .oldest ≤ v → (n m : ℕ) (p : Parent v n m) → Reached v m → Reach ps v (height least two s d v) (root least two s d v) (suc (p .up)) m
+  parent-reach v from n m p (j, r) =
+      let e : j ≡ suc (p .up) = omega (arith, p .level, reach-level least two s d v from (height least two s d v) (root least two s d v) j m (root-level least two s d v from) r) in
       subst (λ (k : ℕ). Reach ps v (height least two s d v) (root least two s d v) k m) e r
 
   -- from the parent one step further
-  pub parent-step : (v n m : ℕ) → Parent v n m → Reached v m → Reached v n
-  parent-step v n m p r =
-      (p .up, subst (Reach ps v (height least two s d v) (root least two s d v) (p .up)) (p .leads) (reach-on ps v (height least two s d v) (root least two s d v) (p .up) m (p .router) (parent-reach v n m p r) (p .is-in)))
+  pub parent-step : (v : ℕ) → s .oldest ≤ v → (n m : ℕ) → Parent v n m → Reached v m → Reached v n
+  parent-step v from n m p r =
+      (p .up, subst (Reach ps v (height least two s d v) (root least two s d v) (p .up)) (p .leads) (reach-on ps v (height least two s d v) (root least two s d v) (p .up) m (p .router) (parent-reach v from n m p r) (p .is-in)))
 
-  module _ (v : ℕ) (low : v < alive) (passes : all (passesAt least) (seen s v) ≡ true) where
+  module _ (v : ℕ) (from : s .oldest ≤ v) (low : v < alive) (passes : all (passesAt least) (seen s v) ≡ true) where
     -- ---- at least one
 
     pub ways-some : (n : ℕ) → 1 ≤ ways n v → (root least two s d v ≡ n) ⊎ ((m : ℕ) × Parent v n m)
@@ -149,13 +149,13 @@ module _ (least : ℕ) (two : 2 ≤ least) (s : Store) (d : Front least s) where
         at : (b : Bool) → eqb (rootAt (s .slots) v) n ≡ b → (root least two s d v ≡ n) ⊎ ((m : ℕ) × Parent v n m)
         at true e = inl (eqb-true (rootAt (s .slots) v) n e)
         at false e =
-            let z : rootsAt n v (s .slots) ≡ 0 = roots-at n v low (s .slots) (d .begins) (d .rises) ∙ ap one e in
+            let z : rootsAt n v (s .slots) ≡ 0 = roots-at n v low (s .oldest) (s .slots) from (d .begins) (d .rises) ∙ ap one e in
             let (i, l, q) = all-some n v free (drop 5 ps) (omega arith) in
             inr (5 + i, parent-of n v (5 + i) (subst (λ (p : Page). 1 ≤ namedBy n v p) (behind i) q))
 
     root-ways : (n : ℕ) → root least two s d v ≡ n → 1 ≤ ways n v
     root-ways n e =
-        let z : rootsAt n v (s .slots) ≡ 1 = roots-at n v low (s .slots) (d .begins) (d .rises) ∙ ap one (eq-eqb (rootAt (s .slots) v) n e) in
+        let z : rootsAt n v (s .slots) ≡ 1 = roots-at n v low (s .oldest) (s .slots) from (d .begins) (d .rises) ∙ ap one (eq-eqb (rootAt (s .slots) v) n e) in
         omega arith
 
     router-ways : (n m : ℕ) → 5 ≤ m → m < length ps → Parent v n m → 1 ≤ ways n v
@@ -172,7 +172,7 @@ module _ (least : ℕ) (two : 2 ≤ least) (s : Store) (d : Front least s) where
         at : Self ps v (height least two s d v) (root least two s d v) j n ⊎ Above ps v (height least two s d v) (root least two s d v) j n → 1 ≤ ways n v
         at (inl z) = root-ways n (sym (z .number))
         at (inr a) =
-            let l = reach-level least two s d v (height least two s d v) (root least two s d v) (suc j) (a .parent) (root-level least two s d v) (a .is-reached) in
+            let l = reach-level least two s d v from (height least two s d v) (root least two s d v) (suc j) (a .parent) (root-level least two s d v from) (a .is-reached) in
             let (five, inn) = numbered (a .parent) (level-used (page ps (a .parent)) (suc j) l) in
             router-ways n (a .parent) five inn (record { up = j; level = l; router = a .router; is-in = a .is-in; leads = a .leads })
 
@@ -181,24 +181,24 @@ module _ (least : ℕ) (two : 2 ≤ least) (s : Store) (d : Front least s) where
     module _ (n : ℕ) (above : (m : ℕ) → page ps n .level < page ps m .level → livesAt v (page ps m) ≡ true → Reached v m)
         (root-lives : within (page ps (root least two s d v) .start) (page ps (root least two s d v) .end) v ≡ true) where
       reach-parent : (m : ℕ) (p : Parent v n m) → Reach ps v (height least two s d v) (root least two s d v) (suc (p .up)) m
-      reach-parent m p = parent-reach v n m p (above m (parent-higher v n m p) (parent-lives v n m p))
+      reach-parent m p = parent-reach v from n m p (above m (parent-higher v from n m p) (parent-lives v from n m p))
 
       -- one parent, and one router of it
       same-parent : (m k : ℕ) (p : Parent v n m) (q : Parent v n k) → (m ≡ k) × (p .router ≡ q .router)
       same-parent m k p q =
-          let e : q .up ≡ p .up = omega (arith, parent-child v n m p, parent-child v n k q) in
-          above-one least v ps (height least two s d v) 0 keyLimit (root least two s d v) (settings s v) (holds-at least two s d v passes) (p .up) n
+          let e : q .up ≡ p .up = omega (arith, parent-child v from n m p, parent-child v from n k q) in
+          above-one least v ps (height least two s d v) 0 keyLimit (root least two s d v) (settings s v) (holds-at least two s d v from passes) (p .up) n
           (record { parent = m; is-reached = reach-parent m p; router = p .router; is-in = p .is-in; leads = p .leads })
           (record { parent = k; is-reached = subst (λ (u : ℕ). Reach ps v (height least two s d v) (root least two s d v) (suc u) k) e (reach-parent k q); router = q .router; is-in = q .is-in; leads = q .leads })
 
       no-parent : (m : ℕ) → root least two s d v ≡ n → Parent v n m → ⊥
       no-parent m e p =
-          omega (arith, parent-child v n m p, ap (λ (k : ℕ). page ps k .level) e, root-level least two s d v, reach-height least v ps (height least two s d v) (root least two s d v) (suc (p .up)) m (reach-parent m p))
+          omega (arith, parent-child v from n m p, ap (λ (k : ℕ). page ps k .level) e, root-level least two s d v from, reach-height least v ps (height least two s d v) (root least two s d v) (suc (p .up)) m (reach-parent m p))
 
       rises : (m up : ℕ) → page ps m .level ≡ suc (suc up) → Reached v m → rising (pairsAt v (page ps m)) ≡ true
       rises m up l (j, r) =
           let g = reach-node least v ps (height least two s d v) (root least two s d v)
-          (record { lo = 0; hi = keyLimit; zs = settings s v; level = root-level least two s d v; holds = holds-at least two s d v passes; lives = root-lives }) j m r in
+          (record { lo = 0; hi = keyLimit; zs = settings s v; level = root-level least two s d v from; holds = holds-at least two s d v from passes; lives = root-lives }) j m r in
           holds-order least v ps j (g .lo) (g .hi) (pairsAt v (page ps m)) (g .zs) (g .holds)
 
       by-one : (m : ℕ) → namedBy n v (page ps m) ≤ 1
@@ -211,7 +211,7 @@ module _ (least : ℕ) (two : 2 ≤ least) (s : Store) (d : Front least s) where
               let l : page ps m .level ≡ suc (suc (page ps m .level - 2)) = omega (arith, leb-false (page ps m .level) 1 e) in
               let (x, i, q) = named-in n (pairsAt v (page ps m)) (leb-false (named n (pairsAt v (page ps m))) 0 z) in
               let p : Parent v n m = record { up = page ps m .level - 2; level = l; router = x; is-in = i; leads = q } in
-              named-one n (pairsAt v (page ps m)) (rises m (page ps m .level - 2) l (above m (parent-higher v n m p) (parent-lives v n m p)))
+              named-one n (pairsAt v (page ps m)) (rises m (page ps m .level - 2) l (above m (parent-higher v from n m p) (parent-lives v from n m p)))
               (λ y w k g a b. same-parent m m (record { up = page ps m .level - 2; level = l; router = y; is-in = k; leads = a }) (record { up = page ps m .level - 2; level = l; router = w; is-in = g; leads = b }) .1)
 
       routers-one : namedAll n v (drop 5 ps) ≤ 1
@@ -225,7 +225,7 @@ module _ (least : ℕ) (two : 2 ≤ least) (s : Store) (d : Front least s) where
       ways-one = at (eqb (rootAt (s .slots) v) n) refl (bool-cases (leb (namedAll n v (drop 5 ps)) 0))
         where
           roots : rootsAt n v (s .slots) ≡ one (eqb (rootAt (s .slots) v) n)
-          roots = roots-at n v low (s .slots) (d .begins) (d .rises)
+          roots = roots-at n v low (s .oldest) (s .slots) from (d .begins) (d .rises)
 
           at : (b : Bool) → eqb (rootAt (s .slots) v) n ≡ b → (leb (namedAll n v (drop 5 ps)) 0 ≡ true) ⊎ (leb (namedAll n v (drop 5 ps)) 0 ≡ false) → ways n v ≤ 1
           at false e z = let r : rootsAt n v (s .slots) ≡ 0 = roots ∙ ap one e in omega (arith, routers-one)

@@ -13,7 +13,7 @@ use Rattle.model.specs.Basic.{all, those, keep, pick, inOrder}
 use Rattle.model.specs.declared.Pair.{Pair}
 use Rattle.model.specs.declared.Entry.{Entry}
 use Rattle.model.specs.Entry.{pairOf, liveAt, before}
-use Rattle.model.specs.Quick.{meets, past, pastAll, apart, lowOver, keyOver, liveCount, manyOver}
+use Rattle.model.specs.Quick.{meets, past, pastAll, kept, apart, lowOver, keyOver, liveCount, manyOver}
 use Rattle.model.proofs.Lists.{both-true, both-intro}
 use Rattle.model.proofs.Rising.{lower}
 use Rattle.model.proofs.Members.{not-both, either-true, either-left, either-right, bool-cases, In, all-in, all-by, in-those, those-in, in-map, map-in}
@@ -177,11 +177,13 @@ rises-first v e f es h l i m = at (liveAt v e) (of-alive v e l) h
         ltb-true (e .key) (f .key) (all-in (λ (y : Pair). ltb (e .key) (y .key)) (pairOf f) (livePairs v es) (both-true (all (λ (y : Pair). ltb (e .key) (y .key)) (livePairs v es)) (rising (livePairs v es)) r .0) (of-shows v es f i m))
     at false x r = absurd (not-both false x refl)
 
-pub rises-apart : (es : List Entry) → inOrder before es ≡ true → ((e : Entry) → In e es → e .start < e .end) → ((e : Entry) → In e es → rising (livePairs (e .start) es) ≡ true) → inOrder apart es ≡ true
-rises-apart [] o some h = refl
-rises-apart (e ∷ es) o some h =
+-- at the first version from `old` on at which the later of the two stands
+pub rises-apart : (old : ℕ) (es : List Entry) → inOrder before es ≡ true → ((e : Entry) → In e es → max old (e .start) < e .end) → ((e : Entry) → In e es → rising (livePairs (max old (e .start)) es) ≡ true)
+    → inOrder apart es ≡ true
+rises-apart old [] o some h = refl
+rises-apart old (e ∷ es) o some h =
     let (oe, os) = both-true (all (before e) es) (inOrder before es) o in
-    both-intro _ _ (all-by (apart e) es (λ f i. two f i (before-keys e f (all-in (before e) f es oe i)))) (rises-apart es os (λ f i. some f (inr i)) (λ f i. rises-tail (f .start) e es (h f (inr i))))
+    both-intro _ _ (all-by (apart e) es (λ f i. two f i (before-keys e f (all-in (before e) f es oe i)))) (rises-apart old es os (λ f i. some f (inr i)) (λ f i. rises-tail (max old (f .start)) e es (h f (inr i))))
   where
     two : (f : Entry) → In f es → (e .key < f .key) ⊎ ((e .key ≡ f .key) × (e .start < f .start)) → apart e f ≡ true
     two f i (inl l) = either-left (not (eqb (e .key) (f .key))) (leb (e .end) (f .start)) (ap not (ne-eqb (e .key) (f .key) (λ (q : e .key ≡ f .key). omega arith)))
@@ -190,7 +192,7 @@ rises-apart (e ∷ es) o some h =
         by : (leb (e .end) (f .start) ≡ true) ⊎ (leb (e .end) (f .start) ≡ false) → leb (e .end) (f .start) ≡ true
         by (inl x) = x
         by (inr x) =
-            absurd (omega (arith, k, rises-first (f .start) e f es (h f (inr i)) (record { from = omega arith; upto = leb-false (e .end) (f .start) x }) i (record { from = omega arith; upto = some f (inr i) })))
+            absurd (omega (arith, k, rises-first (max old (f .start)) e f es (h f (inr i)) (record { from = omega arith; upto = omega (arith, leb-false (e .end) (f .start) x, some e (inl refl)) }) i (record { from = omega arith; upto = some f (inr i) })))
 
 -- ---- low keys
 
@@ -279,6 +281,67 @@ at-key k a b es o some h =
         let s = shows-of v es x i in
         let f = s .entry in
         (f, those-in (keyIs k) f es (eq-eqb (f .key) k (ap (λ (z : Pair). z .key) (sym (s .is)) ∙ g)) (s .is-in), s .live)
+
+-- ---- entries that ended at or before `old` show nothing from there on
+
+module _ (old : ℕ) where
+  pub kept-of : (es : List Entry) (e : Entry) → In e (kept old es) → (old < e .end) × In e es
+  kept-of es e i = let (a, b) = in-those (λ (f : Entry). ltb old (f .end)) e es i in (ltb-true old (e .end) a, b)
+
+  pub of-kept : (es : List Entry) (e : Entry) → old < e .end → In e es → In e (kept old es)
+  of-kept es e l i = those-in (λ (f : Entry). ltb old (f .end)) e es (lt-ltb old (e .end) l) i
+
+  pub kept-order : (g : Entry → Entry → Bool) (es : List Entry) → inOrder g es ≡ true → inOrder g (kept old es) ≡ true
+  kept-order g [] o = refl
+  kept-order g (e ∷ es) o = let (oe, os) = both-true (all (g e) es) (inOrder g es) o in at (ltb old (e .end)) oe (kept-order g es os)
+    where
+      at : (b : Bool) → all (g e) es ≡ true → inOrder g (kept old es) ≡ true → inOrder g (keep b e (kept old es)) ≡ true
+      at true oe ih = both-intro _ _ (all-by (g e) (kept old es) (λ f i. all-in (g e) f es oe (kept-of es f i .1))) ih
+      at false oe ih = ih
+
+  pub kept-shows : (v : ℕ) → old ≤ v → (es : List Entry) → livePairs v (kept old es) ≡ livePairs v es
+  kept-shows v l [] = refl
+  kept-shows v l (e ∷ es) = at (ltb old (e .end)) refl (kept-shows v l es)
+    where
+      at : (b : Bool) → ltb old (e .end) ≡ b → livePairs v (kept old es) ≡ livePairs v es → livePairs v (keep b e (kept old es)) ≡ livePairs v (e ∷ es)
+      at true x ih = by (liveAt v e)
+        where
+          by : (c : Bool) → map pairOf (keep c e (those (liveAt v) (kept old es))) ≡ map pairOf (keep c e (those (liveAt v) es))
+          by true = ap (λ (us : List Pair). pairOf e ∷ us) ih
+          by false = ih
+      at false x ih = ih ∙ ap (λ (c : Bool). map pairOf (keep c e (those (liveAt v) es))) (sym (not-alive (bool-cases (liveAt v e))))
+        where
+          not-alive : (liveAt v e ≡ true) ⊎ (liveAt v e ≡ false) → liveAt v e ≡ false
+          not-alive (inl z) = absurd (omega (arith, ltb-false old (e .end) x, alive-of v e z .upto))
+          not-alive (inr z) = z
+
+  past-out : (a : ℕ) (e : Entry) → old ≤ a → e .end ≤ old → past a e ≡ a
+  past-out a e l h = at (leb (e .start) a)
+    where
+      at : (b : Bool) → pick b (max a (e .end)) a ≡ a
+      at true = omega arith
+      at false = refl
+
+  past-kept : (f : Entry → Bool) (a : ℕ) (es : List Entry) → old ≤ a → pastAll a (those f (kept old es)) ≡ pastAll a (those f es)
+  past-kept f a [] l = refl
+  past-kept f a (e ∷ es) l = at (ltb old (e .end)) refl (f e) (past-kept f a es l) (past-kept f (past a e) es (omega (arith, past-more a e)))
+    where
+      with-it : (c : Bool) → pastAll a (those f (kept old es)) ≡ pastAll a (those f es) → pastAll (past a e) (those f (kept old es)) ≡ pastAll (past a e) (those f es)
+          → pastAll a (keep c e (those f (kept old es))) ≡ pastAll a (keep c e (those f es))
+      with-it true ih jh = jh
+      with-it false ih jh = ih
+
+      without : (c : Bool) → past a e ≡ a → pastAll a (those f (kept old es)) ≡ pastAll a (those f es) → pastAll a (those f (kept old es)) ≡ pastAll a (keep c e (those f es))
+      without true z ih = ih ∙ ap (λ (b : ℕ). pastAll b (those f es)) (sym z)
+      without false z ih = ih
+
+      at : (b : Bool) → ltb old (e .end) ≡ b → (c : Bool) → pastAll a (those f (kept old es)) ≡ pastAll a (those f es) → pastAll (past a e) (those f (kept old es)) ≡ pastAll (past a e) (those f es)
+          → pastAll a (those f (keep b e (kept old es))) ≡ pastAll a (those f (e ∷ es))
+      at true x c ih jh = with-it (f e) ih jh
+      at false x c ih jh = without (f e) (past-out a e l (ltb-false old (e .end) x)) ih
+
+  pub key-kept : (k a b : ℕ) (es : List Entry) → old ≤ a → keyOver k a b (kept old es) ≡ keyOver k a b es
+  key-kept k a b es l = ap (leb b) (past-kept (keyIs k) a es l)
 
 -- ---- how many are alive
 

@@ -51,13 +51,18 @@ sum-common c d a (suc k) = at (leb c a) (ltb a d) refl refl (sum-common c d (suc
     at true false p q ih = omega (arith, leb-true c a p, ltb-false a d q)
     at false y p q ih = omega (arith, leb-false c a p)
 
-sum-span : (c d a k : ℕ) → a ≤ c → d ≤ a + k → sumOver (λ (v : ℕ). one (within c d v)) a k ≡ d - c
-sum-span c d a k p q = omega (arith, sum-common c d a k)
+-- from `old` on it lies in the stretch, or it ended by then
+abbrev pub Lies : ℕ → ℕ → ℕ → ℕ → ℕ → Type 0
+Lies old a k c d = ((a ≤ max old c) × (d ≤ a + k)) ⊎ (d ≤ old)
+
+sum-span : (old c d a k : ℕ) → old ≤ a → Lies old a k c d → sumOver (λ (v : ℕ). one (within c d v)) a k ≡ d - max old c
+sum-span old c d a k o (inl (p, q)) = omega (arith, sum-common c d a k)
+sum-span old c d a k o (inr p) = omega (arith, sum-common c d a k)
 
 -- a span that counts or does not
-sum-if : (t : Bool) (c d a k : ℕ) → (t ≡ true → (a ≤ c) × (d ≤ a + k)) → sumOver (λ (v : ℕ). pick t (one (within c d v)) 0) a k ≡ pick t (d - c) 0
-sum-if true c d a k h = sum-span c d a k (h refl .0) (h refl .1)
-sum-if false c d a k h = sum-none a k
+sum-if : (old : ℕ) (t : Bool) (c d a k : ℕ) → old ≤ a → (t ≡ true → Lies old a k c d) → sumOver (λ (v : ℕ). pick t (one (within c d v)) 0) a k ≡ pick t (d - max old c) 0
+sum-if old true c d a k o h = sum-span old c d a k o (h refl)
+sum-if old false c d a k o h = sum-none a k
 
 -- each at most 1, and together as many as there are versions: each is 1
 sum-most : (f : ℕ → ℕ) (a k : ℕ) → ((v : ℕ) → a ≤ v → v < a + k → f v ≤ 1) → sumOver f a k ≤ k
@@ -105,22 +110,22 @@ named-cons n v e es = at (liveAt v e) (eqb (e .value) n) refl
     at false false x = omega arith
 
 -- all that lead to page n do so in its span
-pub routed-sum : (n a k : ℕ) (es : List Entry) → ((e : Entry) → In e es → e .value ≡ n → (a ≤ e .start) × (e .end ≤ a + k)) → sumOver (λ (v : ℕ). named n (livePairs v es)) a k ≡ routed n es
-routed-sum n a k [] h = sum-none a k
-routed-sum n a k (e ∷ es) h =
+pub routed-sum : (old n a k : ℕ) (es : List Entry) → old ≤ a → ((e : Entry) → In e es → e .value ≡ n → Lies old a k (e .start) (e .end)) → sumOver (λ (v : ℕ). named n (livePairs v es)) a k ≡ routed old n es
+routed-sum old n a k [] o h = sum-none a k
+routed-sum old n a k (e ∷ es) o h =
     sum-same (λ (v : ℕ). named n (livePairs v (e ∷ es))) (λ (v : ℕ). pick (eqb (e .value) n) (one (liveAt v e)) 0 + named n (livePairs v es)) (λ v. named-cons n v e es) a k
     ∙ sum-add (λ (v : ℕ). pick (eqb (e .value) n) (one (liveAt v e)) 0) (λ (v : ℕ). named n (livePairs v es)) a k
-    ∙ ap₂ _+_ (sum-if (eqb (e .value) n) (e .start) (e .end) a k (λ x. h e (inl refl) (eqb-true (e .value) n x))) (routed-sum n a k es (λ f i. h f (inr i)))
+    ∙ ap₂ _+_ (sum-if old (eqb (e .value) n) (e .start) (e .end) a k o (λ x. h e (inl refl) (eqb-true (e .value) n x))) (routed-sum old n a k es o (λ f i. h f (inr i)))
 
-pub routed-all : (n a k : ℕ) (ps : List Page) → ((p : Page) → In p ps → leb (p .level) 1 ≡ false → (e : Entry) → In e (p .entries) → e .value ≡ n → (a ≤ e .start) × (e .end ≤ a + k))
-    → sumOver (λ (v : ℕ). namedAll n v ps) a k ≡ routedAll n ps
-routed-all n a k [] h = sum-none a k
-routed-all n a k (p ∷ ps) h =
-    sum-add (λ (v : ℕ). namedBy n v p) (λ (v : ℕ). namedAll n v ps) a k ∙ ap₂ _+_ (at (leb (p .level) 1) refl) (routed-all n a k ps (λ q i. h q (inr i)))
+pub routed-all : (old n a k : ℕ) (ps : List Page) → old ≤ a → ((p : Page) → In p ps → leb (p .level) 1 ≡ false → (e : Entry) → In e (p .entries) → e .value ≡ n → Lies old a k (e .start) (e .end))
+    → sumOver (λ (v : ℕ). namedAll n v ps) a k ≡ routedAll old n ps
+routed-all old n a k [] o h = sum-none a k
+routed-all old n a k (p ∷ ps) o h =
+    sum-add (λ (v : ℕ). namedBy n v p) (λ (v : ℕ). namedAll n v ps) a k ∙ ap₂ _+_ (at (leb (p .level) 1) refl) (routed-all old n a k ps o (λ q i. h q (inr i)))
   where
-    at : (b : Bool) → leb (p .level) 1 ≡ b → sumOver (λ (v : ℕ). pick b 0 (named n (pairsAt v p))) a k ≡ pick b 0 (routed n (p .entries))
+    at : (b : Bool) → leb (p .level) 1 ≡ b → sumOver (λ (v : ℕ). pick b 0 (named n (pairsAt v p))) a k ≡ pick b 0 (routed old n (p .entries))
     at true x = sum-none a k
-    at false x = routed-sum n a k (p .entries) (h p (inl refl) x)
+    at false x = routed-sum old n a k (p .entries) o (h p (inl refl) x)
 
 -- the slots in whose stretch v lies
 abbrev pub rootsAt : ℕ → ℕ → List Slot → ℕ
@@ -132,11 +137,11 @@ abbrev pub Slots : (ℕ → ℕ → ℕ → Type 0) → List Slot → Type 0
 Slots P [] = Unit {0}
 Slots P (x ∷ xs) = P (x .root) (x .version) (upto xs) × Slots P xs
 
-pub rooted-sum : (n a k : ℕ) (xs : List Slot) → Slots (λ (r c d : ℕ). r ≡ n → (a ≤ c) × (d ≤ a + k)) xs → sumOver (λ (v : ℕ). rootsAt n v xs) a k ≡ rooted n xs
-rooted-sum n a k [] h = sum-none a k
-rooted-sum n a k (x ∷ xs) h =
+pub rooted-sum : (old n a k : ℕ) (xs : List Slot) → old ≤ a → Slots (λ (r c d : ℕ). r ≡ n → Lies old a k c d) xs → sumOver (λ (v : ℕ). rootsAt n v xs) a k ≡ rooted old n xs
+rooted-sum old n a k [] o h = sum-none a k
+rooted-sum old n a k (x ∷ xs) o h =
     sum-add (λ (v : ℕ). pick (eqb (x .root) n) (one (within (x .version) (upto xs) v)) 0) (λ (v : ℕ). rootsAt n v xs) a k
-    ∙ ap₂ _+_ (sum-if (eqb (x .root) n) (x .version) (upto xs) a k (λ t. h .0 (eqb-true (x .root) n t))) (rooted-sum n a k xs (h .1))
+    ∙ ap₂ _+_ (sum-if old (eqb (x .root) n) (x .version) (upto xs) a k o (λ t. h .0 (eqb-true (x .root) n t))) (rooted-sum old n a k xs o (h .1))
 
 -- ---- what a number of ways says
 

@@ -1,6 +1,6 @@
 -- From the tests of pages and slots to rules 4 and 5: at each version the walk passes.
 -- Assumes nothing.
-use Prim.Native.Nat.{ℕ, zero, suc, _≤_, _<_, pred}
+use Prim.Native.Nat.{ℕ, zero, suc, _≤_, _<_, pred, max}
 use native.Mathlib.Omega.{arith}
 use mathlib.Core.Bool.{Bool, true, false, _&&_, _||_}
 use mathlib.Core.Path.{_≡_, refl, ap, sym, _∙_, subst}
@@ -13,20 +13,20 @@ use Rattle.model.specs.Basic.{all, those, keep, pick, inOrder}
 use Rattle.model.specs.declared.Pair.{Pair}
 use Rattle.model.specs.declared.Entry.{Entry}
 use Rattle.model.specs.declared.Slot.{Slot}
-use Rattle.model.specs.Entry.{alive, within, liveAt, pairOf}
+use Rattle.model.specs.Entry.{alive, within, liveAt, pairOf, before}
 use Rattle.model.specs.Page.{Page, isFree, pairsAt}
 use Rattle.model.specs.Store.{Store, page}
 use Rattle.model.specs.Walk.{Seen, seen, seenAs, seenUnder, seenBelow, spread, rootAt, rootFrom, keyLimit}
 use Rattle.model.specs.Sound.{startsAt, fewest, firstVersion}
-use Rattle.model.specs.Quick.{lowOver, keyOver, manyOver, fineOver, under, nexts, routersFine, childrenFine, upto, slotFine, slotsFine, apart}
 use Rattle.model.specs.Inner.{sooner}
+use Rattle.model.specs.Quick.{lowOver, keyOver, manyOver, fineOver, under, nexts, routersFine, childrenFine, upto, slotFine, slotsFine, apart, kept}
 use Rattle.model.proofs.Lists.{both-true, both-intro}
 use Rattle.model.proofs.Members.{either-true, either-left, either-right, In, all-in, all-by}
 use Rattle.model.proofs.Given.{Front}
 use Rattle.model.proofs.Local.{all-append}
 use Rattle.model.proofs.Bridge.{passesAt}
 use Rattle.model.proofs.Fits.{level-used, of-within}
-use Rattle.model.proofs.QuickSpans.{livePairs, rising, Alive, alive-of, shows-of, apart-rises, low-at, key-at, many-at}
+use Rattle.model.proofs.QuickSpans.{livePairs, rising, Alive, alive-of, shows-of, apart-rises, kept-of, kept-order, kept-shows, low-at, key-at, many-at}
 use Rattle.model.proofs.QuickHigh.{AllUnder, LastOne, Below, under-below, nexts-at}
 use Rattle.model.proofs.QuickFront.{entry-at, leads-of, child-at, root, height, root-level}
 
@@ -55,25 +55,25 @@ module _ (least : ℕ) (ps : List Page) (v : ℕ) where
   Kids up (x ∷ []) = FineAt least up (x .key) (x .value)
   Kids up (x ∷ y ∷ zs) = FineAt least up (x .key) (x .value) × Below up ps v (y .key) (x .value) × Kids up (y ∷ zs)
 
-  pub routers-kids : (up : ℕ) (es : List Entry) → ((e : Entry) → In e es → page ps (e .value) .level ≡ suc up) → routersFine least up ps es ≡ true → Kids up (livePairs v es)
-  routers-kids up [] l h = tt
-  routers-kids up (e ∷ es) l h =
-      let (x, rest) = both-true (fineOver least (e .key) (e .start) (e .end) (page ps (e .value)) && nexts (λ (k a b : ℕ). under up ps k a b (e .value)) (e .start) (e .end) es) (routersFine least up ps es) h in
-      let (fine, next) = both-true (fineOver least (e .key) (e .start) (e .end) (page ps (e .value))) (nexts (λ (k a b : ℕ). under up ps k a b (e .value)) (e .start) (e .end) es) x in
-      at (liveAt v e) refl fine next (routers-kids up es (λ f i. l f (inr i)) rest)
+  pub routers-kids : (old : ℕ) → old ≤ v → (up : ℕ) (es : List Entry) → ((e : Entry) → In e es → page ps (e .value) .level ≡ suc up) → routersFine least old up ps es ≡ true → Kids up (livePairs v es)
+  routers-kids old from up [] l h = tt
+  routers-kids old from up (e ∷ es) l h =
+      let (x, rest) = both-true (fineOver least (e .key) (max old (e .start)) (e .end) (page ps (e .value)) && nexts (λ (k a b : ℕ). under up ps k a b (e .value)) (max old (e .start)) (e .end) es) (routersFine least old up ps es) h in
+      let (fine, next) = both-true (fineOver least (e .key) (max old (e .start)) (e .end) (page ps (e .value))) (nexts (λ (k a b : ℕ). under up ps k a b (e .value)) (max old (e .start)) (e .end) es) x in
+      at (liveAt v e) refl fine next (routers-kids old from up es (λ f i. l f (inr i)) rest)
     where
-      by : Alive v e → FineAt least up (e .key) (e .value) → nexts (λ (k a b : ℕ). under up ps k a b (e .value)) (e .start) (e .end) es ≡ true → (us : List Pair) → livePairs v es ≡ us → Kids up us → Kids up (pairOf e ∷ us)
+      by : Alive v e → FineAt least up (e .key) (e .value) → nexts (λ (k a b : ℕ). under up ps k a b (e .value)) (max old (e .start)) (e .end) es ≡ true → (us : List Pair) → livePairs v es ≡ us → Kids up us → Kids up (pairOf e ∷ us)
       by w fine next [] z ih = fine
       by w fine next (y ∷ us) z ih =
-          let (c, d, p, q, t) = nexts-at (λ (k a b : ℕ). under up ps k a b (e .value)) (e .start) (e .end) v es next (w .from) (w .upto) y us z in
+          let (c, d, p, q, t) = nexts-at (λ (k a b : ℕ). under up ps k a b (e .value)) (max old (e .start)) (e .end) v es next (omega (arith, w .from)) (w .upto) y us z in
           (fine, under-below ps (y .key) up c d (e .value) v t p q, ih)
 
-      at : (b : Bool) → liveAt v e ≡ b → fineOver least (e .key) (e .start) (e .end) (page ps (e .value)) ≡ true
-          → nexts (λ (k a b : ℕ). under up ps k a b (e .value)) (e .start) (e .end) es ≡ true → Kids up (livePairs v es) → Kids up (map pairOf (keep b e (those (liveAt v) es)))
+      at : (b : Bool) → liveAt v e ≡ b → fineOver least (e .key) (max old (e .start)) (e .end) (page ps (e .value)) ≡ true
+          → nexts (λ (k a b : ℕ). under up ps k a b (e .value)) (max old (e .start)) (e .end) es ≡ true → Kids up (livePairs v es) → Kids up (map pairOf (keep b e (those (liveAt v) es)))
       at false x fine next ih = ih
       at true x fine next ih =
           let w = alive-of v e x in
-          by w (fine-at least up (e .key) (e .start) (e .end) (e .value) (l e (inl refl)) fine (w .from) (w .upto)) next (livePairs v es) refl ih
+          by w (fine-at least up (e .key) (max old (e .start)) (e .end) (e .value) (l e (inl refl)) fine (omega (arith, w .from)) (w .upto)) next (livePairs v es) refl ih
 
   -- ---- the walk
 
@@ -133,7 +133,7 @@ pub late-all : (v : ℕ) (y : Slot) (ys : List Slot) → v < y .version → inOr
 late-all v y ys l o x (inl e) = omega (arith, ap (λ (z : Slot). z .version) e)
 late-all v y ys l o x (inr i) = omega (arith, ltb-true (y .version) (x .version) (all-in (sooner y) x ys (both-true (all (sooner y) ys) (inOrder sooner ys) o .0) i))
 
-module _ (least : ℕ) (ps : List Page) (v : ℕ) (low : v < alive) where
+module _ (least old : ℕ) (ps : List Page) (v : ℕ) (from-old : old ≤ v) (low : v < alive) where
   pub record SlotAt (n : ℕ) : Type 0 where
     pub a : ℕ
     pub b : ℕ
@@ -141,34 +141,34 @@ module _ (least : ℕ) (ps : List Page) (v : ℕ) (low : v < alive) where
     pub upto : v < b
     pub fine : slotFine least a b (page ps n) ≡ true
 
-  slot-from : (xs : List Slot) (x : Slot) → x .version ≤ v → inOrder sooner (x ∷ xs) ≡ true → slotsFine least ps (x ∷ xs) ≡ true → SlotAt (rootFrom (x .root) xs v)
-  slot-from [] x p o h = record { a = x .version; b = alive; from = p; upto = low; fine = both-true (slotFine least (x .version) alive (page ps (x .root))) true h .0 }
+  slot-from : (xs : List Slot) (x : Slot) → x .version ≤ v → inOrder sooner (x ∷ xs) ≡ true → slotsFine least old ps (x ∷ xs) ≡ true → SlotAt (rootFrom (x .root) xs v)
+  slot-from [] x p o h = record { a = max old (x .version); b = alive; from = omega arith; upto = low; fine = both-true (slotFine least (max old (x .version)) alive (page ps (x .root))) true h .0 }
   slot-from (y ∷ ys) x p o h =
-      let (fine, rest) = both-true (slotFine least (x .version) (y .version) (page ps (x .root))) (slotsFine least ps (y ∷ ys)) h in
+      let (fine, rest) = both-true (slotFine least (max old (x .version)) (y .version) (page ps (x .root))) (slotsFine least old ps (y ∷ ys)) h in
       let order = both-true (all (sooner x) (y ∷ ys)) (inOrder sooner (y ∷ ys)) o .1 in
       at (leb (y .version) v) refl fine order (λ q. slot-from ys y q order rest)
     where
-      at : (t : Bool) → leb (y .version) v ≡ t → slotFine least (x .version) (y .version) (page ps (x .root)) ≡ true → inOrder sooner (y ∷ ys) ≡ true
+      at : (t : Bool) → leb (y .version) v ≡ t → slotFine least (max old (x .version)) (y .version) (page ps (x .root)) ≡ true → inOrder sooner (y ∷ ys) ≡ true
           → (y .version ≤ v → SlotAt (rootFrom (y .root) ys v)) → SlotAt (rootFrom (pick t (y .root) (x .root)) ys v)
       at true z fine order ih = ih (leb-true (y .version) v z)
       at false z fine order ih =
           let l : v < y .version = leb-false (y .version) v z in
-          subst SlotAt (sym (root-late v (x .root) ys (λ w i. late-all v y ys l order w (inr i)))) (record { a = x .version; b = y .version; from = p; upto = l; fine = fine })
+          subst SlotAt (sym (root-late v (x .root) ys (λ w i. late-all v y ys l order w (inr i)))) (record { a = max old (x .version); b = y .version; from = omega arith; upto = l; fine = fine })
 
-  pub slot-at : (xs : List Slot) → firstVersion xs ≡ 0 → inOrder sooner xs ≡ true → slotsFine least ps xs ≡ true → SlotAt (rootAt xs v)
+  pub slot-at : (xs : List Slot) → firstVersion old xs ≤ old → inOrder sooner xs ≡ true → slotsFine least old ps xs ≡ true → SlotAt (rootAt xs v)
   slot-at [] e o h = absurd (omega arith)
   slot-at (x ∷ xs) e o h = rw (le-leb (x .version) v (omega arith)) (slot-from xs x (omega arith) o h)
 
 -- ---- all together
 
 module _ (least : ℕ) (two : 2 ≤ least) (s : Store) (d : Front least s)
-    (pages-fine : (n : ℕ) → isFree (page (s .pages) n) ≡ false → (inOrder apart (page (s .pages) n .entries) && childrenFine least (s .pages) (page (s .pages) n .level) (page (s .pages) n .entries)) ≡ true)
-    (slots-fine : slotsFine least (s .pages) (s .slots) ≡ true) (v : ℕ) (low : v < alive) where
+    (pages-fine : (n : ℕ) → isFree (page (s .pages) n) ≡ false → (inOrder apart (kept (s .oldest) (page (s .pages) n .entries)) && childrenFine least (s .oldest) (s .pages) (page (s .pages) n .level) (kept (s .oldest) (page (s .pages) n .entries))) ≡ true)
+    (slots-fine : slotsFine least (s .oldest) (s .pages) (s .slots) ≡ true) (v : ℕ) (from : s .oldest ≤ v) (low : v < alive) where
   abbrev ps : List Page
   ps = s .pages
 
-  slot : SlotAt least ps v low (rootAt (s .slots) v)
-  slot = slot-at least ps v low (s .slots) (d .begins) (d .rises) slots-fine
+  slot : SlotAt least (s .oldest) ps v from low (rootAt (s .slots) v)
+  slot = slot-at least (s .oldest) ps v from low (s .slots) (d .begins) (d .rises) slots-fine
 
   -- rule 1's limit of keys is the highest bound
   last-each : (P : ℕ → Type 0) (us : List Pair) → ((x : Pair) → In x us → P (x .value)) → LastOne P us
@@ -184,18 +184,23 @@ module _ (least : ℕ) (two : 2 ≤ least) (s : Store) (d : Front least s)
 
   below-limit : (up n : ℕ) → page ps n .level ≡ suc up → Below up ps v keyLimit n
   below-limit zero n l = keys-low n zero l
-  below-limit (suc up) n l = (keys-low n (suc up) l, last-each (Below up ps v keyLimit) (pairsAt v (page ps n)) (λ x i. below-limit up (x .value) (child-at least two s d v n up x l i .level)))
+  below-limit (suc up) n l = (keys-low n (suc up) l, last-each (Below up ps v keyLimit) (pairsAt v (page ps n)) (λ x i. below-limit up (x .value) (child-at least two s d v from n up x l i .level)))
 
-  both-fine : (n up : ℕ) → page ps n .level ≡ suc up → (inOrder apart (page ps n .entries) ≡ true) × (childrenFine least ps (page ps n .level) (page ps n .entries) ≡ true)
-  both-fine n up l = both-true (inOrder apart (page ps n .entries)) (childrenFine least ps (page ps n .level) (page ps n .entries)) (pages-fine n (level-used (page ps n) up l))
+  both-fine : (n up : ℕ) → page ps n .level ≡ suc up
+      → (inOrder apart (kept (s .oldest) (page ps n .entries)) ≡ true) × (childrenFine least (s .oldest) ps (page ps n .level) (kept (s .oldest) (page ps n .entries)) ≡ true)
+  both-fine n up l = both-true (inOrder apart (kept (s .oldest) (page ps n .entries))) (childrenFine least (s .oldest) ps (page ps n .level) (kept (s .oldest) (page ps n .entries))) (pages-fine n (level-used (page ps n) up l))
 
   rise : (n up : ℕ) → page ps n .level ≡ suc up → rising (pairsAt v (page ps n)) ≡ true
-  rise n up l = apart-rises v (page ps n .entries) (d .pages n (level-used (page ps n) up l) .order) (both-fine n up l .0)
+  rise n up l =
+      ap rising (sym (kept-shows (s .oldest) v from (page ps n .entries)))
+      ∙ apart-rises v (kept (s .oldest) (page ps n .entries)) (kept-order (s .oldest) before (page ps n .entries) (d .pages n (level-used (page ps n) up l) .order)) (both-fine n up l .0)
 
   kids : (n up : ℕ) → page ps n .level ≡ suc (suc up) → Kids least ps v up (pairsAt v (page ps n))
   kids n up l =
-      routers-kids least ps v up (page ps n .entries) (λ e i. leads-of least two s d n up e l i .level)
-      (subst (λ (k : ℕ). childrenFine least ps k (page ps n .entries) ≡ true) l (both-fine n (suc up) l .1))
+      subst (Kids least ps v up) (kept-shows (s .oldest) v from (page ps n .entries))
+      (routers-kids least ps v (s .oldest) from up (kept (s .oldest) (page ps n .entries))
+      (λ e i. let (k, j) = kept-of (s .oldest) (page ps n .entries) e i in leads-of least two s d n up e l j k .level)
+      (subst (λ (k : ℕ). childrenFine least (s .oldest) ps k (kept (s .oldest) (page ps n .entries)) ≡ true) l (both-fine n (suc up) l .1)))
 
   parts : (leb (page ps (root least two s d v) .start) (slot .a) ≡ true) × (leb (slot .b) (page ps (root least two s d v) .end) ≡ true)
       × (fineOver (fewest least true (height least two s d v)) 0 (slot .a) (slot .b) (page ps (root least two s d v)) ≡ true)
@@ -209,8 +214,8 @@ module _ (least : ℕ) (two : 2 ≤ least) (s : Store) (d : Front least s)
   pub walk-passes : all (passesAt least) (seen s v) ≡ true
   walk-passes =
       root-fine least ps v rise kids (height least two s d v) keyLimit (root least two s d v)
-      (fine-at least ps v (fewest least true (height least two s d v)) (height least two s d v) 0 (slot .a) (slot .b) (root least two s d v) (root-level least two s d v) (parts .2) (slot .from) (slot .upto))
-      (below-limit (height least two s d v) (root least two s d v) (root-level least two s d v))
+      (fine-at least ps v (fewest least true (height least two s d v)) (height least two s d v) 0 (slot .a) (slot .b) (root least two s d v) (root-level least two s d v from) (parts .2) (slot .from) (slot .upto))
+      (below-limit (height least two s d v) (root least two s d v) (root-level least two s d v from))
 
   -- and the root lives then
   pub root-lives : within (page ps (root least two s d v) .start) (page ps (root least two s d v) .end) v ≡ true

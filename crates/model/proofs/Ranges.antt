@@ -21,7 +21,7 @@ use Rattle.model.proofs.Members.{holds-true}
 use Rattle.model.proofs.Tree.{Row, Holds, Tree}
 use Rattle.model.proofs.Local.{inRange, those-append}
 use Rattle.model.proofs.Main.{holds-range}
-use Rattle.model.proofs.Given.{Sound, from-tests}
+use Rattle.model.proofs.Given.{Readable, Sound, from-tests}
 use Rattle.model.proofs.Fits.{holds-all}
 use Rattle.model.proofs.Edit.{rising-those}
 use Rattle.model.proofs.Lookups.{settings-rise}
@@ -107,17 +107,17 @@ module _ (least v : ℕ) (ps : List Page) (lo hi : ℕ) where
   finds zero a b n at zs h p q o = ap (between lo hi) (h .same)
   finds (suc l) a b n at zs h p q o = followed-is l (finds l) b at (pairsAt v (page ps n)) a zs h p q o
 
-pub range-is : (least : ℕ) → 2 ≤ least → (s : Store) → Sound least s → (lo hi v : ℕ) → lo < keyLimit → v ≤ last s → rangeOf s lo hi v ≡ between lo hi (settings s v)
+pub range-is : (least : ℕ) → 2 ≤ least → (s : Store) → Sound least s → (lo hi v : ℕ) → lo < keyLimit → Readable s v → rangeOf s lo hi v ≡ between lo hi (settings s v)
 range-is least two s d lo hi v low h =
     let r : ℕ = rootAt (s .slots) v in
     finds least v (s .pages) lo hi (heightOf (s .pages) r) 0 keyLimit r lo (settings s v) (holds-all least two s d v h) (omega arith) low (inl refl)
 
 -- For every sound store, bounds and version: a range, which follows only the routers that it needs, finds the settings from low to high,
-pub range-sound : (least : ℕ) → 2 ≤ least → (s : Store) → T (sound least s) → (lo hi v : ℕ) → lo < keyLimit → v ≤ last s → rangeOf s lo hi v ≡ between lo hi (settings s v)
+pub range-sound : (least : ℕ) → 2 ≤ least → (s : Store) → T (sound least s) → (lo hi v : ℕ) → lo < keyLimit → Readable s v → rangeOf s lo hi v ≡ between lo hi (settings s v)
 range-sound least two s sure lo hi v low h = range-is least two s (from-tests least s (holds-true (sound least s) sure)) lo hi v low h
 
 -- by key, each key once.
-pub range-rises : (least : ℕ) → 2 ≤ least → (s : Store) → T (sound least s) → (lo hi v : ℕ) → lo < keyLimit → v ≤ last s → rising (rangeOf s lo hi v) ≡ true
+pub range-rises : (least : ℕ) → 2 ≤ least → (s : Store) → T (sound least s) → (lo hi v : ℕ) → lo < keyLimit → Readable s v → rising (rangeOf s lo hi v) ≡ true
 range-rises least two s sure lo hi v low h =
     let d = from-tests least s (holds-true (sound least s) sure) in
     ap rising (range-is least two s d lo hi v low h) ∙ rising-those (λ (x : Pair). leb lo (x .key) && leb (x .key) hi) (settings s v) (settings-rise least two s d v h)

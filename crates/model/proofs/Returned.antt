@@ -9,7 +9,7 @@ use mathlib.Core.Path.{_≡_, refl, ap, ap₂, sym, _∙_, subst}
 use mathlib.Core.Logic.{_≢_}
 use mathlib.Core.List.{List, [], _∷_, map}
 use lib.Dec.{T, ltb}
-use borrow.Author.Tests.{lt-leb, ltb-true, ltb-false}
+use borrow.Author.Tests.{lt-leb, ltb-true}
 use Rattle.model.specs.Basic.{those, pick}
 use Rattle.model.specs.declared.Pair.{Pair}
 use Rattle.model.specs.declared.Delta.{Delta}
@@ -19,13 +19,13 @@ use Rattle.model.specs.Store.{Store, next, last, lastOf}
 use Rattle.model.specs.Walk.{keyLimit, find, lookup, settings}
 use Rattle.model.specs.Sound.{sound}
 use Rattle.model.specs.Climb.{Result, done, refused, update}
-use Rattle.model.specs.Calls.{isSome, rule, numbered, firstOf, rawInsert, delete, abandoned}
+use Rattle.model.specs.Calls.{isSome, rule, numbered, firstOf, beyond, rawInsert, delete, abandoned}
 use Rattle.model.specs.Differ.{added, differ}
 use Rattle.model.specs.Return.{goes, comes, endOne, setOne, Ran, reached, stopped, orStopped, through, andOn, carried, Came, gave, gaveUp, lacking, orAbandoned, returnTests, unless, returned}
 use Rattle.model.proofs.Lists.{both-true}
 use Rattle.model.proofs.Members.{true-holds}
 use Rattle.model.proofs.Local.{applied}
-use Rattle.model.proofs.Given.{Sound, to-tests}
+use Rattle.model.proofs.Given.{Readable, Kept, kept-of, old-current, Sound, to-tests}
 use Rattle.model.proofs.Edit.{insert-same, delete-same}
 use Rattle.model.proofs.Undo.{Undone}
 use Rattle.model.proofs.Main.{Changed}
@@ -44,8 +44,9 @@ module _ (least : ℕ) where
     pub is-sound : Sound least t
     pub opened : t .opened ≡ true
     pub current : t .current ≡ s .current
+    pub oldest : t .oldest ≡ s .oldest
     pub openly : settings t (next t) ≡ us
-    pub steady : (v : ℕ) → v ≤ s .current → Alike s v t v
+    pub steady : (v : ℕ) → s .oldest ≤ v → v ≤ s .current → Alike s v t v
     pub undone : abandoned t ≡ abandoned s
 
   abbrev pub Steps : Store → List Pair → Result → Type 0
@@ -61,8 +62,9 @@ module _ (least : ℕ) where
     is-sound = b .is-sound;
     opened = b .opened;
     current = b .current ∙ a .current;
+    oldest = b .oldest ∙ a .oldest;
     openly = b .openly;
-    steady = λ v h. alike-trans s v t v u v (a .steady v h) (b .steady v (omega (arith, a .current)));
+    steady = λ v g h. alike-trans s v t v u v (a .steady v g h) (b .steady v (omega (arith, a .oldest)) (omega (arith, a .current)));
     undone = b .undone ∙ a .undone;
   }
 
@@ -83,7 +85,7 @@ module _ (least : ℕ) where
     sure = true-holds (sound least s) (to-tests least s d)
 
     here : (k : ℕ) → k < keyLimit → lookup s k (next s) ≡ find k (settings s (next s))
-    here k low = lookup-is least (omega arith) s d k (next s) low (omega (arith, last-is))
+    here k low = lookup-is least (omega arith) s d k (next s) low (omega (arith, last-is, old-current least s (d .old-low)))
 
     one : (c : Change) (us : List Pair) → applied c (settings s (next s)) ≡ us → (r : Result) → Sounds least four s d o r → Changed s c r → Undone s r → Ends r → Steps s us r
     one c us e (refused n) f g h l = is-lacking n l
@@ -91,8 +93,9 @@ module _ (least : ℕ) where
       is-sound = f .sound-now;
       opened = f .opened ∙ o;
       current = f .current;
+      oldest = f .oldest;
       openly = ap (λ (n : ℕ). settings t (suc n)) (f .current) ∙ g ∙ e;
-      steady = λ v z. f .steady v (omega arith);
+      steady = λ v y z. f .steady v y (omega arith);
       undone = h;
     }
 
@@ -125,7 +128,7 @@ module _ (least : ℕ) where
         (update-ends least s k (record { drop = []; take = asked x ∷ [] })))
 
     itself : (us : List Pair) → settings s (next s) ≡ us → Stepped s s us
-    itself us e = record { is-sound = d; opened = o; current = refl; openly = e; steady = λ v h. alike-self s v; undone = refl }
+    itself us e = record { is-sound = d; opened = o; current = refl; oldest = refl; openly = e; steady = λ v g h. alike-self s v; undone = refl }
 
   -- ---- steps one after another
 
@@ -173,7 +176,7 @@ module _ (least : ℕ) where
 
   -- ---- a return
 
-  module _ (four : 4 ≤ least) (s : Store) (d : Sound least s) (o : s .opened ≡ true) (v : ℕ) (h : v ≤ s .current) where
+  module _ (four : 4 ≤ least) (s : Store) (d : Sound least s) (o : s .opened ≡ true) (v : ℕ) (h : Kept s v) where
     abbrev now : List Pair
     now = settings s (next s)
 
@@ -183,10 +186,16 @@ module _ (least : ℕ) where
     open-last : last s ≡ next s
     open-last = ap (λ (b : Bool). lastOf b (s .current)) o
 
+    open-readable : Readable s (next s)
+    open-readable = omega (arith, open-last, old-current least s (d .old-low))
+
+    kept-readable : Readable s v
+    kept-readable = omega (arith, open-last, h .from, h .upto)
+
     pub way : Way small (settings s (next s)) (settings s v) (differ (settings s (next s)) (settings s v))
     way =
-        the-way small now then (settings-small least (omega arith) s d (next s) (omega (arith, open-last))) (settings-small least (omega arith) s d v (omega (arith, open-last)))
-        (settings-rise least (omega arith) s d (next s) (omega (arith, open-last))) (settings-rise least (omega arith) s d v (omega (arith, open-last)))
+        the-way small now then (settings-small least (omega arith) s d (next s) open-readable) (settings-small least (omega arith) s d v kept-readable)
+        (settings-rise least (omega arith) s d (next s) open-readable) (settings-rise least (omega arith) s d v kept-readable)
 
     first-run : Runs s (way .mid) (through (endOne least) (those goes (differ now then)) s)
     first-run = ends-run four (those goes (differ now then)) s d o (way .mid) (way .ends)
@@ -207,7 +216,7 @@ module _ (least : ℕ) where
         at : (q : Ran) → Runs s (way .mid) q → andOn (through (setOne least) (those comes (differ now then))) q ≡ andOn anew q
         at (stopped n t) r = refl
         at (reached t) r =
-            let e : settings t v ≡ then = alike-settings s v t v (r .steady v h) in
+            let e : settings t v ≡ then = alike-settings s v t v (r .steady v (h .from) (h .upto)) in
             let same : map asked (those comes (differ (settings t (next t)) (settings t v))) ≡ map asked (those comes (differ now then))
             = ap₂ (λ (us ws : List Pair). map asked (those comes (differ us ws))) (r .openly) e ∙ way .anew in
             told-anew (those comes (differ now then)) t ∙ ap (λ (ps : List Pair). through (setOne least) (map added ps) t) (sym same)
@@ -215,24 +224,24 @@ module _ (least : ℕ) where
 
   -- What a return comes to: refused by its tests; done; or the abandon.
   pub returned-by : (P : Came → Type 0) → 4 ≤ least → (s : Store) → Sound least s → (v : ℕ)
-      → (firstOf (returnTests (s .current) (s .opened) v) ≢ 0 → P (gave (refused (firstOf (returnTests (s .current) (s .opened) v)))))
-      → (s .opened ≡ true → v ≤ s .current → (t : Store) → Stepped s t (settings s v) → P (gave (done t)))
-      → (s .opened ≡ true → v ≤ s .current → (n : ℕ) → lacking n ≡ true → P (gaveUp n (abandoned s)))
+      → (firstOf (returnTests (s .oldest) (s .current) (s .opened) v) ≢ 0 → P (gave (refused (firstOf (returnTests (s .oldest) (s .current) (s .opened) v)))))
+      → (s .opened ≡ true → Kept s v → (t : Store) → Stepped s t (settings s v) → P (gave (done t)))
+      → (s .opened ≡ true → Kept s v → (n : ℕ) → lacking n ≡ true → P (gaveUp n (abandoned s)))
       → P (returned least s v)
   unfolding returned
-  returned-by P four s d v tests whole up = at (ltb (s .current) v) refl (s .opened) refl tests
+  returned-by P four s d v tests whole up = at (beyond (s .current) (s .oldest) v) refl (s .opened) refl tests
     where
       run : Ran
       run = carried least (differ (settings s (next s)) (settings s v)) s
 
-      by : (q : Ran) → s .opened ≡ true → v ≤ s .current → Runs s (settings s v) q → P (orAbandoned q)
+      by : (q : Ran) → s .opened ≡ true → Kept s v → Runs s (settings s v) q → P (orAbandoned q)
       by (reached t) o h r = whole o h t r
       by (stopped n t) o h r =
           subst (λ (b : Bool). P (pick b (gaveUp n (abandoned t)) (gave (refused n)))) (sym (r .0)) (subst (λ (u : Store). P (gaveUp n u)) (sym (r .1)) (up o h n (r .0)))
 
-      at : (x : Bool) → ltb (s .current) v ≡ x → (y : Bool) → s .opened ≡ y
+      at : (x : Bool) → beyond (s .current) (s .oldest) v ≡ x → (y : Bool) → s .opened ≡ y
           → (firstOf (rule 6 x ∷ rule 7 (not y) ∷ []) ≢ 0 → P (gave (refused (firstOf (rule 6 x ∷ rule 7 (not y) ∷ [])))))
           → P (unless (firstOf (rule 6 x ∷ rule 7 (not y) ∷ [])) (orAbandoned run))
       at true e y f n = n (λ (z : 6 ≡ 0). omega arith)
       at false e false f n = n (λ (z : 7 ≡ 0). omega arith)
-      at false e true f n = let h = ltb-false (s .current) v e in by run f h (carried-runs four s d f v h)
+      at false e true f n = let h = kept-of s v e in by run f h (carried-runs four s d f v h)

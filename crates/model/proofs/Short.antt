@@ -209,11 +209,11 @@ pairs-short v p = go (p .entries)
         at false ih = omega arith
 
 -- The walk at a version at which rule 4 holds sees no more pages than the store has room for entries, and the root.
-pub walk-short : (least : ℕ) → 2 ≤ least → (s : Store) → Front least s → (v : ℕ) → all keysOk (seen s v) ≡ true → length (seen s v) ≤ 1 + length (s .pages) * (5 * least)
-walk-short least two s d v h =
+pub walk-short : (least : ℕ) → 2 ≤ least → (s : Store) → Front least s → (v : ℕ) → s .oldest ≤ v → all keysOk (seen s v) ≡ true → length (seen s v) ≤ 1 + length (s .pages) * (5 * least)
+walk-short least two s d v from h =
     let r = root least two s d v in
     let l = height least two s d v in
-    omega (arith, under-short v (s .pages) (λ m k x e i. child-at least two s d v m k x e i .level) l true 0 keyLimit r (root-level least two s d v) h, routers-few v (s .pages) (5 * least) l 0 keyLimit few)
+    omega (arith, under-short v (s .pages) (λ m k x e i. child-at least two s d v from m k x e i .level) l true 0 keyLimit r (root-level least two s d v from) h, routers-few v (s .pages) (5 * least) l 0 keyLimit few)
   where
     few : (i : ℕ) → length (pairsAt v (page (s .pages) i)) ≤ 5 * least
     few i = at (bool-cases (isFree (page (s .pages) i)))

@@ -14,14 +14,14 @@ use Rattle.model.specs.declared.Pair.{Pair}
 use Rattle.model.specs.declared.Entry.{Entry}
 use Rattle.model.specs.Entry.{liveAt, pairOf}
 use Rattle.model.specs.Page.{Page, pairsAt}
-use Rattle.model.specs.Store.{Store, page, last}
+use Rattle.model.specs.Store.{Store, page}
 use Rattle.model.specs.Walk.{keyLimit, rootAt, heightOf, settings}
 use Rattle.model.specs.Sound.{isPage}
 use Rattle.model.proofs.Lists.{both-true, both-intro}
 use Rattle.model.proofs.Members.{all-by, in-map, in-those}
 use Rattle.model.proofs.Local.{all-append}
 use Rattle.model.proofs.Tree.{Row, Holds, Tree}
-use Rattle.model.proofs.Given.{Sound, GoodEntry, entry-of}
+use Rattle.model.proofs.Given.{Readable, old-last, Sound, GoodEntry, entry-of}
 use Rattle.model.proofs.Fits.{level-used, root-level, holds-all}
 
 abbrev pub small : Pair → Bool
@@ -49,23 +49,23 @@ module _ (least : ℕ) (two : 2 ≤ least) (s : Store) (d : Sound least s) (v : 
   holds-so zero n lo hi zs e h = subst (λ (us : List Pair). all f us ≡ true) (h .same) (leaf-so n e)
   holds-so (suc l) n lo hi zs e h = row-so l (holds-so l) hi (pairsAt v (page ps n)) lo zs h
 
-  settings-so : v ≤ last s → all f (settings s v) ≡ true
+  settings-so : Readable s v → all f (settings s v) ≡ true
   settings-so h =
       let r : ℕ = rootAt (s .slots) v in
-      holds-so (heightOf ps r) r 0 keyLimit (settings s v) (root-level least two s d v) (holds-all least two s d v h)
+      holds-so (heightOf ps r) r 0 keyLimit (settings s v) (root-level least two s d v (h .from)) (holds-all least two s d v h)
 
 -- a leaf's entry
 leaf-entry : (s : Store) (p : Page) (e : Entry) → p .level ≡ 1 → GoodEntry s p e → (leb 1 (e .start) && ltb (e .value) 4294967296) ≡ true
 leaf-entry s p e one g = subst (λ (b : Bool). pick b (leb 1 (e .start) && ltb (e .value) 4294967296) (isPage (length (s .pages)) (e .value)) ≡ true) (eq-eqb (p .level) 1 one) (g .kind)
 
-pub settings-small : (least : ℕ) → 2 ≤ least → (s : Store) → Sound least s → (v : ℕ) → v ≤ last s → all small (settings s v) ≡ true
+pub settings-small : (least : ℕ) → 2 ≤ least → (s : Store) → Sound least s → (v : ℕ) → Readable s v → all small (settings s v) ≡ true
 settings-small least two s d v =
     settings-so least two s d v small
     (λ p e one g z. both-intro _ _ (lt-ltb (e .key) keyLimit (g .key)) (both-true (leb 1 (e .start)) (ltb (e .value) 4294967296) (leaf-entry s p e one g) .1))
 
 -- "a leaf entry's start is at least 1"
-pub none-at-first : (least : ℕ) → 2 ≤ least → (s : Store) → Sound least s → settings s 0 ≡ []
-none-at-first least two s d = none (settings s 0) (settings-so least two s d 0 (λ (x : Pair). false) later (omega arith))
+pub none-at-first : (least : ℕ) → 2 ≤ least → (s : Store) → Sound least s → s .oldest ≡ 0 → settings s 0 ≡ []
+none-at-first least two s d z = none (settings s 0) (settings-so least two s d 0 (λ (x : Pair). false) later (omega arith))
   where
     later : (p : Page) (e : Entry) → p .level ≡ 1 → GoodEntry s p e → liveAt 0 e ≡ true → _≡_ {A = Bool} false true
     later p e one g z =

@@ -25,7 +25,7 @@ use Rattle.model.specs.Settings.{Machine, onward, fits, lent}
 use Rattle.model.proofs.Lists.{both-true}
 use Rattle.model.proofs.Members.{holds-true, true-holds, not-both, In}
 use Rattle.model.proofs.Edit.{lt, length-enter, keep-all, those-one}
-use Rattle.model.proofs.Given.{Sound, from-tests, to-tests}
+use Rattle.model.proofs.Given.{Readable, old-current, Sound, from-tests, to-tests}
 use Rattle.model.proofs.Main.{Changed, update-changes}
 use Rattle.model.proofs.Walks.{seen-reached}
 use Rattle.model.proofs.Fits.{insert-by, delete-by, raw-changes, fit-delete, count-of}
@@ -46,12 +46,12 @@ call-sound least four s sure c h =
     (true-holds (sound least (onward (lent s) c (callBy least s c) .store)) (to-tests least (onward (lent s) c (callBy least s c) .store) (a .is-sound)))
 
 -- Every call shows at each version what the machine has, begun from what the store showed.
-pub call-shows : (least : ℕ) → 4 ≤ least → (s : Store) → T (sound least s) → (c : Call) → T (fits c) → (v : ℕ) → v ≤ last (onward (lent s) c (callBy least s c) .store)
+pub call-shows : (least : ℕ) → 4 ≤ least → (s : Store) → T (sound least s) → (c : Call) → T (fits c) → (v : ℕ) → Readable (onward (lent s) c (callBy least s c) .store) v
     → settings (onward (lent s) c (callBy least s c) .store) v ≡ onward (lent s) c (callBy least s c) .machine .shows v
 call-shows least four s sure c h v z = one-call least four (lent s) (lent-agrees least s sure) c (holds-true (fits c) h) .shows v z
 
 -- "Every page that a version reaches, its root aside, holds at least four entries alive at that version."
-pub balanced : (least : ℕ) → 2 ≤ least → (s : Store) → T (sound least s) → (v : ℕ) → v ≤ last s → (x : Seen) → In x (seen s v) → x .number ≢ rootAt (s .slots) v → least ≤ length (pairsAt v (page (s .pages) (x .number)))
+pub balanced : (least : ℕ) → 2 ≤ least → (s : Store) → T (sound least s) → (v : ℕ) → Readable s v → (x : Seen) → In x (seen s v) → x .number ≢ rootAt (s .slots) v → least ≤ length (pairsAt v (page (s .pages) (x .number)))
 balanced least two s sure v h x i other =
     let r : ℕ = rootAt (s .slots) v in
     at (count-of least two s (from-tests least s (holds-true (sound least s) sure)) v h (x .up) (x .number) (seen-reached (s .pages) v (heightOf (s .pages) r) 0 keyLimit r true x i .is-reached))
@@ -63,7 +63,8 @@ balanced least two s sure v h x i other =
 -- The tests for 10 and 11 are on the settings.
 pub alive-is : (least : ℕ) → 2 ≤ least → (s : Store) → T (sound least s) → s .opened ≡ true → (k : ℕ) → k < keyLimit → isSome (lookup s k (next s)) ≡ isSome (find k (settings s (next s)))
 alive-is least two s sure o k low =
-    ap isSome (lookup-is least two s (from-tests least s (holds-true (sound least s) sure)) k (next s) low (omega (arith, ap (λ (b : Bool). lastOf b (s .current)) o)))
+    let d = from-tests least s (holds-true (sound least s) sure) in
+    ap isSome (lookup-is least two s d k (next s) low (omega (arith, old-current least s (d .old-low), ap (λ (b : Bool). lastOf b (s .current)) o)))
 
 -- Settings are counted: an insert adds one, a delete takes one.
 dropped-exact : (k : ℕ) (us : List Pair) → inOrder lt us ≡ true → isSome (find k us) ≡ true → length us ≡ suc (length (those (λ (y : Pair). not (has (y .key) (k ∷ []))) us))
@@ -95,7 +96,7 @@ module _ (least : ℕ) (two : 2 ≤ least) (s : Store) (sure : T (sound least s)
   more k x (refused n) e = tt
 
   less : (k : ℕ) (r : Result) → s .opened ≡ true → isSome (find k (settings s (next s))) ≡ true → Changed s (record { drop = k ∷ []; take = [] }) r → OneLess s r
-  less k (done t) o h e = ap (λ (us : List Pair). suc (length us)) e ∙ sym (dropped-exact k (settings s (next s)) (settings-rise least two s d (next s) (omega (arith, ap (λ (b : Bool). lastOf b (s .current)) o))) h)
+  less k (done t) o h e = ap (λ (us : List Pair). suc (length us)) e ∙ sym (dropped-exact k (settings s (next s)) (settings-rise least two s d (next s) (omega (arith, old-current least s (d .old-low), ap (λ (b : Bool). lastOf b (s .current)) o))) h)
   less k (refused n) o h e = tt
 
   pub insert-counts : (k x : ℕ) → OneMore s (insert least s k x)

@@ -17,20 +17,20 @@ use Rattle.model.specs.Page.{Page, free, isFree, pairsAt, filled}
 use Rattle.model.specs.declared.Slot.{Slot}
 use Rattle.model.specs.Store.{Store, page, last, fresh}
 use Rattle.model.specs.Walk.{rootFrom, below, settings, heightOf, Seen, seenBelow, seen, keyLimit}
-use Rattle.model.specs.Sound.{entryOk, inside, leadsWell, keysOk}
+use Rattle.model.specs.Sound.{entryOk, liesWell, keysOk}
 use Rattle.model.proofs.Lists.{both-intro, all-cons}
 use Rattle.model.proofs.Members.{not-both, either-left, either-right, bool-cases, In, all-by, all-implies}
 use Rattle.model.proofs.Between.{outside, still, pairs-still, leb-still, ltb-still}
 use Rattle.model.proofs.Shows.{same?}
-use Rattle.model.proofs.Given.{Sound, GoodPage, GoodEntry, Span, span-of, of-span, entry-of, ok-entry, spansWell, numbers, livesAt, enough}
+use Rattle.model.proofs.Given.{Readable, old-current, Sound, GoodPage, GoodEntry, Span, span-of, of-span, entry-of, ok-entry, rule7-by, rule7-shut, spansWell, numbers, livesAt, enough}
 use Rattle.model.proofs.Alike.{Alike, alike-seen, alike-settings}
 
-abbrev pub store : ℕ → Bool → List Slot → List Page → Store
-store c b xs ps = record { current = c; opened = b; slots = xs; pages = ps }
+abbrev pub store : ℕ → Bool → ℕ → List Slot → List Page → Store
+store c b old xs ps = record { current = c; opened = b; oldest = old; slots = xs; pages = ps }
 
 -- commit: the same pages, and the same last version
-pub commit-sound : (least c : ℕ) (xs : List Slot) (ps : List Page) → Sound least (store c true xs ps) → Sound least (store (suc c) false xs ps)
-commit-sound least c xs ps d = record {
+pub commit-sound : (least c old : ℕ) (xs : List Slot) (ps : List Page) → Sound least (store c true old xs ps) → Sound least (store (suc c) false old xs ps)
+commit-sound least c old xs ps d = record {
   long = d .long;
   short = d .short;
   slots-few = d .slots-few;
@@ -39,15 +39,25 @@ commit-sound least c xs ps d = record {
   front = d .front;
   zeros = d .zeros;
   pages = λ n u. let g = d .pages n u in record { low = g .low; few = g .few; span = g .span; order = g .order; entries = g .entries };
+  old-low = low (leb least 4) (d .old-low);
   begins = d .begins;
+  newer = d .newer;
   rises = d .rises;
   upto = d .upto;
   spans = d .spans;
   root-used = d .root-used;
-  keys = d .keys;
-  counts = d .counts;
-  reached = d .reached;
+  keys = λ v h. d .keys v (same v h);
+  counts = λ v h. d .counts v (same v h);
+  reached = λ v h. d .reached v (same v h);
+  young = rule7-shut (store (suc c) false old xs ps) refl;
 }
+  where
+    same : (v : ℕ) → Readable (store (suc c) false old xs ps) v → Readable (store c true old xs ps) v
+    same v h = record { from = h .from; upto = h .upto }
+
+    low : (b : Bool) → old ≤ pick b 0 c → old ≤ pick b 0 (suc c)
+    low true h = h
+    low false h = omega arith
 
 -- open: nothing starts or ends after the last version
 root-next : (c r : ℕ) (xs : List Slot) → all (λ (x : Slot). leb (x .version) c) xs ≡ true → rootFrom r xs (suc c) ≡ rootFrom r xs c
@@ -56,12 +66,12 @@ root-next c r (x ∷ xs) h =
     let (a, b) = all-cons (λ (y : Slot). leb (y .version) c) x xs h in
     ap (λ (b : Bool). rootFrom (pick b (x .root) r) xs (suc c)) (le-leb (x .version) (suc c) (omega (arith, leb-true (x .version) c a)) ∙ sym a) ∙ root-next c _ xs b
 
-module _ (least c : ℕ) (xs : List Slot) (ps : List Page) (d : Sound least (store c false xs ps)) (room : c < 1048574) where
+module _ (least c old : ℕ) (xs : List Slot) (ps : List Page) (d : Sound least (store c false old xs ps)) (room : c < 1048574) where
   abbrev s : Store
-  s = store c false xs ps
+  s = store c false old xs ps
 
   abbrev t : Store
-  t = store c true xs ps
+  t = store c true old xs ps
 
   outside-start : (a b : ℕ) → Span c a b → outside c (suc c) a ≡ true
   outside-start a b h = either-left (leb a c) (ltb (suc c) a) (le-leb a c (h .starts))
@@ -129,31 +139,40 @@ module _ (least c : ℕ) (xs : List Slot) (ps : List Page) (d : Sound least (sto
       order = g .order;
       entries = all-by (entryOk (last t) (length (t .pages)) ((page ps n) .level)) (page ps n .entries) (λ e i. ok-entry t (page ps n) e (entry n u e i) .0);
     };
+    old-low = d .old-low;
     begins = d .begins;
+    newer = d .newer;
     rises = d .rises;
     upto = all-implies (λ (x : Slot). leb (x .version) c) (λ (x : Slot). leb (x .version) (suc c)) (λ x h. le-leb (x .version) (suc c) (omega (arith, leb-true (x .version) c h))) xs (d .upto);
-    spans = λ n u. all-by (λ (e : Entry). inside e (page ps n) && leadsWell t (page ps n) e) (page ps n .entries) (λ e i. ok-entry t (page ps n) e (entry n u e i) .1);
+    spans = λ n u. all-by (liesWell t (page ps n)) (page ps n .entries) (λ e i. ok-entry t (page ps n) e (entry n u e i) .1);
     root-used = d .root-used;
-    keys = λ v h. keys-at v (split-at v h);
-    counts = λ v h. counts-at v (split-at v h);
-    reached = λ v h n five inn. reached-at v n five inn (split-at v h);
+    keys = λ v h. keys-at v (h .from) (split-at v (h .upto));
+    counts = λ v h. counts-at v (h .from) (split-at v (h .upto));
+    reached = λ v h n five inn. reached-at v n (h .from) five inn (split-at v (h .upto));
+    young = rule7-by t (λ _ n u z e i. absurd (omega (arith, span-of c (page ps n .start) (page ps n .end) (d .pages n u .span) .starts)));
   }
     where
       entry : (n : ℕ) → isFree (page ps n) ≡ false → (e : Entry) → In e (page ps n .entries) → GoodEntry t (page ps n) e
       entry n u e i = let g = entry-of least s d n u e i in record { span = wider _ _ (g .span); key = g .key; kind = g .kind; later = g .later; sooner = g .sooner; leads = g .leads }
 
-      keys-at : (v : ℕ) → (v ≤ c) ⊎ (v ≡ suc c) → all keysOk (seen t v) ≡ true
-      keys-at v (inl z) = d .keys v z
-      keys-at v (inr z) = subst (λ (u : ℕ). all keysOk (seen t u) ≡ true) (sym z) (ap (all keysOk) seen-next ∙ d .keys c (omega arith))
+      upto : (v : ℕ) → old ≤ v → v ≤ c → Readable s v
+      upto v from h = record { from = from; upto = h }
 
-      counts-at : (v : ℕ) → (v ≤ c) ⊎ (v ≡ suc c) → all (enough least) (seen t v) ≡ true
-      counts-at v (inl z) = d .counts v z
-      counts-at v (inr z) = subst (λ (u : ℕ). all (enough least) (seen t u) ≡ true) (sym z) (ap (all (enough least)) seen-next ∙ d .counts c (omega arith))
+      here : Readable s c
+      here = record { from = old-current least s (d .old-low); upto = omega arith }
 
-      reached-at : (v n : ℕ) → 5 ≤ n → n < length ps → (v ≤ c) ⊎ (v ≡ suc c) → livesAt v (page ps n) ≡ has n (numbers t v)
-      reached-at v n five inn (inl z) = d .reached v z n five inn
-      reached-at v n five inn (inr z) = subst (λ (u : ℕ). livesAt u (page ps n) ≡ has n (numbers t u)) (sym z)
-          (lives-next n ∙ d .reached c (omega arith) n five inn ∙ ap (λ (ys : List Seen). has n (map (λ (x : Seen). x .number) ys)) (sym seen-next))
+      keys-at : (v : ℕ) → old ≤ v → (v ≤ c) ⊎ (v ≡ suc c) → all keysOk (seen t v) ≡ true
+      keys-at v from (inl z) = d .keys v (upto v from z)
+      keys-at v from (inr z) = subst (λ (u : ℕ). all keysOk (seen t u) ≡ true) (sym z) (ap (all keysOk) seen-next ∙ d .keys c here)
+
+      counts-at : (v : ℕ) → old ≤ v → (v ≤ c) ⊎ (v ≡ suc c) → all (enough least) (seen t v) ≡ true
+      counts-at v from (inl z) = d .counts v (upto v from z)
+      counts-at v from (inr z) = subst (λ (u : ℕ). all (enough least) (seen t u) ≡ true) (sym z) (ap (all (enough least)) seen-next ∙ d .counts c here)
+
+      reached-at : (v n : ℕ) → old ≤ v → 5 ≤ n → n < length ps → (v ≤ c) ⊎ (v ≡ suc c) → livesAt v (page ps n) ≡ has n (numbers t v)
+      reached-at v n from five inn (inl z) = d .reached v (upto v from z) n five inn
+      reached-at v n from five inn (inr z) = subst (λ (u : ℕ). livesAt u (page ps n) ≡ has n (numbers t u)) (sym z)
+          (lives-next n ∙ d .reached c here n five inn ∙ ap (λ (ys : List Seen). has n (map (λ (x : Seen). x .number) ys)) (sym seen-next))
 
   pub begin-shows : settings t (suc c) ≡ settings s c
   begin-shows = alike-settings s c t (suc c) begin-alike
@@ -216,14 +235,17 @@ module _ (least : ℕ) (one : 1 ≤ least) (n : ℕ) (six : 6 ≤ n) (most : n �
     zeros = λ m h. zero-at m h (same? m 5);
     pages = λ m u. subst (λ (i : ℕ). GoodPage least fs (page (fs .pages) i)) (sym (used-five m u)) (subst (GoodPage least fs) (sym page-five)
         (record { low = omega arith; few = omega arith; span = refl; order = refl; entries = refl }));
-    begins = refl;
+    old-low = omega arith;
+    begins = omega arith;
+    newer = refl;
     rises = refl;
     upto = refl;
     spans = λ m u. subst (λ (i : ℕ). spansWell fs (page (fs .pages) i) ≡ true) (sym (used-five m u)) (subst (λ (p : Page). spansWell fs p ≡ true) (sym page-five) refl);
     root-used = both-intro _ _ (ap (λ (p : Page). not (isFree p)) page-five) refl;
-    keys = λ v h. subst (λ (u : ℕ). all keysOk (seen fs u) ≡ true) (sym (at-zero v h)) (ap (all keysOk) seen-f);
-    counts = λ v h. subst (λ (u : ℕ). all (enough least) (seen fs u) ≡ true) (sym (at-zero v h)) (ap (all (enough least)) seen-f);
-    reached = λ v h m five inn. subst (λ (u : ℕ). livesAt u (page (fs .pages) m) ≡ has m (numbers fs u)) (sym (at-zero v h)) (reached-at m (same? m 5) ∙ ap (λ (ys : List Seen). has m (map (λ (x : Seen). x .number) ys)) (sym seen-f));
+    keys = λ v h. subst (λ (u : ℕ). all keysOk (seen fs u) ≡ true) (sym (at-zero v (h .upto))) (ap (all keysOk) seen-f);
+    counts = λ v h. subst (λ (u : ℕ). all (enough least) (seen fs u) ≡ true) (sym (at-zero v (h .upto))) (ap (all (enough least)) seen-f);
+    reached = λ v h m five inn. subst (λ (u : ℕ). livesAt u (page (fs .pages) m) ≡ has m (numbers fs u)) (sym (at-zero v (h .upto))) (reached-at m (same? m 5) ∙ ap (λ (ys : List Seen). has m (map (λ (x : Seen). x .number) ys)) (sym seen-f));
+    young = rule7-shut fs refl;
   }
     where
       zero-at : (m : ℕ) → isFree (page (fs .pages) m) ≡ true → (m ≡ 5) ⊎ (m ≢ 5) → page (fs .pages) m ≡ free

@@ -403,9 +403,9 @@ Undone s (refused n) = Unit {0}
 same-store : (s : Store) (xs : List Slot) (ps : List Page)
     → those (λ (x : Slot). not (eqb (x .version) (next s))) xs ≡ those (λ (x : Slot). not (eqb (x .version) (next s))) (s .slots)
     → map (back (next s)) ps ≡ map (back (next s)) (s .pages)
-    → abandoned (record { current = s .current; opened = s .opened; slots = xs; pages = ps }) ≡ abandoned s
+    → abandoned (record { current = s .current; opened = s .opened; oldest = s .oldest; slots = xs; pages = ps }) ≡ abandoned s
 unfolding abandoned
-same-store s xs ps a b = λ i. record { current = s .current; opened = false; slots = a i; pages = b i }
+same-store s xs ps a b = λ i. record { current = s .current; opened = false; oldest = s .oldest; slots = a i; pages = b i }
 
 slotted-undone : (b : Bool) (s : Store) (xs : List Slot) (ps : List Page)
     → those (λ (x : Slot). not (eqb (x .version) (next s))) xs ≡ those (λ (x : Slot). not (eqb (x .version) (next s))) (s .slots)

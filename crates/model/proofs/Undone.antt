@@ -19,7 +19,7 @@ use Rattle.model.specs.Sound.{sound}
 use Rattle.model.specs.Climb.{Result, done, refused}
 use Rattle.model.specs.Calls.{insert, delete, begin, abandon, abandoned, revivedEnd, revived, restoredEntries, backBy, back}
 use Rattle.model.specs.Return.{Came, gave, gaveUp}
-use Rattle.model.specs.Histories.{Call, begins, commits, abandons, inserts, deletes, returns, callBy}
+use Rattle.model.specs.Histories.{Call, begins, commits, abandons, inserts, deletes, returns, prunes, callBy}
 use Rattle.model.specs.Settings.{step, Both, onward, together, fits, staysIn, inside, lent}
 use Rattle.model.proofs.Lists.{both-true, all-cons}
 use Rattle.model.proofs.Members.{holds-true, true-holds, not-both, bool-cases, In, all-in, all-by}
@@ -29,6 +29,7 @@ use Rattle.model.proofs.Undo.{Undone}
 use Rattle.model.proofs.Fits.{insert-undone, delete-undone}
 use Rattle.model.proofs.Turns.{store}
 use Rattle.model.proofs.Returned.{returned-by}
+use Rattle.model.proofs.Prune.{prune-by}
 use Rattle.model.proofs.History.{Agrees, one-call, many-calls}
 
 -- another open is refused
@@ -46,6 +47,7 @@ inside-open b abandons (gave (done t)) i o = absurd (not-both false i refl)
 inside-open b (inserts k x) (gave (done t)) i o = o
 inside-open b (deletes k) (gave (done t)) i o = o
 inside-open b (returns v) (gave (done t)) i o = o
+inside-open b (prunes v) (gave (done t)) i o = o
 
 still-open : (least : ℕ) (cs : List Call) (b : Both) → inside least b cs ≡ true → b .machine .opened ≡ true → together least b cs .machine .opened ≡ true
 still-open least [] b e o = o
@@ -88,13 +90,15 @@ inside-undone least four (c ∷ cs) b e h a o =
         Ended (gave (done u)) = abandoned u ≡ abandoned (b .store)
         Ended (gave (refused n)) = Unit {0}
         Ended (gaveUp n u) = Unit {0}
+    -- a prune is refused here
+    one (prunes v) (gave (done t)) q z = prune-by (λ (r : Result). abandoned (onward b c (gave r) .store) ≡ abandoned (b .store)) least (b .store) v (λ n. refl) (λ e y low high. absurd (not-both (b .store .opened) (a .opened ∙ o) y))
 
 -- an open and an abandon
 map-places : {A : Type 0} (f : A → A) (d : A) (xs : List A) → ((n : ℕ) → n < length xs → f (getD xs n d) ≡ getD xs n d) → map f xs ≡ xs
 map-places f d [] h = refl
 map-places {A} f d (x ∷ xs) h = ap₂ {C = List A} (λ (y : A) (ys : List A). y ∷ ys) (h 0 (omega arith)) (map-places f d xs (λ n l. h (suc n) (omega arith)))
 
-module _ (least c : ℕ) (xs : List Slot) (ps : List Page) (d : Sound least (store c false xs ps)) where
+module _ (least c old : ℕ) (xs : List Slot) (ps : List Page) (d : Sound least (store c false old xs ps)) where
   abbrev w : ℕ
   w = suc c
 
@@ -129,7 +133,7 @@ module _ (least c : ℕ) (xs : List Slot) (ps : List Page) (d : Sound least (sto
       at (inr u) =
           let p : Page = page ps n in
           let h : Span c (p .start) (p .end) = span-of c (p .start) (p .end) (d .pages n u .span) in
-          let e : restoredEntries w (p .entries) ≡ p .entries = entries-kept (p .entries) (λ f i. entry-of least (store c false xs ps) d n u f i .span) in
+          let e : restoredEntries w (p .entries) ≡ p .entries = entries-kept (p .entries) (λ f i. entry-of least (store c false old xs ps) d n u f i .span) in
           ap (λ (q : Bool). backBy q w p) (ne-eqb (p .start) w (λ (z : p .start ≡ w). omega (arith, h .starts)))
           ∙ (λ i. record { level = p .level; start = p .start; end = end-kept (p .end) (h .ends) i; entries = e i })
 
@@ -138,9 +142,9 @@ module _ (least c : ℕ) (xs : List Slot) (ps : List Page) (d : Sound least (sto
       (all-by (λ (x : Slot). not (eqb (x .version) w)) xs (λ x i. ap not (ne-eqb (x .version) w (λ (z : x .version ≡ w). omega (arith, leb-true (x .version) c (all-in (λ (y : Slot). leb (y .version) c) x xs (d .upto) i))))))
 
   -- An open and an abandon leave the store as it was.
-  pub begun-abandoned : abandoned (store c true xs ps) ≡ store c false xs ps
+  pub begun-abandoned : abandoned (store c true old xs ps) ≡ store c false old xs ps
   unfolding abandoned
-  begun-abandoned = λ i. record { current = c; opened = false; slots = slots-kept i; pages = map-places (back w) free ps (λ n l. page-kept n) i }
+  begun-abandoned = λ i. record { current = c; opened = false; oldest = old; slots = slots-kept i; pages = map-places (back w) free ps (λ n l. page-kept n) i }
 
 -- a list of calls in two parts
 pub together-append : (least : ℕ) (b : Both) (cs ds : List Call) → together least b (cs ++ ds) ≡ together least (together least b cs) ds
@@ -152,7 +156,7 @@ module _ (least : ℕ) (four : 4 ≤ least) (b : Both) (a : Agrees least b) (shu
   s = b .store
 
   abbrev begun : Both
-  begun = record { store = record { current = s .current; opened = true; slots = s .slots; pages = s .pages }; machine = step (b .machine) begins }
+  begun = record { store = record { current = s .current; opened = true; oldest = s .oldest; slots = s .slots; pages = s .pages }; machine = step (b .machine) begins }
 
   begin-is : begin s ≡ done (begun .store)
   unfolding begin
@@ -176,11 +180,11 @@ module _ (least : ℕ) (four : 4 ≤ least) (b : Both) (a : Agrees least b) (shu
       ∙ ap (λ (x : Both). x .store) (together-append least begun cs (abandons ∷ []))
       ∙ abandon-is after open-after
       ∙ inside-undone least four cs begun e h agreed refl
-      ∙ begun-abandoned least (s .current) (s .slots) (s .pages) (subst (λ (q : Bool). Sound least (store (s .current) q (s .slots) (s .pages))) shut (a .is-sound))
-      ∙ ap (λ (q : Bool). store (s .current) q (s .slots) (s .pages)) (sym shut)
+      ∙ begun-abandoned least (s .current) (s .oldest) (s .slots) (s .pages) (subst (λ (q : Bool). Sound least (store (s .current) q (s .oldest) (s .slots) (s .pages))) shut (a .is-sound))
+      ∙ ap (λ (q : Bool). store (s .current) q (s .oldest) (s .slots) (s .pages)) (sym shut)
 
 pub lent-agrees : (least : ℕ) (s : Store) → T (sound least s) → Agrees least (lent s)
-lent-agrees least s sure = record { is-sound = from-tests least s (holds-true (sound least s) sure); current = refl; opened = refl; shows = λ v h. refl }
+lent-agrees least s sure = record { is-sound = from-tests least s (holds-true (sound least s) sure); current = refl; opened = refl; oldest = refl; shows = λ v h. refl }
 
 -- For every sound store with no update open: an update that is abandoned leaves it as it was.
 pub abandoned-update : (least : ℕ) → 4 ≤ least → (s : Store) → T (sound least s) → s .opened ≡ false → s .current < 1048574 → (cs : List Call) → T (inside least (lent s) (begins ∷ cs)) → T (all fits cs)

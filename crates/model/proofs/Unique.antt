@@ -6,7 +6,7 @@ use mathlib.Core.Bool.{Bool, true, false}
 use mathlib.Core.Path.{_≡_, refl, sym, _∙_, subst}
 use mathlib.Core.Logic.{_≢_, _⊎_}
 use mathlib.Core.List.{List, [], _∷_}
-use lib.Dec.{ltb}
+use lib.Dec.{leb, ltb}
 use lib.ListN.{length}
 use Rattle.model.specs.Basic.{pick}
 use Rattle.model.specs.declared.Pair.{Pair}
@@ -31,9 +31,9 @@ use Rattle.model.specs.State.{stateNumbers, untold}
 use Rattle.model.specs.Near
 use Rattle.model.specs.Return
 use Rattle.model.specs.Return.{Ran, reached, stopped, carried, Came, gave, gaveUp, lacking, orAbandoned, returnTests, unless}
-use Rattle.model.specs.Ended.{Asked, toFresh, toFreshSecond, toCheck, toOpen, toCommit, toAbandon, toInsert, toDelete, toReturn, toLookup, toRange, toLife, toDifference, toVisits, toState, Ended, endedBy, Meets, Untouched, Excepted, Named, Zeros}
+use Rattle.model.specs.Ended.{Asked, toFresh, toFreshSecond, toCheck, toOpen, toCommit, toAbandon, toInsert, toDelete, toReturn, toPrune, toLookup, toRange, toLife, toDifference, toVisits, Ended, endedBy, Meets, Untouched, Excepted, Named, Zeros, toState}
 use Rattle.model.specs.Lent
-use Rattle.model.specs.Lent.{Outcome, Listed, listed, left, leftBy, judgedFirst, openLent, insertLent, deleteLent, commitLent, abandonLent, returnLent, freshLent, lookupLent, rangeLent, lifeLent, differenceLent, visitsLent, stateLent}
+use Rattle.model.specs.Lent.{Outcome, Listed, listed, left, leftBy, judgedFirst, openLent, insertLent, deleteLent, commitLent, abandonLent, returnLent, pruneLent, freshLent, lookupLent, rangeLent, lifeLent, differenceLent, visitsLent, stateLent}
 use Rattle.model.proofs.Stops.{lacking-is}
 use Rattle.model.proofs.Editions.{ended-either}
 
@@ -81,9 +81,17 @@ module _ (least : ℕ) (b : List ℕ) where
     where
       at : (n : ℕ) → ReturnSame b (judgedFirst n (λ m. record { number = m; store = b }) (leftBy least b (Return.returned least (decode least b) v)))
       at zero =
-          unless-same (firstOf (returnTests (decode least b .current) (decode least b .opened) v)) _
+          unless-same (firstOf (returnTests (decode least b .oldest) (decode least b .current) (decode least b .opened) v)) _
           (run-same (carried least (Differ.differ (settings (decode least b) (next (decode least b))) (settings (decode least b) v)) (decode least b)))
       at (suc n) = λ h x. refl
+
+prune-same : (least : ℕ) (b : List ℕ) (v : ℕ) → StoreSame b (pruneLent least b v)
+unfolding Lent.pruneLent
+prune-same least b v = at (leb least 4)
+  where
+    at : (t : Bool) → StoreSame b (pick t (record { number = 3; store = b }) (Lent.lent least (λ (s : Store). Calls.prune least s v) b))
+    at true h = refl
+    at false h = lent-same least (λ (s : Store). Calls.prune least s v) b h
 
 fresh-same : (least : ℕ) (b : List ℕ) → StoreSame b (freshLent least b)
 unfolding Lent.freshLent
@@ -158,6 +166,7 @@ leaves least toAbandon b ns h x = record { store = lent-same least _ b h; list =
 leaves least (toInsert k y) b ns h x = record { store = lent-same least _ b h; list = refl }
 leaves least (toDelete k) b ns h x = record { store = lent-same least _ b h; list = refl }
 leaves least (toReturn v) b ns h x = record { store = return-same least b v h (λ y. x ((v, refl), y)); list = refl }
+leaves least (toPrune v) b ns h x = record { store = prune-same least b v h; list = refl }
 leaves least (toLookup k v) b ns h x = record { store = refl; list = refl }
 leaves least (toRange lo hi v) b ns h x = record { store = refl; list = range-same least b lo hi v ns h }
 leaves least (toVisits k v) b ns h x = record { store = refl; list = visits-same least b k v ns h }
@@ -268,6 +277,7 @@ blanks least toAbandon b ns h k = refl
 blanks least (toInsert i x) b ns h k = refl
 blanks least (toDelete i) b ns h k = refl
 blanks least (toReturn v) b ns h k = refl
+blanks least (toPrune v) b ns h k = refl
 blanks least (toLookup i v) b ns h k = looked-blank (lookupLent least b i v) h
 blanks least (toRange lo hi v) b ns h k = zero-one _ (range-blank least b lo hi v ns h k)
 blanks least (toVisits i v) b ns h k = zero-one _ (visits-blank least b i v ns h k)

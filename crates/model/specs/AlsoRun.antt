@@ -19,6 +19,7 @@ abbrev pub manyRoots : ℕ → Store
 manyRoots n = record {
   current = n;
   opened = true;
+  oldest = 0;
   slots = map (λ (v : ℕ). record { version = v; root = 5 }) (count 0 n);
   pages = replicate 5 free ++ (record { level = 1; start = 0; end = alive; entries = map (λ (k : ℕ). born 1 (pair k 0)) (count 1 20) } ∷ replicate 3 free);
 }

@@ -10,7 +10,7 @@ use Rattle.model.specs.declared.State.{State}
 use Rattle.model.specs.Judged.{verdict, judged}
 use Rattle.model.specs.State.{untold}
 use Rattle.model.specs.Editions.{byEdition}
-use Rattle.model.specs.Lent.{Outcome, Listed, openLent, insertLent, deleteLent, commitLent, abandonLent, returnLent, lookupLent, rangeLent, visitsLent, differenceLent, lifeLent, stateLent}
+use Rattle.model.specs.Lent.{Outcome, Listed, openLent, insertLent, deleteLent, commitLent, abandonLent, returnLent, pruneLent, lookupLent, rangeLent, visitsLent, differenceLent, lifeLent, stateLent}
 
 -- "Every number but 0 leaves store and list untouched", and "any result not named here is 0"
 abbrev pub outcomeAny : List ℕ → (ℕ → Outcome) → Outcome
@@ -36,6 +36,9 @@ abandonAny b = outcomeAny b (λ least. abandonLent least b)
 
 unfoldable pub returnAny : List ℕ → ℕ → Outcome
 returnAny b v = outcomeAny b (λ least. returnLent least b v)
+
+unfoldable pub pruneAny : List ℕ → ℕ → Outcome
+pruneAny b v = outcomeAny b (λ least. pruneLent least b v)
 
 unfoldable pub lookupAny : List ℕ → ℕ → ℕ → Looked
 lookupAny b k v = byEdition b (λ n. Refused n) (λ least. lookupLent least b k v)

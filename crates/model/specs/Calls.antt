@@ -65,11 +65,11 @@ delete least s k =
 unfoldable pub begin : Store → Result
 begin s =
     numbered (rule 8 (s .opened) ∷ rule 9 (leb 1048574 (s .current)) ∷ [])
-    (done (record { current = s .current; opened = true; slots = s .slots; pages = s .pages }))
+    (done (record { current = s .current; opened = true; oldest = s .oldest; slots = s .slots; pages = s .pages }))
 
 -- "Commit raises the current version and clears the flag": the store after it
 abbrev pub committed : Store → Store
-committed s = record { current = next s; opened = false; slots = s .slots; pages = s .pages }
+committed s = record { current = next s; opened = false; oldest = s .oldest; slots = s .slots; pages = s .pages }
 
 -- 2026-05: "the open version's settings equal the current version's, key for key"
 abbrev pub unchanged : Store → Bool
@@ -106,12 +106,39 @@ unfoldable pub abandoned : Store → Store
 abandoned s = record {
   current = s .current;
   opened = false;
+  oldest = s .oldest;
   slots = those (λ (x : Slot). not (eqb (x .version) (next s))) (s .slots);
   pages = map (back (next s)) (s .pages);
 }
 
 unfoldable pub abandon : Store → Result
 abandon s = numbered (rule 7 (not (s .opened)) ∷ []) (done (abandoned s))
+
+-- ---- prune (2026-12)
+
+-- 6: above the highest version that is asked for, or "below" the oldest
+abbrev pub beyond : ℕ → ℕ → ℕ → Bool
+beyond top old v = ltb top v || ltb v old
+
+-- "frees every page that ended at or before it"
+abbrev pub prunedPage : ℕ → Page → Page
+prunedPage v p = pick (leb (p .end) v) free p
+
+-- "drops directory slots not needed from it on": those before the last one at or below v
+abbrev pub needed : ℕ → List Slot → List Slot
+needed v [] = []
+needed v (x ∷ []) = x ∷ []
+needed v (x ∷ y ∷ zs) = pick (leb (y .version) v) (needed v (y ∷ zs)) (x ∷ y ∷ zs)
+
+unfoldable pub pruned : Store → ℕ → Store
+pruned s v = record { current = s .current; opened = s .opened; oldest = v; slots = needed v (s .slots); pages = map (prunedPage v) (s .pages) }
+
+-- "pruning edition 1 gives 3"; "Versions below [the oldest] give 6, as does pruning above the current version"; "While an update is open it gives 8."
+abbrev pub pruneTests : ℕ → ℕ → Bool → ℕ → List Rule
+pruneTests old current opened v = rule 6 (beyond current old v) ∷ rule 8 opened ∷ []
+
+unfoldable pub prune : ℕ → Store → ℕ → Result
+prune least s v = numbered (rule 3 (leb least 4) ∷ pruneTests (s .oldest) (s .current) (s .opened) v) (done (pruned s v))
 
 -- ---- reading
 
@@ -129,9 +156,12 @@ abbrev pub lookedBy : ℕ → Option ℕ → Looked
 lookedBy zero o = lookedAt o
 lookedBy (suc n) o = Refused (suc n)
 
--- 6 "version above last"
+-- 6 "version above last", or below the oldest (2026-12)
+abbrev pub unreadable : Store → ℕ → Bool
+unreadable s v = beyond (last s) (s .oldest) v
+
 unfoldable pub get : Store → ℕ → ℕ → Looked
-get s k v = lookedBy (firstOf (rule 5 (leb keyLimit k) ∷ rule 6 (ltb (last s) v) ∷ [])) (lookup s k v)
+get s k v = lookedBy (firstOf (rule 5 (leb keyLimit k) ∷ rule 6 (unreadable s v) ∷ [])) (lookup s k v)
 
 -- the paper's number and values for each answer: "any result not named here is 0"
 abbrev pub lookedNumber : Looked → ℕ
@@ -171,4 +201,4 @@ rangedBy (suc n) room xs = record { number = suc n; count = 0; written = [] }
 -- 5 "key too large, or range low above high"
 unfoldable pub range : Store → ℕ → ℕ → ℕ → ℕ → Ranged
 range s lo hi v room =
-    rangedBy (firstOf (rule 5 (leb keyLimit lo || leb keyLimit hi || ltb hi lo) ∷ rule 6 (ltb (last s) v) ∷ [])) room (rangeOf s lo hi v)
+    rangedBy (firstOf (rule 5 (leb keyLimit lo || leb keyLimit hi || ltb hi lo) ∷ rule 6 (unreadable s v) ∷ [])) room (rangeOf s lo hi v)

@@ -4,8 +4,8 @@ use Prim.Native.Nat.{ℕ, zero, suc, _+_, _*_, _-_}
 use mathlib.Core.Bool.{Bool, true, _&&_}
 use mathlib.Core.List.{List}
 use lib.Dec.{leb, eqb}
+use Rattle.model.specs.Limits.{countBits, rootBits, oldestBits, liveBits}
 use Rattle.model.specs.Basic.{pick}
-use Rattle.model.specs.Limits.{countBits, liveBits, rootBits}
 use Rattle.model.specs.Field.{field}
 use Rattle.model.specs.Layout.{countOf, pageOf, sizeOf, readHeader, decode}
 use Rattle.model.specs.Sound.{rule1}
@@ -36,7 +36,7 @@ cleanPages least s n (suc k) = cleanPage least (pageOf least s n) && cleanPages 
 unfoldable pub cleanFront : ℕ → List ℕ → Bool
 cleanFront least s =
     eqb (readHeader least s .pages) (sizeOf least s)
-    && (zeroFrom s (74 + rootBits least) (512 * least)
+    && (zeroFrom s (74 + rootBits least + oldestBits least) (512 * least)
     && (leb (readHeader least s .roots) (64 * least) && zeroFrom s (512 * least + 32 * readHeader least s .roots) (2560 * least)))
 
 -- rule 1 of lent bytes

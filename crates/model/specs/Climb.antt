@@ -67,11 +67,11 @@ pub data Result : Type 0 where
 
 -- 12 "the rules need a page and none is free", 13 "the rules need a 257th slot"
 unfoldable pub slotted : Bool → Store → List Slot → List Page → Result
-slotted true s xs ps = done (record { current = s .current; opened = s .opened; slots = xs; pages = ps })
+slotted true s xs ps = done (record { current = s .current; opened = s .opened; oldest = s .oldest; slots = xs; pages = ps })
 slotted false s xs ps = refused 13
 
 unfoldable pub rooted : ℕ → Store → Rooted → Result
-rooted least s (stays ps) = done (record { current = s .current; opened = s .opened; slots = s .slots; pages = ps })
+rooted least s (stays ps) = done (record { current = s .current; opened = s .opened; oldest = s .oldest; slots = s .slots; pages = ps })
 rooted least s (moves n ps) = let xs = putSlot (next s) n (s .slots) in slotted (leb (length xs) (64 * least)) s xs ps
 rooted least s lacks = refused 12
 

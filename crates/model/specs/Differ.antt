@@ -11,9 +11,9 @@ use Rattle.model.specs.Basic.{those, any, pick}
 use Rattle.model.specs.declared.Pair.{Pair}
 use Rattle.model.specs.declared.Delta.{Delta}
 use Rattle.model.specs.Entry.{pair, enterPair}
-use Rattle.model.specs.Store.{Store, last}
+use Rattle.model.specs.Store.{Store}
 use Rattle.model.specs.Walk.{find, settings}
-use Rattle.model.specs.Calls.{rule, firstOf, Ranged}
+use Rattle.model.specs.Calls.{rule, firstOf, unreadable, Ranged}
 use Rattle.model.specs.Told.{toldBy}
 
 -- "0 for added, 1 for removed or 2 for changed, the old value and the new, zero where there is none"
@@ -74,10 +74,10 @@ exchanged d = record { key = d .key; kind = pick (eqb (d .kind) 0) 1 (pick (eqb 
 abbrev pub deltaNumbers : Delta → List ℕ
 deltaNumbers d = d .key ∷ d .kind ∷ d .old ∷ d .new ∷ []
 
--- 6 "version above last": either of them, the open one is readable
-abbrev pub tooLate : Store → ℕ → ℕ → Bool
-tooLate s u v = ltb (last s) u || ltb (last s) v
+-- 6 "version above last", or below the oldest: either of them, the open one is readable
+abbrev pub eitherUnreadable : Store → ℕ → ℕ → Bool
+eitherUnreadable s u v = unreadable s u || unreadable s v
 
 -- From version u to version v. "14 is given when the list holds fewer than four numbers a difference"
 unfoldable pub difference : Store → ℕ → ℕ → ℕ → Ranged
-difference s u v room = toldBy deltaNumbers 4 (firstOf (rule 6 (tooLate s u v) ∷ [])) room (differ (settings s u) (settings s v))
+difference s u v room = toldBy deltaNumbers 4 (firstOf (rule 6 (eitherUnreadable s u v) ∷ [])) room (differ (settings s u) (settings s v))

@@ -15,9 +15,9 @@ use Rattle.model.specs.declared.State.{State}
 use Rattle.model.specs.Layout.{bit}
 use Rattle.model.specs.Judged.{judged}
 use Rattle.model.specs.Calls.{lookedNumber, lookedFound, lookedValue}
+use Rattle.model.specs.Any.{openAny, insertAny, deleteAny, commitAny, abandonAny, returnAny, pruneAny, lookupAny, rangeAny, lifeAny, differenceAny, visitsAny, judgedAny, stateAny}
+use Rattle.model.specs.Lent.{Outcome, Listed, openLent, insertLent, deleteLent, commitLent, abandonLent, returnLent, pruneLent, freshLent, lookupLent, rangeLent, lifeLent, differenceLent, visitsLent, stateLent}
 use Rattle.model.specs.State.{stateNumbers}
-use Rattle.model.specs.Any.{openAny, insertAny, deleteAny, commitAny, abandonAny, returnAny, lookupAny, rangeAny, lifeAny, differenceAny, visitsAny, stateAny, judgedAny}
-use Rattle.model.specs.Lent.{Outcome, Listed, openLent, insertLent, deleteLent, commitLent, abandonLent, returnLent, freshLent, lookupLent, rangeLent, lifeLent, differenceLent, visitsLent, stateLent}
 
 -- the calls, with the numbers that they take
 pub data Asked : Type 0 where
@@ -25,6 +25,7 @@ pub data Asked : Type 0 where
   toInsert : ℕ → ℕ → Asked
   toDelete : ℕ → Asked
   toReturn : ℕ → Asked
+  toPrune : ℕ → Asked
   toLookup : ℕ → ℕ → Asked
   toRange : ℕ → ℕ → ℕ → Asked
   toVisits : ℕ → ℕ → Asked
@@ -65,6 +66,7 @@ ended toAbandon b ns = ofOutcome ns (abandonAny b)
 ended (toInsert k x) b ns = ofOutcome ns (insertAny b k x)
 ended (toDelete k) b ns = ofOutcome ns (deleteAny b k)
 ended (toReturn v) b ns = ofOutcome ns (returnAny b v)
+ended (toPrune v) b ns = ofOutcome ns (pruneAny b v)
 ended (toLookup k v) b ns = ofLooked b ns (lookupAny b k v)
 ended (toRange lo hi v) b ns = ofListed b (rangeAny b lo hi v ns)
 ended (toVisits k v) b ns = ofListed b (visitsAny b k v ns)
@@ -88,6 +90,7 @@ endedBy least toAbandon b ns = ofOutcome ns (abandonLent least b)
 endedBy least (toInsert k x) b ns = ofOutcome ns (insertLent least b k x)
 endedBy least (toDelete k) b ns = ofOutcome ns (deleteLent least b k)
 endedBy least (toReturn v) b ns = ofOutcome ns (returnLent least b v)
+endedBy least (toPrune v) b ns = ofOutcome ns (pruneLent least b v)
 endedBy least (toLookup k v) b ns = ofLooked b ns (lookupLent least b k v)
 endedBy least (toRange lo hi v) b ns = ofListed b (rangeLent least b lo hi v ns)
 endedBy least (toVisits k v) b ns = ofListed b (visitsLent least b k v ns)
@@ -106,6 +109,7 @@ makes toAbandon = false
 makes (toInsert k x) = false
 makes (toDelete k) = false
 makes (toReturn v) = false
+makes (toPrune v) = false
 makes (toLookup k v) = false
 makes (toRange lo hi v) = false
 makes (toVisits k v) = false
@@ -133,6 +137,7 @@ Named toAbandon n = ⊥
 Named (toInsert k x) n = ⊥
 Named (toDelete k) n = ⊥
 Named (toReturn v) n = ⊥
+Named (toPrune v) n = ⊥
 Named (toLookup k v) n = ⊥
 Named (toRange lo hi v) n = n ≡ 14
 Named (toVisits k v) n = n ≡ 14

@@ -4,7 +4,7 @@ use Prim.Native.Nat.{ℕ}
 use mathlib.Core.List.{List, [], _∷_}
 use Rattle.model.specs.Store.{Store, fresh}
 use Rattle.model.specs.Climb.{done, refused}
-use Rattle.model.specs.Calls.{insert, delete, begin, commit, abandon}
+use Rattle.model.specs.Calls.{insert, delete, begin, commit, abandon, prune}
 use Rattle.model.specs.Return.{Came, gave, gaveUp, returned}
 
 pub data Call : Type 0 where
@@ -12,6 +12,7 @@ pub data Call : Type 0 where
   inserts : ℕ → ℕ → Call
   deletes : ℕ → Call
   returns : ℕ → Call
+  prunes : ℕ → Call
 
 abbrev pub callBy : ℕ → Store → Call → Came
 callBy least s begins = gave (begin s)
@@ -20,6 +21,7 @@ callBy least s abandons = gave (abandon s)
 callBy least s (inserts k x) = gave (insert least s k x)
 callBy least s (deletes k) = gave (delete least s k)
 callBy least s (returns v) = returned least s v
+callBy least s (prunes v) = gave (prune least s v)
 
 -- the store after a call, and the number that the call gave
 pub record After : Type 0 where

@@ -9,9 +9,9 @@ use lib.ListN.{length, take, drop, replicate}
 use Rattle.model.specs.declared.Entry.{Entry}
 use Rattle.model.specs.declared.Slot.{Slot}
 use Rattle.model.specs.declared.Header.{Header}
+use Rattle.model.specs.Limits.{countBits, rootBits, oldestBits, editionOf, liveBits, liveShown}
 use Rattle.model.specs.Basic.{those}
 use Rattle.model.specs.Entry.{alive}
-use Rattle.model.specs.Limits.{countBits, liveBits, liveShown, rootBits, editionOf}
 use Rattle.model.specs.Page.{Page, free}
 use Rattle.model.specs.Store.{Store}
 use Rattle.model.specs.Field.{field, Part, _bits_, zeros, packed}
@@ -136,18 +136,18 @@ bit false = 0
 abbrev pub headerParts : ℕ → Header → List Part
 headerParts least h =
     8 bits 0x52 ∷ 8 bits 0x43 ∷ 8 bits 0x53 ∷ 8 bits 0x54 ∷ 8 bits (editionOf least) ∷ 13 bits (h .pages) ∷ 20 bits (h .current) ∷ 1 bits (bit (h .opened)) ∷ rootBits least bits (h .roots)
-    ∷ []
+    ∷ oldestBits least bits (h .oldest) ∷ []
 
 unfoldable pub headerBytes : ℕ → Header → List ℕ
 headerBytes least h = packed (64 * least) (headerParts least h)
 
 unfoldable pub readHeader : ℕ → List ℕ → Header
-readHeader least s = record { pages = field s 40 13; current = field s 53 20; opened = eqb (field s 73 1) 1; roots = field s 74 (rootBits least) }
+readHeader least s = record { pages = field s 40 13; current = field s 53 20; opened = eqb (field s 73 1) 1; roots = field s 74 (rootBits least); oldest = field s (74 + rootBits least) (oldestBits least) }
 
 -- ---- the whole
 
 abbrev pub headerOf : Store → Header
-headerOf s = record { pages = length (s .pages); current = s .current; opened = s .opened; roots = length (s .slots) }
+headerOf s = record { pages = length (s .pages); current = s .current; opened = s .opened; roots = length (s .slots); oldest = s .oldest }
 
 unfoldable pub encode : ℕ → Store → List ℕ
 encode least s =
@@ -157,6 +157,7 @@ unfoldable pub decode : ℕ → List ℕ → Store
 decode least s = record {
   current = readHeader least s .current;
   opened = readHeader least s .opened;
+  oldest = readHeader least s .oldest;
   slots = readSlots s (512 * least) (readHeader least s .roots);
   pages = replicate 5 free ++ readPages least s 5 (sizeOf least s - 5);
 }

@@ -2,6 +2,7 @@
 -- Assumes nothing.
 use Prim.Native.Nat.{ℕ, zero, suc}
 use mathlib.Core.List.{List, _++_}
+use lib.Dec.{leb}
 use lib.ListN.{length, drop}
 use Rattle.model.specs.Basic.{pick}
 use Rattle.model.specs.declared.Looked.{Looked}
@@ -11,7 +12,7 @@ use Rattle.model.specs.Layout.{sizeOf, encode, decode}
 use Rattle.model.specs.Judged.{lengthOk, judged}
 use Rattle.model.specs.Climb.{Result, done, refused}
 use Rattle.model.specs.Near.{lookupNear, rangeNear}
-use Rattle.model.specs.Calls.{insert, delete, begin, commit, abandon, Ranged}
+use Rattle.model.specs.Calls.{insert, delete, begin, commit, abandon, prune, Ranged}
 use Rattle.model.specs.Visited.{visits}
 use Rattle.model.specs.Differ.{difference}
 use Rattle.model.specs.Life.{lived}
@@ -64,6 +65,10 @@ leftBy least b (gaveUp n t) = record { number = n; store = encode least t }
 
 unfoldable pub returnLent : ℕ → List ℕ → ℕ → Outcome
 returnLent least b v = judgedFirst (judged least b .number) (λ n. record { number = n; store = b }) (leftBy least b (returned least (decode least b) v))
+
+-- 2026-12: "pruning edition 1 gives 3", where 3 stands among the numbers: before the store is judged
+unfoldable pub pruneLent : ℕ → List ℕ → ℕ → Outcome
+pruneLent least b v = pick (leb least 4) (leaving 3 b) (lent least (λ (s : Store). prune least s v) b)
 
 -- "Making fresh gives only 1."
 unfoldable pub freshLent : ℕ → List ℕ → Outcome

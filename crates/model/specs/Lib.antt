@@ -49,4 +49,5 @@ pub mod Figures
 pub mod Samples
 pub mod Signed
 pub mod Lifetimes
+pub mod Pruned
 pub mod Proved

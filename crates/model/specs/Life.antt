@@ -1,7 +1,7 @@
 -- 2026-01, "when was this setting changed?": "the life of one key: every stretch of committed versions in which it held one value, oldest
 -- first". That lookups and lives never disagree, and that stretches stand apart and in order, is proved: promises' Lives.
 -- Assumes nothing.
-use Prim.Native.Nat.{ℕ, suc}
+use Prim.Native.Nat.{ℕ, suc, _-_}
 use mathlib.Core.Bool.{Bool, _&&_}
 use mathlib.Core.Option.{Option, none, some}
 use mathlib.Core.List.{List, [], _∷_, map}
@@ -35,12 +35,13 @@ joined (a ∷ bs) = join a (joined bs)
 abbrev pub shownTo : ℕ → Stretch → Stretch
 shownTo current a = record { start = a .start; end = pick (ltb current (a .end)) alive (a .end); value = a .value }
 
--- the committed versions in turn, "oldest first", each with its answer; "an open update is not shown"
-unfoldable pub lifeOf : ℕ → (ℕ → Option ℕ) → List Stretch
-lifeOf current answer = map (shownTo current) (joined (flatMap (λ (v : ℕ). alone v (answer v)) (count 0 (suc current))))
+-- the committed versions in turn, "oldest first", each with its answer; "an open update is not shown". 2026-12: "2026-01 starts its
+-- stretches at the oldest".
+unfoldable pub lifeOf : ℕ → ℕ → (ℕ → Option ℕ) → List Stretch
+lifeOf old current answer = map (shownTo current) (joined (flatMap (λ (v : ℕ). alone v (answer v)) (count old (suc current - old))))
 
 abbrev pub life : Store → ℕ → List Stretch
-life s k = lifeOf (s .current) (lookup s k)
+life s k = lifeOf (s .oldest) (s .current) (lookup s k)
 
 -- "Each stretch takes three numbers: start, end .. and value"
 abbrev pub stretchNumbers : Stretch → List ℕ

@@ -36,6 +36,7 @@ abbrev pub bench : Store
 bench = record {
   current = 2;
   opened = false;
+  oldest = 0;
   slots = slot 0 5 ∷ [];
   pages = replicate 5 free ++ (leaf 0 alive (to 16777215 1 2 7 ∷ to 16777215 2 alive 0 ∷ []) ∷ []);
 }

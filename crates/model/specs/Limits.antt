@@ -22,6 +22,10 @@ liveShown least n = pick (leb least 4) 0 n
 abbrev pub rootBits : ℕ → ℕ
 rootBits least = pick (leb least 4) 9 10
 
+-- bits of the header's oldest version, which edition 1 does not have (2026-12: "20 bits after the root count")
+abbrev pub oldestBits : ℕ → ℕ
+oldestBits least = pick (leb least 4) 0 20
+
 -- "edition 8 bits (1)"
 abbrev pub editionOf : ℕ → ℕ
 editionOf least = pick (leb least 4) 1 2
@@ -37,6 +41,7 @@ limits least = record {
   slots = 64 * least;
   counter = countBits least;
   rooter = rootBits least;
+  aged = oldestBits least;
 }
 
 -- limits that are those of an edition

@@ -9,11 +9,10 @@ use Rattle.model.specs.Basic.{pick, all}
 use Rattle.model.specs.declared.Pair.{Pair}
 use Rattle.model.specs.declared.Looked.{Looked}
 use Rattle.model.specs.declared.Looked.the-variants.{Refused}
-use Rattle.model.specs.Store.{last}
 use Rattle.model.specs.Walk.{keyLimit, rangeOf}
 use Rattle.model.specs.Layout.{decode}
 use Rattle.model.specs.Judged.{judged}
-use Rattle.model.specs.Calls.{rule, firstOf}
+use Rattle.model.specs.Calls.{rule, firstOf, unreadable}
 use Rattle.model.specs.Near.{early}
 use Rattle.model.specs.Lent.{Outcome, Listed, judgedFirst, rangeLent}
 use Rattle.model.specs.Editions.{byEdition}
@@ -47,7 +46,7 @@ allKnown table xs = all (λ (x : Pair). eqb (unknown (knownIn table (x .key))) 0
 -- the numbers that a range gives before it meets a setting: 1 to 4, then 5 and 6
 unfoldable pub barred : ℕ → List ℕ → ℕ → ℕ → ℕ → ℕ
 barred least b lo hi v =
-    judgedFirst (judged least b .number) (λ n. n) (firstOf (rule 5 (leb keyLimit lo || leb keyLimit hi || ltb hi lo) ∷ rule 6 (ltb (last (decode least b)) v) ∷ []))
+    judgedFirst (judged least b .number) (λ n. n) (firstOf (rule 5 (leb keyLimit lo || leb keyLimit hi || ltb hi lo) ∷ rule 6 (unreadable (decode least b) v) ∷ []))
 
 -- "never skipped": a range that meets an unknown key is refused as a whole, before 14
 unfoldable pub rangeNamedBy : ℕ → List ℕ → List ℕ → ℕ → ℕ → ℕ → List ℕ → Listed
@@ -61,7 +60,7 @@ rangeNamed table b lo hi v ns = listedAny b ns (λ least. rangeNamedBy least tab
 -- "The viewer is a reader opened once on a store and one version": the number that opening it gives. It judges as a lookup does before its
 -- walk: 1 to 4 by the header and the slots, or 6.
 unfoldable pub viewedBy : ℕ → List ℕ → ℕ → ℕ
-viewedBy least b v = firstOf (early least b (rule 6 (ltb (last (decode least b)) v) ∷ []))
+viewedBy least b v = firstOf (early least b (rule 6 (unreadable (decode least b) v) ∷ []))
 
 unfoldable pub viewed : List ℕ → ℕ → ℕ
 viewed b v = byEdition b (λ n. n) (λ least. viewedBy least b v)

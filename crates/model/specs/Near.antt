@@ -6,7 +6,7 @@ use mathlib.Core.Bool.{Bool, false, _&&_, _||_, not}
 use mathlib.Core.List.{List, [], _∷_}
 use lib.Dec.{leb, ltb, eqb}
 use lib.ListN.{length}
-use Rattle.model.specs.Basic.{all}
+use Rattle.model.specs.Basic.{all, pick}
 use Rattle.model.specs.declared.Pair.{Pair}
 use Rattle.model.specs.declared.Slot.{Slot}
 use Rattle.model.specs.declared.Looked.{Looked}
@@ -17,14 +17,16 @@ use Rattle.model.specs.Sound.{isPage, pageOk, rule2}
 use Rattle.model.specs.Layout.{pageOf, decode}
 use Rattle.model.specs.Clean.{cleanPage, cleanFront}
 use Rattle.model.specs.Judged.{lengthOk, magicOk, editionOk}
-use Rattle.model.specs.Calls.{Rule, rule, firstOf, lookedBy, Ranged, rangedBy}
+use Rattle.model.specs.Calls.{Rule, rule, firstOf, unreadable, lookedBy, Ranged, rangedBy}
 
 -- "the header, a directory slot .. breaks rules 1 or 2 of 01 locally": what rule 1 says of the header's fields and zero bits and of the
 -- slots, unused ones too, and rule 2
 unfoldable pub frontRight : ℕ → List ℕ → Bool
 frontRight least b =
     let s = decode least b in
-    cleanFront least b && (leb (last s) 1048574 && (all (λ (x : Slot). isPage (length (s .pages)) (x .root)) (s .slots) && rule2 s))
+    cleanFront least b
+    && (leb (last s) 1048574
+    && (leb (s .oldest) (pick (leb least 4) 0 (s .current)) && (all (λ (x : Slot). isPage (length (s .pages)) (x .root)) (s .slots) && rule2 s)))
 
 -- "a page on their own walk breaks rules 1 .. locally": its zero bits, and all that rule 1 says of a used page and of every entry in it,
 -- dead ones too. It has the level given: "a child's level isn't one lower".
@@ -76,7 +78,7 @@ lookupNear least b k v =
     let s = decode least b in
     lookedBy
     (firstOf (early least b
-    (rule 5 (leb keyLimit k) ∷ rule 6 (ltb (last s) v) ∷ rule 4 (not (fromRoot least b v (λ up n. downRight least b v up k n))) ∷ [])))
+    (rule 5 (leb keyLimit k) ∷ rule 6 (unreadable s v) ∷ rule 4 (not (fromRoot least b v (λ up n. downRight least b v up k n))) ∷ [])))
     (lookup s k v)
 
 -- 14 comes last: it needs the whole walk
@@ -85,6 +87,6 @@ rangeNear least b lo hi v room =
     let s = decode least b in
     rangedBy
     (firstOf (early least b
-    (rule 5 (leb keyLimit lo || leb keyLimit hi || ltb hi lo) ∷ rule 6 (ltb (last s) v)
+    (rule 5 (leb keyLimit lo || leb keyLimit hi || ltb hi lo) ∷ rule 6 (unreadable s v)
     ∷ rule 4 (not (fromRoot least b v (λ up n. rangeRight least b v up hi lo n))) ∷ [])))
     room (rangeOf s lo hi v)

@@ -2,7 +2,7 @@
 -- Assumes nothing.
 use lib.Dec.{T}
 use mathlib.Core.Path.{_≡_, refl}
-use mathlib.Core.List.{map, _++_}
+use mathlib.Core.List.{[], _∷_, map, _++_}
 use lib.ListN.{take}
 use Rattle.model.specs.Basic.{all}
 use Rattle.model.specs.Store.{fresh}
@@ -14,7 +14,7 @@ use Rattle.model.specs.Visited
 use Rattle.model.specs.Life
 use Rattle.model.specs.State
 use Rattle.model.specs.Sound
-use Rattle.model.specs.Sound.{sound}
+use Rattle.model.specs.Sound.{sound, broken}
 use Rattle.model.specs.Field
 use Rattle.model.specs.Layout
 use Rattle.model.specs.Layout.{encode, decode, encodePage, entryBytes}
@@ -28,6 +28,8 @@ use Rattle.model.specs.Return
 use Rattle.model.specs.GoingBack.{goingBack}
 use Rattle.model.specs.Vectors.{freshBytes, freshSecondBytes, entryForty, fortyBytes, fortyPage, fortyHead, fortySecondHead}
 use Rattle.model.specs.Figures.{Figure, made, figures}
+use Rattle.model.specs.Quick
+use Rattle.model.specs.Pruned.{toPruned, toReused, both, prunedFacts, outside, young, kept}
 use Rattle.model.specs.Samples.{twoLevels, fromElsewhere, served, visited, visitedPages, states, statesTold}
 use Rattle.model.specs.Differ
 use Rattle.model.specs.Signed.{asked, answered, signed, byHand}
@@ -40,7 +42,7 @@ unfolding Rules.withNeighbour Rules.gatherBy Rules.partsBy Rules.parts Rules.usa
 updating = tt
 
 calling : Unit {0}
-unfolding updating Calls.insert Calls.delete Calls.begin Calls.commit Calls.abandon Calls.abandoned Calls.get Calls.range Calls.rangedBy Calls.rangedIn
+unfolding updating Calls.insert Calls.delete Calls.begin Calls.commit Calls.abandon Calls.abandoned Calls.prune Calls.pruned Calls.get Calls.range Calls.rangedBy Calls.rangedIn
 calling = tt
 
 judging : Unit {0}
@@ -158,6 +160,21 @@ live-count-bytes = refl
 pub figures-drawn : map made figures ≡ map (λ (f : Figure). f .shows) figures
 unfolding calling
 figures-drawn = refl
+
+-- ---- a prune, and its pages used again
+
+pub pruned-facts : T prunedFacts
+unfolding calling
+pruned-facts = tt
+
+pub pruned-sound : T (all both (toPruned ∷ toReused ∷ []))
+unfolding calling judging Quick.quickSound Quick.quick
+pruned-sound = tt
+
+-- an expired router outside its page's span, in a page of the open version, and one that is not expired
+pub expired-judged : map (broken 8) (outside ∷ young ∷ kept ∷ []) ≡ 0 ∷ 7 ∷ 3 ∷ []
+unfolding judging Sound.broken
+expired-judged = refl
 
 -- ---- the samples
 

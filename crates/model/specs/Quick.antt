@@ -1,6 +1,7 @@
 -- Sound or not, with no walk and no version by version: where rules 1 to 3 hold, `quick` is rules 4 to 6 (proofs/Quick).
--- A stretch is the versions from a up to, not including, b. Each test is of two or three entries and a stretch, so that the
--- number of versions is no matter; a page that is led to is looked at once for each router or slot that leads to it.
+-- A stretch is the versions from a up to, not including, b; none begins before the oldest version, `old`. Each test is of two or three
+-- entries and a stretch, so that the number of versions is no matter; a page that is led to is looked at once for each router or slot
+-- that leads to it.
 -- Assumes nothing.
 use Prim.Native.Nat.{ℕ, zero, suc, _+_, _-_, pred, min, max}
 use mathlib.Core.Bool.{Bool, true, _&&_, _||_, not}
@@ -13,7 +14,7 @@ use Rattle.model.specs.declared.Slot.{Slot}
 use Rattle.model.specs.Entry.{alive, liveAt}
 use Rattle.model.specs.Page.{Page, isFree}
 use Rattle.model.specs.Store.{Store, page}
-use Rattle.model.specs.Sound.{pagesPass, fewest, rule1, rule2, rule3}
+use Rattle.model.specs.Sound.{pagesPass, fewest, rule1, rule2, rule3, rule7}
 use Rattle.model.specs.Layout.{decode}
 use Rattle.model.specs.Clean.{clean}
 
@@ -29,6 +30,10 @@ past a e = pick (leb (e .start) a) (max a (e .end)) a
 abbrev pub pastAll : ℕ → List Entry → ℕ
 pastAll a [] = a
 pastAll a (e ∷ es) = pastAll (past a e) es
+
+-- the entries whose span goes on behind the oldest version: no other is alive at a version that the rules speak of
+abbrev pub kept : ℕ → List Entry → List Entry
+kept old es = those (λ (e : Entry). ltb old (e .end)) es
 
 -- ---- one page
 
@@ -83,17 +88,17 @@ nexts f a b [] = true
 nexts f a b (e ∷ es) = nextFine f a b e && nexts f (past a e) b es
 
 -- "A key lies from its page's low key up to, not including, the next one's": each router to a page `up` levels above the leaves, and those behind it
-abbrev pub routersFine : ℕ → ℕ → List Page → List Entry → Bool
-routersFine least up ps [] = true
-routersFine least up ps (e ∷ es) =
-    fineOver least (e .key) (e .start) (e .end) (page ps (e .value))
-    && nexts (λ (h a b : ℕ). under up ps h a b (e .value)) (e .start) (e .end) es
-    && routersFine least up ps es
+abbrev pub routersFine : ℕ → ℕ → ℕ → List Page → List Entry → Bool
+routersFine least old up ps [] = true
+routersFine least old up ps (e ∷ es) =
+    fineOver least (e .key) (max old (e .start)) (e .end) (page ps (e .value))
+    && nexts (λ (h a b : ℕ). under up ps h a b (e .value)) (max old (e .start)) (e .end) es
+    && routersFine least old up ps es
 
-abbrev pub childrenFine : ℕ → List Page → ℕ → List Entry → Bool
-childrenFine least ps zero es = true
-childrenFine least ps (suc zero) es = true
-childrenFine least ps (suc (suc up)) es = routersFine least up ps es
+abbrev pub childrenFine : ℕ → ℕ → List Page → ℕ → List Entry → Bool
+childrenFine least old ps zero es = true
+childrenFine least old ps (suc zero) es = true
+childrenFine least old ps (suc (suc up)) es = routersFine least old up ps es
 
 -- ---- the roots
 
@@ -105,45 +110,45 @@ upto (x ∷ xs) = x .version
 abbrev pub slotFine : ℕ → ℕ → ℕ → Page → Bool
 slotFine least a b p = leb (p .start) a && leb b (p .end) && fineOver (fewest least true (pred (p .level))) 0 a b p
 
-abbrev pub slotsFine : ℕ → List Page → List Slot → Bool
-slotsFine least ps [] = true
-slotsFine least ps (x ∷ xs) = slotFine least (x .version) (upto xs) (page ps (x .root)) && slotsFine least ps xs
+abbrev pub slotsFine : ℕ → ℕ → List Page → List Slot → Bool
+slotsFine least old ps [] = true
+slotsFine least old ps (x ∷ xs) = slotFine least (max old (x .version)) (upto xs) (page ps (x .root)) && slotsFine least old ps xs
 
 -- ---- "A used page is reached at every version of its span": the spans of what leads to it add up to its own
 -- They lie in it (rule 3, `slotFine`), and at no version do two ways lead to one page, since its keys stand in one range only: so
--- the sum is right exactly if no version is left out.
+-- the sum is right exactly if no version is left out. A span counts from the oldest version on: one that ended by then counts 0.
 
-abbrev pub routed : ℕ → List Entry → ℕ
-routed n [] = 0
-routed n (e ∷ es) = pick (eqb (e .value) n) (e .end - e .start) 0 + routed n es
+abbrev pub routed : ℕ → ℕ → List Entry → ℕ
+routed old n [] = 0
+routed old n (e ∷ es) = pick (eqb (e .value) n) (e .end - max old (e .start)) 0 + routed old n es
 
-abbrev pub routedAll : ℕ → List Page → ℕ
-routedAll n [] = 0
-routedAll n (p ∷ ps) = pick (leb (p .level) 1) 0 (routed n (p .entries)) + routedAll n ps
+abbrev pub routedAll : ℕ → ℕ → List Page → ℕ
+routedAll old n [] = 0
+routedAll old n (p ∷ ps) = pick (leb (p .level) 1) 0 (routed old n (p .entries)) + routedAll old n ps
 
-abbrev pub rooted : ℕ → List Slot → ℕ
-rooted n [] = 0
-rooted n (x ∷ xs) = pick (eqb (x .root) n) (upto xs - x .version) 0 + rooted n xs
+abbrev pub rooted : ℕ → ℕ → List Slot → ℕ
+rooted old n [] = 0
+rooted old n (x ∷ xs) = pick (eqb (x .root) n) (upto xs - max old (x .version)) 0 + rooted old n xs
 
 abbrev pub ledTo : Store → ℕ → ℕ
-ledTo s n = rooted n (s .slots) + routedAll n (drop 5 (s .pages))
+ledTo s n = rooted (s .oldest) n (s .slots) + routedAll (s .oldest) n (drop 5 (s .pages))
 
 -- the pages from number n on
 abbrev pub spansMet : Store → ℕ → List Page → Bool
 spansMet s n [] = true
-spansMet s n (p ∷ ps) = (isFree p || eqb (ledTo s n) (p .end - p .start)) && spansMet s (suc n) ps
+spansMet s n (p ∷ ps) = (isFree p || eqb (ledTo s n) (p .end - max (s .oldest) (p .start))) && spansMet s (suc n) ps
 
 -- ---- all of it
 
 unfoldable pub quick : ℕ → Store → Bool
 quick least s =
-    spansMet s 5 (drop 5 (s .pages)) && slotsFine least (s .pages) (s .slots)
-    && pagesPass (λ (p : Page). inOrder apart (p .entries) && childrenFine least (s .pages) (p .level) (p .entries)) s
+    spansMet s 5 (drop 5 (s .pages)) && slotsFine least (s .oldest) (s .pages) (s .slots)
+    && pagesPass (λ (p : Page). inOrder apart (kept (s .oldest) (p .entries)) && childrenFine least (s .oldest) (s .pages) (p .level) (kept (s .oldest) (p .entries))) s
 
 -- `sound`, found quickly
 unfoldable pub quickSound : ℕ → Store → Bool
-quickSound least s = rule1 least s && rule2 s && rule3 s && quick least s
+quickSound least s = rule1 least s && rule2 s && rule3 s && quick least s && rule7 s
 
 -- and of lent bytes
 unfoldable pub quickIn : ℕ → List ℕ → Bool
-quickIn least b = clean least b && rule2 (decode least b) && rule3 (decode least b) && quick least (decode least b)
+quickIn least b = clean least b && rule2 (decode least b) && rule3 (decode least b) && quick least (decode least b) && rule7 (decode least b)

@@ -39,6 +39,7 @@ abbrev pub standing : ℕ → List Slot → List Page → ℕ → Store
 standing current more ps spare = record {
   current = current;
   opened = true;
+  oldest = 0;
   slots = slot 0 5 ∷ more;
   pages = replicate 5 free ++ (pageOver 1 0 1 [] ∷ ps) ++ replicate spare free;
 }
@@ -150,7 +151,7 @@ readings =
 
 -- a store at the last version, with an update open or not
 abbrev pub lastVersion : Bool → Store
-lastVersion b = record { current = 1048574; opened = b; slots = fresh 6 .slots; pages = fresh 6 .pages }
+lastVersion b = record { current = 1048574; opened = b; oldest = 0; slots = fresh 6 .slots; pages = fresh 6 .pages }
 
 abbrev pub orders : List History
 orders =

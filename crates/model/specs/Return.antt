@@ -5,13 +5,13 @@
 use Prim.Native.Nat.{ℕ, zero, suc}
 use mathlib.Core.Bool.{Bool, _||_, not}
 use mathlib.Core.List.{List, [], _∷_}
-use lib.Dec.{leb, ltb, eqb}
+use lib.Dec.{leb, eqb}
 use Rattle.model.specs.Basic.{those, pick}
 use Rattle.model.specs.declared.Delta.{Delta}
 use Rattle.model.specs.Store.{Store, next}
 use Rattle.model.specs.Walk.{keyLimit, settings, lookup}
 use Rattle.model.specs.Climb.{Result, done, refused}
-use Rattle.model.specs.Calls.{isSome, Rule, rule, numbered, firstOf, rawInsert, delete, abandoned}
+use Rattle.model.specs.Calls.{isSome, Rule, rule, numbered, firstOf, beyond, rawInsert, delete, abandoned}
 use Rattle.model.specs.Differ.{differ}
 
 -- ---- its steps, by what differs (2026-03) from the open version to that one; the differences stand in key order, "each in rising key order"
@@ -74,13 +74,14 @@ abbrev pub orAbandoned : Ran → Came
 orAbandoned (reached t) = gave (done t)
 orAbandoned (stopped n t) = pick (lacking n) (gaveUp n (abandoned t)) (gave (refused n))
 
--- "The call gives 6 for a version above the current one, and 7, whose row gains it, with no update open."
-abbrev pub returnTests : ℕ → Bool → ℕ → List Rule
-returnTests current opened v = rule 6 (ltb current v) ∷ rule 7 (not opened) ∷ []
+-- "The call gives 6 for a version above the current one, and 7, whose row gains it, with no update open." 2026-12: "Versions below [the
+-- oldest] give 6".
+abbrev pub returnTests : ℕ → ℕ → Bool → ℕ → List Rule
+returnTests old current opened v = rule 6 (beyond current old v) ∷ rule 7 (not opened) ∷ []
 
 abbrev pub unless : ℕ → Came → Came
 unless zero c = c
 unless (suc n) c = gave (refused (suc n))
 
 unfoldable pub returned : ℕ → Store → ℕ → Came
-returned least s v = unless (firstOf (returnTests (s .current) (s .opened) v)) (orAbandoned (carried least (differ (settings s (next s)) (settings s v)) s))
+returned least s v = unless (firstOf (returnTests (s .oldest) (s .current) (s .opened) v)) (orAbandoned (carried least (differ (settings s (next s)) (settings s v)) s))

@@ -14,12 +14,14 @@ use Rattle.model.specs.Histories.{inserts, deletes}
 use Rattle.model.specs.Replay.{History, gives, looks}
 use Rattle.model.specs.declared.Looked.the-variants.{Value, Absent}
 use Rattle.model.specs.Figures.{to, each, leaf, index, slot}
+use Rattle.model.specs.Pruned.{outside}
 
 -- Two levels and an open update, version 2, which killed page 7 and made 9 and 10.
 abbrev pub twoLevels : Store
 twoLevels = record {
   current = 1;
   opened = true;
+  oldest = 0;
   slots = slot 0 5 ∷ slot 1 8 ∷ [];
   pages = replicate 5 free
       ++ (leaf 0 1 []
@@ -37,6 +39,7 @@ abbrev pub fromElsewhere : Store
 fromElsewhere = record {
   current = 3;
   opened = true;
+  oldest = 0;
   slots = slot 0 5 ∷ slot 1 6 ∷ slot 2 6 ∷ slot 3 8 ∷ slot 4 8 ∷ [];
   pages = replicate 5 free
       ++ (leaf 0 1 []
@@ -76,12 +79,12 @@ visitedPages =
     told 0 2 (8 ∷ 7 ∷ []) ∷ told 0 2 (8 ∷ 9 ∷ []) ∷ told 0 2 (8 ∷ 10 ∷ []) ∷ told 0 1 (5 ∷ []) ∷ told 14 2 []
     ∷ told 5 0 [] ∷ told 6 0 [] ∷ []
 
--- What the two tell of themselves, and two fresh stores, the smallest and one of edition 2: pages, current version, whether an update is
--- open, roots used, edition, free pages.
+-- What the two tell of themselves, two fresh stores, the smallest and one of edition 2, and one that was pruned: pages, current version,
+-- whether an update is open, roots used, edition, free pages, oldest version.
 abbrev pub states : List (List ℕ)
-states = map stateNumbers (stateOf 4 twoLevels ∷ stateOf 4 fromElsewhere ∷ stateOf 4 (fresh 6) ∷ stateOf 8 (fresh 64) ∷ [])
+states = map stateNumbers (stateOf 4 twoLevels ∷ stateOf 4 fromElsewhere ∷ stateOf 4 (fresh 6) ∷ stateOf 8 (fresh 64) ∷ stateOf 8 outside ∷ [])
 
 abbrev pub statesTold : List (List ℕ)
 statesTold =
-    (16 ∷ 1 ∷ 1 ∷ 2 ∷ 1 ∷ 5 ∷ []) ∷ (12 ∷ 3 ∷ 1 ∷ 5 ∷ 1 ∷ 3 ∷ []) ∷ (6 ∷ 0 ∷ 0 ∷ 1 ∷ 1 ∷ 0 ∷ []) ∷ (64 ∷ 0 ∷ 0 ∷ 1 ∷ 2 ∷ 58 ∷ [])
-    ∷ []
+    (16 ∷ 1 ∷ 1 ∷ 2 ∷ 1 ∷ 5 ∷ 0 ∷ []) ∷ (12 ∷ 3 ∷ 1 ∷ 5 ∷ 1 ∷ 3 ∷ 0 ∷ []) ∷ (6 ∷ 0 ∷ 0 ∷ 1 ∷ 1 ∷ 0 ∷ 0 ∷ []) ∷ (64 ∷ 0 ∷ 0 ∷ 1 ∷ 2 ∷ 58 ∷ 0 ∷ [])
+    ∷ (9 ∷ 2 ∷ 1 ∷ 2 ∷ 2 ∷ 0 ∷ 2 ∷ []) ∷ []

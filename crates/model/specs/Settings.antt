@@ -14,17 +14,18 @@ use Rattle.model.specs.Walk.{settings}
 use Rattle.model.specs.Climb.{done, refused}
 use Rattle.model.specs.Differ.{differ}
 use Rattle.model.specs.Return.{goes, comes, Came, gave, gaveUp}
-use Rattle.model.specs.Histories.{Call, begins, commits, abandons, inserts, deletes, returns, callBy}
+use Rattle.model.specs.Histories.{Call, begins, commits, abandons, inserts, deletes, returns, prunes, callBy}
 
--- current version, whether an update is open, and the settings of each version up to the last
+-- current version, whether an update is open, the oldest version, and the settings of each version from there up to the last
 pub record Machine : Type 0 where
   pub current : ℕ
   pub opened : Bool
+  pub oldest : ℕ
   pub shows : ℕ → List Pair
 
 -- beside a fresh store
 abbrev pub start : Machine
-start = record { current = 0; opened = false; shows = λ (v : ℕ). [] }
+start = record { current = 0; opened = false; oldest = 0; shows = λ (v : ℕ). [] }
 
 -- the settings with those of version w replaced
 abbrev pub put : ℕ → List Pair → (ℕ → List Pair) → ℕ → List Pair
@@ -32,18 +33,20 @@ put w us f v = pick (eqb v w) us (f v)
 
 -- the settings of the open version changed
 abbrev pub edited : (List Pair → List Pair) → Machine → Machine
-edited g m = record { current = m .current; opened = m .opened; shows = put (suc (m .current)) (g (m .shows (suc (m .current)))) (m .shows) }
+edited g m = record { current = m .current; opened = m .opened; oldest = m .oldest; shows = put (suc (m .current)) (g (m .shows (suc (m .current)))) (m .shows) }
 
 -- An accepted call. An update begins with the settings of the current version; "At the open version the open update's accepted calls so
 -- far are applied too."
 abbrev pub step : Machine → Call → Machine
-step m begins = record { current = m .current; opened = true; shows = put (suc (m .current)) (m .shows (m .current)) (m .shows) }
-step m commits = record { current = suc (m .current); opened = false; shows = m .shows }
-step m abandons = record { current = m .current; opened = false; shows = m .shows }
+step m begins = record { current = m .current; opened = true; oldest = m .oldest; shows = put (suc (m .current)) (m .shows (m .current)) (m .shows) }
+step m commits = record { current = suc (m .current); opened = false; oldest = m .oldest; shows = m .shows }
+step m abandons = record { current = m .current; opened = false; oldest = m .oldest; shows = m .shows }
 step m (inserts k x) = edited (enterPair (pair k x)) m
 step m (deletes k) = edited (those (λ (y : Pair). not (eqb (y .key) k))) m
 -- 2026-07: "makes the open version's settings equal those of a committed version"
 step m (returns v) = edited (λ (us : List Pair). m .shows v) m
+-- 2026-12: the versions below are no longer shown
+step m (prunes v) = record { current = m .current; opened = m .opened; oldest = v; shows = m .shows }
 
 -- a store and the machine, call by call: a refused call leaves both; 2026-07: a return "that ends in 12 or 13 is itself the abandon"
 pub record Both : Type 0 where
@@ -65,7 +68,7 @@ beginning n = record { store = fresh n; machine = start }
 
 -- "For a sound store lent from elsewhere, the settings its walks show stand for the history so far."
 abbrev pub lent : Store → Both
-lent s = record { store = s; machine = record { current = s .current; opened = s .opened; shows = settings s } }
+lent s = record { store = s; machine = record { current = s .current; opened = s .opened; oldest = s .oldest; shows = settings s } }
 
 -- "a value is any 32 bits"
 abbrev pub fits : Call → Bool
@@ -75,8 +78,10 @@ fits abandons = true
 fits (inserts k x) = ltb x 4294967296
 fits (deletes k) = true
 fits (returns v) = true
+fits (prunes v) = true
 
--- the calls that leave an open update open if they are done: all but commit and abandon, which end it. Another open is refused there.
+-- the calls that leave an open update open if they are done: all but commit and abandon, which end it. Another open is refused there,
+-- and a prune.
 abbrev pub isInside : Call → Bool
 isInside begins = true
 isInside commits = false
@@ -84,6 +89,7 @@ isInside abandons = false
 isInside (inserts k x) = true
 isInside (deletes k) = true
 isInside (returns v) = true
+isInside (prunes v) = true
 
 -- and any call that is refused, as a commit is by 15; not a return that is the abandon
 abbrev pub staysIn : Call → Came → Bool
@@ -118,6 +124,7 @@ counted m t (returns v) =
     let w = suc (m .current) in
     let ds = differ (m .shows w) (m .shows v) in
     record { added = putCount w (length (those comes ds) + t .added w) (t .added); removed = putCount w (length (those goes ds) + t .removed w) (t .removed) }
+counted m t (prunes v) = t
 
 abbrev pub countedBy : Machine → Tally → Call → Came → Tally
 countedBy m t c (gave (done s)) = counted m t c

@@ -1,7 +1,7 @@
 -- "When a store is sound": a test for each rule. `least` is the edition's 4 (Limits).
 -- What rule 1 says of bytes, the zero bits and the fields' places, stands in Clean; this file has what it says of the store that they hold.
 -- Assumes nothing.
-use Prim.Native.Nat.{ℕ, zero, suc, _*_}
+use Prim.Native.Nat.{ℕ, zero, suc, _*_, _-_}
 use mathlib.Core.Bool.{Bool, true, false, _&&_, _||_, not}
 use mathlib.Core.List.{List, [], _∷_, map}
 use lib.Dec.{leb, ltb, eqb}
@@ -48,25 +48,27 @@ zeroed p = eqb (p .start) 0 && eqb (p .end) 0 && isEmpty (p .entries)
 abbrev pub pageFine : ℕ → ℕ → ℕ → Page → Bool
 pageFine least l size p = pick (isFree p) (zeroed p) (pageOk least l size p)
 
--- "The store is 6 to 4,096 pages"; "256 slots"; "Current is at most 1,048,573 while open", else 1,048,574.
+-- "The store is 6 to 4,096 pages"; "256 slots"; "Current is at most 1,048,573 while open", else 1,048,574. The oldest version "by rule 1
+-- is at most the current version" (2026-12); edition 1 has 0.
 -- The header and the directory, pages 0 to 4, stand among the pages as free ones.
 unfoldable pub rule1 : ℕ → Store → Bool
 rule1 least s =
     leb 6 (length (s .pages)) && leb (length (s .pages)) 4096 && leb (length (s .slots)) (64 * least) && leb (last s) 1048574
-    && all (λ (x : Slot). isPage (length (s .pages)) (x .root)) (s .slots)
+    && leb (s .oldest) (pick (leb least 4) 0 (s .current)) && all (λ (x : Slot). isPage (length (s .pages)) (x .root)) (s .slots)
     && all (λ (p : Page). isFree p && zeroed p) (take 5 (s .pages))
     && all (pageFine least (last s) (length (s .pages))) (drop 5 (s .pages))
 
--- ---- 2. "Directory versions begin at 0, rise strictly, and are at most last."
+-- ---- 2. "Directory versions begin at 0, rise strictly, and are at most last." From the oldest version up (2026-12): "the first slot's
+-- version may be at most the oldest"; the others are above it, since prune drops the slots that are not needed. With none, nothing begins.
 
-abbrev pub firstVersion : List Slot → ℕ
-firstVersion [] = 1
-firstVersion (x ∷ xs) = x .version
+abbrev pub firstVersion : ℕ → List Slot → ℕ
+firstVersion old [] = suc old
+firstVersion old (x ∷ xs) = x .version
 
 unfoldable pub rule2 : Store → Bool
 rule2 s =
-    eqb (firstVersion (s .slots)) 0 && inOrder (λ (x y : Slot). ltb (x .version) (y .version)) (s .slots)
-    && all (λ (x : Slot). leb (x .version) (last s)) (s .slots)
+    leb (firstVersion (s .oldest) (s .slots)) (s .oldest) && inOrder (λ (x y : Slot). ltb (x .version) (y .version)) (s .slots)
+    && all (λ (x : Slot). leb (x .version) (last s)) (s .slots) && all (λ (x : Slot). ltb (s .oldest) (x .version)) (drop 1 (s .slots))
 
 -- ---- 3. "An entry's span lies in its page's span; a router's span lies in its child's; the child is one level lower."
 
@@ -76,16 +78,23 @@ inside e p = leb (p .start) (e .start) && leb (e .end) (p .end)
 abbrev pub leadsWell : Store → Page → Entry → Bool
 leadsWell s p e = eqb (p .level) 1 || (inside e (page (s .pages) (e .value)) && eqb (suc (page (s .pages) (e .value) .level)) (p .level))
 
+-- "rule 3 skips routers whose span ended at or before the oldest (their pages may be free or used again)": wholly, and routers alone
+abbrev pub skipped : Store → Page → Entry → Bool
+skipped s p e = not (eqb (p .level) 1) && leb (e .end) (s .oldest)
+
+abbrev pub liesWell : Store → Page → Entry → Bool
+liesWell s p e = skipped s p e || (inside e p && leadsWell s p e)
+
 -- "A directory slot's page isn't free."
 unfoldable pub rule3 : Store → Bool
 rule3 s =
-    pagesPass (λ (p : Page). all (λ (e : Entry). inside e p && leadsWell s p e) (p .entries)) s
+    pagesPass (λ (p : Page). all (liesWell s p) (p .entries)) s
     && all (λ (x : Slot). not (isFree (page (s .pages) (x .root)))) (s .slots)
 
--- ---- 4 to 6: "For each version 0 to last, walk from its root over entries alive then."
+-- ---- 4 to 6: "For each version 0 to last, walk from its root over entries alive then." From the oldest up (2026-12).
 
 abbrev pub versions : Store → List ℕ
-versions s = count 0 (suc (last s))
+versions s = count (s .oldest) (suc (last s) - s .oldest)
 
 abbrev pub atAll : Store → (Seen → Bool) → Bool
 atAll s f = all (λ (v : ℕ). all f (seen s v)) (versions s)
@@ -125,7 +134,7 @@ reachedWell v ns n (p ∷ ps) = same (not (isFree p) && within (p .start) (p .en
 unfoldable pub rule6 : Store → Bool
 rule6 s = all (λ (v : ℕ). reachedWell v (map (λ (x : Seen). x .number) (seen s v)) 5 (drop 5 (s .pages))) (versions s)
 
--- 7. "A page that starts at the open version holds only alive entries that start there." It follows from 1 and 3 (proofs/Given, `seventh`).
+-- 7. "A page that starts at the open version holds only alive entries that start there." Where rule 3 skips nothing it follows from 1 and 3.
 unfoldable pub rule7 : Store → Bool
 rule7 s =
     not (s .opened)

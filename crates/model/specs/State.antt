@@ -10,7 +10,7 @@ use Rattle.model.specs.Store.{Store, freeOnes}
 use Rattle.model.specs.Layout.{bit}
 
 -- The number of its pages, header and directory among them; the current version; whether an update is open; how many slots of the root
--- directory are used; the edition, by its least; how many pages are free.
+-- directory are used; the edition, by its least; how many pages are free; the oldest version (2026-12).
 unfoldable pub stateOf : ℕ → Store → State
 stateOf least s = record {
   number = 0;
@@ -20,12 +20,13 @@ stateOf least s = record {
   roots = length (s .slots);
   edition = editionOf least;
   free = length (freeOnes (s .pages));
+  oldest = s .oldest;
 }
 
 -- refused: "any result not named here is 0"
 abbrev pub untold : ℕ → State
-untold n = record { number = n; pages = 0; current = 0; opened = false; roots = 0; edition = 0; free = 0 }
+untold n = record { number = n; pages = 0; current = 0; opened = false; roots = 0; edition = 0; free = 0; oldest = 0 }
 
 -- what is told, as numbers in their order
 abbrev pub stateNumbers : State → List ℕ
-stateNumbers t = t .pages ∷ t .current ∷ bit (t .opened) ∷ t .roots ∷ t .edition ∷ t .free ∷ []
+stateNumbers t = t .pages ∷ t .current ∷ bit (t .opened) ∷ t .roots ∷ t .edition ∷ t .free ∷ t .oldest ∷ []

@@ -4,7 +4,7 @@ ghost use mathlib.Core.Path.{_≡_};
 ghost use Prim.Native.Nat.{_^_, _<_, _≤_};
 ghost use Rattle.model.specs.Limits.{editionOf, limits};
 ghost use Rattle.model.specs.Store.{lastOf};
-ghost use Rattle.model.specs.Header.{withFlag, withVersion, withRoots};
+ghost use Rattle.model.specs.Header.{withFlag, withVersion, withRoots, withOldest};
 
 // In a leaf a setting, in an index page a router: its low key and the page below.
 pub struct Entry {
@@ -41,12 +41,14 @@ pub struct Slot {
     pub root: u32,
 }
 
-// "The store's header travels as one value": number of pages, current version, whether an update is open, number of roots.
+// "The store's header travels as one value": number of pages, current version, whether an update is open, number of roots,
+// oldest version that is kept.
 pub struct Header {
     pub pages: u32,
     pub current: u32,
     pub opened: bool,
     pub roots: u32,
+    pub oldest: u32,
 }
 
 // What check gives: a number, and with 4 the lowest broken rule.
@@ -55,8 +57,8 @@ pub struct Verdict {
     pub rule: u32,
 }
 
-// What a store tells of itself: number of pages, current version, whether an update is open, slots used, edition, free pages; or the
-// number of a refusal, and then all of them 0.
+// What a store tells of itself: number of pages, current version, whether an update is open, slots used, edition, free pages, oldest
+// version; or the number of a refusal, and then all of them 0.
 pub struct State {
     pub number: u32,
     pub pages: u32,
@@ -65,6 +67,7 @@ pub struct State {
     pub roots: u32,
     pub edition: u32,
     pub free: u32,
+    pub oldest: u32,
 }
 
 // What a lookup answers: the value, that the key is absent, or the number of a refusal.
@@ -105,6 +108,8 @@ pub struct Limits {
     pub counter: usize,
     // bits of the header's number of roots
     pub rooter: usize,
+    // bits of the header's oldest version
+    pub aged: usize,
 }
 
 // The limits of edition 1.
@@ -120,6 +125,7 @@ pub fn edition_one() -> Limits
         slots: 256,
         counter: 5,
         rooter: 9,
+        aged: 0,
     }
 }
 
@@ -136,6 +142,7 @@ pub fn edition_two() -> Limits
         slots: 512,
         counter: 6,
         rooter: 10,
+        aged: 20,
     }
 }
 
@@ -179,6 +186,13 @@ impl Header {
         ensures { λ r. ⌜ r ≡ withRoots self n ⌝ }
     {
         self.roots = n;
+        self
+    }
+
+    pub fn with_oldest(mut self, v: u32) -> Header
+        ensures { λ r. ⌜ r ≡ withOldest self v ⌝ }
+    {
+        self.oldest = v;
         self
     }
 }

@@ -9,10 +9,10 @@ use lib.ListN.{length}
 use borrow.Author.Tests.{ne-eqb}
 use Rattle.model.specs.declared.Pair.{Pair}
 use Rattle.model.specs.Page.{Page}
-use Rattle.model.specs.Store.{page, last}
+use Rattle.model.specs.Store.{page}
 use Rattle.model.specs.Walk.{rootAt, rangeBelow, rangeOf}
 use Rattle.model.specs.Layout.{decode}
-use Rattle.model.specs.Calls.{Rule, rule, firstOf, rangedBy}
+use Rattle.model.specs.Calls.{unreadable, Rule, rule, firstOf, rangedBy}
 use Rattle.model.specs.Near.{fromRoot, rangeRight, early, rangeNear}
 use Rattle.model.specs.Lent.{judgedFirst, Listed, listed, rangeLent}
 use Rattle.near.specs.Early.{chain-on, guarded, numbers, badRange}
@@ -72,10 +72,10 @@ module _ (least : ℕ) (b : List ℕ) (lo hi v : ℕ) (ns : List ℕ) where
   pub range-by : rangeLent least b lo hi v ns ≡ judgedFirst (guarded least b (badRange lo hi) v) kept crossed
   unfolding rangeLent rangeNear guarded crossed answered
   range-by =
-      let rs : List Rule = early least b (rule 5 (badRange lo hi) ∷ rule 6 (ltb (last (decode least b)) v) ∷ []) in
+      let rs : List Rule = early least b (rule 5 (badRange lo hi) ∷ rule 6 (unreadable (decode least b) v) ∷ []) in
       let q : List Rule = rule 4 (not (fromRoot least b v (λ up n. rangeRight least b v up hi lo n))) ∷ [] in
       ap (λ (n : ℕ). listed ns (rangedBy n (length ns) (rangeOf (decode least b) lo hi v)))
-      (chain-on rs q (numbers least b (rule 5 (badRange lo hi) ∷ rule 6 (ltb (last (decode least b)) v) ∷ []) (omega arith, (omega arith, tt))))
+      (chain-on rs q (numbers least b (rule 5 (badRange lo hi) ∷ rule 6 (unreadable (decode least b) v) ∷ []) (omega arith, (omega arith, tt))))
       ∙ at (firstOf rs) (firstOf q)
     where
       at : (n m : ℕ) → listed ns (rangedBy (judgedFirst n (λ j. j) m) (length ns) (rangeOf (decode least b) lo hi v))

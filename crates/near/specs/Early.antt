@@ -6,15 +6,13 @@ use mathlib.Core.Bool.{Bool, true, false, _||_, not}
 use mathlib.Core.Path.{_≡_, refl, ap, sym, _∙_}
 use mathlib.Core.List.{List, [], _∷_, _++_}
 use lib.Dec.{leb, ltb}
-use borrow.Author.Tests.{lt-ltb, le-ltb}
 use Rattle.model.specs.declared.Looked.the-variants.{Refused}
 use Rattle.model.specs.declared.Limits.{Limits}
 use Rattle.model.specs.Limits.{Edition}
-use Rattle.model.specs.Store.{last}
 use Rattle.model.specs.Walk.{keyLimit, lookup}
 use Rattle.model.specs.Layout.{decode, sizeOf}
 use Rattle.model.specs.Judged.{lengthOk, magicOk, editionOk}
-use Rattle.model.specs.Calls.{Rule, rule, firstOf, lookedBy}
+use Rattle.model.specs.Calls.{unreadable, Rule, rule, firstOf, lookedBy}
 use Rattle.model.specs.Near.{frontRight, fromRoot, downRight, early, lookupNear}
 use Rattle.model.specs.Lent.{judgedFirst, lookupLent}
 use Rattle.local.specs.Local.{Sized}
@@ -49,14 +47,14 @@ module _ (least : ℕ) (b : List ℕ) where
 
   -- and 5 and 6
   unfoldable pub guarded : Bool → ℕ → ℕ
-  guarded bad v = firstOf (early least b (rule 5 bad ∷ rule 6 (ltb (last (decode least b)) v) ∷ []))
+  guarded bad v = firstOf (early least b (rule 5 bad ∷ rule 6 (unreadable (decode least b) v) ∷ []))
 
   abbrev pub numbers : (rs : List Rule) → Numbered rs → Numbered (early least b rs)
   numbers rs h = (omega arith, (omega arith, (omega arith, (omega arith, h))))
 
-  pub guard-is : (bad : Bool) (v : ℕ) → guarded bad v ≡ judgedFirst fronted (λ n. n) (firstOf (rule 5 bad ∷ rule 6 (ltb (last (decode least b)) v) ∷ []))
+  pub guard-is : (bad : Bool) (v : ℕ) → guarded bad v ≡ judgedFirst fronted (λ n. n) (firstOf (rule 5 bad ∷ rule 6 (unreadable (decode least b) v) ∷ []))
   unfolding guarded fronted
-  guard-is bad v = chain-on (early least b []) (rule 5 bad ∷ rule 6 (ltb (last (decode least b)) v) ∷ []) (numbers [] tt)
+  guard-is bad v = chain-on (early least b []) (rule 5 bad ∷ rule 6 (unreadable (decode least b) v) ∷ []) (numbers [] tt)
 
   -- ---- the front, test by test
 
@@ -86,33 +84,33 @@ module _ (least : ℕ) (b : List ℕ) where
   -- ---- the guard
 
   pub guard-front : (bad : Bool) (v : ℕ) → (fronted ≡ 0 → ⊥) → fronted ≡ guarded bad v
-  guard-front bad v z = at fronted (firstOf (rule 5 bad ∷ rule 6 (ltb (last (decode least b)) v) ∷ [])) z ∙ sym (guard-is bad v)
+  guard-front bad v z = at fronted (firstOf (rule 5 bad ∷ rule 6 (unreadable (decode least b) v) ∷ [])) z ∙ sym (guard-is bad v)
     where
       at : (n m : ℕ) → (n ≡ 0 → ⊥) → n ≡ judgedFirst n (λ k. k) m
       at zero m z = absurd (z refl)
       at (suc n) m z = refl
 
   module _ (v : ℕ) (z : fronted ≡ 0) where
-    rest : (bad : Bool) → guarded bad v ≡ firstOf (rule 5 bad ∷ rule 6 (ltb (last (decode least b)) v) ∷ [])
+    rest : (bad : Bool) → guarded bad v ≡ firstOf (rule 5 bad ∷ rule 6 (unreadable (decode least b) v) ∷ [])
     rest bad = guard-is bad v ∙ rw z
 
     pub guard-five : (bad : Bool) → bad ≡ true → 5 ≡ guarded bad v
     guard-five bad e = sym (rest bad ∙ rw e)
 
-    pub guard-six : (bad : Bool) → bad ≡ false → last (decode least b) < v → 6 ≡ guarded bad v
-    guard-six bad e h = sym (rest bad ∙ rw (e, lt-ltb (last (decode least b)) v h))
+    pub guard-six : (bad : Bool) → bad ≡ false → unreadable (decode least b) v ≡ true → 6 ≡ guarded bad v
+    guard-six bad e h = sym (rest bad ∙ rw (e, h))
 
-    pub guard-none : (bad : Bool) → bad ≡ false → v ≤ last (decode least b) → 0 ≡ guarded bad v
-    guard-none bad e h = sym (rest bad ∙ rw (e, le-ltb (last (decode least b)) v h))
+    pub guard-none : (bad : Bool) → bad ≡ false → unreadable (decode least b) v ≡ false → 0 ≡ guarded bad v
+    guard-none bad e h = sym (rest bad ∙ rw (e, h))
 
   -- ---- a lookup by its guard
 
   pub lookup-by : (k v : ℕ) → lookupLent least b k v ≡ judgedFirst (guarded (leb keyLimit k) v) (λ n. Refused n) (walked least b v k)
   unfolding lookupLent lookupNear guarded walked
   lookup-by k v =
-      let rs : List Rule = early least b (rule 5 (leb keyLimit k) ∷ rule 6 (ltb (last (decode least b)) v) ∷ []) in
+      let rs : List Rule = early least b (rule 5 (leb keyLimit k) ∷ rule 6 (unreadable (decode least b) v) ∷ []) in
       let q : List Rule = rule 4 (not (fromRoot least b v (λ up n. downRight least b v up k n))) ∷ [] in
-      ap (λ (n : ℕ). lookedBy n (lookup (decode least b) k v)) (chain-on rs q (numbers (rule 5 (leb keyLimit k) ∷ rule 6 (ltb (last (decode least b)) v) ∷ []) (omega arith, (omega arith, tt))))
+      ap (λ (n : ℕ). lookedBy n (lookup (decode least b) k v)) (chain-on rs q (numbers (rule 5 (leb keyLimit k) ∷ rule 6 (unreadable (decode least b) v) ∷ []) (omega arith, (omega arith, tt))))
       ∙ at (firstOf rs) (firstOf q)
     where
       at : (n m : ℕ) → lookedBy (judgedFirst n (λ j. j) m) (lookup (decode least b) k v) ≡ judgedFirst n (λ j. Refused j) (lookedBy m (lookup (decode least b) k v))

@@ -3,7 +3,7 @@
 use Prim.Native.Nat.{ℕ, zero, suc, _+_, _*_, _-_, _/_, _%_, _≤_, _<_}
 use native.Mathlib.Omega.{arith}
 use mathlib.Core.Bool.{Bool, true, false}
-use mathlib.Core.Path.{_≡_, refl, ap, sym, _∙_}
+use mathlib.Core.Path.{_≡_, refl, ap, ap₂, sym, _∙_}
 use mathlib.Core.Logic.{_⊎_, inl, inr, ⊎-elim}
 use mathlib.Core.List.{List, [], _∷_}
 use lib.Dec.{leb, ltb, eqb}
@@ -17,7 +17,7 @@ use Rattle.model.specs.declared.Slot.{Slot}
 use Rattle.model.specs.declared.Header.{Header}
 use Rattle.model.specs.declared.Looked.the-variants.{Refused}
 use Rattle.model.specs.Field.{bitOf, bitAt, field}
-use Rattle.model.specs.Limits.{rootBits}
+use Rattle.model.specs.Limits.{rootBits, oldestBits}
 use Rattle.model.specs.Page.{Page, free, pairsAt}
 use Rattle.model.specs.Store.{page, last, lastOf}
 use Rattle.model.specs.Sound.{rule2}
@@ -25,11 +25,11 @@ use Rattle.model.specs.Walk.{keyLimit, rootAt, around, find}
 use Rattle.model.specs.Layout.{pageOf, decodePage, readSlot, readSlots, readHeader, decode, sizeOf}
 use Rattle.model.specs.Clean.{zeroFrom, cleanFront}
 use Rattle.model.specs.Judged.{lengthOk, magicOk, editionOk}
-use Rattle.model.specs.Calls.{rule, firstOf, lookedAt}
+use Rattle.model.specs.Calls.{rule, firstOf, beyond, unreadable, lookedAt}
 use Rattle.model.specs.Near.{frontRight, pageRight, startsBy}
 use Rattle.model.specs.Lent.{judgedFirst, lookupLent}
 use Rattle.model.proofs.Members.{bool-cases}
-use Rattle.store.specs.Read.{length-pages, page-at, front-free, slots-of}
+use Rattle.store.specs.Read.{length-pages, page-at, front-free, slots-of, current-of, oldest-of}
 use Rattle.local.specs.First.{last-is, clean-roots}
 use Rattle.local.specs.Right.{front-true}
 use Rattle.near.specs.Down.{walked, descended, walk-free, walk-start, down-wrong, down-none, down-on, down-leaf}
@@ -55,9 +55,16 @@ module _ (least : ℕ) (some : 1 ≤ least) (b c : List ℕ) (s : SameFront leas
       at true = omega arith
       at false = omega arith
 
+  old-bits : oldestBits least ≤ 20
+  old-bits = at (leb least 4)
+    where
+      at : (t : Bool) → pick t 0 20 ≤ 20
+      at true = omega arith
+      at false = omega arith
+
   header-same : readHeader least b ≡ readHeader least c
   unfolding readHeader
-  header-same = rw (field-same 40 13 (omega arith), field-same 53 20 (omega arith), field-same 73 1 (omega arith), field-same 74 (rootBits least) (omega (arith, low-bits)))
+  header-same = rw (field-same 40 13 (omega arith), field-same 53 20 (omega arith), field-same 73 1 (omega arith), field-same 74 (rootBits least) (omega (arith, low-bits)), field-same (74 + rootBits least) (oldestBits least) (omega (arith, low-bits, old-bits)))
 
   slots-same : (o n : ℕ) → o + 32 * n ≤ 2560 * least → readSlots b o n ≡ readSlots c o n
   unfolding readSlots readSlot
@@ -73,10 +80,16 @@ module _ (least : ℕ) (some : 1 ≤ least) (b c : List ℕ) (s : SameFront leas
   clean-same : cleanFront least b ≡ cleanFront least c
   unfolding cleanFront
   clean-same =
-      rw (header-same, s .long, field-same (74 + rootBits least) (512 * least - (74 + rootBits least)) (omega (arith, low-bits)), rest-same (readHeader least c .roots))
+      rw (header-same, s .long, field-same (74 + rootBits least + oldestBits least) (512 * least - (74 + rootBits least + oldestBits least)) (omega (arith, low-bits, old-bits)), rest-same (readHeader least c .roots))
 
   last-same : last (decode least b) ≡ last (decode least c)
   last-same = last-is least b ∙ ap (λ (h : Header). lastOf (h .opened) (h .current)) header-same ∙ sym (last-is least c)
+
+  old-same : decode least b .oldest ≡ decode least c .oldest
+  old-same = oldest-of least b ∙ ap (λ (h : Header). h .oldest) header-same ∙ sym (oldest-of least c)
+
+  current-same : decode least b .current ≡ decode least c .current
+  current-same = current-of least b ∙ ap (λ (h : Header). h .current) header-same ∙ sym (current-of least c)
 
   count-same : length (decode least b .pages) ≡ length (decode least c .pages)
   unfolding decode
@@ -97,7 +110,7 @@ module _ (least : ℕ) (some : 1 ≤ least) (b c : List ℕ) (s : SameFront leas
   front-same = at (bool-cases (cleanFront least c))
     where
       at : (cleanFront least c ≡ true) ⊎ (cleanFront least c ≡ false) → frontRight least b ≡ frontRight least c
-      at (inl e) = rw (clean-same, last-same, count-same, directory-same e)
+      at (inl e) = rw (clean-same, last-same, old-same, current-same, count-same, directory-same e)
       at (inr e) = rw (clean-same, e)
 
   magic-same : magicOk b ≡ magicOk c
@@ -115,8 +128,8 @@ module _ (least : ℕ) (some : 1 ≤ least) (b c : List ℕ) (s : SameFront leas
 
   pub guard-same : (bad : Bool) (v : ℕ) → guarded least b bad v ≡ guarded least c bad v
   guard-same bad v =
-      guard-is least b bad v ∙ ap (λ (n : ℕ). judgedFirst n (λ j. j) (firstOf (rule 5 bad ∷ rule 6 (ltb (last (decode least b)) v) ∷ []))) fronted-same
-      ∙ ap (λ (m : ℕ). judgedFirst (fronted least c) (λ j. j) (firstOf (rule 5 bad ∷ rule 6 (ltb m v) ∷ []))) last-same ∙ sym (guard-is least c bad v)
+      guard-is least b bad v ∙ ap (λ (n : ℕ). judgedFirst n (λ j. j) (firstOf (rule 5 bad ∷ rule 6 (unreadable (decode least b) v) ∷ []))) fronted-same
+      ∙ ap₂ (λ (m o : ℕ). judgedFirst (fronted least c) (λ j. j) (firstOf (rule 5 bad ∷ rule 6 (beyond m o v) ∷ []))) last-same old-same ∙ sym (guard-is least c bad v)
 
   -- ---- a page with the same bytes
 

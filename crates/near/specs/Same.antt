@@ -9,7 +9,7 @@ use mathlib.Core.Logic.{inl, inr}
 use mathlib.Core.List.{List, [], _∷_}
 use lib.Dec.{leb, ltb}
 use lib.ListN.{length}
-use borrow.Author.Tests.{le-leb, eq-eqb, leb-false, ltb-false}
+use borrow.Author.Tests.{le-leb, eq-eqb, leb-false}
 use Rattle.model.specs.Basic.{all, those, keep}
 use Rattle.model.specs.declared.Pair.{Pair}
 use Rattle.model.specs.declared.Limits.{Limits}
@@ -22,12 +22,13 @@ use Rattle.model.specs.Sound.{rule1, rule2}
 use Rattle.model.specs.Layout.{pageOf, decode, sizeOf}
 use Rattle.model.specs.Clean.{clean, cleanFront, cleanPages, cleanPage}
 use Rattle.model.specs.Judged.{isSound, lengthOk, magicOk, editionOk}
-use Rattle.model.specs.Calls.{Rule, rule, firstOf, get, range}
+use Rattle.model.specs.Calls.{Rule, rule, firstOf, unreadable, get, range}
 use Rattle.model.specs.Near.{frontRight, pageRight, shown, downRight, rangeRight, fromRoot, early, lookupNear, rangeNear}
 use Rattle.model.specs.Lent.{listed, lookupLent, rangeLent}
 use Rattle.model.proofs.Members.{In}
 use Rattle.model.proofs.Lists.{both-true}
-use Rattle.model.proofs.Given.{Sound}
+use Rattle.model.proofs.Given as given
+use Rattle.model.proofs.Given.{Sound, readable-of}
 use Rattle.model.proofs.Fits.{level-used}
 use Rattle.store.specs.Tested.{pages-clean}
 use Rattle.store.specs.Sure.{sure, taken, whole}
@@ -74,7 +75,7 @@ module _ {l : Limits} (d : Edition l) (b : List ℕ) (h : isSound (l .least) b �
 
   front-right : frontRight (l .least) b ≡ true
   unfolding frontRight rule2
-  front-right = rw (clean-parts .0, le-leb (last s) 1048574 (good .last-low), good .roots, eq-eqb _ 0 (good .begins), good .rises, good .upto)
+  front-right = rw (clean-parts .0, le-leb (last s) 1048574 (good .last-low), le-leb _ _ (good .old-low), good .roots, le-leb _ _ (good .begins), good .rises, good .upto, good .newer)
 
   -- a used page is right at its own level
   page-right : (n up : ℕ) → page (s .pages) n .level ≡ suc up → pageRight (l .least) b (suc up) n ≡ true
@@ -110,7 +111,7 @@ module _ {l : Limits} (d : Edition l) (b : List ℕ) (h : isSound (l .least) b �
         followed-right (x ∷ xs) e p q = follow-all f k hi none x xs (λ y i. p y (inr i)) q
 
     -- the root of a version that can be read
-    module _ (u : v ≤ last s) where
+    module _ (u : given.Readable s v) where
       readable : Readable l b v
       readable = record { edition = d; sound = h; version = u }
 
@@ -153,10 +154,10 @@ module _ {l : Limits} (d : Edition l) (b : List ℕ) (h : isSound (l .least) b �
   unfolding lookupLent lookupNear get
   lookup-same k v =
       let x = fromRoot (l .least) b v (λ up n. downRight (l .least) b v up k n) in
-      rw (none-early _, chain-same (leb keyLimit k) (ltb (last (decode (l .least) b)) v) x (λ p q. lookup-right d b h v (ltb-false _ _ q) k (leb-false _ _ p)))
+      rw (none-early _, chain-same (leb keyLimit k) (unreadable (decode (l .least) b) v) x (λ p q. lookup-right d b h v (readable-of (decode (l .least) b) v q) k (leb-false _ _ p)))
 
   pub range-same : (lo hi v : ℕ) (ns : List ℕ) → rangeLent (l .least) b lo hi v ns ≡ listed ns (range (decode (l .least) b) lo hi v (length ns))
   unfolding rangeLent rangeNear range
   range-same lo hi v ns =
       let x = fromRoot (l .least) b v (λ up n. rangeRight (l .least) b v up hi lo n) in
-      rw (none-early _, chain-same (leb keyLimit lo || leb keyLimit hi || ltb hi lo) (ltb (last (decode (l .least) b)) v) x (λ p q. range-all-right d b h v (ltb-false _ _ q) lo hi (low-in lo hi p)))
+      rw (none-early _, chain-same (leb keyLimit lo || leb keyLimit hi || ltb hi lo) (unreadable (decode (l .least) b) v) x (λ p q. range-all-right d b h v (readable-of (decode (l .least) b) v q) lo hi (low-in lo hi p)))

@@ -1,6 +1,10 @@
 // The guard of a reading: 1, 2, 3, 4 by the header and the slots, 5 and 6.
+use model::Header;
 use model::Limits;
 ghost use mathlib.Core.Path.{_≡_};
+ghost use Prim.Native.Nat.{_^_, _<_};
+ghost use Rattle.model.specs.Store.{lastOf};
+ghost use Rattle.model.specs.Calls.{beyond};
 ghost use Rattle.model.specs.Limits.{Edition};
 ghost use Rattle.near.specs.Early.{fronted, guarded, badRange};
 
@@ -28,6 +32,18 @@ fn front(s: &[u8], l: Limits) -> u32
     0
 }
 
+// 6: "version above last", or below the oldest.
+pub fn unreadable(h: Header, v: u32) -> bool
+    requires { ⌜ h .current < 2 ^ 20 ⌝ }
+    ensures { λ r. ⌜ r ≡ beyond (lastOf (h .opened) (h .current)) (h .oldest) v ⌝ }
+{
+    let last = h.last();
+    if last < v {
+        return true;
+    }
+    v < h.oldest
+}
+
 // "With 5 or 6 only the header and the slots are judged first."
 pub fn guard(s: &[u8], l: Limits, bad: bool, v: u32) -> u32
     requires { ⌜ Edition l ⌝ }
@@ -41,7 +57,7 @@ pub fn guard(s: &[u8], l: Limits, bad: bool, v: u32) -> u32
         return 5;
     }
     let h = store::header(s, l);
-    if h.last() < v {
+    if unreadable(h, v) {
         return 6;
     }
     0

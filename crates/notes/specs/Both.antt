@@ -1,6 +1,5 @@
 -- Rules 4 and 5 together, over the versions of a stretch and by the slots. Assumes nothing.
 use Prim.Native.Nat.{ℕ, _-_, _≤_, _<_}
-use native.Mathlib.Omega.{arith}
 use mathlib.Core.Bool.{Bool, true, false, _&&_}
 use mathlib.Core.Path.{_≡_, refl, ap, ap₂, sym, _∙_}
 use mathlib.Core.List.{List}
@@ -71,11 +70,10 @@ module _ (least : ℕ) (s : Store) where
   unfolding bothAt
   both-done v end l = ap₂ _&&_ (run-ends (keysAt least s) v end l) (run-ends (fullAt least s) v end l)
 
-  pub both-rules : (end : ℕ) → count 0 end ≡ versions s → bothAt 0 end ≡ (rule4 s && rule5 least s)
+  pub both-rules : (old end : ℕ) → count old (end - old) ≡ versions s → bothAt old end ≡ (rule4 s && rule5 least s)
   unfolding bothAt
-  both-rules end e =
-      let z : end - 0 ≡ end = omega arith in
-      rw (z, e) (at (all (keysAt least s) (versions s)) refl) ∙ ap (λ (b : Bool). b && rule5 least s) (sym (four-by least s))
+  both-rules old end e =
+      rw e (at (all (keysAt least s) (versions s)) refl) ∙ ap (λ (b : Bool). b && rule5 least s) (sym (four-by least s))
     where
       at : (b : Bool) → all (keysAt least s) (versions s) ≡ b → (b && all (fullAt least s) (versions s)) ≡ (b && rule5 least s)
       at true k = sym (five-by least s k)

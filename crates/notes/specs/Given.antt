@@ -9,7 +9,7 @@ use Rattle.model.specs.Sound.{rule2, rule3}
 use Rattle.model.specs.Layout.{readHeader, decode}
 use Rattle.local.specs.Local.{Held, IsPage, slotAt}
 use Rattle.local.specs.Linked.{child-lower, root-used}
-use Rattle.local.specs.Second.{some-root, root-zero}
+use Rattle.local.specs.Second.{some-root, root-first}
 use Rattle.notes.specs.Ready.{Ready}
 
 module _ (least : ℕ) (s : List ℕ) (h : Header) (d : Held least s h) (two : rule2 (decode least s) ≡ true) (three : rule3 (decode least s) ≡ true) where
@@ -30,7 +30,8 @@ module _ (least : ℕ) (s : List ℕ) (h : Header) (d : Held least s h) (two : r
         };
         roots = rw roots-are (d .ruled .roots);
         some = rw roots-are (some-root least s two);
-        first = root-zero least s two;
+        first = omega (arith, root-first least s two, ap (λ (x : Header). x .oldest) (d .header));
+        old = d .old;
         rooted = λ i lt.
             let j : i < readHeader least s .roots = rw roots-are at lt in
             let g : IsPage least s (slotAt least s i .root) = d .ruled .root i j in

@@ -7,7 +7,7 @@ ghost use mathlib.Core.Path.{_≡_};
 ghost use mathlib.Core.Bool.{_&&_};
 ghost use Prim.Native.Nat.{_+_, _≤_};
 ghost use Rattle.model.specs.Limits.{Edition};
-ghost use Rattle.model.specs.Layout.{decode};
+ghost use Rattle.model.specs.Layout.{readHeader, decode};
 ghost use Rattle.model.specs.Sound.{rule4, rule5};
 ghost use Rattle.local.specs.Local.{IsPage, levelAt};
 ghost use Rattle.notes.specs.Linked.{Linked};
@@ -28,7 +28,7 @@ fn both_by(l: Limits, up: usize, x: Note) -> bool
 
 // The versions from a up to, not including, c, which have one root.
 fn both_on(notes: &mut [u32], s: &[u8], l: Limits, root: usize, up: usize, a: u32, c: u32) -> bool
-    requires { ⌜ Edition l × Linked (l .least) (now s) × IsPage (l .least) (now s) root × (levelAt (l .least) (now s) root ≡ up + 1) × (a ≤ c) × (c ≤ 1048575) × Kept (l .least) (decode (l .least) (now s) .pages) a (now notes) ⌝ }
+    requires { ⌜ Edition l × Linked (l .least) (now s) × IsPage (l .least) (now s) root × (levelAt (l .least) (now s) root ≡ up + 1) × (a ≤ c) × (c ≤ 1048575) × Kept (l .least) (decode (l .least) (now s) .pages) a (now notes) × (readHeader (l .least) (now s) .oldest ≤ a) ⌝ }
     ensures { λ r. ⌜ (r ≡ bothOn (l .least) up (decode (l .least) (now (s .entry)) .pages) root a c) × Kept (l .least) (decode (l .least) (now (s .entry)) .pages) c (now (notes .exit)) ⌝ }
 {
     let mut v = a;
@@ -43,11 +43,11 @@ fn both_on(notes: &mut [u32], s: &[u8], l: Limits, root: usize, up: usize, a: u3
 }
 
 fn both_over(notes: &mut [u32], s: &[u8], l: Limits, h: Header) -> bool
-    requires { ⌜ Edition l × Ready (l .least) (now s) h × Kept (l .least) (decode (l .least) (now s) .pages) 0 (now notes) ⌝ }
+    requires { ⌜ Edition l × Ready (l .least) (now s) h × Kept (l .least) (decode (l .least) (now s) .pages) (h .oldest) (now notes) ⌝ }
     ensures { λ r. ⌜ r ≡ (rule4 (decode (l .least) (now (s .entry))) && rule5 (l .least) (decode (l .least) (now (s .entry)))) ⌝ }
 {
     let end = h.last() + 1;
-    let mut v = 0;
+    let mut v = h.oldest;
     while v < end {
         let c = crate::slots::slot_change(s, l, h, v, end);
         let root = crate::slots::root_at(s, l, h, v);

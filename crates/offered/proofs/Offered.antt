@@ -34,6 +34,9 @@ use Rattle.host.proofs.rcst_abandon.Met as rcst-abandon-met
 use Rattle.host.proofs.rcst_return as rcst-return
 use Rattle.host.proofs.rcst_return.Symbol as rcst-return-code
 use Rattle.host.proofs.rcst_return.Met as rcst-return-met
+use Rattle.host.proofs.rcst_prune as rcst-prune
+use Rattle.host.proofs.rcst_prune.Symbol as rcst-prune-code
+use Rattle.host.proofs.rcst_prune.Met as rcst-prune-met
 use Rattle.host.proofs.rcst_lookup as rcst-lookup
 use Rattle.host.proofs.rcst_lookup.Symbol as rcst-lookup-code
 use Rattle.host.proofs.rcst_lookup.Met as rcst-lookup-met
@@ -60,7 +63,7 @@ use Rattle.promises.specs.Demand1.{TurnedAway}
 use Rattle.promises.specs.Converts.{Converted, Emptied, Lacks}
 use Rattle.promises.proofs.Promises as promises
 use Rattle.offered.specs.Promised.{Promised, gave, Conversion}
-use Rattle.offered.specs.Offered.{Fresh, FreshSecond, Check, Open, Insert, Delete, Commit, Abandon, Return, Lookup, Range, Visits, Difference, Life, State, Convert, AllOffered}
+use Rattle.offered.specs.Offered.{Fresh, FreshSecond, Check, Open, Insert, Delete, Commit, Abandon, Return, Prune, Lookup, Range, Visits, Difference, Life, Convert, AllOffered, State}
 use Rattle.offered.proofs.Passing.{by-one, by-two, by-three}
 
 -- what meets a call's contract has all that is promised of the call
@@ -113,6 +116,7 @@ all-offered = record {
   commit = by-one rcst-commit.ended rcst-commit-code.routine Commit _ rcst-commit-met.met (λ κs a r e x ns. promised _ _ ns _ (ap (ofOutcome ns) x));
   abandon = by-one rcst-abandon.ended rcst-abandon-code.routine Abandon _ rcst-abandon-met.met (λ κs a r e x ns. promised _ _ ns _ (ap (ofOutcome ns) x));
   return = by-one rcst-return.ended rcst-return-code.routine Return _ rcst-return-met.met (λ κs a r e x ns. promised _ _ ns _ (ap (ofOutcome ns) x));
+  prune = by-one rcst-prune.ended rcst-prune-code.routine Prune _ rcst-prune-met.met (λ κs a r e x ns. promised _ _ ns _ (ap (ofOutcome ns) x));
   lookup = by-three rcst-lookup.ended rcst-lookup-code.routine Lookup _ _ _ rcst-lookup-met.met (λ κs a r e x y z ns. promised _ _ ns _ (two-told _ ns x y z));
   range = by-three rcst-range.ended rcst-range-code.routine Range _ _ _ rcst-range-met.met (λ κs a r e x y z. promised _ _ _ _ (list-told _ x y z));
   visits = by-three rcst-visits.ended rcst-visits-code.routine Visits _ _ _ rcst-visits-met.met (λ κs a r e x y z. promised _ _ _ _ (list-told _ x y z));

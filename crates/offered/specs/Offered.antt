@@ -4,7 +4,7 @@
 use Prim.Native.Nat.{ℕ}
 use mathlib.Core.List.{List, [], _∷_}
 use denote.Ref.{now}
-use Rattle.model.specs.Ended.{toFresh, toFreshSecond, toCheck, toOpen, toCommit, toAbandon, toInsert, toDelete, toReturn, toLookup, toRange, toVisits, toDifference, toLife, toState}
+use Rattle.model.specs.Ended.{toFresh, toFreshSecond, toCheck, toOpen, toCommit, toAbandon, toInsert, toDelete, toReturn, toPrune, toLookup, toRange, toVisits, toDifference, toLife, toState}
 use Rattle.host.proofs.rcst_fresh as rcst-fresh
 use Rattle.host.proofs.rcst_fresh.Symbol as rcst-fresh-code
 use Rattle.host.proofs.rcst_fresh_second as rcst-fresh-second
@@ -23,6 +23,8 @@ use Rattle.host.proofs.rcst_abandon as rcst-abandon
 use Rattle.host.proofs.rcst_abandon.Symbol as rcst-abandon-code
 use Rattle.host.proofs.rcst_return as rcst-return
 use Rattle.host.proofs.rcst_return.Symbol as rcst-return-code
+use Rattle.host.proofs.rcst_prune as rcst-prune
+use Rattle.host.proofs.rcst_prune.Symbol as rcst-prune-code
 use Rattle.host.proofs.rcst_lookup as rcst-lookup
 use Rattle.host.proofs.rcst_lookup.Symbol as rcst-lookup-code
 use Rattle.host.proofs.rcst_range as rcst-range
@@ -67,6 +69,9 @@ Abandon κs a r e = (ns : List ℕ) → Promised toAbandon (now (a .0)) ns (gave
 abbrev pub Return : Says rcst-return.ended
 Return κs a r e = (ns : List ℕ) → Promised (toReturn (a .1 .0)) (now (a .0)) ns (gave r [] (now (e .0)) ns)
 
+abbrev pub Prune : Says rcst-prune.ended
+Prune κs a r e = (ns : List ℕ) → Promised (toPrune (a .1 .0)) (now (a .0)) ns (gave r [] (now (e .0)) ns)
+
 abbrev pub Lookup : Says rcst-lookup.ended
 Lookup κs a r e = (ns : List ℕ) → Promised (toLookup (a .1 .0) (a .1 .1 .0)) (now (a .0)) ns (gave r (now (e .1 .1 .1 .0) ∷ now (e .1 .1 .1 .1 .0) ∷ []) (now (a .0)) ns)
 
@@ -99,6 +104,7 @@ pub record AllOffered (M : Type 1) : Type 2 where
   pub commit : Does rcst-commit.ended rcst-commit-code.routine Commit M
   pub abandon : Does rcst-abandon.ended rcst-abandon-code.routine Abandon M
   pub return : Does rcst-return.ended rcst-return-code.routine Return M
+  pub prune : Does rcst-prune.ended rcst-prune-code.routine Prune M
   pub lookup : Does rcst-lookup.ended rcst-lookup-code.routine Lookup M
   pub range : Does rcst-range.ended rcst-range-code.routine Range M
   pub visits : Does rcst-visits.ended rcst-visits-code.routine Visits M

@@ -6,6 +6,7 @@ use mathlib.Core.Path.{_≡_}
 use mathlib.Core.Logic.{_≢_}
 use mathlib.Core.List.{List}
 use Rattle.model.specs.Ended.{Asked, Ended, Meets, Untouched, Excepted, Named, Zeros}
+use Rattle.model.specs.Editions.{leastOf}
 use Rattle.model.specs.Lent.{leaving}
 use Rattle.model.specs.Convert.{convertLent}
 use Rattle.promises.specs.Accepts.{Accepts}
@@ -21,7 +22,7 @@ pub record Promised (c : Asked) (b ns : List ℕ) (e : Ended) : Type 0 where
   pub refused : e .number ≢ 0 → (Excepted c (e .number) → ⊥) → Untouched b ns e
   pub blank : e .number ≢ 0 → (Named c (e .number) → ⊥) → Zeros (e .results)
   -- "judges the store itself before it trusts it"
-  pub untrusted : judgesAll c ≡ true → (Accepts b → ⊥) → TurnedAway b ns e
+  pub untrusted : judgesAll (leastOf b) c ≡ true → (Accepts b → ⊥) → TurnedAway b ns e
   -- a sound store stays sound
   pub stays : Accepts b → fitting (kindOf c) ≡ true → Accepts (e .store)
 

@@ -7,7 +7,7 @@ use lib.Dec.{leb}
 use borrow.Author.Tests.{leb-true}
 use Rattle.model.specs.Basic.{pick}
 use Rattle.model.specs.declared.Limits.{Limits}
-use Rattle.model.specs.Limits.{countBits, liveBits, liveShown, rootBits, limits, Edition}
+use Rattle.model.specs.Limits.{countBits, rootBits, oldestBits, limits, Edition, liveBits, liveShown}
 
 -- ---- the widths
 
@@ -75,6 +75,18 @@ root-bits least h = at (leb least 4) (leb-true least 4)
     at true f = let g : least ≤ 4 = f refl in record { nine = omega arith; ten = omega arith; fits = omega arith }
     at false f = record { nine = omega arith; ten = omega arith; fits = omega arith }
 
+-- a width of 0 or 20 bits
+pub record Aged (w : ℕ) : Type 0 where
+  pub twenty : w ≤ 20
+  pub some : 0 < 2 ^ w
+
+pub oldest-bits : (least : ℕ) → Aged (oldestBits least)
+oldest-bits least = at (leb least 4)
+  where
+    at : (b : Bool) → Aged (pick b 0 20)
+    at true = record { twenty = omega arith; some = omega arith }
+    at false = record { twenty = omega arith; some = omega arith }
+
 -- ---- the fields
 
 module _ {l : Limits} (d : Edition l) where
@@ -104,6 +116,12 @@ module _ {l : Limits} (d : Edition l) where
 
   pub rooter-roots : Rooted (l .least) (l .rooter)
   rooter-roots = rw rooter-is (root-bits (l .least) (d .eight))
+
+  pub aged-is : l .aged ≡ oldestBits (l .least)
+  aged-is = ap (λ (x : Limits). x .aged) (d .all)
+
+  pub aged-few : Aged (l .aged)
+  aged-few = rw aged-is (oldest-bits (l .least))
 
 -- the limits of a number
 pub edition-of : {l : Limits} (least : ℕ) → l ≡ limits least → 4 ≤ least → least ≤ 8 → Edition l

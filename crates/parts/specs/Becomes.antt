@@ -87,6 +87,7 @@ module _ {l : Limits} {b : List ℕ} (k : Kept l b) {n : ℕ} (i : Inside l b n)
       most = omega (arith, length-set ps n q, k .holds .most);
       front = take-set ps 5 n q (i .low) ∙ k .holds .front;
       current = k .holds .current;
+      oldest = k .holds .oldest;
       few = k .holds .few;
       slots = k .holds .slots;
       pages = all-valid;

@@ -2,7 +2,7 @@
 -- Assumes nothing.
 use Prim.Native.Nat.{ℕ, zero, suc, _+_, _*_, _^_, _≤_, _<_}
 use native.Mathlib.Omega.{arith}
-use mathlib.Core.Bool.{Bool, true, false, _&&_, not}
+use mathlib.Core.Bool.{Bool, true, false, _&&_, _||_, not}
 use mathlib.Core.Option.{Option, none, some}
 use mathlib.Core.Path.{_≡_, refl, ap, ap₂, sym, _∙_, subst}
 use mathlib.Core.List.{List, [], _∷_, _++_}
@@ -16,19 +16,19 @@ use Rattle.model.specs.Entry.{alive, born, pair}
 use Rattle.model.specs.Layout.{bit}
 use Rattle.model.specs.Store.{lastOf}
 use Rattle.model.specs.Walk.{keyLimit}
-use Rattle.model.specs.Calls.{isSome, rule, firstOf, benchLimit, insertTests, deleteTests, restoredEntries}
+use Rattle.model.specs.Calls.{isSome, rule, firstOf, beyond, benchLimit, insertTests, deleteTests, pruneTests, restoredEntries}
 use Rattle.model.specs.Return.{comes, returnTests}
 use Rattle.plain.specs.declared.State.{State}
 use Rattle.plain.specs.declared.Left.{Left}
 use Rattle.plain.specs.declared.items.Found.{Found}
-use Rattle.plain.specs.Plain.{Plain, Given, next, keys, valueAt, differs, unless, holding, setKey, endKey, backTo, begin, insert, delete, commit, abandon, return}
+use Rattle.plain.specs.Plain.{Plain, Given, next, keys, valueAt, differs, unless, standing, holding, setKey, endKey, backTo, keptFrom, pruned, begin, insert, delete, commit, abandon, return, prune}
 use Rattle.plain.specs.Items.{Lent, Held, foundOf, from, plainOf}
 use Rattle.plain.specs.Laid.{from-length}
-use Rattle.plain.specs.Sweep.{swept, swept-ended, swept-undone, swept-few}
+use Rattle.plain.specs.Sweep.{fate, outliving, swept-ended, swept-undone, swept-outliving, swept-few}
 use Rattle.plain.specs.Calls.{givenBy, Room, Opens}
 use Rattle.plain.specs.Scan.{told, saying, sameFound}
 use Rattle.plain.specs.Tell.{deltaBy, kindBy, saying-step}
-use Rattle.plain.specs.Guard.{stateOf, stateNumbers, areVersions, isState, longest, isLent, readPlain, leftLent, refusing, guarded, lacks, fitted, ownInserts, comesBy}
+use Rattle.plain.specs.Guard.{stateOf, stateNumbers, areVersions, isEdition, isState, longest, isLent, readPlain, leftLent, refusing, guarded, lacks, fitted, ownInserts, comesBy}
 use Rattle.plain.proofs.Backs.{those-append, back-few}
 
 -- ---- the keys that come
@@ -67,6 +67,22 @@ versions-late c o h = at (leb o 1)
     at true = lt-leb (c + o) 1048574 (omega arith)
     at false = refl
 
+module _ (ms : List ℕ) where
+  abbrev versions : Bool
+  versions = areVersions (getD ms 0 0) (getD ms 1 0)
+
+  abbrev old-edition : Bool → Bool
+  old-edition b = b && isEdition (getD ms 4 0)
+
+  pub state-none : versions ≡ false → isState ms ≡ false
+  state-none e = ap (λ (b : Bool). b && old-edition (leb (getD ms 3 0) (getD ms 0 0))) e
+
+  pub state-old : versions ≡ true → getD ms 0 0 < getD ms 3 0 → isState ms ≡ false
+  state-old e h = ap₂ (λ (b c : Bool). b && old-edition c) e (lt-leb (getD ms 3 0) (getD ms 0 0) h)
+
+  pub state-by : versions ≡ true → getD ms 3 0 ≤ getD ms 0 0 → isState ms ≡ isEdition (getD ms 4 0)
+  state-by e h = ap₂ (λ (b c : Bool). b && old-edition c) e (le-leb (getD ms 3 0) (getD ms 0 0) h)
+
 -- a list that is too long, or holds fewer than the items
 pub lent-long : (ns ms : List ℕ) → longest < length ns → isLent ns ms ≡ false
 lent-long ns ms h = at (isState ms)
@@ -97,7 +113,8 @@ module _ (ns ms : List ℕ) (e : isLent ns ms ≡ true) where
   pub lent-version : getD ms 0 0 + getD ms 1 0 ≤ 1048574
   lent-version =
       let f = both (isState ms) (leb (length ns) longest && leb (4 * getD ms 2 0) (length ns)) e in
-      leb-true (getD ms 0 0 + getD ms 1 0) 1048574 (both (leb (getD ms 1 0) 1) (leb (getD ms 0 0 + getD ms 1 0) 1048574) (f .0) .1)
+      let g = both (versions ms) (old-edition ms (leb (getD ms 3 0) (getD ms 0 0))) (f .0) in
+      leb-true (getD ms 0 0 + getD ms 1 0) 1048574 (both (leb (getD ms 1 0) 1) (leb (getD ms 0 0 + getD ms 1 0) 1048574) (g .0) .1)
 
   pub held : Held (stateOf ms) ns
   held = record {
@@ -112,7 +129,7 @@ bit-back true = refl
 bit-back false = refl
 
 state-back : (s : State) → stateOf (stateNumbers s) ≡ s
-state-back s = ap {B = State} (λ (b : Bool). record { current = s .current; opened = b; count = s .count }) (bit-back (s .opened))
+state-back s = ap {B = State} (λ (b : Bool). record { current = s .current; opened = b; count = s .count; oldest = s .oldest; edition = s .edition }) (bit-back (s .opened))
 
 module _ (r : Left) (n : ℕ) (ns ms : List ℕ) (e : n ≡ r .number) (f : ms ≡ stateNumbers (r .state)) where
   pub kept-given : leftLent n ns ms ≡ givenBy r ns
@@ -159,25 +176,32 @@ module _ (ns : List ℕ) (m : ℕ) (p : Plain) (g : Given) where
 module _ (p : Plain) where
   pub begin-few : length (begin p .plain .items) ≤ length (p .items)
   unfolding begin
-  begin-few = unless-few (firstOf (rule 8 (p .opened) ∷ rule 9 (leb 1048574 (p .current)) ∷ [])) p (record { current = p .current; opened = true; items = p .items }) (omega arith)
+  begin-few = unless-few (firstOf (rule 8 (p .opened) ∷ rule 9 (leb 1048574 (p .current)) ∷ [])) p (standing p (p .current) true (p .items)) (omega arith)
 
   pub delete-few : (k : ℕ) → length (delete p k .plain .items) ≤ length (p .items)
   unfolding delete
   delete-few k =
       let es = p .items in
       let few = ap (λ (xs : List Entry). length xs) (swept-ended (next p) k es) in
-      unless-few (firstOf (deleteTests k (p .opened) (isSome (valueAt k (next p) es)))) p (holding p (endKey (next p) k es)) (omega (arith, few, swept-few (next p) false k es))
+      unless-few (firstOf (deleteTests k (p .opened) (isSome (valueAt k (next p) es)))) p (holding p (endKey (next p) k es)) (omega (arith, few, swept-few (fate (next p) false k) es))
 
   pub commit-few : length (commit p .plain .items) ≤ length (p .items)
   unfolding commit
-  commit-few = unless-few (firstOf (rule 7 (not (p .opened)) ∷ rule 15 (isEmpty (differs (p .current) (next p) (p .items))) ∷ [])) p (record { current = next p; opened = false; items = p .items }) (omega arith)
+  commit-few = unless-few (firstOf (rule 7 (not (p .opened)) ∷ rule 15 (isEmpty (differs (p .current) (next p) (p .items))) ∷ [])) p (standing p (next p) false (p .items)) (omega arith)
 
   pub abandon-few : length (abandon p .plain .items) ≤ length (p .items)
   unfolding abandon
   abandon-few =
       let es = p .items in
       let few = ap (λ (xs : List Entry). length xs) (swept-undone (next p) 0 es) in
-      unless-few (firstOf (rule 7 (not (p .opened)) ∷ [])) p (record { current = p .current; opened = false; items = restoredEntries (next p) es }) (omega (arith, few, swept-few (next p) true 0 es))
+      unless-few (firstOf (rule 7 (not (p .opened)) ∷ [])) p (standing p (p .current) false (restoredEntries (next p) es)) (omega (arith, few, swept-few (fate (next p) true 0) es))
+
+  pub prune-few : (v : ℕ) → length (prune p v .plain .items) ≤ length (p .items)
+  unfolding prune
+  prune-few v =
+      let es = p .items in
+      let few = ap (λ (xs : List Entry). length xs) (swept-outliving v es) in
+      unless-few (firstOf (rule 3 (eqb (p .edition) 1) ∷ pruneTests (p .oldest) (p .current) (p .opened) v)) p (pruned p v) (omega (arith, few, swept-few (outliving v) es))
 
 -- ---- the tests of an insert and of a return, one after another
 
@@ -201,21 +225,21 @@ module _ (ns : List ℕ) (m k : ℕ) (opened : Bool) (o : Option ℕ) where
     pub lacks-room : opened ≡ true → o ≡ none → ltb (length ns) (4 * m) ≡ insertLacks
     lacks-room e f = sym (ap₂ {C = Bool} (λ (a b : Bool). lacking a b (isSome o)) (lt-leb benchLimit k h) e ∙ ap (λ (z : Option ℕ). lacking false true (isSome z)) f)
 
-module _ (ns : List ℕ) (m c : ℕ) (opened : Bool) (v : ℕ) where
+module _ (ns : List ℕ) (m old c : ℕ) (opened : Bool) (v : ℕ) where
   abbrev lacking-two : Bool → Bool → Bool
   lacking-two a b = lacks ns m (firstOf (rule 6 a ∷ rule 7 (not b) ∷ []))
 
   abbrev returnLacks : Bool
-  returnLacks = lacks ns m (firstOf (returnTests c opened v))
+  returnLacks = lacks ns m (firstOf (returnTests old c opened v))
 
-  pub return-lacks-six : c < v → false ≡ returnLacks
-  return-lacks-six h = sym (ap (λ (a : Bool). lacking-two a opened) (lt-ltb c v h))
+  pub return-lacks-six : beyond c old v ≡ true → false ≡ returnLacks
+  return-lacks-six h = sym (ap (λ (a : Bool). lacking-two a opened) h)
 
-  pub return-lacks-seven : v ≤ c → opened ≡ false → false ≡ returnLacks
-  return-lacks-seven h e = sym (ap₂ {C = Bool} lacking-two (le-ltb c v h) e)
+  pub return-lacks-seven : beyond c old v ≡ false → opened ≡ false → false ≡ returnLacks
+  return-lacks-seven h e = sym (ap₂ {C = Bool} lacking-two h e)
 
-  pub return-lacks-room : v ≤ c → opened ≡ true → ltb (length ns) (4 * m) ≡ returnLacks
-  return-lacks-room h e = sym (ap₂ {C = Bool} lacking-two (le-ltb c v h) e)
+  pub return-lacks-room : beyond c old v ≡ false → opened ≡ true → ltb (length ns) (4 * m) ≡ returnLacks
+  return-lacks-room h e = sym (ap₂ {C = Bool} lacking-two h e)
 
 module _ (p : Plain) (k x : ℕ) where
   abbrev inserting : ℕ
@@ -233,19 +257,20 @@ module _ (p : Plain) (k x : ℕ) where
 
 module _ (p : Plain) (v : ℕ) where
   abbrev returning : ℕ
-  returning = firstOf (returnTests (p .current) (p .opened) v)
+  returning = firstOf (returnTests (p .oldest) (p .current) (p .opened) v)
 
   pub return-number : return p v .number ≡ returning
   unfolding return
   return-number = unless-number returning p (holding p (backTo (next p) v (p .items)))
 
   may-return : returning ≡ 0 → (v ≤ p .current) × (p .opened ≡ true)
-  may-return = at (ltb (p .current) v) refl (p .opened) refl
+  may-return = at (ltb (p .current) v) refl (ltb v (p .oldest)) (p .opened) refl
     where
-      at : (a : Bool) → ltb (p .current) v ≡ a → (b : Bool) → p .opened ≡ b → firstOf (rule 6 a ∷ rule 7 (not b) ∷ []) ≡ 0 → (v ≤ p .current) × (p .opened ≡ true)
-      at true e b f z = absurd (omega (arith, z))
-      at false e true f z = (ltb-false (p .current) v e, f)
-      at false e false f z = absurd (omega (arith, z))
+      at : (a : Bool) → ltb (p .current) v ≡ a → (c b : Bool) → p .opened ≡ b → firstOf (rule 6 (a || c) ∷ rule 7 (not b) ∷ []) ≡ 0 → (v ≤ p .current) × (p .opened ≡ true)
+      at true e c b f z = absurd (omega (arith, z))
+      at false e true b f z = absurd (omega (arith, z))
+      at false e false true f z = (ltb-false (p .current) v e, f)
+      at false e false false f z = absurd (omega (arith, z))
 
   pub return-room : (ns : List ℕ) → (p .opened ≡ true → next p < alive) → lacks ns (length (p .items) + ownInserts p v) returning ≡ false → 4 * length (p .items) ≤ length ns → Room (return p v) ns
   unfolding return

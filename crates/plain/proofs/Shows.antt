@@ -1,4 +1,4 @@
--- The items beside the machine of plain settings (model's Settings): at every version up to the last they say the same, and each accepted call
+-- The items beside the machine of plain settings (model's Settings): at every version from the oldest up to the last they say the same, and each accepted call
 -- hands that on.
 -- Assumes nothing.
 use Prim.Native.Nat.{ℕ, suc, _+_, _≤_, _<_}
@@ -17,12 +17,12 @@ use Rattle.model.specs.Entry.{pair, alive, liveAt, born, endedAt, endOne, place
 use Rattle.model.specs.Store.{lastOf}
 use Rattle.model.specs.Walk.{keyLimit, find}
 use Rattle.model.specs.Calls.{revived, restoredEntries}
-use Rattle.model.specs.Histories.{begins, commits, abandons, inserts, deletes, returns}
+use Rattle.model.specs.Histories.{begins, commits, abandons, inserts, deletes, returns, prunes}
 use Rattle.model.specs.Settings.{Machine, start, put, edited, step}
 use Rattle.model.proofs.Lists.{both-true, both-intro, all-cons}
 use Rattle.model.proofs.Members.{either-true, either-left, either-right}
-use Rattle.plain.specs.Plain.{valueAt, setKey, endKey, sameValue, endOther, setAs, setMissing, inTurn, backTo, keys}
-use Rattle.plain.proofs.Values.{set-older, set-own, set-other, end-older, end-own, end-other, restored-older}
+use Rattle.plain.specs.Plain.{valueAt, setKey, endKey, keptFrom, sameValue, endOther, setAs, setMissing, inTurn, backTo, keys}
+use Rattle.plain.proofs.Values.{set-older, set-own, set-other, end-older, end-own, end-other, restored-older, kept-later}
 use Rattle.plain.proofs.Backs.{back-older, back-now}
 
 -- ---- spans: no item starts behind the last version, or ends behind it unless it is alive
@@ -112,6 +112,14 @@ spans-restored c (e ∷ es) s = let (a, b) = all-cons (spanned (suc c)) e es s i
         revives false j (inl x) = inl (omega (arith, eqb-false (e .end) (suc c) j))
         revives false j (inr x) = inr x
 
+spans-kept : (n v : ℕ) (es : List Entry) → Spans n es → Spans n (keptFrom v es)
+spans-kept n v [] s = refl
+spans-kept n v (e ∷ es) s = let (a, b) = all-cons (spanned n) e es s in at (ltb v (e .end)) a (spans-kept n v es b)
+  where
+    at : (c : Bool) → spanned n e ≡ true → Spans n (keptFrom v es) → Spans n (keep c e (keptFrom v es))
+    at true a ih = both-intro (spanned n e) (all (spanned n) (keptFrom v es)) a ih
+    at false a ih = ih
+
 -- an open changes nothing that is alive
 value-begun : (k c : ℕ) → c < 1048574 → (es : List Entry) → Spans c es → valueAt k (suc c) es ≡ valueAt k c es
 value-begun k c h [] s = refl
@@ -188,12 +196,13 @@ lastIn m = lastOf (m .opened) (m .current)
 
 pub record Shows (m : Machine) (es : List Entry) : Type 0 where
   pub low : lastIn m ≤ 1048574
+  pub old : m .oldest ≤ m .current
   pub spans : Spans (lastIn m) es
   pub keys-small : (v : ℕ) → v ≤ lastIn m → small (m .shows v) ≡ true
-  pub shows : (k v : ℕ) → k < keyLimit → v ≤ lastIn m → valueAt k v es ≡ find k (m .shows v)
+  pub shows : (k v : ℕ) → k < keyLimit → m .oldest ≤ v → v ≤ lastIn m → valueAt k v es ≡ find k (m .shows v)
 
 pub shows-start : Shows start []
-shows-start = record { low = omega arith; spans = refl; keys-small = λ v h. refl; shows = λ k v low h. refl }
+shows-start = record { low = omega arith; old = omega arith; spans = refl; keys-small = λ v h. refl; shows = λ k v low f h. refl }
 
 module _ (m : Machine) (es : List Entry) (s : Shows m es) where
   abbrev w : ℕ
@@ -215,20 +224,22 @@ module _ (m : Machine) (es : List Entry) (s : Shows m es) where
     put-shows k v low h true e = ap (λ (n : ℕ). valueAt k n fs) (eqb-true v w e) ∙ now k low
     put-shows k v low h false e = h (eqb-false v w e)
 
-    edits : m .opened ≡ true → Spans w fs → ((k v : ℕ) → v < w → valueAt k v fs ≡ valueAt k v es) → Shows (record { current = m .current; opened = m .opened; shows = put w us (m .shows) }) fs
+    edits : m .opened ≡ true → Spans w fs → ((k v : ℕ) → v < w → valueAt k v fs ≡ valueAt k v es) → Shows (record { current = m .current; opened = m .opened; oldest = m .oldest; shows = put w us (m .shows) }) fs
     edits o spans older = record {
       low = s .low;
+      old = s .old;
       spans = subst (λ (n : ℕ). Spans n fs) (sym (open-last o)) spans;
       keys-small = λ v h. put-small v (λ n. h) (eqb v w) refl;
-      shows = λ k v low h. put-shows k v low (λ n. older k v (omega (arith, n, h, open-last o)) ∙ s .shows k v low h) (eqb v w) refl;
+      shows = λ k v low f h. put-shows k v low (λ n. older k v (omega (arith, n, h, open-last o)) ∙ s .shows k v low f h) (eqb v w) refl;
     }
 
   pub shows-begins : m .opened ≡ false → m .current < 1048574 → Shows (step m begins) es
   shows-begins o h = record {
     low = omega arith;
+    old = s .old;
     spans = spans-later (m .current) w (omega arith) es spans-c;
     keys-small = λ v i. put-small (m .shows (m .current)) es here-small here v (λ n. within v i n) (eqb v w) refl;
-    shows = λ k v low i. put-shows (m .shows (m .current)) es here-small here k v low (λ n. s .shows k v low (within v i n)) (eqb v w) refl;
+    shows = λ k v low f i. put-shows (m .shows (m .current)) es here-small here k v low (λ n. s .shows k v low f (within v i n)) (eqb v w) refl;
   }
     where
       spans-c : Spans (m .current) es
@@ -244,25 +255,40 @@ module _ (m : Machine) (es : List Entry) (s : Shows m es) where
       here-small = s .keys-small (m .current) at-current
 
       here : (k : ℕ) → k < keyLimit → valueAt k w es ≡ find k (m .shows (m .current))
-      here k low = value-begun k (m .current) h es spans-c ∙ s .shows k (m .current) low at-current
+      here k low = value-begun k (m .current) h es spans-c ∙ s .shows k (m .current) low (s .old) at-current
 
   pub shows-commits : m .opened ≡ true → Shows (step m commits) es
   shows-commits o = record {
     low = subst (λ (n : ℕ). n ≤ 1048574) (open-last o) (s .low);
+    old = omega (arith, s .old);
     spans = subst (λ (n : ℕ). Spans n es) (open-last o) (s .spans);
     keys-small = λ v h. s .keys-small v (omega (arith, open-last o));
-    shows = λ k v low h. s .shows k v low (omega (arith, open-last o));
+    shows = λ k v low f h. s .shows k v low f (omega (arith, open-last o));
   }
 
   pub shows-abandons : m .opened ≡ true → Shows (step m abandons) (restoredEntries w es)
   shows-abandons o = record {
     low = omega (arith, s .low, open-last o);
+    old = s .old;
     spans = spans-restored (m .current) es (subst (λ (n : ℕ). Spans n es) (open-last o) (s .spans));
     keys-small = λ v h. s .keys-small v (omega (arith, open-last o));
-    shows = λ k v low h. restored-older w k v (omega arith) (omega (arith, s .low, open-last o)) es ∙ s .shows k v low (omega (arith, open-last o));
+    shows = λ k v low f h. restored-older w k v (omega arith) (omega (arith, s .low, open-last o)) es ∙ s .shows k v low f (omega (arith, open-last o));
+  }
+
+  -- versions below v are not shown any more
+  pub shows-prunes : (v : ℕ) → m .oldest ≤ v → v ≤ m .current → Shows (step m (prunes v)) (keptFrom v es)
+  shows-prunes v h i = record {
+    low = s .low;
+    old = i;
+    spans = spans-kept (lastIn m) v es (s .spans);
+    keys-small = s .keys-small;
+    shows = λ k u low f g. kept-later v k u f es ∙ s .shows k u low (omega arith) g;
   }
 
   module _ (o : m .opened ≡ true) where
+    old-w : m .oldest ≤ w
+    old-w = omega (arith, s .old)
+
     at-w : w ≤ lastIn m
     at-w = omega (arith, open-last o)
 
@@ -280,10 +306,10 @@ module _ (m : Machine) (es : List Entry) (s : Shows m es) where
         at : (j : ℕ) → j < keyLimit → (b : Bool) → eqb k j ≡ b → valueAt j w (setKey w k x es) ≡ find j (enterPair (pair k x) (m .shows w))
         at j i true e =
             let same : k ≡ j = eqb-true k j e in
-            ap (λ (n : ℕ). valueAt n w (setKey w k x es)) (sym same) ∙ set-own w k x high es (s .shows k w low at-w ∙ absent)
+            ap (λ (n : ℕ). valueAt n w (setKey w k x es)) (sym same) ∙ set-own w k x high es (s .shows k w low old-w at-w ∙ absent)
             ∙ sym (find-enter k x j (m .shows w) absent ∙ ap (λ (c : Bool). pick c (some x) (find j (m .shows w))) e)
         at j i false e =
-            set-other w k x j w (eqb-false k j e) es ∙ s .shows j w i at-w ∙ sym (find-enter k x j (m .shows w) absent ∙ ap (λ (c : Bool). pick c (some x) (find j (m .shows w))) e)
+            set-other w k x j w (eqb-false k j e) es ∙ s .shows j w i old-w at-w ∙ sym (find-enter k x j (m .shows w) absent ∙ ap (λ (c : Bool). pick c (some x) (find j (m .shows w))) e)
 
     pub shows-deletes : (k : ℕ) → Shows (step m (deletes k)) (endKey w k es)
     shows-deletes k =
@@ -293,10 +319,10 @@ module _ (m : Machine) (es : List Entry) (s : Shows m es) where
         at j i true e =
             let same : k ≡ j = eqb-true k j e in
             ap (λ (n : ℕ). valueAt n w (endKey w k es)) (sym same) ∙ end-own w k es ∙ sym (find-without k (m .shows w)) ∙ ap (λ (n : ℕ). find n (without k (m .shows w))) same
-        at j i false e = let n = eqb-false k j e in end-other w k j w n es ∙ s .shows j w i at-w ∙ sym (find-others k j n (m .shows w))
+        at j i false e = let n = eqb-false k j e in end-other w k j w n es ∙ s .shows j w i old-w at-w ∙ sym (find-others k j n (m .shows w))
 
-    pub shows-returns : (v : ℕ) → v ≤ m .current → Shows (step m (returns v)) (backTo w v es)
-    shows-returns v h =
+    pub shows-returns : (v : ℕ) → m .oldest ≤ v → v ≤ m .current → Shows (step m (returns v)) (backTo w v es)
+    shows-returns v f h =
         edits (m .shows v) (backTo w v es) (s .keys-small v (omega (arith, open-last o)))
-        (λ k low. back-now w v (omega arith) high es k low ∙ s .shows k v low (omega (arith, open-last o))) o (spans-back w v es spans-w)
+        (λ k low. back-now w v (omega arith) high es k low ∙ s .shows k v low f (omega (arith, open-last o))) o (spans-back w v es spans-w)
         (λ k u i. back-older w v (omega arith) high es k u i)

@@ -1,4 +1,4 @@
--- What an append, an end and an abandon do to the value of a key at a version.
+-- What an append, an end, an abandon and a prune do to the value of a key at a version.
 -- Assumes nothing.
 use Prim.Native.Nat.{ℕ, suc, _≤_, _<_}
 use native.Mathlib.Omega.{arith}
@@ -7,13 +7,14 @@ use mathlib.Core.Option.{Option, none, some}
 use mathlib.Core.Path.{_≡_, refl, ap, ap₂, sym, _∙_}
 use mathlib.Core.List.{List, [], _∷_, _++_, map}
 use lib.Dec.{leb, ltb, eqb}
-use borrow.Author.Tests.{leb-true, ltb-true, lt-ltb, lt-leb, le-leb, eqb-true, eq-eqb, ne-eqb}
+use lib.ListN.{length}
+use borrow.Author.Tests.{leb-true, ltb-true, ltb-false, lt-ltb, le-ltb, lt-leb, le-leb, eqb-true, eq-eqb, ne-eqb}
 use Rattle.model.specs.Basic.{pick, those, keep}
 use Rattle.model.specs.declared.Entry.{Entry}
 use Rattle.model.specs.Entry.{pair, alive, liveAt, born, endedAt, endOne, endThose}
 use Rattle.model.specs.Calls.{revivedEnd, revived, restoredEntries}
 use Rattle.model.proofs.Lists.{both-true}
-use Rattle.plain.specs.Plain.{valueAt, setKey, endKey}
+use Rattle.plain.specs.Plain.{valueAt, setKey, endKey, keptFrom}
 
 -- the first of two values, or else the second
 abbrev pub orElse : Option ℕ → Option ℕ → Option ℕ
@@ -141,3 +142,24 @@ restored-older w k v h low (e ∷ es) = at (eqb (e .start) w) refl (restored-old
         ih ∙ sym (ap (λ (c : Bool). first c e (valueAt k v es)) (and-false (eqb (e .key) k) _ (false-and (leb (e .start) v) (ltb v (e .end)) (lt-leb (e .start) v late))))
     at false i ih =
         ap₂ (λ (c : Bool) (o : Option ℕ). first (eqb (e .key) k && (leb (e .start) v && c)) e o) (end-same (eqb (e .end) w) refl) ih
+
+-- ---- a prune
+
+-- what ended at or before v says nothing from v on
+pub kept-later : (v k u : ℕ) → v ≤ u → (es : List Entry) → valueAt k u (keptFrom v es) ≡ valueAt k u es
+kept-later v k u h [] = refl
+kept-later v k u h (e ∷ es) = at (ltb v (e .end)) refl (kept-later v k u h es)
+  where
+    at : (b : Bool) → ltb v (e .end) ≡ b → valueAt k u (keptFrom v es) ≡ valueAt k u es → valueAt k u (keep b e (keptFrom v es)) ≡ valueAt k u (e ∷ es)
+    at true i ih = ap (first (eqb (e .key) k && liveAt u e) e) ih
+    at false i ih =
+        ih
+        ∙ sym (ap (λ (b : Bool). first b e (valueAt k u es)) (and-false (eqb (e .key) k) (liveAt u e) (and-false (leb (e .start) u) (ltb u (e .end)) (le-ltb u (e .end) (omega (arith, ltb-false v (e .end) i))))))
+
+pub kept-shorter : (v : ℕ) (es : List Entry) → length (keptFrom v es) ≤ length es
+kept-shorter v [] = omega arith
+kept-shorter v (e ∷ es) = at (ltb v (e .end)) (kept-shorter v es)
+  where
+    at : (b : Bool) → length (keptFrom v es) ≤ length es → length (keep b e (keptFrom v es)) ≤ length (e ∷ es)
+    at true ih = omega arith
+    at false ih = omega arith

@@ -6,29 +6,29 @@ use mathlib.Core.Bool.{Bool, true, false, not}
 use mathlib.Core.Option.{Option, none, some}
 use mathlib.Core.Path.{_≡_, refl, ap, ap₂, sym, _∙_}
 use mathlib.Core.List.{List, [], _∷_, _++_}
-use lib.Dec.{leb, ltb}
+use lib.Dec.{leb, eqb}
 use lib.ListN.{length, length-append}
-use borrow.Author.Tests.{le-leb, lt-leb, lt-ltb, le-ltb}
+use borrow.Author.Tests.{le-leb, lt-leb, eq-eqb, ne-eqb}
 use Rattle.model.specs.Basic.{isEmpty}
 use Rattle.model.specs.declared.Entry.{Entry}
 use Rattle.model.specs.declared.Looked.{Looked}
 use Rattle.model.specs.declared.Looked.the-variants.{Value, Absent, Refused}
 use Rattle.model.specs.Entry.{pair, alive, born}
 use Rattle.model.specs.Walk.{keyLimit}
-use Rattle.model.specs.Calls.{isSome, rule, firstOf, benchLimit, restoredEntries, lookedAt, lookedBy}
+use Rattle.model.specs.Calls.{isSome, rule, firstOf, beyond, benchLimit, restoredEntries, lookedAt, lookedBy}
 use Rattle.plain.specs.declared.State.{State}
 use Rattle.plain.specs.declared.Left.{Left}
-use Rattle.plain.specs.Plain.{Plain, next, last, valueAt, differs, setKey, endKey, backTo, Given, unless, holding, begin, insert, delete, commit, abandon, return, lookup}
+use Rattle.plain.specs.Plain.{Plain, next, last, unreadable, valueAt, differs, setKey, endKey, backTo, keptFrom, Given, unless, standing, holding, pruned, begin, insert, delete, commit, abandon, return, prune, lookup}
 use Rattle.plain.specs.Items.{plainOf, from}
 use Rattle.plain.specs.Laid.{laid, from-behind, from-length}
-use Rattle.plain.specs.Sweep.{swept, swept-ended, swept-undone}
+use Rattle.plain.specs.Sweep.{fate, outliving, swept, swept-ended, swept-undone, swept-outliving}
 
 -- what a call gave, and the plain store that it left
 abbrev pub givenBy : Left → List ℕ → Given
 givenBy r ns = record { number = r .number; plain = plainOf (r .state) ns }
 
 abbrev pub leftWith : ℕ → State → ℕ → Left
-leftWith n s c = record { number = n; state = record { current = s .current; opened = s .opened; count = c } }
+leftWith n s c = record { number = n; state = record { current = s .current; opened = s .opened; count = c; oldest = s .oldest; edition = s .edition } }
 
 -- the list has the room for the items that a call leaves
 abbrev pub Room : Given → List ℕ → Type 0
@@ -45,28 +45,28 @@ module _ (p : Plain) (k v : ℕ) where
   unfolding lookup
   lookup-five h = rw (le-leb keyLimit k h) refl
 
-  pub lookup-six : k < keyLimit → last p < v → Refused 6 ≡ lookup p k v
+  pub lookup-six : k < keyLimit → unreadable p v ≡ true → Refused 6 ≡ lookup p k v
   unfolding lookup
-  lookup-six h i = rw (lt-leb keyLimit k h, lt-ltb (last p) v i) refl
+  lookup-six h i = ap₂ (λ (b c : Bool). lookedBy (firstOf (rule 5 b ∷ rule 6 c ∷ [])) (valueAt k v (p .items))) (sym (lt-leb keyLimit k h)) (sym i)
 
-  pub lookup-done : k < keyLimit → v ≤ last p → lookedAt (valueAt k v (p .items)) ≡ lookup p k v
+  pub lookup-done : k < keyLimit → unreadable p v ≡ false → lookedAt (valueAt k v (p .items)) ≡ lookup p k v
   unfolding lookup
-  lookup-done h i = rw (lt-leb keyLimit k h, le-ltb (last p) v i) refl
+  lookup-done h i = ap₂ (λ (b c : Bool). lookedBy (firstOf (rule 5 b ∷ rule 6 c ∷ [])) (valueAt k v (p .items))) (sym (lt-leb keyLimit k h)) (sym i)
 
 -- ---- open
 
 module _ (p : Plain) where
   pub open-eight : p .opened ≡ true → record { number = 8; plain = p } ≡ begin p
   unfolding begin
-  open-eight o = ap (λ (b : Bool). unless (firstOf (rule 8 b ∷ rule 9 (leb 1048574 (p .current)) ∷ [])) p (record { current = p .current; opened = true; items = p .items })) (sym o)
+  open-eight o = ap (λ (b : Bool). unless (firstOf (rule 8 b ∷ rule 9 (leb 1048574 (p .current)) ∷ [])) p (standing p (p .current) true (p .items))) (sym o)
 
   pub open-nine : p .opened ≡ false → 1048574 ≤ p .current → record { number = 9; plain = p } ≡ begin p
   unfolding begin
-  open-nine o h = ap₂ {C = Given} (λ (b c : Bool). unless (firstOf (rule 8 b ∷ rule 9 c ∷ [])) p (record { current = p .current; opened = true; items = p .items })) (sym o) (sym (le-leb 1048574 (p .current) h))
+  open-nine o h = ap₂ {C = Given} (λ (b c : Bool). unless (firstOf (rule 8 b ∷ rule 9 c ∷ [])) p (standing p (p .current) true (p .items))) (sym o) (sym (le-leb 1048574 (p .current) h))
 
-  pub open-done : p .opened ≡ false → p .current < 1048574 → record { number = 0; plain = record { current = p .current; opened = true; items = p .items } } ≡ begin p
+  pub open-done : p .opened ≡ false → p .current < 1048574 → record { number = 0; plain = standing p (p .current) true (p .items) } ≡ begin p
   unfolding begin
-  open-done o h = ap₂ {C = Given} (λ (b c : Bool). unless (firstOf (rule 8 b ∷ rule 9 c ∷ [])) p (record { current = p .current; opened = true; items = p .items })) (sym o) (sym (lt-leb 1048574 (p .current) h))
+  open-done o h = ap₂ {C = Given} (λ (b c : Bool). unless (firstOf (rule 8 b ∷ rule 9 c ∷ [])) p (standing p (p .current) true (p .items))) (sym o) (sym (lt-leb 1048574 (p .current) h))
 
 -- ---- insert, delete
 
@@ -123,7 +123,7 @@ module _ (p : Plain) (k : ℕ) where
 
 module _ (p : Plain) where
   abbrev abandoned : Plain
-  abandoned = record { current = p .current; opened = false; items = restoredEntries (next p) (p .items) }
+  abandoned = standing p (p .current) false (restoredEntries (next p) (p .items))
 
   pub abandon-seven : p .opened ≡ false → record { number = 7; plain = p } ≡ abandon p
   unfolding abandon
@@ -134,7 +134,7 @@ module _ (p : Plain) where
   abandon-done o = ap (λ (b : Bool). unless (firstOf (rule 7 (not b) ∷ [])) p abandoned) (sym o)
 
   abbrev committed : Plain
-  committed = record { current = next p; opened = false; items = p .items }
+  committed = standing p (next p) false (p .items)
 
   abbrev same : Bool
   same = isEmpty (differs (p .current) (next p) (p .items))
@@ -155,23 +155,49 @@ module _ (p : Plain) (v : ℕ) where
   abbrev returned : Plain
   returned = holding p (backTo (next p) v (p .items))
 
-  pub return-six : p .current < v → record { number = 6; plain = p } ≡ return p v
+  pub return-six : beyond (p .current) (p .oldest) v ≡ true → record { number = 6; plain = p } ≡ return p v
   unfolding return
-  return-six h = ap (λ (b : Bool). unless (firstOf (rule 6 b ∷ rule 7 (not (p .opened)) ∷ [])) p returned) (sym (lt-ltb (p .current) v h))
+  return-six h = ap (λ (b : Bool). unless (firstOf (rule 6 b ∷ rule 7 (not (p .opened)) ∷ [])) p returned) (sym h)
 
-  module _ (h : v ≤ p .current) where
+  module _ (h : beyond (p .current) (p .oldest) v ≡ false) where
     pub return-seven : p .opened ≡ false → record { number = 7; plain = p } ≡ return p v
     unfolding return
-    return-seven o = ap₂ {C = Given} (λ (b c : Bool). unless (firstOf (rule 6 b ∷ rule 7 (not c) ∷ [])) p returned) (sym (le-ltb (p .current) v h)) (sym o)
+    return-seven o = ap₂ {C = Given} (λ (b c : Bool). unless (firstOf (rule 6 b ∷ rule 7 (not c) ∷ [])) p returned) (sym h) (sym o)
 
     pub return-done : p .opened ≡ true → record { number = 0; plain = returned } ≡ return p v
     unfolding return
-    return-done o = ap₂ {C = Given} (λ (b c : Bool). unless (firstOf (rule 6 b ∷ rule 7 (not c) ∷ [])) p returned) (sym (le-ltb (p .current) v h)) (sym o)
+    return-done o = ap₂ {C = Given} (λ (b c : Bool). unless (firstOf (rule 6 b ∷ rule 7 (not c) ∷ [])) p returned) (sym h) (sym o)
+
+-- ---- prune
+
+module _ (p : Plain) (v : ℕ) where
+  abbrev pruning : Bool → Bool → Bool → Given
+  pruning a b c = unless (firstOf (rule 3 a ∷ rule 6 b ∷ rule 8 c ∷ [])) p (pruned p v)
+
+  pub prune-three : p .edition ≡ 1 → record { number = 3; plain = p } ≡ prune p v
+  unfolding prune
+  prune-three e = ap (λ (a : Bool). pruning a (beyond (p .current) (p .oldest) v) (p .opened)) (sym (eq-eqb (p .edition) 1 e))
+
+  module _ (e : p .edition ≡ 1 → ⊥) where
+    pub prune-six : beyond (p .current) (p .oldest) v ≡ true → record { number = 6; plain = p } ≡ prune p v
+    unfolding prune
+    prune-six h = ap₂ {C = Given} (λ (a b : Bool). pruning a b (p .opened)) (sym (ne-eqb (p .edition) 1 e)) (sym h)
+
+    module _ (h : beyond (p .current) (p .oldest) v ≡ false) where
+      by-open : (b : Bool) → p .opened ≡ b → pruning false false b ≡ prune p v
+      unfolding prune
+      by-open b o = ap₂ {C = Given} (λ (a c : Bool). pruning a c b) (sym (ne-eqb (p .edition) 1 e)) (sym h) ∙ ap (pruning (eqb (p .edition) 1) (beyond (p .current) (p .oldest) v)) (sym o)
+
+      pub prune-eight : p .opened ≡ true → record { number = 8; plain = p } ≡ prune p v
+      prune-eight o = by-open true o
+
+      pub prune-done : p .opened ≡ false → record { number = 0; plain = pruned p v } ≡ prune p v
+      prune-done o = by-open false o
 
 -- ---- on a lent list; w is the open version as the code has it
 
 abbrev pub given : State → Bool → List Entry → Given
-given s o es = record { number = 0; plain = record { current = s .current; opened = o; items = es } }
+given s o es = record { number = 0; plain = record { current = s .current; opened = o; oldest = s .oldest; edition = s .edition; items = es } }
 
 module _ (s : State) (ns : List ℕ) (k w : ℕ) (is : w ≡ suc (s .current)) (o : s .opened ≡ true) where
   module _ (x : ℕ) (h : k < benchLimit) (none-there : valueAt k w (from ns 0 (s .count)) ≡ none) where
@@ -189,12 +215,21 @@ module _ (s : State) (ns : List ℕ) (k w : ℕ) (is : w ≡ suc (s .current)) (
         ap (given s (s .opened)) (from-behind ns (s .count) (record { key = k; start = w; end = alive; value = x }) r)
         ∙ ap (λ (v : ℕ). given s (s .opened) (setKey v k x (from ns 0 (s .count)))) is ∙ made
 
-  pub delete-left : k < keyLimit → (y : ℕ) → valueAt k w (from ns 0 (s .count)) ≡ some y → (es : List Entry) → es ≡ swept w false k (from ns 0 (s .count))
+  pub delete-left : k < keyLimit → (y : ℕ) → valueAt k w (from ns 0 (s .count)) ≡ some y → (es : List Entry) → es ≡ swept (fate w false k) (from ns 0 (s .count))
       → given s (s .opened) es ≡ delete (plainOf s ns) k
   delete-left h y e es d =
       ap (given s (s .opened)) (d ∙ swept-ended w k (from ns 0 (s .count))) ∙ ap (λ (v : ℕ). given s (s .opened) (endKey v k (from ns 0 (s .count)))) is
       ∙ delete-done (plainOf s ns) k h o y (ap (λ (v : ℕ). valueAt k v (from ns 0 (s .count))) (sym is) ∙ e)
 
-  pub abandon-left : (es : List Entry) → es ≡ swept w true k (from ns 0 (s .count)) → given s false es ≡ abandon (plainOf s ns)
+  pub abandon-left : (es : List Entry) → es ≡ swept (fate w true k) (from ns 0 (s .count)) → given s false es ≡ abandon (plainOf s ns)
   abandon-left es d =
       ap (given s false) (d ∙ swept-undone w k (from ns 0 (s .count))) ∙ ap (λ (v : ℕ). given s false (restoredEntries v (from ns 0 (s .count)))) is ∙ abandon-done (plainOf s ns) o
+
+-- what is left of a prune
+pub prune-left : (s : State) (ns : List ℕ) (v : ℕ) → (s .edition ≡ 1 → ⊥) → beyond (s .current) (s .oldest) v ≡ false → s .opened ≡ false
+    → (es : List Entry) → es ≡ swept (outliving v) (from ns 0 (s .count))
+    → record { number = 0; plain = record { current = s .current; opened = s .opened; oldest = v; edition = s .edition; items = es } } ≡ prune (plainOf s ns) v
+prune-left s ns v e h o es d =
+    ap {B = Given} (λ (xs : List Entry). record { number = 0; plain = record { current = s .current; opened = s .opened; oldest = v; edition = s .edition; items = xs } })
+    (d ∙ swept-outliving v (from ns 0 (s .count)))
+    ∙ prune-done (plainOf s ns) v e h o

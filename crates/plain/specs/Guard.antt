@@ -1,4 +1,4 @@
--- The plain store as other languages lend it: any three numbers for a state, and any list. "No `requires`" there: what the calls ask is tested.
+-- The plain store as other languages lend it: any five numbers for a state, and any list. "No `requires`" there: what the calls ask is tested.
 -- Assumes nothing.
 use Prim.Native.Nat.{ℕ, suc, _+_, _*_}
 use mathlib.Core.Bool.{Bool, true, false, _&&_}
@@ -15,24 +15,27 @@ use Rattle.model.specs.Lent.{Listed, listed}
 use Rattle.model.specs.Return.{comes}
 use Rattle.plain.specs.declared.State.{State}
 use Rattle.plain.specs.declared.items.Found.{Found}
-use Rattle.plain.specs.Plain.{Plain, Given, next, differs, begin, insert, delete, commit, abandon, return, lookup, range, difference, life}
+use Rattle.plain.specs.Plain.{Plain, Given, next, differs, begin, insert, delete, commit, abandon, return, prune, lookup, range, difference, life}
 use Rattle.plain.specs.Items.{plainOf}
 use Rattle.plain.specs.Scan.{sameFound}
 
--- ---- the three numbers: current version, 1 if an update is open, how many items
+-- ---- the five numbers: current version, 1 if an update is open, how many items, oldest version, edition
 
 abbrev pub stateOf : List ℕ → State
-stateOf ms = record { current = getD ms 0 0; opened = eqb (getD ms 1 0) 1; count = getD ms 2 0 }
+stateOf ms = record { current = getD ms 0 0; opened = eqb (getD ms 1 0) 1; count = getD ms 2 0; oldest = getD ms 3 0; edition = getD ms 4 0 }
 
 abbrev pub stateNumbers : State → List ℕ
-stateNumbers s = s .current ∷ bit (s .opened) ∷ s .count ∷ []
+stateNumbers s = s .current ∷ bit (s .opened) ∷ s .count ∷ s .oldest ∷ s .edition ∷ []
 
--- they are a state: "versions are 0 to 1,048,574", the open one too
+-- they are a state: "versions are 0 to 1,048,574", the open one too; the oldest "is at most the current version"; and there are two editions
 abbrev pub areVersions : ℕ → ℕ → Bool
 areVersions current opened = leb opened 1 && leb (current + opened) 1048574
 
+abbrev pub isEdition : ℕ → Bool
+isEdition n = leb 1 n && leb n 2
+
 abbrev pub isState : List ℕ → Bool
-isState ms = areVersions (getD ms 0 0) (getD ms 1 0)
+isState ms = areVersions (getD ms 0 0) (getD ms 1 0) && (leb (getD ms 3 0) (getD ms 0 0) && isEdition (getD ms 4 0))
 
 -- the longest list: four numbers for as many items as the state's third number counts to
 abbrev pub longest : ℕ
@@ -92,6 +95,9 @@ module _ (ns ms : List ℕ) where
 
   abbrev pub returnGuarded : ℕ → Given
   returnGuarded v = guarded (isLent ns ms) own (fitted ns (count + ownInserts own v) own (return own v))
+
+  abbrev pub pruneGuarded : ℕ → Given
+  pruneGuarded v = guarded (isLent ns ms) own (prune own v)
 
   -- ---- the calls that read
 

@@ -33,7 +33,7 @@ from ns i n = itemsAt ns i (n - i)
 
 -- a lent list, and the state beside it
 abbrev pub plainOf : State → List ℕ → Plain
-plainOf s ns = record { current = s .current; opened = s .opened; items = from ns 0 (s .count) }
+plainOf s ns = record { current = s .current; opened = s .opened; oldest = s .oldest; edition = s .edition; items = from ns 0 (s .count) }
 
 -- a list that holds n items
 pub record Lent (n : ℕ) (ns : List ℕ) : Type 0 where

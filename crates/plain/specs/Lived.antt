@@ -147,14 +147,14 @@ module _ (c : ℕ) (f : ℕ → Option ℕ) (v r e : ℕ) (a : Found) (l : Lasts
   pub rest-told : rest c f v ≡ shown v e a ++ rest c f r
   rest-told = rest-step c f v r l ∙ ap (λ (xs : List Stretch). xs ++ rest c f r) (sym (ap₂ (shown v) q p ∙ shown-told c v r (f v)))
 
-pub few-stretches : (c : ℕ) (f : ℕ → Option ℕ) → c ≤ 1048574 → length (lifeOf c f) ≤ 2 ^ 40
-few-stretches c f h = omega (arith, life-length c f)
+pub few-stretches : (old c : ℕ) (f : ℕ → Option ℕ) → c ≤ 1048574 → length (lifeOf old c f) ≤ 2 ^ 40
+few-stretches old c f h = omega (arith, life-length c f old)
 
 -- ---- the call
 
 module _ (p : Plain) (k : ℕ) (ns : List ℕ) where
   abbrev living : ℕ → Listed
-  living n = listed ns (toldBy stretchNumbers 3 n (length ns) (lifeOf (p .current) (λ (v : ℕ). valueAt k v (p .items))))
+  living n = listed ns (toldBy stretchNumbers 3 n (length ns) (lifeOf (p .oldest) (p .current) (λ (v : ℕ). valueAt k v (p .items))))
 
   pub life-five : keyLimit ≤ k → toldWith (toldAs 5 0) ns ≡ listed ns (life p k (length ns))
   unfolding life toldBy

@@ -22,7 +22,7 @@ use Rattle.model.specs.Lent.{Listed, listed}
 use Rattle.model.specs.Telling.{Shape}
 use Rattle.plain.specs.declared.items.Found.{Found}
 use Rattle.plain.specs.declared.Told.{Told}
-use Rattle.plain.specs.Plain.{Plain, last, valueAt, setting, settings, sameValue, keys, differs, range, difference}
+use Rattle.plain.specs.Plain.{Plain, unreadable, valueAt, setting, settings, sameValue, keys, differs, range, difference}
 use Rattle.plain.specs.Items.{foundOf}
 use Rattle.plain.specs.Scan.{Skips, sameFound, same-found, told, told-end, told-step, told-skip, saying, keys-limit}
 
@@ -146,32 +146,32 @@ module _ (p : Plain) (lo hi v : ℕ) (ns : List ℕ) where
 
   pub range-five : badRange lo hi ≡ true → toldWith (toldAs 5 0) ns ≡ listed ns (range p lo hi v (length ns))
   unfolding range rangedBy
-  range-five h = ap (λ (b : Bool). ranging (firstOf (rule 5 b ∷ rule 6 (ltb (last p) v) ∷ []))) (sym h)
+  range-five h = ap (λ (b : Bool). ranging (firstOf (rule 5 b ∷ rule 6 (unreadable p v) ∷ []))) (sym h)
 
-  pub range-six : badRange lo hi ≡ false → last p < v → toldWith (toldAs 6 0) ns ≡ listed ns (range p lo hi v (length ns))
+  pub range-six : badRange lo hi ≡ false → unreadable p v ≡ true → toldWith (toldAs 6 0) ns ≡ listed ns (range p lo hi v (length ns))
   unfolding range rangedBy
-  range-six h i = ap₂ (λ (b c : Bool). ranging (firstOf (rule 5 b ∷ rule 6 c ∷ []))) (sym h) (sym (lt-ltb (last p) v i))
+  range-six h i = ap₂ (λ (b c : Bool). ranging (firstOf (rule 5 b ∷ rule 6 c ∷ []))) (sym h) (sym i)
 
-  pub range-done : badRange lo hi ≡ false → v ≤ last p → listed ns (toldBy pairNumbers 2 0 (length ns) (settings lo hi v (p .items))) ≡ listed ns (range p lo hi v (length ns))
+  pub range-done : badRange lo hi ≡ false → unreadable p v ≡ false → listed ns (toldBy pairNumbers 2 0 (length ns) (settings lo hi v (p .items))) ≡ listed ns (range p lo hi v (length ns))
   unfolding range
   range-done h i =
-      sym (ap (listed ns) (ranged-told 0 (length ns) (settings lo hi v (p .items)))) ∙ ap₂ (λ (b c : Bool). ranging (firstOf (rule 5 b ∷ rule 6 c ∷ []))) (sym h) (sym (le-ltb (last p) v i))
+      sym (ap (listed ns) (ranged-told 0 (length ns) (settings lo hi v (p .items)))) ∙ ap₂ (λ (b c : Bool). ranging (firstOf (rule 5 b ∷ rule 6 c ∷ []))) (sym h) (sym i)
 
 module _ (p : Plain) (u v : ℕ) (ns : List ℕ) where
   abbrev differing : ℕ → Listed
   differing n = listed ns (toldBy deltaNumbers 4 n (length ns) (differs u v (p .items)))
 
-  pub difference-old : last p < u → toldWith (toldAs 6 0) ns ≡ listed ns (difference p u v (length ns))
+  pub difference-old : unreadable p u ≡ true → toldWith (toldAs 6 0) ns ≡ listed ns (difference p u v (length ns))
   unfolding difference toldBy
-  difference-old h = ap (λ (b : Bool). differing (firstOf (rule 6 (b || ltb (last p) v) ∷ []))) (sym (lt-ltb (last p) u h))
+  difference-old h = ap (λ (b : Bool). differing (firstOf (rule 6 (b || unreadable p v) ∷ []))) (sym h)
 
-  pub difference-new : u ≤ last p → last p < v → toldWith (toldAs 6 0) ns ≡ listed ns (difference p u v (length ns))
+  pub difference-new : unreadable p u ≡ false → unreadable p v ≡ true → toldWith (toldAs 6 0) ns ≡ listed ns (difference p u v (length ns))
   unfolding difference toldBy
-  difference-new h i = ap₂ (λ (b c : Bool). differing (firstOf (rule 6 (b || c) ∷ []))) (sym (le-ltb (last p) u h)) (sym (lt-ltb (last p) v i))
+  difference-new h i = ap₂ (λ (b c : Bool). differing (firstOf (rule 6 (b || c) ∷ []))) (sym h) (sym i)
 
-  pub difference-done : u ≤ last p → v ≤ last p → differing 0 ≡ listed ns (difference p u v (length ns))
+  pub difference-done : unreadable p u ≡ false → unreadable p v ≡ false → differing 0 ≡ listed ns (difference p u v (length ns))
   unfolding difference
-  difference-done h i = ap₂ (λ (b c : Bool). differing (firstOf (rule 6 (b || c) ∷ []))) (sym (le-ltb (last p) u h)) (sym (le-ltb (last p) v i))
+  difference-done h i = ap₂ (λ (b c : Bool). differing (firstOf (rule 6 (b || c) ∷ []))) (sym h) (sym i)
 
 either-fails : (b c : Bool) → (b || c) ≡ false → (b ≡ false) × (c ≡ false)
 either-fails true c e = absurd (let z : _≡_ {A = ℕ} 0 1 = cc in omega arith)

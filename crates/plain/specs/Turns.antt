@@ -14,12 +14,13 @@ use Rattle.model.specs.declared.Entry.{Entry}
 use Rattle.model.specs.Entry.{pair, alive, born}
 use Rattle.model.specs.Walk.{keyLimit}
 use Rattle.model.specs.Telling.{Gathers}
+use Rattle.model.specs.Calls.{beyond}
 use Rattle.plain.specs.declared.State.{State}
 use Rattle.plain.specs.declared.items.Found.{Found}
 use Rattle.plain.specs.Plain.{valueAt, setKey, endKey, sameValue, endOther, setAs, setMissing, inTurn, backTo, keys, Given, return}
 use Rattle.plain.specs.Items.{plainOf, Lent, foundOf, found-some, found-none, item, from, kept}
 use Rattle.plain.specs.Laid.{laid, length-laid, from-behind, from-length}
-use Rattle.plain.specs.Sweep.{swept, swept-ended, swept-few, swept-read}
+use Rattle.plain.specs.Sweep.{fate, swept, swept-ended, swept-few, swept-read}
 use Rattle.plain.specs.Scan.{Skips, sameFound, same-found, keys-limit}
 use Rattle.plain.specs.Calls.{Room, given, return-done}
 
@@ -41,10 +42,10 @@ module _ (ns : List ℕ) (n w v k : ℕ) (l : Lent n ns) (a b : Found) (p : a �
   pub other-same : sameFound a b ≡ true → Turned (endOther w v k) ns n ns n
   other-same h = record { items = sym (ap (λ (c : Bool). pick c es (endKey w k es)) (sym found-same ∙ h)); lent = l; same = refl }
 
-  pub other-ended : sameFound a b ≡ false → (ns′ : List ℕ) (r : ℕ) → length ns′ ≡ length ns → Gathers kept true ns ns′ 0 r (swept w false k es) → Turned (endOther w v k) ns n ns′ r
+  pub other-ended : sameFound a b ≡ false → (ns′ : List ℕ) (r : ℕ) → length ns′ ≡ length ns → Gathers kept true ns ns′ 0 r (swept (fate w false k) es) → Turned (endOther w v k) ns n ns′ r
   other-ended h ns′ r same g = record {
-    items = swept-read w false k n ns ns′ r l g ∙ swept-ended w k es ∙ sym (ap (λ (c : Bool). pick c es (endKey w k es)) (sym found-same ∙ h));
-    lent = record { room = omega (arith, same, l .room, g .count, swept-few w false k es, from-length ns n); short = omega (arith, same, l .short) };
+    items = swept-read (fate w false k) n ns ns′ r l g ∙ swept-ended w k es ∙ sym (ap (λ (c : Bool). pick c es (endKey w k es)) (sym found-same ∙ h));
+    lent = record { room = omega (arith, same, l .room, g .count, swept-few (fate w false k) es, from-length ns n); short = omega (arith, same, l .short) };
     same = same;
   }
 
@@ -165,7 +166,7 @@ turning-room w v ns n r ns′ m k h t =
 
 -- ---- a return on a lent list; w is the open version as the code has it
 
-module _ (s : State) (ns : List ℕ) (v w : ℕ) (is : w ≡ suc (s .current)) (h : v ≤ s .current) (o : s .opened ≡ true) where
+module _ (s : State) (ns : List ℕ) (v w : ℕ) (is : w ≡ suc (s .current)) (h : beyond (s .current) (s .oldest) v ≡ false) (o : s .opened ≡ true) where
   back-done : given s (s .opened) (backTo (suc (s .current)) v (from ns 0 (s .count))) ≡ return (plainOf s ns) v
   back-done = return-done (plainOf s ns) v h o
 

@@ -1,4 +1,4 @@
-// What is tested of a plain store that another language lends: any three numbers for a state, and any list.
+// What is tested of a plain store that another language lends: any five numbers for a state, and any list.
 use crate::BENCH;
 use crate::Left;
 use crate::State;
@@ -11,7 +11,7 @@ ghost use Rattle.model.specs.Calls.{firstOf, isSome, insertTests};
 ghost use Rattle.model.specs.Return.{returnTests};
 ghost use Rattle.plain.specs.Plain.{valueAt};
 ghost use Rattle.plain.specs.Items.{plainOf, from, Held};
-ghost use Rattle.plain.specs.Guard.{stateOf, stateNumbers, areVersions, isState, isLent, lacks, ownInserts};
+ghost use Rattle.plain.specs.Guard.{stateOf, stateNumbers, areVersions, isEdition, isState, isLent, lacks, ownInserts};
 
 // Four numbers for as many items as a state counts to.
 const LONGEST: usize = 17179869180;
@@ -35,23 +35,40 @@ fn are_versions(current: u32, opened: u32) -> bool
     current + opened <= 1048574
 }
 
-pub fn is_state(state: &[u32; 3]) -> bool
-    ensures { λ r. ⌜ r ≡ isState (now (state .entry)) ⌝ }
+fn is_edition(n: u32) -> bool
+    ensures { λ r. ⌜ r ≡ isEdition n ⌝ }
 {
-    are_versions(state[0], state[1])
+    if n < 1 {
+        return false;
+    }
+    n <= 2
 }
 
-pub fn state_of(state: &[u32; 3]) -> State
+pub fn is_state(state: &[u32; 5]) -> bool
+    ensures { λ r. ⌜ r ≡ isState (now (state .entry)) ⌝ }
+{
+    if !are_versions(state[0], state[1]) {
+        return false;
+    }
+    if state[0] < state[3] {
+        return false;
+    }
+    is_edition(state[4])
+}
+
+pub fn state_of(state: &[u32; 5]) -> State
     ensures { λ r. ⌜ (r ≡ stateOf (now (state .entry))) × (r .count < 2 ^ 32) ⌝ }
 {
     State {
         current: state[0],
         opened: state[1] == 1,
         count: wide(state[2]),
+        oldest: state[3],
+        edition: state[4],
     }
 }
 
-pub fn is_lent(items: &[u32], state: &[u32; 3]) -> bool
+pub fn is_lent(items: &[u32], state: &[u32; 5]) -> bool
     ensures { λ r. ⌜ r ≡ isLent (now (items .entry)) (now (state .entry)) ⌝ }
 {
     if !is_state(state) {
@@ -69,13 +86,19 @@ fn flag(b: bool) -> u32
     if b { 1 } else { 0 }
 }
 
-// The state after a call into its three numbers; gives the call's number.
-pub fn keep(state: &mut [u32; 3], r: Left) -> u32
+// The state after a call into its five numbers; gives the call's number.
+pub fn keep(state: &mut [u32; 5], r: Left) -> u32
     requires { ⌜ r .state .count < 2 ^ 32 ⌝ }
     ensures number { λ n. ⌜ n ≡ r .number ⌝ }
     ensures numbers { λ _. ⌜ now (state .exit) ≡ stateNumbers (r .state) ⌝ }
 {
-    *state = [r.state.current, flag(r.state.opened), r.state.count as u32];
+    *state = [
+        r.state.current,
+        flag(r.state.opened),
+        r.state.count as u32,
+        r.state.oldest,
+        r.state.edition,
+    ];
     r.number
 }
 
@@ -100,9 +123,9 @@ pub fn insert_lacks(items: &[u32], s: State, key: u32) -> bool
 // Whether a return would be done, and the list has not the room for its inserts.
 pub fn return_lacks(items: &[u32], s: State, v: u32) -> bool
     requires { ⌜ Held s (now items) ⌝ }
-    ensures { λ r. ⌜ r ≡ lacks (now (items .entry)) (s .count + ownInserts (plainOf s (now (items .entry))) v) (firstOf (returnTests (s .current) (s .opened) v)) ⌝ }
+    ensures { λ r. ⌜ r ≡ lacks (now (items .entry)) (s .count + ownInserts (plainOf s (now (items .entry))) v) (firstOf (returnTests (s .oldest) (s .current) (s .opened) v)) ⌝ }
 {
-    if s.current < v {
+    if s.uncommitted(v) {
         return false;
     }
     if !s.opened {

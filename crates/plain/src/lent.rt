@@ -5,7 +5,7 @@ use crate::guard;
 use model::Looked;
 ghost use mathlib.Core.Path.{_≡_};
 ghost use Rattle.plain.specs.Tell.{toldWith};
-ghost use Rattle.plain.specs.Guard.{isState, isLent, leftLent, insertGuarded, deleteGuarded, commitGuarded, abandonGuarded, returnGuarded, lookupGuarded, rangeGuarded, differenceGuarded, lifeGuarded, OpensGuarded, Spared};
+ghost use Rattle.plain.specs.Guard.{isState, isLent, leftLent, insertGuarded, deleteGuarded, commitGuarded, abandonGuarded, returnGuarded, pruneGuarded, lookupGuarded, rangeGuarded, differenceGuarded, lifeGuarded, OpensGuarded, Spared};
 
 // No state, or the list does not hold its items.
 const NONE: u32 = 4;
@@ -13,7 +13,7 @@ const NONE: u32 = 4;
 // Fewer numbers than a change needs.
 const SHORT: u32 = 14;
 
-pub fn open(state: &mut [u32; 3]) -> u32
+pub fn open(state: &mut [u32; 5]) -> u32
     ensures given { λ r. ⌜ OpensGuarded (now (state .entry)) r (now (state .exit)) ⌝ }
     ensures spared { λ _. ⌜ Spared (isState (now (state .entry))) (now (state .entry)) (now (state .exit)) ⌝ }
 {
@@ -24,7 +24,7 @@ pub fn open(state: &mut [u32; 3]) -> u32
     guard::keep(state, r)
 }
 
-pub fn insert(items: &mut [u32], state: &mut [u32; 3], key: u32, value: u32) -> u32
+pub fn insert(items: &mut [u32], state: &mut [u32; 5], key: u32, value: u32) -> u32
     ensures given { λ r. ⌜ leftLent r (now (items .exit)) (now (state .exit)) ≡ insertGuarded (now (items .entry)) (now (state .entry)) key value ⌝ }
     ensures spared { λ _. ⌜ Spared (isLent (now (items .entry)) (now (state .entry))) (now (state .entry)) (now (state .exit)) ⌝ }
     ensures untouched { λ _. ⌜ Spared (isLent (now (items .entry)) (now (state .entry))) (now (items .entry)) (now (items .exit)) ⌝ }
@@ -40,7 +40,7 @@ pub fn insert(items: &mut [u32], state: &mut [u32; 3], key: u32, value: u32) -> 
     guard::keep(state, r)
 }
 
-pub fn delete(items: &mut [u32], state: &mut [u32; 3], key: u32) -> u32
+pub fn delete(items: &mut [u32], state: &mut [u32; 5], key: u32) -> u32
     ensures given { λ r. ⌜ leftLent r (now (items .exit)) (now (state .exit)) ≡ deleteGuarded (now (items .entry)) (now (state .entry)) key ⌝ }
     ensures spared { λ _. ⌜ Spared (isLent (now (items .entry)) (now (state .entry))) (now (state .entry)) (now (state .exit)) ⌝ }
     ensures untouched { λ _. ⌜ Spared (isLent (now (items .entry)) (now (state .entry))) (now (items .entry)) (now (items .exit)) ⌝ }
@@ -53,7 +53,7 @@ pub fn delete(items: &mut [u32], state: &mut [u32; 3], key: u32) -> u32
     guard::keep(state, r)
 }
 
-pub fn commit(items: &[u32], state: &mut [u32; 3]) -> u32
+pub fn commit(items: &[u32], state: &mut [u32; 5]) -> u32
     ensures given { λ r. ⌜ leftLent r (now (items .entry)) (now (state .exit)) ≡ commitGuarded (now (items .entry)) (now (state .entry)) ⌝ }
     ensures spared { λ _. ⌜ Spared (isLent (now (items .entry)) (now (state .entry))) (now (state .entry)) (now (state .exit)) ⌝ }
 {
@@ -65,7 +65,7 @@ pub fn commit(items: &[u32], state: &mut [u32; 3]) -> u32
     guard::keep(state, r)
 }
 
-pub fn abandon(items: &mut [u32], state: &mut [u32; 3]) -> u32
+pub fn abandon(items: &mut [u32], state: &mut [u32; 5]) -> u32
     ensures given { λ r. ⌜ leftLent r (now (items .exit)) (now (state .exit)) ≡ abandonGuarded (now (items .entry)) (now (state .entry)) ⌝ }
     ensures spared { λ _. ⌜ Spared (isLent (now (items .entry)) (now (state .entry))) (now (state .entry)) (now (state .exit)) ⌝ }
     ensures untouched { λ _. ⌜ Spared (isLent (now (items .entry)) (now (state .entry))) (now (items .entry)) (now (items .exit)) ⌝ }
@@ -78,7 +78,7 @@ pub fn abandon(items: &mut [u32], state: &mut [u32; 3]) -> u32
     guard::keep(state, r)
 }
 
-pub fn return_to(items: &mut [u32], state: &mut [u32; 3], version: u32) -> u32
+pub fn return_to(items: &mut [u32], state: &mut [u32; 5], version: u32) -> u32
     ensures given { λ r. ⌜ leftLent r (now (items .exit)) (now (state .exit)) ≡ returnGuarded (now (items .entry)) (now (state .entry)) version ⌝ }
     ensures spared { λ _. ⌜ Spared (isLent (now (items .entry)) (now (state .entry))) (now (state .entry)) (now (state .exit)) ⌝ }
     ensures untouched { λ _. ⌜ Spared (isLent (now (items .entry)) (now (state .entry))) (now (items .entry)) (now (items .exit)) ⌝ }
@@ -94,7 +94,20 @@ pub fn return_to(items: &mut [u32], state: &mut [u32; 3], version: u32) -> u32
     guard::keep(state, r)
 }
 
-pub fn lookup(items: &[u32], state: &[u32; 3], key: u32, version: u32) -> Looked
+pub fn prune(items: &mut [u32], state: &mut [u32; 5], version: u32) -> u32
+    ensures given { λ r. ⌜ leftLent r (now (items .exit)) (now (state .exit)) ≡ pruneGuarded (now (items .entry)) (now (state .entry)) version ⌝ }
+    ensures spared { λ _. ⌜ Spared (isLent (now (items .entry)) (now (state .entry))) (now (state .entry)) (now (state .exit)) ⌝ }
+    ensures untouched { λ _. ⌜ Spared (isLent (now (items .entry)) (now (state .entry))) (now (items .entry)) (now (items .exit)) ⌝ }
+{
+    if !guard::is_lent(items, state) {
+        return NONE;
+    }
+    let s = guard::state_of(state);
+    let r = crate::prune(items, s, version);
+    guard::keep(state, r)
+}
+
+pub fn lookup(items: &[u32], state: &[u32; 5], key: u32, version: u32) -> Looked
     ensures { λ r. ⌜ r ≡ lookupGuarded (now (items .entry)) (now (state .entry)) key version ⌝ }
 {
     if !guard::is_lent(items, state) {
@@ -105,7 +118,7 @@ pub fn lookup(items: &[u32], state: &[u32; 3], key: u32, version: u32) -> Looked
 
 pub fn range(
     items: &[u32],
-    state: &[u32; 3],
+    state: &[u32; 5],
     low: u32,
     high: u32,
     version: u32,
@@ -119,7 +132,7 @@ pub fn range(
     crate::range(items, guard::state_of(state), low, high, version, list)
 }
 
-pub fn difference(items: &[u32], state: &[u32; 3], old: u32, new: u32, list: &mut [u32]) -> Told
+pub fn difference(items: &[u32], state: &[u32; 5], old: u32, new: u32, list: &mut [u32]) -> Told
     ensures { λ r. ⌜ toldWith r (now (list .exit)) ≡ differenceGuarded (now (items .entry)) (now (state .entry)) old new (now (list .entry)) ⌝ }
 {
     if !guard::is_lent(items, state) {
@@ -128,7 +141,7 @@ pub fn difference(items: &[u32], state: &[u32; 3], old: u32, new: u32, list: &mu
     crate::difference(items, guard::state_of(state), old, new, list)
 }
 
-pub fn life_of(items: &[u32], state: &[u32; 3], key: u32, list: &mut [u32]) -> Told
+pub fn life_of(items: &[u32], state: &[u32; 5], key: u32, list: &mut [u32]) -> Told
     ensures { λ r. ⌜ toldWith r (now (list .exit)) ≡ lifeGuarded (now (items .entry)) (now (state .entry)) key (now (list .entry)) ⌝ }
 {
     if !guard::is_lent(items, state) {

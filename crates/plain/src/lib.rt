@@ -15,8 +15,9 @@ ghost use mathlib.Core.Path.{_≡_};
 ghost use Prim.Native.Nat.{_≤_};
 ghost use lib.ListN.{length};
 ghost use Rattle.model.specs.Store.{lastOf};
+ghost use Rattle.model.specs.Calls.{beyond};
 ghost use Rattle.model.specs.Lent.{listed};
-ghost use Rattle.plain.specs.Plain.{insert, delete, commit, abandon, return, lookup, range, difference, life};
+ghost use Rattle.plain.specs.Plain.{insert, delete, commit, abandon, return, prune, lookup, range, difference, life};
 ghost use Rattle.plain.specs.Items.{plainOf, Held};
 ghost use Rattle.plain.specs.Tell.{toldAs, toldWith, badRange};
 ghost use Rattle.plain.specs.Calls.{givenBy, leftWith, Room, Opens};
@@ -28,12 +29,14 @@ pub const ALIVE: u32 = 1048575;
 // "Keys 16,776,960 and above belong to our test bench."
 const BENCH: u32 = 16776960;
 
-// What goes into a call beside the items, and comes back with its answer: the current version, whether an update is open, and how many
-// items the list holds.
+// What goes into a call beside the items, and comes back with its answer: the current version, whether an update is open, how many items
+// the list holds, the oldest version, and the edition, which prune alone asks for.
 pub struct State {
     pub current: u32,
     pub opened: bool,
     pub count: usize,
+    pub oldest: u32,
+    pub edition: u32,
 }
 
 impl State {
@@ -46,6 +49,27 @@ impl State {
             return self.current + 1;
         }
         self.current
+    }
+
+    // 6 of a reading: above last, or below the oldest.
+    fn unreadable(self, v: u32) -> bool
+        requires { ⌜ self .current ≤ 1048574 ⌝ }
+        ensures { λ r. ⌜ r ≡ beyond (lastOf (self .opened) (self .current)) (self .oldest) v ⌝ }
+    {
+        if self.last() < v {
+            return true;
+        }
+        v < self.oldest
+    }
+
+    // 6 of a return and of a prune: above the current version, or below the oldest.
+    fn uncommitted(self, v: u32) -> bool
+        ensures { λ r. ⌜ r ≡ beyond (self .current) (self .oldest) v ⌝ }
+    {
+        if self.current < v {
+            return true;
+        }
+        v < self.oldest
     }
 }
 
@@ -90,6 +114,8 @@ fn done(s: State, n: usize) -> Left
             current: s.current,
             opened: s.opened,
             count: n,
+            oldest: s.oldest,
+            edition: s.edition,
         },
     }
 }
@@ -109,6 +135,8 @@ pub fn open(s: State) -> Left
             current: s.current,
             opened: true,
             count: s.count,
+            oldest: s.oldest,
+            edition: s.edition,
         },
     }
 }
@@ -171,6 +199,8 @@ pub fn abandon(items: &mut [u32], s: State) -> Left
             current: s.current,
             opened: false,
             count: n,
+            oldest: s.oldest,
+            edition: s.edition,
         },
     }
 }
@@ -193,6 +223,8 @@ pub fn commit(items: &[u32], s: State) -> Left
             current: w,
             opened: false,
             count: s.count,
+            oldest: s.oldest,
+            edition: s.edition,
         },
     }
 }
@@ -201,7 +233,7 @@ pub fn return_to(items: &mut [u32], s: State, v: u32) -> Left
     requires { ⌜ Held s (now items) × Room (return (plainOf s (now items)) v) (now items) ⌝ }
     ensures { λ r. ⌜ givenBy r (now (items .exit)) ≡ return (plainOf s (now (items .entry))) v ⌝ }
 {
-    if s.current < v {
+    if s.uncommitted(v) {
         return refused(6, s);
     }
     if !s.opened {
@@ -213,6 +245,33 @@ pub fn return_to(items: &mut [u32], s: State, v: u32) -> Left
     done(s, m)
 }
 
+// What ended at or before v goes.
+pub fn prune(items: &mut [u32], s: State, v: u32) -> Left
+    requires { ⌜ Held s (now items) ⌝ }
+    ensures { λ r. ⌜ givenBy r (now (items .exit)) ≡ prune (plainOf s (now (items .entry))) v ⌝ }
+{
+    if s.edition == 1 {
+        return refused(3, s);
+    }
+    if s.uncommitted(v) {
+        return refused(6, s);
+    }
+    if s.opened {
+        return refused(8, s);
+    }
+    let n = sweep::drop_ended(items, s.count, v);
+    Left {
+        number: 0,
+        state: State {
+            current: s.current,
+            opened: s.opened,
+            count: n,
+            oldest: v,
+            edition: s.edition,
+        },
+    }
+}
+
 pub fn lookup(items: &[u32], s: State, key: u32, v: u32) -> Looked
     requires { ⌜ Held s (now items) ⌝ }
     ensures { λ r. ⌜ r ≡ lookup (plainOf s (now (items .entry))) key v ⌝ }
@@ -220,7 +279,7 @@ pub fn lookup(items: &[u32], s: State, key: u32, v: u32) -> Looked
     if KEYS <= key {
         return Looked::Refused(5);
     }
-    if s.last() < v {
+    if s.unreadable(v) {
         return Looked::Refused(6);
     }
     let a = items::value_at(items, s.count, key, v);
@@ -251,7 +310,7 @@ pub fn range(items: &[u32], s: State, low: u32, high: u32, v: u32, list: &mut [u
     if bad_range(low, high) {
         return told_as(5, 0);
     }
-    if s.last() < v {
+    if s.unreadable(v) {
         return told_as(6, 0);
     }
     let found = tell::tell_settings(items, s.count, low, high, v, list, false);
@@ -266,10 +325,10 @@ pub fn difference(items: &[u32], s: State, u: u32, v: u32, list: &mut [u32]) -> 
     requires { ⌜ Held s (now items) ⌝ }
     ensures { λ r. ⌜ toldWith r (now (list .exit)) ≡ listed (now (list .entry)) (difference (plainOf s (now (items .entry))) u v (length (now (list .entry)))) ⌝ }
 {
-    if s.last() < u {
+    if s.unreadable(u) {
         return told_as(6, 0);
     }
-    if s.last() < v {
+    if s.unreadable(v) {
         return told_as(6, 0);
     }
     let found = tell::tell_differences(items, s.count, u, v, list, false);
@@ -280,7 +339,7 @@ pub fn difference(items: &[u32], s: State, u: u32, v: u32, list: &mut [u32]) -> 
     told_as(0, found)
 }
 
-// The life of a key; "an open update is not shown".
+// The life of a key from the oldest version on; "an open update is not shown".
 pub fn life_of(items: &[u32], s: State, key: u32, list: &mut [u32]) -> Told
     requires { ⌜ Held s (now items) ⌝ }
     ensures { λ r. ⌜ toldWith r (now (list .exit)) ≡ listed (now (list .entry)) (life (plainOf s (now (items .entry))) key (length (now (list .entry)))) ⌝ }
@@ -288,10 +347,10 @@ pub fn life_of(items: &[u32], s: State, key: u32, list: &mut [u32]) -> Told
     if KEYS <= key {
         return told_as(5, 0);
     }
-    let found = life::tell_life(items, s.count, key, s.current, list, false);
+    let found = life::tell_life(items, s.count, key, s.oldest, s.current, list, false);
     if list.len() < 3 * found {
         return told_as(14, found);
     }
-    life::tell_life(items, s.count, key, s.current, list, true);
+    life::tell_life(items, s.count, key, s.oldest, s.current, list, true);
     told_as(0, found)
 }

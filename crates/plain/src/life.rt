@@ -114,13 +114,21 @@ fn tell_stretch(list: &mut [u32], k: usize, v: u32, e: u32, a: Found, write: boo
     k
 }
 
-// The stretches up to version c, into a list or only counted; gives how many there are.
-pub fn tell_life(items: &[u32], n: usize, key: u32, c: u32, list: &mut [u32], write: bool) -> usize
-    requires { ⌜ (4 * n ≤ length (now items)) × (c ≤ 1048574) × Space stretches write (now list) 0 (lifeOf c (λ w. valueAt key w (from (now items) 0 n))) ⌝ }
-    ensures { λ r. ⌜ Gathers stretches write (now (list .entry)) (now (list .exit)) 0 r (lifeOf c (λ w. valueAt key w (from (now (items .entry)) 0 n))) ⌝ }
+// The stretches from version old up to c, into a list or only counted; gives how many there are.
+pub fn tell_life(
+    items: &[u32],
+    n: usize,
+    key: u32,
+    old: u32,
+    c: u32,
+    list: &mut [u32],
+    write: bool,
+) -> usize
+    requires { ⌜ (4 * n ≤ length (now items)) × (c ≤ 1048574) × Space stretches write (now list) 0 (lifeOf old c (λ w. valueAt key w (from (now items) 0 n))) ⌝ }
+    ensures { λ r. ⌜ Gathers stretches write (now (list .entry)) (now (list .exit)) 0 r (lifeOf old c (λ w. valueAt key w (from (now (items .entry)) 0 n))) ⌝ }
 {
     let mut found = 0;
-    let mut v = 0;
+    let mut v = old;
     while v <= c {
         let a = items::value_at(items, n, key, v);
         let r = change_after(items, n, key, v, c, a);

@@ -1,4 +1,4 @@
-// One pass over the items that takes some out, and gives others another end: a delete's and an abandon's.
+// One pass over the items that takes some out, and gives others another end: a delete's and an abandon's; and a prune's.
 use crate::ALIVE;
 use crate::items;
 use model::Entry;
@@ -6,7 +6,7 @@ ghost use mathlib.Core.Path.{_≡_};
 ghost use mathlib.Core.Bool.{true};
 ghost use Rattle.model.specs.Telling.{Space, Gathers};
 ghost use Rattle.plain.specs.Items.{Lent, from, kept};
-ghost use Rattle.plain.specs.Sweep.{ended, undone, fate, keptBy, swept};
+ghost use Rattle.plain.specs.Sweep.{ended, undone, fate, outliving, keptBy, swept};
 
 // What becomes of an item: whether it stays, and its end then.
 pub struct Lot {
@@ -88,13 +88,38 @@ fn keep(items: &mut [u32], j: usize, e: Entry, f: Lot) -> usize
 // The first n items swept: with `undo` what an abandon of version w leaves, else what ending the key at w leaves. Gives how many stay.
 pub fn sweep(items: &mut [u32], n: usize, w: u32, undo: bool, key: u32) -> usize
     requires { ⌜ Lent n (now items) ⌝ }
-    ensures { λ r. ⌜ Gathers kept true (now (items .entry)) (now (items .exit)) 0 r (swept w undo key (from (now (items .entry)) 0 n)) ⌝ }
+    ensures { λ r. ⌜ Gathers kept true (now (items .entry)) (now (items .exit)) 0 r (swept (fate w undo key) (from (now (items .entry)) 0 n)) ⌝ }
 {
     let mut j = 0;
     let mut i = 0;
     while i < n {
         let e = items::item(items, i);
         j = keep(items, j, e, fate(e, w, undo, key));
+        i += 1;
+    }
+    j
+}
+
+// An item that ends behind v stays as it is.
+fn outliving(e: Entry, v: u32) -> Lot
+    ensures { λ r. ⌜ r ≡ outliving v e ⌝ }
+{
+    Lot {
+        stays: v < e.end,
+        end: e.end,
+    }
+}
+
+// The first n items without those that ended at or before v. Gives how many stay.
+pub fn drop_ended(items: &mut [u32], n: usize, v: u32) -> usize
+    requires { ⌜ Lent n (now items) ⌝ }
+    ensures { λ r. ⌜ Gathers kept true (now (items .entry)) (now (items .exit)) 0 r (swept (outliving v) (from (now (items .entry)) 0 n)) ⌝ }
+{
+    let mut j = 0;
+    let mut i = 0;
+    while i < n {
+        let e = items::item(items, i);
+        j = keep(items, j, e, outliving(e, v));
         i += 1;
     }
     j

@@ -34,7 +34,7 @@ use Rattle.promises.specs.Runs.{Turn, Kind, making, changing, kindOf, as
 use Rattle.promises.specs.Beside.{Beside, whenDone, stepped, undone, talliedBy, onward, along, fromFresh, fromLent}
 use Rattle.promises.proofs.Known.{four}
 use Rattle.promises.proofs.Encoded.{encoded-sound}
-use Rattle.promises.proofs.High.{HighBy, call-high, Stopping, call-stops}
+use Rattle.promises.proofs.High.{SomeBy, call-some, Stopping, call-stops}
 use Rattle.promises.proofs.Lending.{kind-asks, Makes, by-kind, change-is, made-right, made-wrong, Leaves, change-leaves, fresh-leaves, held-sound}
 
 -- the store that the bytes hold, beside the machine
@@ -116,9 +116,9 @@ module _ (x : Beside) (a : Agreed x) where
       let ag = one-call l (four b) (bothOf x) (a .agrees) c h in
       let co = one-count l (four b) (bothOf x) (a .agrees) (x .tally) (a .counts) c ag in
       subst (λ (e : Ended). Agreed (gone x e (changing c))) (sym is)
-      (at (callBy l s c) (call-high l s c) (call-stops l s c) ag co (subst (λ (e : Ended). Leaves l (x .bytes) (after s (callBy l s c) .store) (e .store)) is left))
+      (at (callBy l s c) (call-some l s c) (call-stops l s c) ag co (subst (λ (e : Ended). Leaves l (x .bytes) (after s (callBy l s c) .store) (e .store)) is left))
     where
-      at : (r : Came) → HighBy r → Stopping c r → Agrees l (Settings.onward (bothOf x) c r) → Counts (Settings.onward (bothOf x) c r) (countedBy (x .machine) (x .tally) c r)
+      at : (r : Came) → SomeBy r → Stopping c r → Agrees l (Settings.onward (bothOf x) c r) → Counts (Settings.onward (bothOf x) c r) (countedBy (x .machine) (x .tally) c r)
           → Leaves l (x .bytes) (after s r .store) (leftBy l (x .bytes) r .store) → Agreed (gone x (ofOutcome ns (leftBy l (x .bytes) r)) (changing c))
       at (gave (done t)) hi st ag co left = agreed-by l (x .bytes) (encode l t) t left (Settings.step (x .machine) c) (Settings.counted (x .machine) (x .tally) c) ag co
       at (gave (refused zero)) hi st ag co left = absurd (omega arith)

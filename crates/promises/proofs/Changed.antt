@@ -15,6 +15,8 @@ use Rattle.model.specs.Walk.{keyLimit, settings}
 use Rattle.model.specs.Calls.{rule, firstOf, benchLimit, insertTests, deleteTests}
 use Rattle.model.specs.Settings.{Machine, edited, put}
 use Rattle.model.specs.Ended.{toInsert, toDelete, ended}
+use Rattle.model.specs.Editions.{leastOf}
+use Rattle.model.proofs.Given.{old-current}
 use Rattle.promises.specs.Accepts.{Accepts, storeOf}
 use Rattle.promises.specs.Runs.{Turn, kindOf, fitting}
 use Rattle.promises.specs.Beside.{whenDone, stepped, undone, onward, fromLent}
@@ -48,17 +50,20 @@ module _ (b : List ℕ) (t : Turn) (ok : Accepts b) (fit : fitting (kindOf (t .c
   last-is =
       ap₂ lastOf (agreed .agrees .opened ∙ ap (λ (m : Machine). m .opened) machine-is ∙ o) (agreed .agrees .current ∙ ap (λ (m : Machine). m .current) machine-is)
 
-  shows : (v : ℕ) → v ≤ suc (storeOf b .current) → settings (storeOf (onward (fromLent b) t .bytes)) v
+  old-is : storeOf (onward (fromLent b) t .bytes) .oldest ≡ storeOf b .oldest
+  old-is = agreed .agrees .oldest ∙ ap (λ (m : Machine). m .oldest) machine-is
+
+  shows : (v : ℕ) → storeOf b .oldest ≤ v → v ≤ suc (storeOf b .current) → settings (storeOf (onward (fromLent b) t .bytes)) v
       ≡ put (suc (storeOf b .current)) (g (settings (storeOf b) (suc (storeOf b .current)))) (settings (storeOf b)) v
-  shows v h = agreed .agrees .shows v (omega (arith, last-is)) ∙ ap (λ (m : Machine). m .shows v) machine-is
+  shows v f h = agreed .agrees .shows v (omega (arith, last-is, old-is)) ∙ ap (λ (m : Machine). m .shows v) machine-is
 
   pub changes : Changes (storeOf b) (storeOf (onward (fromLent b) t .bytes)) g
   changes =
       let w : ℕ = suc (storeOf b .current) in
       let us : List Pair = g (settings (storeOf b) (suc (storeOf b .current))) in
       record {
-        last-one = shows w (omega arith) ∙ ap (λ (q : Bool). pick q us (settings (storeOf b) w)) (eq-eqb w w refl);
-        older = λ v h. shows v (omega arith) ∙ ap (λ (q : Bool). pick q us (settings (storeOf b) v)) (ne-eqb v w (λ (e : v ≡ w). omega arith));
+        last-one = shows w (omega (arith, old-current (leastOf b) (storeOf b) (lent-agreed b ok .agrees .is-sound .old-low))) (omega arith) ∙ ap (λ (q : Bool). pick q us (settings (storeOf b) w)) (eq-eqb w w refl);
+        older = λ v f h. shows v f (omega arith) ∙ ap (λ (q : Bool). pick q us (settings (storeOf b) v)) (ne-eqb v w (λ (e : v ≡ w). omega arith));
       }
 
 pub settings-change : SettingsChange

@@ -8,7 +8,7 @@ use mathlib.Core.List.{List, [], _∷_}
 use lib.Dec.{leb, ltb, eqb}
 use lib.ListN.{length}
 use borrow.Author.Tests.{leb-false, lt-leb, eqb-false, ne-eqb, eqb-true, eq-eqb, ltb-true}
-use Rattle.model.specs.Basic.{all, inOrder}
+use Rattle.model.specs.Basic.{all, pick, inOrder}
 use Rattle.model.specs.declared.Pair.{Pair}
 use Rattle.model.specs.declared.Slot.{Slot}
 use Rattle.model.specs.Entry.{before}
@@ -72,23 +72,34 @@ module _ (least : ℕ) (b : List ℕ) where
       good x = isPage (length ps) (x .root)
 
       slots : (all good (decode least b .slots) ≡ false) ⊎ (rule2 (decode least b) ≡ false) → FrontWrong least b
-      slots (inl e) = inr (inr (inl (fails-all good (λ (x : Slot). good x ≡ false) (decode least b .slots) (λ x q. q) e)))
-      slots (inr e) = inr (inr (inr e))
+      slots (inl e) = inr (inr (inr (inl (fails-all good (λ (x : Slot). good x ≡ false) (decode least b .slots) (λ x q. q) e))))
+      slots (inr e) = inr (inr (inr (inr e)))
 
-      fields : (leb top 1048574 ≡ false) ⊎ ((all good (decode least b .slots) && rule2 (decode least b)) ≡ false) → FrontWrong least b
+      most : ℕ
+      most = pick (leb least 4) 0 (decode least b .current)
+
+      old : ℕ
+      old = decode least b .oldest
+
+      aged : (leb old most ≡ false) ⊎ ((all good (decode least b .slots) && rule2 (decode least b)) ≡ false) → FrontWrong least b
+      aged (inl e) = inr (inr (inl (leb-false old most e)))
+      aged (inr e) = slots (fails-or (all good (decode least b .slots)) (rule2 (decode least b)) e)
+
+      fields : (leb top 1048574 ≡ false) ⊎ ((leb old most && (all good (decode least b .slots) && rule2 (decode least b))) ≡ false) → FrontWrong least b
       fields (inl e) = inr (inl (leb-false top 1048574 e))
-      fields (inr e) = slots (fails-or (all good (decode least b .slots)) (rule2 (decode least b)) e)
+      fields (inr e) = aged (fails-or (leb old most) (all good (decode least b .slots) && rule2 (decode least b)) e)
 
-      to : (cleanFront least b ≡ false) ⊎ ((leb top 1048574 && (all good (decode least b .slots) && rule2 (decode least b))) ≡ false) → FrontWrong least b
+      to : (cleanFront least b ≡ false) ⊎ ((leb top 1048574 && (leb old most && (all good (decode least b .slots) && rule2 (decode least b)))) ≡ false) → FrontWrong least b
       to (inl e) = inl e
-      to (inr e) = fields (fails-or (leb top 1048574) (all good (decode least b .slots) && rule2 (decode least b)) e)
+      to (inr e) = fields (fails-or (leb top 1048574) (leb old most && (all good (decode least b .slots) && rule2 (decode least b))) e)
 
-      back : FrontWrong least b → (cleanFront least b && (leb top 1048574 && (all good (decode least b .slots) && rule2 (decode least b)))) ≡ false
+      back : FrontWrong least b → (cleanFront least b && (leb top 1048574 && (leb old most && (all good (decode least b .slots) && rule2 (decode least b))))) ≡ false
       back (inl e) = fails-left (cleanFront least b) _ e
       back (inr (inl e)) = fails-right (cleanFront least b) _ (fails-left (leb top 1048574) _ (lt-leb top 1048574 e))
-      back (inr (inr (inl e))) =
-          fails-right (cleanFront least b) _ (fails-right (leb top 1048574) _ (fails-left (all good (decode least b .slots)) _ (some-fails good (λ (x : Slot). good x ≡ false) (decode least b .slots) (λ x q. q) e)))
-      back (inr (inr (inr e))) = fails-right (cleanFront least b) _ (fails-right (leb top 1048574) _ (fails-right (all good (decode least b .slots)) (rule2 (decode least b)) e))
+      back (inr (inr (inl e))) = fails-right (cleanFront least b) _ (fails-right (leb top 1048574) _ (fails-left (leb old most) _ (lt-leb old most e)))
+      back (inr (inr (inr (inl e)))) =
+          fails-right (cleanFront least b) _ (fails-right (leb top 1048574) _ (fails-right (leb old most) _ (fails-left (all good (decode least b .slots)) _ (some-fails good (λ (x : Slot). good x ≡ false) (decode least b .slots) (λ x q. q) e))))
+      back (inr (inr (inr (inr e)))) = fails-right (cleanFront least b) _ (fails-right (leb top 1048574) _ (fails-right (leb old most) _ (fails-right (all good (decode least b .slots)) (rule2 (decode least b)) e)))
 
   -- ---- one page
 

@@ -10,7 +10,7 @@ use lib.Dec.{ltb}
 use lib.ListN.{length}
 use borrow.Author.Tests.{eq-eqb}
 use Rattle.model.specs.Limits.{limits, Edition}
-use Rattle.model.specs.Store.{Store, fresh}
+use Rattle.model.specs.Store.{Store, fresh, last, lastOf}
 use Rattle.model.specs.Walk.{settings}
 use Rattle.model.specs.Layout.{sizeOf, encode, decode}
 use Rattle.model.specs.Judged.{lengthOk, magicOk, editionOk, judged, isSound}
@@ -22,11 +22,11 @@ use Rattle.model.specs.Lent.{Outcome, Listed, judgedFirst, listed, freshLent, l
 use Rattle.model.specs.Editions.{leastOf}
 use Rattle.model.specs.Any.{judgedAny, lookupAny, rangeAny, differenceAny, lifeAny}
 use Rattle.model.specs.Convert.{convertTests, convertLent}
-use Rattle.model.proofs.Given.{Sound}
+use Rattle.model.proofs.Given.{Sound, Readable}
 use Rattle.model.proofs.Stops.{lacking-is}
 use Rattle.model.proofs.Editions.{Lends, accepted-lent, goes-at}
 use Rattle.model.proofs.Converted.{Upto}
-use Rattle.model.proofs.Converting.{Passed, is-judged, source-sound, lent-by}
+use Rattle.model.proofs.Converting.{Passed, is-judged, source-sound, source-whole, lent-by}
 use Rattle.model.proofs.Readings.{get-same, range-same, difference-same, life-same}
 use Rattle.near.specs.Same.{lookup-same, range-same as range-lent-same}
 use Rattle.written.specs.Encoded.{encoded-accepted, encoded-held}
@@ -84,6 +84,14 @@ module _ (b t : List ℕ) (p : Passed b t) (u : Store) (r : Upto 8 (decode 4 b) 
   source : Lends 4 b
   source = accepted-lent 4 (inl refl) b (is-judged p)
 
+  old-is : u .oldest ≡ decode 4 b .oldest
+  old-is = r .oldest ∙ sym (source-whole p)
+
+  same-now : (v : ℕ) → Readable (decode 4 b) v → settings u v ≡ settings (decode 4 b) v
+  same-now v h =
+      let e : last (decode 4 b) ≡ decode 4 b .current = ap (λ (q : Bool). lastOf q (decode 4 b .current)) (p .shut) in
+      r .same v (omega (arith, h .upto, e))
+
   whole : Converted b (encode 8 u)
   whole = record {
     accepted = judged-is 8 (omega arith) (omega arith) made ok target;
@@ -93,19 +101,19 @@ module _ (b t : List ℕ) (p : Passed b t) (u : Store) (r : Upto 8 (decode 4 b) 
     shows = λ v h. ap (λ (x : Store). settings x v) held ∙ r .same v h;
     lookups = λ k v.
         lookup-is 8 (omega arith) (omega arith) made ok target k v ∙ ap (λ (x : Store). get x k v) held
-        ∙ get-same 4 (omega arith) (decode 4 b) (source-sound p) 8 (omega arith) u (r .is-sound) (p .shut) (r .closed) (r .current) (r .same) k v
+        ∙ get-same 4 (omega arith) (decode 4 b) (source-sound p) 8 (omega arith) u (r .is-sound) (p .shut) (r .closed) (r .current) old-is same-now k v
         ∙ sym (lookup-is 4 (omega arith) (omega arith) b (is-judged p) source k v);
     ranges = λ lo hi v ns.
         range-is 8 (omega arith) (omega arith) made ok target lo hi v ns ∙ ap (λ (x : Store). listed ns (range x lo hi v (length ns))) held
-        ∙ ap (listed ns) (range-same 4 (omega arith) (decode 4 b) (source-sound p) 8 (omega arith) u (r .is-sound) (p .shut) (r .closed) (r .current) (r .same) lo hi v (length ns))
+        ∙ ap (listed ns) (range-same 4 (omega arith) (decode 4 b) (source-sound p) 8 (omega arith) u (r .is-sound) (p .shut) (r .closed) (r .current) old-is same-now lo hi v (length ns))
         ∙ sym (range-is 4 (omega arith) (omega arith) b (is-judged p) source lo hi v ns);
     differences = λ w v ns.
         difference-is 8 (omega arith) (omega arith) made ok target w v ns ∙ ap (λ (x : Store). listed ns (difference x w v (length ns))) held
-        ∙ ap (listed ns) (difference-same 4 (omega arith) (decode 4 b) (source-sound p) 8 (omega arith) u (r .is-sound) (p .shut) (r .closed) (r .current) (r .same) w v (length ns))
+        ∙ ap (listed ns) (difference-same 4 (omega arith) (decode 4 b) (source-sound p) 8 (omega arith) u (r .is-sound) (p .shut) (r .closed) (r .current) old-is same-now w v (length ns))
         ∙ sym (difference-is 4 (omega arith) (omega arith) b (is-judged p) source w v ns);
     lives = λ k ns.
         life-is 8 (omega arith) (omega arith) made ok target k ns ∙ ap (λ (x : Store). listed ns (lived x k (length ns))) held
-        ∙ ap (listed ns) (life-same 4 (omega arith) (decode 4 b) (source-sound p) 8 (omega arith) u (r .is-sound) (p .shut) (r .closed) (r .current) (r .same) k (length ns))
+        ∙ ap (listed ns) (life-same 4 (omega arith) (decode 4 b) (source-sound p) 8 (omega arith) u (r .is-sound) (p .shut) (r .closed) (r .current) old-is same-now k (length ns))
         ∙ sym (life-is 4 (omega arith) (omega arith) b (is-judged p) source k ns);
   }
 

@@ -24,7 +24,8 @@ use Rattle.model.specs.Differ.{differ, saysOf, deltaNumbers, difference}
 use Rattle.model.specs.Lent.{Listed, listed}
 use Rattle.model.specs.Ended.{ofListed}
 use Rattle.model.specs.Inner.{rising}
-use Rattle.model.proofs.Given.{Sound, from-tests}
+use Rattle.model.proofs.Given as stands
+use Rattle.model.proofs.Given.{Sound, from-tests, of-readable}
 use Rattle.model.proofs.Members.{holds-true}
 use Rattle.model.proofs.Lists.{both-true, both-intro, all-cons}
 use Rattle.model.proofs.Local.{inRange}
@@ -37,15 +38,16 @@ use Rattle.promises.specs.Differences.{differences, Readable, Given, Dif
 use Rattle.promises.proofs.Known.{four}
 use Rattle.promises.proofs.Lending.{held-sound}
 use Rattle.promises.proofs.Sounding.{difference-lent}
-use Rattle.promises.proofs.Stays.{later, old, new, view}
+use Rattle.promises.proofs.Stays as stays
+use Rattle.promises.proofs.Stays.{later, view}
 
 -- ---- the call on accepted bytes
 
 -- two versions that can be read: no 6
-read-both : (s : Store) (u v room : ℕ) → u ≤ last s → v ≤ last s → difference s u v room ≡ toldBy deltaNumbers 4 0 room (differences s u v)
+read-both : (s : Store) (u v room : ℕ) → stands.Readable s u → stands.Readable s v → difference s u v room ≡ toldBy deltaNumbers 4 0 room (differences s u v)
 unfolding Differ.difference
 read-both s u v room h k =
-    ap₂ (λ (p q : Bool). toldBy deltaNumbers 4 (firstOf (rule 6 (p || q) ∷ [])) room (differences s u v)) (le-ltb (last s) u h) (le-ltb (last s) v k)
+    ap₂ (λ (p q : Bool). toldBy deltaNumbers 4 (firstOf (rule 6 (p || q) ∷ [])) room (differences s u v)) (of-readable s u h) (of-readable s v k)
 
 length-numbers : (ds : List Delta) → length (flatMap deltaNumbers ds) ≡ 4 * length ds
 length-numbers [] = refl
@@ -72,8 +74,14 @@ module _ (b : List ℕ) (u v : ℕ) (r : Readable b u v) where
   abbrev s : Store
   s = storeOf b
 
+  old : stands.Readable (storeOf b) u
+  old = record { from = r .old-kept; upto = r .old }
+
+  new : stands.Readable (storeOf b) v
+  new = record { from = r .new-kept; upto = r .new }
+
   call-is : (ns : List ℕ) → differenceAny b u v ns ≡ listed ns (toldBy deltaNumbers 4 0 (length ns) (differences (storeOf b) u v))
-  call-is ns = difference-lent b (r .accepted) u v ns ∙ ap (listed ns) (read-both (storeOf b) u v (length ns) (r .old) (r .new))
+  call-is ns = difference-lent b (r .accepted) u v ns ∙ ap (listed ns) (read-both (storeOf b) u v (length ns) old new)
 
   given : Given b u v (differences (storeOf b) u v)
   given = record {
@@ -89,19 +97,19 @@ module _ (b : List ℕ) (u v : ℕ) (r : Readable b u v) where
   two : 2 ≤ leastOf b
   two = omega (arith, four b)
 
-  rises : (w : ℕ) → w ≤ last (storeOf b) → rising (settings (storeOf b) w) ≡ true
+  rises : (w : ℕ) → stands.Readable (storeOf b) w → rising (settings (storeOf b) w) ≡ true
   rises w h = settings-rise (leastOf b) two (storeOf b) is-sound w h
 
-  looks : (k w : ℕ) → k < keyLimit → w ≤ last (storeOf b) → lookup (storeOf b) k w ≡ find k (settings (storeOf b) w)
+  looks : (k w : ℕ) → k < keyLimit → stands.Readable (storeOf b) w → lookup (storeOf b) k w ≡ find k (settings (storeOf b) w)
   looks k w low h = lookup-is (leastOf b) two (storeOf b) is-sound k w low h
 
   says : Says (storeOf b) u v (differences (storeOf b) u v)
   says = record {
-    complete = λ k low n. lists.complete us ws p q k (λ (e : find k us ≡ find k ws). n (looks k u low (r .old) ∙ e ∙ sym (looks k v low (r .new))));
-    unchanged = λ k low e. lists.unchanged us ws p q k (sym (looks k u low (r .old)) ∙ e ∙ looks k v low (r .new));
-    keys = lists.keys-so (λ (k : ℕ). ltb k keyLimit) us ws p q (low-all us (settings-low (leastOf b) two (storeOf b) is-sound u (r .old))) (low-all ws (settings-low (leastOf b) two (storeOf b) is-sound v (r .new)));
+    complete = λ k low n. lists.complete us ws p q k (λ (e : find k us ≡ find k ws). n (looks k u low old ∙ e ∙ sym (looks k v low new)));
+    unchanged = λ k low e. lists.unchanged us ws p q k (sym (looks k u low old) ∙ e ∙ looks k v low new);
+    keys = lists.keys-so (λ (k : ℕ). ltb k keyLimit) us ws p q (low-all us (settings-low (leastOf b) two (storeOf b) is-sound u old)) (low-all ws (settings-low (leastOf b) two (storeOf b) is-sound v new));
     order = lists.in-order us ws p q;
-    right = λ k low. lists.says k us ws p q ∙ sym (ap₂ (saysOf k) (looks k u low (r .old)) (looks k v low (r .new)));
+    right = λ k low. lists.says k us ws p q ∙ sym (ap₂ (saysOf k) (looks k u low old) (looks k v low new));
     applied = lists.applied us ws p q;
   }
     where
@@ -112,10 +120,10 @@ module _ (b : List ℕ) (u v : ℕ) (r : Readable b u v) where
       ws = settings (storeOf b) v
 
       p : rising (settings (storeOf b) u) ≡ true
-      p = rises u (r .old)
+      p = rises u old
 
       q : rising (settings (storeOf b) v) ≡ true
-      q = rises v (r .new)
+      q = rises v new
 
 pub difference-given : DifferenceGiven
 difference-given = given
@@ -124,24 +132,28 @@ pub difference-says : DifferenceSays
 difference-says = says
 
 pub difference-exchanged : DifferenceExchanged
-difference-exchanged b u v r = lists.sides (settings (storeOf b) u) (settings (storeOf b) v) (rises b u v r u (r .old)) (rises b u v r v (r .new))
+difference-exchanged b u v r = lists.sides (settings (storeOf b) u) (settings (storeOf b) v) (rises b u v r u (old b u v r)) (rises b u v r v (new b u v r))
 
 pub difference-none : DifferenceNone
 difference-none b v r ns =
-    let e : differences (storeOf b) v v ≡ [] = lists.none-differs (settings (storeOf b) v) (rises b v v r v (r .old)) in
+    let e : differences (storeOf b) v v ≡ [] = lists.none-differs (settings (storeOf b) v) (rises b v v r v (old b v v r)) in
     ap (ofListed b) (call-is b v v r ns ∙ ap (λ (ds : List Delta). listed ns (toldBy deltaNumbers 4 0 (length ns) ds)) e ∙ told-all ns [] (omega arith))
 
 -- ---- later
 
 pub difference-stays : DifferenceStays
-difference-stays b ok ts f m u v i j ns =
+difference-stays b ok ts f m u v p i q j ns =
     let b′ = runBytes b ts in
     let t = storeOf b′ in
-    let now : Readable b u v = record { accepted = ok; old = old b ok ts f m u i; new = old b ok ts f m v j } in
-    let then : Readable b′ u v = record { accepted = later b ok ts f m .accepts; old = new b ok ts f m u i; new = new b ok ts f m v j } in
+    let oldU = stays.old b ok ts f m u p i in
+    let oldV = stays.old b ok ts f m v q j in
+    let newU = stays.new b ok ts f m u p i in
+    let newV = stays.new b ok ts f m v q j in
+    let now : Readable b u v = record { accepted = ok; old-kept = oldU .from; old = oldU .upto; new-kept = oldV .from; new = oldV .upto } in
+    let then : Readable b′ u v = record { accepted = later b ok ts f m .accepts; old-kept = newU .from; old = newU .upto; new-kept = newV .from; new = newV .upto } in
     let same : differenceAny b′ u v ns ≡ differenceAny b u v ns =
     call-is b′ u v then ns
-    ∙ ap₂ (λ (us ws : List Pair). listed ns (toldBy deltaNumbers 4 0 (length ns) (differ us ws))) (alike-settings (storeOf b) u t u (view b ok ts f m u i)) (alike-settings (storeOf b) v t v (view b ok ts f m v j))
+    ∙ ap₂ (λ (us ws : List Pair). listed ns (toldBy deltaNumbers 4 0 (length ns) (differ us ws))) (alike-settings (storeOf b) u t u (view b ok ts f m u p i)) (alike-settings (storeOf b) v t v (view b ok ts f m v q j))
     ∙ sym (call-is b u v now ns) in
     record {
       number = ap (λ (r : Listed). r .number) same;

@@ -1,8 +1,8 @@
 -- The fakes that document 01 names are stopped by the contracts.
 -- Assumes nothing.
-use Prim.Native.Nat.{ℕ, zero, suc, _*_, _<_}
+use Prim.Native.Nat.{ℕ, zero, suc, _*_, _≤_, _<_}
 use native.Mathlib.Omega.{arith}
-use mathlib.Core.Bool.{Bool, true, false, not}
+use mathlib.Core.Bool.{Bool, true, false, not, _||_}
 use mathlib.Core.Path.{_≡_, refl, ap, ap₂, sym, _∙_}
 use mathlib.Core.Logic.{inl, inr}
 use mathlib.Core.Option.{none, some}
@@ -27,6 +27,8 @@ use Rattle.model.specs.Settings.{Machine, step, put}
 use Rattle.model.specs.Replay.{gives, keys, holding}
 use Rattle.model.specs.Table.{twenty, twentyOne, deleteFrom, reopened, table}
 use Rattle.model.specs.Ended.{Asked, toOpen, toInsert, toLookup, toRange, Ended, ofLooked, ended}
+use Rattle.model.specs.Editions.{leastOf}
+use Rattle.model.proofs.Given.{old-current}
 use Rattle.model.proofs.Members.{not-both, in-getD}
 use Rattle.model.proofs.Fits.{numbered-by, is-none}
 use Rattle.promises.specs.Accepts.{Accepts, storeOf}
@@ -90,7 +92,7 @@ module _ (f : Implementation) (honest : Honest f) where
   unfolding Calls.begin
   begin-pages s =
       numbered-by (λ (r : Result). after s (gave r) .store .pages ≡ s .pages) (rule 8 (s .opened) ∷ rule 9 (leb 1048574 (s .current)) ∷ [])
-      (done (record { current = s .current; opened = true; slots = s .slots; pages = s .pages })) (λ n. refl) (λ x. refl)
+      (done (record { current = s .current; opened = true; oldest = s .oldest; slots = s .slots; pages = s .pages })) (λ n. refl) (λ x. refl)
 
   opens : SplitsAtOpen f → ⊥
   opens x =
@@ -144,12 +146,13 @@ module _ (f : Implementation) (honest : Honest f) where
       at false f true false g = (lt-leb keyLimit k (omega (arith, leb-false benchLimit k f)), (refl, refl))
 
   -- the machine after it
-  found : (k v : ℕ) (m : Machine) → leb keyLimit k ≡ false → m .opened ≡ true → isSome (find k (m .shows (suc (m .current)))) ≡ false
+  found : (k v : ℕ) (m : Machine) → m .oldest ≤ m .current → leb keyLimit k ≡ false → m .opened ≡ true → isSome (find k (m .shows (suc (m .current)))) ≡ false
       → lookedIn (step m (inserts k v)) k (suc (m .current)) ≡ Value v
-  found k v m low o absent =
+  found k v m old low o absent =
       let c : ℕ = m .current in
       let us : List Pair = m .shows (suc (m .current)) in
-      let readable : ltb (lastOf (m .opened) (m .current)) (suc (m .current)) ≡ false = ap (λ (q : Bool). ltb (lastOf q (m .current)) (suc (m .current))) o ∙ le-ltb (suc (m .current)) (suc (m .current)) (omega arith) in
+      let readable : (ltb (lastOf (m .opened) (m .current)) (suc (m .current)) || ltb (suc (m .current)) (m .oldest)) ≡ false =
+      rw (o, le-ltb (suc (m .current)) (suc (m .current)) (omega arith)) (le-ltb (suc (m .current)) (m .oldest) (omega arith)) in
       let here : put (suc c) (enterPair (pair k v) us) (m .shows) (suc c) ≡ enterPair (pair k v) us = ap (λ (q : Bool). pick q (enterPair (pair k v) us) us) (eq-eqb (suc (m .current)) (suc (m .current)) refl) in
       ap₂ (λ (p q : Bool). lookedBy (firstOf (rule 5 p ∷ rule 6 q ∷ [])) (find k (put (suc (m .current)) (enterPair (pair k v) (m .shows (suc (m .current)))) (m .shows) (suc (m .current))))) low readable
       ∙ ap (lookedBy 0) (ap (find k) here ∙ entered k v us (is-none (find k us) absent))
@@ -165,7 +168,7 @@ module _ (f : Implementation) (honest : Honest f) where
       let after-it = answers (onward x t) (one-turn x a t (lt-ltb v 4294967296 small)) .lookup k (suc (storeOf b .current)) ms in
       ap (λ (y : Ended). y .results) after-it
       ∙ ap (λ (n : ℕ). ofLooked [] ms (lookedIn (whenDone n (step (fromLent b .machine) (inserts k v)) (fromLent b .machine)) k (suc (storeOf b .current))) .results) e
-      ∙ ap (λ (y : Looked). ofLooked [] ms y .results) (found k v (fromLent b .machine) low o absent)
+      ∙ ap (λ (y : Looked). ofLooked [] ms y .results) (found k v (fromLent b .machine) (old-current (leastOf b) (storeOf b) (a .agrees .is-sound .old-low)) low o absent)
 
   hides : Hides f → ⊥
   hides x =

@@ -1,26 +1,26 @@
--- A call on a store that is refused gives a number from 5 on; an update that comes to its end gives 0, 12 or 13.
+-- A call on a store that is refused gives a number from 5 on, but for pruning edition 1; an update that comes to its end gives 0, 12 or 13.
 -- Assumes nothing.
 use Prim.Native.Nat.{ℕ, zero, suc, _≤_}
 use native.Mathlib.Omega.{arith}
-use mathlib.Core.Bool.{Bool, true, false, not}
-use mathlib.Core.Path.{_≡_, refl, ap₂, sym, subst}
+use mathlib.Core.Bool.{Bool, true, false, _||_, not}
+use mathlib.Core.Path.{_≡_, refl, ap, ap₂, sym, subst}
 use mathlib.Core.Logic.{inl, inr, _≢_}
 use mathlib.Core.List.{List, [], _∷_}
-use lib.Dec.{ltb}
-use borrow.Author.Tests.{le-ltb}
+use lib.Dec.{leb}
+use borrow.Author.Tests.{le-ltb, not-true}
 use Rattle.model.specs.Basic.{those, pick}
 use Rattle.model.specs.declared.Delta.{Delta}
 use Rattle.model.specs.Store.{Store, next}
 use Rattle.model.specs.Walk.{lookup, settings}
 use Rattle.model.specs.Climb.{Result, done, refused, update}
 use Rattle.model.specs.Calls
-use Rattle.model.specs.Calls.{Rule, rule, numbered, firstOf, isSome, insertTests, deleteTests, insert, delete, begin, committed, unchanged, commit, abandon, abandoned}
+use Rattle.model.specs.Calls.{Rule, rule, numbered, firstOf, isSome, beyond, insertTests, deleteTests, pruneTests, insert, delete, begin, committed, unchanged, commit, abandon, abandoned, prune, pruned}
 use Rattle.model.specs.Needs.{inserting, deleting}
 use Rattle.model.specs.Differ.{differ}
 use Rattle.model.specs.Return
 use Rattle.model.specs.Return.{goes, comes, setTests, endOne, setOne, Ran, reached, stopped, orStopped, through, andOn, carried, Came, gave, gaveUp, lacking, orAbandoned, returnTests, unless, returned}
-use Rattle.model.specs.Histories.{Call, begins, commits, abandons, inserts, deletes, returns, callBy}
-use Rattle.model.proofs.Given.{Sound}
+use Rattle.model.specs.Histories.{Call, begins, commits, abandons, inserts, deletes, returns, prunes, callBy}
+use Rattle.model.proofs.Given.{Sound, Kept}
 use Rattle.model.proofs.Stops.{lacking-is, Ends, update-ends}
 use Rattle.model.proofs.Returned.{returned-by}
 use Rattle.promises.specs.Runs.{changing, givesUp}
@@ -42,6 +42,27 @@ High (refused n) = 5 ≤ n
 abbrev pub HighBy : Came → Type 0
 HighBy (gave r) = High r
 HighBy (gaveUp n t) = 5 ≤ n
+
+-- no 0
+abbrev pub SomeBy : Came → Type 0
+SomeBy (gave (done t)) = Unit {0}
+SomeBy (gave (refused n)) = 1 ≤ n
+SomeBy (gaveUp n t) = 1 ≤ n
+
+high-some : (c : Came) → HighBy c → SomeBy c
+high-some (gave (done t)) h = tt
+high-some (gave (refused n)) h = omega arith
+high-some (gaveUp n t) h = omega arith
+
+-- any call but pruning edition 1, which gives 3 whatever its store is
+abbrev pub late : ℕ → Call → Bool
+late least begins = true
+late least commits = true
+late least abandons = true
+late least (inserts k x) = true
+late least (deletes k) = true
+late least (returns v) = true
+late least (prunes v) = not (leb least 4)
 
 -- ---- an update
 
@@ -121,20 +142,40 @@ module _ (least : ℕ) (s : Store) where
   abbrev alive : ℕ → Bool
   alive k = isSome (lookup s k (next s))
 
-  pub call-high : (c : Call) → HighBy (callBy least s c)
-  unfolding Calls.insert Calls.delete Calls.begin Calls.commit Calls.abandon Return.returned
-  call-high begins = chain-high (openTests (s .opened) (s .current)) _ (omega arith, (omega arith, tt)) tt
-  call-high commits = chain-high (rule 7 (not (s .opened)) ∷ rule 15 (unchanged s) ∷ []) _ (omega arith, (omega arith, tt)) tt
-  call-high abandons = chain-high (endTests (s .opened)) _ (omega arith, tt) tt
-  call-high (inserts k x) =
+  pub call-high : (c : Call) → late least c ≡ true → HighBy (callBy least s c)
+  unfolding Calls.insert Calls.delete Calls.begin Calls.commit Calls.abandon Calls.prune Return.returned
+  call-high begins z = chain-high (openTests (s .opened) (s .current)) _ (omega arith, (omega arith, tt)) tt
+  call-high commits z = chain-high (rule 7 (not (s .opened)) ∷ rule 15 (unchanged s) ∷ []) _ (omega arith, (omega arith, tt)) tt
+  call-high abandons z = chain-high (endTests (s .opened)) _ (omega arith, tt) tt
+  call-high (inserts k x) z =
       chain-high (insertTests k (s .opened) (alive k)) (update least s k (inserting k x)) (omega arith, (omega arith, (omega arith, tt)))
       (ends-high (update least s k (inserting k x)) (update-ends least s k (inserting k x)))
-  call-high (deletes k) =
+  call-high (deletes k) z =
       chain-high (deleteTests k (s .opened) (alive k)) (update least s k (deleting k)) (omega arith, (omega arith, (omega arith, tt)))
       (ends-high (update least s k (deleting k)) (update-ends least s k (deleting k)))
-  call-high (returns v) =
+  call-high (returns v) z =
       let run = carried least (differ (settings s (next s)) (settings s v)) s in
-      tested-high (ltb (s .current) v) (not (s .opened)) (orAbandoned run) (given-high run (run-high least (differ (settings s (next s)) (settings s v)) s))
+      tested-high (beyond (s .current) (s .oldest) v) (not (s .opened)) (orAbandoned run) (given-high run (run-high least (differ (settings s (next s)) (settings s v)) s))
+  call-high (prunes v) z =
+      subst (λ (x : Bool). High (numbered (rule 3 x ∷ pruneTests (s .oldest) (s .current) (s .opened) v) (done (pruned s v)))) (sym (not-true (leb least 4) z))
+      (chain-high (pruneTests (s .oldest) (s .current) (s .opened) v) (done (pruned s v)) (omega arith, (omega arith, tt)) tt)
+
+  -- a refusal is no 0, pruning edition 1 included
+  pub call-some : (c : Call) → SomeBy (callBy least s c)
+  unfolding Calls.prune
+  call-some begins = high-some (callBy least s begins) (call-high begins refl)
+  call-some commits = high-some (callBy least s commits) (call-high commits refl)
+  call-some abandons = high-some (callBy least s abandons) (call-high abandons refl)
+  call-some (inserts k x) = high-some (callBy least s (inserts k x)) (call-high (inserts k x) refl)
+  call-some (deletes k) = high-some (callBy least s (deletes k)) (call-high (deletes k) refl)
+  call-some (returns v) = high-some (callBy least s (returns v)) (call-high (returns v) refl)
+  call-some (prunes v) = at (leb least 4) (beyond (s .current) (s .oldest) v) (s .opened)
+    where
+      at : (x y z : Bool) → SomeBy (gave (numbered (rule 3 x ∷ rule 6 y ∷ rule 8 z ∷ []) (done (pruned s v))))
+      at true y z = omega arith
+      at false true z = omega arith
+      at false false true = omega arith
+      at false false false = tt
 
 -- ---- by its number a return is told from the abandon
 
@@ -167,9 +208,10 @@ call-stops least s commits = single-stops commits (λ n. refl) (commit s)
 call-stops least s abandons = single-stops abandons (λ n. refl) (abandon s)
 call-stops least s (inserts k x) = single-stops (inserts k x) (λ n. refl) (insert least s k x)
 call-stops least s (deletes k) = single-stops (deletes k) (λ n. refl) (delete least s k)
+call-stops least s (prunes v) = single-stops (prunes v) (λ n. refl) (prune least s v)
 call-stops least s (returns v) =
     let run = carried least (differ (settings s (next s)) (settings s v)) s in
-    tested-stops v (ltb (s .current) v) (not (s .opened)) (orAbandoned run) (run-stops v run)
+    tested-stops v (beyond (s .current) (s .oldest) v) (not (s .opened)) (orAbandoned run) (run-stops v run)
 
 -- ---- its number
 
@@ -202,7 +244,7 @@ chain-gives (x ∷ xs) r a h = at (x .holds) (chain-gives xs r (a .1) h)
 module _ (least : ℕ) (s : Store) where
   pub begin-number : numberOf (begin s) ≡ firstOf (openTests (s .opened) (s .current))
   unfolding Calls.begin
-  begin-number = chain-first (openTests (s .opened) (s .current)) (record { current = s .current; opened = true; slots = s .slots; pages = s .pages })
+  begin-number = chain-first (openTests (s .opened) (s .current)) (record { current = s .current; opened = true; oldest = s .oldest; slots = s .slots; pages = s .pages })
 
   pub commit-number : numberOf (commit s) ≡ firstOf (commitTests (s .opened) (unchanged s))
   unfolding Calls.commit
@@ -218,6 +260,10 @@ module _ (least : ℕ) (s : Store) where
   unfolding Calls.abandon
   abandon-number = chain-first (endTests (s .opened)) (abandoned s)
 
+  pub prune-number : (v : ℕ) → numberOf (prune least s v) ≡ firstOf (rule 3 (leb least 4) ∷ pruneTests (s .oldest) (s .current) (s .opened) v)
+  unfolding Calls.prune
+  prune-number v = chain-first (rule 3 (leb least 4) ∷ pruneTests (s .oldest) (s .current) (s .opened) v) (pruned s v)
+
   pub insert-number : (k x : ℕ) → Gives (firstOf (insertTests k (s .opened) (isSome (lookup s k (next s))))) (numberOf (insert least s k x))
   unfolding Calls.insert
   insert-number k x =
@@ -231,13 +277,13 @@ module _ (least : ℕ) (s : Store) where
       (update-ends least s k (deleting k))
 
 -- where no test of a return holds
-pub return-free : (s : Store) (v : ℕ) → s .opened ≡ true → v ≤ s .current → firstOf (returnTests (s .current) (s .opened) v) ≡ 0
-return-free s v o h = ap₂ (λ (x y : Bool). firstOf (Calls.rule 6 x ∷ Calls.rule 7 (not y) ∷ [])) (le-ltb (s .current) v h) o
+pub return-free : (s : Store) (v : ℕ) → s .opened ≡ true → Kept s v → firstOf (returnTests (s .oldest) (s .current) (s .opened) v) ≡ 0
+return-free s v o h = ap₂ (λ (x y : Bool). firstOf (Calls.rule 6 x ∷ Calls.rule 7 (not y) ∷ [])) (ap₂ _||_ (le-ltb (s .current) v (h .upto)) (le-ltb v (s .oldest) (h .from))) o
 
-pub return-number : (least : ℕ) → 4 ≤ least → (s : Store) → Sound least s → (v : ℕ) → Gives (firstOf (returnTests (s .current) (s .opened) v)) (numberBy (returned least s v))
+pub return-number : (least : ℕ) → 4 ≤ least → (s : Store) → Sound least s → (v : ℕ) → Gives (firstOf (returnTests (s .oldest) (s .current) (s .opened) v)) (numberBy (returned least s v))
 return-number least four s d v =
-    returned-by least (λ (q : Came). Gives (firstOf (returnTests (s .current) (s .opened) v)) (numberBy q)) four s d v
-    (λ n. same (firstOf (returnTests (s .current) (s .opened) v)) n)
+    returned-by least (λ (q : Came). Gives (firstOf (returnTests (s .oldest) (s .current) (s .opened) v)) (numberBy q)) four s d v
+    (λ n. same (firstOf (returnTests (s .oldest) (s .current) (s .opened) v)) n)
     (λ o h t g. subst (λ (m : ℕ). Gives m 0) (sym (return-free s v o h)) (inl refl))
     (λ o h n l. subst (λ (m : ℕ). Gives m n) (sym (return-free s v o h)) (inr (lacking-is n l)))
   where

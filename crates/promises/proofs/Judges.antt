@@ -2,11 +2,12 @@
 -- Assumes nothing.
 use Prim.Native.Nat.{ℕ, zero, suc, _*_, _≤_}
 use native.Mathlib.Omega.{arith}
-use mathlib.Core.Bool.{Bool, true, false, _&&_}
+use mathlib.Core.Bool.{Bool, true, false, _&&_, not}
 use mathlib.Core.Path.{_≡_, refl, ap, sym, _∙_, subst}
 use mathlib.Core.Logic.{_≢_, _↔_, _⊎_, inl, inr}
 use mathlib.Core.List.{List, [], _∷_}
 use lib.Dec.{leb, ltb}
+use borrow.Author.Tests.{not-true}
 use lib.ListN.{length}
 use Rattle.model.specs.Basic.{pick}
 use Rattle.model.specs.declared.Verdict.{Verdict}
@@ -22,20 +23,20 @@ use Rattle.model.specs.Editions.{lentNumber, leastOf}
 use Rattle.model.specs.Any
 use Rattle.model.specs.Any.{judgedAny}
 use Rattle.model.specs.Climb.{Result, done, refused}
-use Rattle.model.specs.Calls.{rule, firstOf}
+use Rattle.model.specs.Calls.{rule, firstOf, unreadable, prune}
 use Rattle.model.specs.Told
 use Rattle.model.specs.Visited
 use Rattle.model.specs.Visited.{pageNumber}
 use Rattle.model.specs.Differ
-use Rattle.model.specs.Differ.{differ, deltaNumbers, tooLate, difference}
+use Rattle.model.specs.Differ.{differ, deltaNumbers, eitherUnreadable, difference}
 use Rattle.model.specs.Life
 use Rattle.model.specs.State
 use Rattle.model.specs.State.{stateOf, untold}
 use Rattle.model.specs.Return.{Came, gave, gaveUp, returned}
-use Rattle.model.specs.Histories.{begins, commits, abandons, inserts, deletes, returns}
+use Rattle.model.specs.Histories.{begins, commits, abandons, inserts, deletes, returns, prunes}
 use Rattle.model.specs.Lent
-use Rattle.model.specs.Lent.{left, leftBy, judgedFirst, listed, freshLent, returnLent, lifeLent, differenceLent, visitsLent, stateLent}
-use Rattle.model.specs.Ended.{Asked, toFresh, toFreshSecond, toCheck, toOpen, toCommit, toAbandon, toInsert, toDelete, toReturn, toLookup, toRange, toLife, toDifference, toVisits, toState, Ended, ofOutcome, ended, endedBy, makes}
+use Rattle.model.specs.Lent.{left, leftBy, leaving, judgedFirst, listed, freshLent, returnLent, pruneLent, lifeLent, differenceLent, visitsLent, stateLent}
+use Rattle.model.specs.Ended.{Asked, toFresh, toFreshSecond, toCheck, toOpen, toCommit, toAbandon, toInsert, toDelete, toReturn, toPrune, toLookup, toRange, toLife, toDifference, toVisits, Ended, ofOutcome, ended, endedBy, makes, toState}
 use Rattle.model.proofs.Lists.{both-true, both-intro}
 use Rattle.model.proofs.Members.{bool-cases, not-both}
 use Rattle.model.proofs.Judging.{unbroken, unbroken-all, whole, broken-none}
@@ -82,8 +83,15 @@ return-past least b v = at (judged least b .number)
     by (gaveUp n t) h = inr h
 
     at : (j : ℕ) → Past j (judgedFirst j (λ m. record { number = m; store = b }) (leftBy least b (returned least (decode least b) v)) .number)
-    at zero = by (returned least (decode least b) v) (call-high least (decode least b) (returns v))
+    at zero = by (returned least (decode least b) v) (call-high least (decode least b) (returns v) refl)
     at (suc j) = refl
+
+-- in edition 2
+prune-past : (least : ℕ) (b : List ℕ) (v : ℕ) → leb least 4 ≡ false → Past (judged least b .number) (pruneLent least b v .number)
+unfolding Lent.pruneLent
+prune-past least b v e =
+    subst (λ (t : Bool). Past (judged least b .number) (pick t (leaving 3 b) (Lent.lent least (λ (s : Store). prune least s v) b) .number)) (sym e)
+    (change-past least b _ (λ s. call-high least s (prunes v) (ap not e)))
 
 -- a call that tells a list, where no number before 14 is given
 told-past : {A : Type 0} (numbers : A → List ℕ) (each room : ℕ) (xs : List A) → Past 0 (Told.toldBy numbers each 0 room xs .number)
@@ -96,7 +104,7 @@ told-past numbers each room xs = at (ltb room (each * length xs))
 
 visited-past : (s : Store) (k v room : ℕ) → Past 0 (Visited.visits s k v room .number)
 unfolding Visited.visits Told.toldBy
-visited-past s k v room = at (leb keyLimit k) (ltb (last s) v)
+visited-past s k v room = at (leb keyLimit k) (unreadable s v)
   where
     at : (p q : Bool) → Past 0 (Told.toldBy pageNumber 1 (firstOf (rule 5 p ∷ rule 6 q ∷ [])) room (lookupVisits s k v) .number)
     at true q = inr (omega arith)
@@ -113,7 +121,7 @@ visits-past least b k v ns = at (judged least b .number)
 
 differing-past : (s : Store) (u v room : ℕ) → Past 0 (difference s u v room .number)
 unfolding Differ.difference Told.toldBy
-differing-past s u v room = at (tooLate s u v)
+differing-past s u v room = at (eitherUnreadable s u v)
   where
     at : (p : Bool) → Past 0 (Told.toldBy deltaNumbers 4 (firstOf (rule 6 p ∷ [])) room (differ (settings s u) (settings s v)) .number)
     at true = inr (omega arith)
@@ -155,17 +163,18 @@ past-same : (j : ℕ) → Past j j
 past-same zero = inl refl
 past-same (suc j) = refl
 
-past-by : (least : ℕ) (c : Asked) (b ns : List ℕ) → judgesAll c ≡ true → Past (judged least b .number) (endedBy least c b ns .number)
+past-by : (least : ℕ) (c : Asked) (b ns : List ℕ) → judgesAll least c ≡ true → Past (judged least b .number) (endedBy least c b ns .number)
 unfolding Lent.openLent Lent.commitLent Lent.abandonLent Lent.insertLent Lent.deleteLent
 past-by least toFresh b ns h = absurd (not-both false h refl)
 past-by least toFreshSecond b ns h = absurd (not-both false h refl)
 past-by least toCheck b ns h = past-same (judged least b .number)
-past-by least toOpen b ns h = change-past least b _ (λ s. call-high least s begins)
-past-by least toCommit b ns h = change-past least b _ (λ s. call-high least s commits)
-past-by least toAbandon b ns h = change-past least b _ (λ s. call-high least s abandons)
-past-by least (toInsert k x) b ns h = change-past least b _ (λ s. call-high least s (inserts k x))
-past-by least (toDelete k) b ns h = change-past least b _ (λ s. call-high least s (deletes k))
+past-by least toOpen b ns h = change-past least b _ (λ s. call-high least s begins refl)
+past-by least toCommit b ns h = change-past least b _ (λ s. call-high least s commits refl)
+past-by least toAbandon b ns h = change-past least b _ (λ s. call-high least s abandons refl)
+past-by least (toInsert k x) b ns h = change-past least b _ (λ s. call-high least s (inserts k x) refl)
+past-by least (toDelete k) b ns h = change-past least b _ (λ s. call-high least s (deletes k) refl)
 past-by least (toReturn v) b ns h = return-past least b v
+past-by least (toPrune v) b ns h = prune-past least b v (not-true (leb least 4) h)
 past-by least (toLookup k v) b ns h = absurd (not-both false h refl)
 past-by least (toRange lo hi v) b ns h = absurd (not-both false h refl)
 past-by least (toVisits k v) b ns h = visits-past least b k v ns
@@ -173,34 +182,35 @@ past-by least (toDifference u v) b ns h = difference-past least b u v ns
 past-by least (toLife k) b ns h = life-past least b k ns
 past-by least toState b ns h = state-past least b
 
-judges-makes : (c : Asked) → judgesAll c ≡ true → makes c ≡ false
-judges-makes toFresh h = absurd (not-both false h refl)
-judges-makes toFreshSecond h = absurd (not-both false h refl)
-judges-makes toCheck h = refl
-judges-makes toOpen h = refl
-judges-makes toCommit h = refl
-judges-makes toAbandon h = refl
-judges-makes (toInsert k x) h = refl
-judges-makes (toDelete k) h = refl
-judges-makes (toReturn v) h = refl
-judges-makes (toLookup k v) h = refl
-judges-makes (toRange lo hi v) h = refl
-judges-makes (toVisits k v) h = refl
-judges-makes (toDifference u v) h = refl
-judges-makes (toLife k) h = refl
-judges-makes toState h = refl
+judges-makes : (least : ℕ) (c : Asked) → judgesAll least c ≡ true → makes c ≡ false
+judges-makes least toFresh h = absurd (not-both false h refl)
+judges-makes least toFreshSecond h = absurd (not-both false h refl)
+judges-makes least toCheck h = refl
+judges-makes least toOpen h = refl
+judges-makes least toCommit h = refl
+judges-makes least toAbandon h = refl
+judges-makes least (toInsert k x) h = refl
+judges-makes least (toDelete k) h = refl
+judges-makes least (toReturn v) h = refl
+judges-makes least (toPrune v) h = refl
+judges-makes least (toLookup k v) h = refl
+judges-makes least (toRange lo hi v) h = refl
+judges-makes least (toVisits k v) h = refl
+judges-makes least (toDifference u v) h = refl
+judges-makes least (toLife k) h = refl
+judges-makes least toState h = refl
 
 -- the early number is check's and the call's
-call-past : (c : Asked) (b ns : List ℕ) → judgesAll c ≡ true → Past (judgedAny b .number) (ended c b ns .number)
+call-past : (c : Asked) (b ns : List ℕ) → judgesAll (leastOf b) c ≡ true → Past (judgedAny b .number) (ended c b ns .number)
 call-past c b ns h = at (lentNumber b) refl
   where
     at : (n : ℕ) → lentNumber b ≡ n → Past (judgedAny b .number) (ended c b ns .number)
     at zero z =
-        subst (λ (e : Ended). Past (judgedAny b .number) (e .number)) (sym (ended-goes b ns c (judges-makes c h) z))
+        subst (λ (e : Ended). Past (judgedAny b .number) (e .number)) (sym (ended-goes b ns c (judges-makes (leastOf b) c h) z))
         (subst (λ (v : Verdict). Past (v .number) (endedBy (leastOf b) c b ns .number)) (sym (check-goes b z)) (past-by (leastOf b) c b ns h))
     at (suc n) z =
         let early : lentNumber b ≢ 0 = λ (q : lentNumber b ≡ 0). omega arith in
-        subst (λ (m : ℕ). Past (judgedAny b .number) m) (ap (λ (v : Verdict). v .number) (check-refuses b early) ∙ sym (ended-refuses b ns c (judges-makes c h) early .number)) (past-same (judgedAny b .number))
+        subst (λ (m : ℕ). Past (judgedAny b .number) m) (ap (λ (v : Verdict). v .number) (check-refuses b early) ∙ sym (ended-refuses b ns c (judges-makes (leastOf b) c h) early .number)) (past-same (judgedAny b .number))
 
 check-low : (b : List ℕ) → judgedAny b .number ≤ 4
 check-low b = at (lentNumber b) refl
@@ -210,7 +220,7 @@ check-low b = at (lentNumber b) refl
     at (suc n) z = subst (λ (v : Verdict). v .number ≤ 4) (sym (check-refuses b (λ (q : lentNumber b ≡ 0). omega arith))) (omega (arith, early-low b))
 
 -- bytes on which it gives a number from 5 on are accepted
-pub late-accepts : (c : Asked) (b ns : List ℕ) → judgesAll c ≡ true → 5 ≤ ended c b ns .number → Accepts b
+pub late-accepts : (c : Asked) (b ns : List ℕ) → judgesAll (leastOf b) c ≡ true → 5 ≤ ended c b ns .number → Accepts b
 late-accepts c b ns m h = at (judgedAny b .number) (check-low b) (call-past c b ns m)
   where
     at : (j : ℕ) → j ≤ 4 → Past j (ended c b ns .number) → j ≡ 0
@@ -218,7 +228,7 @@ late-accepts c b ns m h = at (judgedAny b .number) (check-low b) (call-past c b 
     at (suc j) l p = absurd (omega arith)
 
 -- bytes on which it gives 0 are accepted
-pub zero-accepts : (c : Asked) (b ns : List ℕ) → judgesAll c ≡ true → ended c b ns .number ≡ 0 → Accepts b
+pub zero-accepts : (c : Asked) (b ns : List ℕ) → judgesAll (leastOf b) c ≡ true → ended c b ns .number ≡ 0 → Accepts b
 zero-accepts c b ns m e = at (judgedAny b .number) (ended c b ns .number) (call-past c b ns m) e
   where
     at : (j n : ℕ) → Past j n → n ≡ 0 → j ≡ 0

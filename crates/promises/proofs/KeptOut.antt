@@ -14,9 +14,11 @@ use Rattle.model.specs.Entry.{pair, enterPair}
 use Rattle.model.specs.Store.{Store, next, last, lastOf, fresh}
 use Rattle.model.specs.Walk.{lookup}
 use Rattle.model.specs.Editions.{leastOf}
-use Rattle.model.specs.Calls.{isSome, rule, benchLimit, insertTests, firstOf, insert}
+use Rattle.model.specs.Calls.{isSome, rule, benchLimit, insertTests, firstOf, insert, beyond}
+use Rattle.model.proofs.Given.{old-current}
+use Rattle.model.proofs.Members.{neither}
 use Rattle.model.specs.Return.{returnTests}
-use Rattle.model.specs.Histories.{Call, begins, commits, abandons, inserts, deletes, returns}
+use Rattle.model.specs.Histories.{Call, begins, commits, abandons, inserts, deletes, returns, prunes}
 use Rattle.model.specs.Settings.{Machine, start, step, put}
 use Rattle.model.specs.Ended.{Asked, toInsert, toDelete, toReturn, ended}
 use Rattle.model.proofs.Lists.{all-cons}
@@ -66,13 +68,13 @@ insert-low k o alive n g e = at (leb benchLimit k) refl o g
     at false f true g = (leb-false benchLimit k f, refl)
 
 -- a return that is done is to a committed version
-return-opened : (current : ℕ) (o : Bool) (v n : ℕ) → Gives (firstOf (returnTests current o v)) n → n ≡ 0 → (o ≡ true) × (v ≤ current)
-return-opened current o v n g e = at (ltb current v) refl o g
+return-opened : (old current : ℕ) (o : Bool) (v n : ℕ) → Gives (firstOf (returnTests old current o v)) n → n ≡ 0 → (o ≡ true) × (v ≤ current)
+return-opened old current o v n g e = at (beyond current old v) refl o g
   where
-    at : (p : Bool) → ltb current v ≡ p → (o : Bool) → Gives (firstOf (rule 6 p ∷ rule 7 (not o) ∷ [])) n → (o ≡ true) × (v ≤ current)
+    at : (p : Bool) → beyond current old v ≡ p → (o : Bool) → Gives (firstOf (rule 6 p ∷ rule 7 (not o) ∷ [])) n → (o ≡ true) × (v ≤ current)
     at true f o g = absurd (omega arith)
     at false f false g = absurd (omega arith)
-    at false f true g = (refl, ltb-false current v f)
+    at false f true g = (refl, ltb-false current v (neither (ltb current v) (ltb v old) f .0))
 
 insert-five : (least : ℕ) (s : Store) (k x : ℕ) → benchLimit ≤ k → numberOf (insert least s k x) ≡ 5
 insert-five least s k x h =
@@ -118,6 +120,7 @@ module _ (u : ℕ) where
   Brings (changing (inserts k x)) = Unit {0}
   Brings (changing (deletes k)) = Unit {0}
   Brings (changing (returns v)) = u ≤ v
+  Brings (changing (prunes v)) = Unit {0}
   Brings reading = Unit {0}
 
   module _ (x : Beside) (a : Agreed x) (f : Free (x .machine)) where
@@ -132,7 +135,7 @@ module _ (u : ℕ) where
 
     -- an insert, a delete or a return, where an update is open
     edits : x .machine .opened ≡ true → (us : List Pair) → (all isLow (x .machine .shows (suc (x .machine .current))) ≡ true → all isLow us ≡ true)
-        → Free (record { current = x .machine .current; opened = x .machine .opened; shows = put (suc (x .machine .current)) us (x .machine .shows) })
+        → Free (record { current = x .machine .current; opened = x .machine .opened; oldest = x .machine .oldest; shows = put (suc (x .machine .current)) us (x .machine .shows) })
     edits o us g = record {
       from = f .from;
       keys = λ v h i. put-free (x .machine) us (g (f .keys (suc (x .machine .current)) (omega (arith, f .from)) (omega (arith, opened-last o)))) earlier v h (omega (arith, i, opened-last o));
@@ -151,8 +154,9 @@ module _ (u : ℕ) where
         let o = delete-opened k (x .machine .opened) (aliveIn (x .machine) k) (ended (toDelete k) (x .bytes) ns .number) (answers x a .deletes k ns) e in
         edits o (those (λ (y : Pair). not (eqb (y .key) k)) (x .machine .shows (suc (x .machine .current)))) (low-those (λ (y : Pair). not (eqb (y .key) k)) (x .machine .shows (suc (x .machine .current))))
     steps (returns v) w ns e =
-        let (o, h) = return-opened (x .machine .current) (x .machine .opened) v (ended (toReturn v) (x .bytes) ns .number) (answers x a .returns v ns) e in
+        let (o, h) = return-opened (x .machine .oldest) (x .machine .current) (x .machine .opened) v (ended (toReturn v) (x .bytes) ns .number) (answers x a .returns v ns) e in
         edits o (x .machine .shows v) (λ z. earlier v w h)
+    steps (prunes v) w ns e = record { from = f .from; keys = λ y h g. f .keys y h g }
 
     one-free : (t : Turn) → Brings (kindOf (t .call)) → Free (onward x t .machine)
     one-free t = at (t .call)
@@ -187,9 +191,9 @@ module _ (u : ℕ) where
 
   -- in the words of the store
   store-free : (x : Beside) → Agreed x → Free (x .machine) → BenchFree u (storeOf (x .bytes))
-  store-free x a f v h g =
+  store-free x a f v h from g =
       let l : last (storeOf (x .bytes)) ≡ lastIn (x .machine) = ap₂ lastOf (a .agrees .opened) (a .agrees .current) in
-      ap (all isLow) (a .agrees .shows v g) ∙ f .keys v h (omega (arith, g, l))
+      ap (all isLow) (a .agrees .shows v (record { from = from; upto = g })) ∙ f .keys v h (omega (arith, g, l))
 
 -- ---- the promise
 
@@ -206,6 +210,7 @@ any-brings (changing abandons) = tt
 any-brings (changing (inserts k x)) = tt
 any-brings (changing (deletes k)) = tt
 any-brings (changing (returns v)) = omega arith
+any-brings (changing (prunes v)) = tt
 any-brings reading = tt
 
 brings-none : (u : ℕ) (k : Kind) → notBehind u k ≡ true → Brings u k
@@ -216,6 +221,7 @@ brings-none u (changing abandons) e = tt
 brings-none u (changing (inserts k x)) e = tt
 brings-none u (changing (deletes k)) e = tt
 brings-none u (changing (returns v)) e = leb-true u v e
+brings-none u (changing (prunes v)) e = tt
 brings-none u reading e = tt
 
 pub kept-out : KeptOut
@@ -231,7 +237,7 @@ kept-out = record {
       let u : ℕ = storeOf b .current in
       let x : Beside = fromLent b in
       let a : Agreed x = lent-agreed b ok in
-      let f : Free u (x .machine) = record { from = omega arith; keys = λ v j g. clean v j g } in
+      let f : Free u (x .machine) = record { from = omega arith; keys = λ v j g. clean v j (omega (arith, j, old-current (leastOf b) (storeOf b) (a .agrees .is-sound .old-low))) g } in
       subst (λ (q : List ℕ). BenchFree u (storeOf q)) (along-bytes ts x)
       (store-free u (along x ts) (many-turns ts h x a) (many-free u (notBehind u) (brings-none u) ts h i x a f));
 }

@@ -5,8 +5,8 @@ use native.Mathlib.Omega.{arith}
 use mathlib.Core.Bool.{Bool, true, false}
 use mathlib.Core.Path.{_≡_, refl, ap, sym, _∙_, subst}
 use mathlib.Core.Logic.{inl, inr}
-use mathlib.Core.List.{List}
-use lib.Dec.{T}
+use mathlib.Core.List.{List, _∷_}
+use lib.Dec.{T, leb}
 use Rattle.model.specs.Field.{Bytes}
 use Rattle.model.specs.Basic.{pick}
 use Rattle.model.specs.Store.{Store, fresh}
@@ -15,12 +15,14 @@ use Rattle.model.specs.Layout.{sizeOf, encode}
 use Rattle.model.specs.Judged.{lengthOk}
 use Rattle.model.specs.Editions.{leastOf}
 use Rattle.model.specs.Climb.{Result, done, refused}
+use Rattle.model.specs.Calls
+use Rattle.model.specs.Calls.{rule, numbered, pruneTests, pruned, prune}
 use Rattle.model.specs.Return.{Came, gave, gaveUp, returned}
-use Rattle.model.specs.Histories.{Call, begins, commits, abandons, inserts, deletes, returns, callBy, after}
+use Rattle.model.specs.Histories.{Call, begins, commits, abandons, inserts, deletes, returns, prunes, callBy, after}
 use Rattle.model.specs.Settings
 use Rattle.model.specs.Lent
-use Rattle.model.specs.Lent.{Outcome, left, leftBy, judgedFirst, freshLent, returnLent}
-use Rattle.model.specs.Ended.{Asked, toFresh, toFreshSecond, toCheck, toOpen, toCommit, toAbandon, toInsert, toDelete, toReturn, toLookup, toRange, toLife, toDifference, toVisits, toState, Ended, ofOutcome, ended, endedBy, makes}
+use Rattle.model.specs.Lent.{Outcome, left, leftBy, leaving, judgedFirst, freshLent, returnLent, pruneLent}
+use Rattle.model.specs.Ended.{Asked, toFresh, toFreshSecond, toCheck, toOpen, toCommit, toAbandon, toInsert, toDelete, toReturn, toPrune, toLookup, toRange, toLife, toDifference, toVisits, Ended, ofOutcome, ended, endedBy, makes, toState}
 use Rattle.model.proofs.Members.{true-holds}
 use Rattle.model.proofs.Given.{to-tests}
 use Rattle.model.proofs.Turns.{fresh-sound}
@@ -42,6 +44,7 @@ kind-asks abandons = refl
 kind-asks (inserts k x) = refl
 kind-asks (deletes k) = refl
 kind-asks (returns v) = refl
+kind-asks (prunes v) = refl
 
 makes-none : (c : Call) → makes (asks c) ≡ false
 makes-none begins = refl
@@ -50,6 +53,7 @@ makes-none abandons = refl
 makes-none (inserts k x) = refl
 makes-none (deletes k) = refl
 makes-none (returns v) = refl
+makes-none (prunes v) = refl
 
 -- a call that makes a store of the edition with this least fresh
 pub record Makes (least : ℕ) (a : Asked) : Type 0 where
@@ -69,6 +73,7 @@ by-kind P f g h toAbandon = g abandons
 by-kind P f g h (toInsert k x) = g (inserts k x)
 by-kind P f g h (toDelete k) = g (deletes k)
 by-kind P f g h (toReturn v) = g (returns v)
+by-kind P f g h (toPrune v) = g (prunes v)
 by-kind P f g h (toLookup k v) = h (toLookup k v) refl (λ b ns. refl)
 by-kind P f g h (toRange lo hi v) = h (toRange lo hi v) refl (λ b ns. refl)
 by-kind P f g h (toVisits k v) = h (toVisits k v) refl (λ b ns. refl)
@@ -90,6 +95,18 @@ module _ (b : List ℕ) (ok : Accepts b) where
   unfolding Lent.returnLent
   return-is v = ap (λ (n : ℕ). judgedFirst n (λ m. record { number = m; store = b }) (leftBy least b (returned least (storeOf b) v))) (judged-by b ok)
 
+  -- in edition 1 it is 3 before the store is judged, and after
+  prune-is : (v : ℕ) → pruneLent (leastOf b) b v ≡ left (leastOf b) b (prune (leastOf b) (storeOf b) v)
+  unfolding Lent.pruneLent Calls.prune
+  prune-is v = at (leb (leastOf b) 4) refl
+    where
+      tests : Bool → Result
+      tests x = numbered (rule 3 x ∷ pruneTests (storeOf b .oldest) (storeOf b .current) (storeOf b .opened) v) (done (pruned (storeOf b) v))
+
+      at : (x : Bool) → leb (leastOf b) 4 ≡ x → pick x (leaving 3 b) (Lent.lent (leastOf b) (λ (s : Store). prune (leastOf b) s v) b) ≡ left (leastOf b) b (tests x)
+      at true e = refl
+      at false e = lent-is (λ (s : Store). prune (leastOf b) s v) ∙ ap (λ (x : Bool). left (leastOf b) b (tests x)) e
+
   change-by : (c : Call) (ns : List ℕ) → endedBy (leastOf b) (asks c) b ns ≡ ofOutcome ns (leftBy (leastOf b) b (callBy (leastOf b) (storeOf b) c))
   unfolding Lent.openLent Lent.commitLent Lent.abandonLent Lent.insertLent Lent.deleteLent
   change-by begins ns = ap (ofOutcome ns) (lent-is _)
@@ -98,6 +115,7 @@ module _ (b : List ℕ) (ok : Accepts b) where
   change-by (inserts k x) ns = ap (ofOutcome ns) (lent-is _)
   change-by (deletes k) ns = ap (ofOutcome ns) (lent-is _)
   change-by (returns v) ns = ap (ofOutcome ns) (return-is v)
+  change-by (prunes v) ns = ap (ofOutcome ns) (prune-is v)
 
   -- "After every call the pages are byte for byte what the published page rules produce."
   pub change-is : (c : Call) (ns : List ℕ) → ended (asks c) b ns ≡ ofOutcome ns (leftBy (leastOf b) b (callBy (leastOf b) (storeOf b) c))

@@ -18,10 +18,10 @@ use Rattle.model.specs.Entry.{within, before}
 use Rattle.model.specs.Page.{Page, free, isFree, pairsAt}
 use Rattle.model.specs.Store.{Store, page, last}
 use Rattle.model.specs.Walk.{Seen, seen, seenAs, settings, rootAt, heightOf, keyLimit}
-use Rattle.model.specs.Sound.{sound, pagesPass, isPage, spanOk, entryOk, pageOk, pageFine, zeroed, firstVersion, inside, leadsWell, versions, keysOk, reachedWell, rule1, rule2, rule3, rule4, rule5, rule6, rule7}
+use Rattle.model.specs.Sound.{sound, pagesPass, isPage, spanOk, entryOk, pageOk, pageFine, zeroed, firstVersion, inside, leadsWell, skipped, versions, keysOk, reachedWell, rule1, rule2, rule3, rule4, rule5, rule6, rule7}
 use Rattle.model.proofs.Lists.{both-true, both-intro}
 use Rattle.model.proofs.Members.{holds-true, true-holds, either-true, In, all-in, all-by, all-implies, in-has}
-use Rattle.model.proofs.Given.{spansWell, numbers, livesAt, enough, reached-at, front-at, passes-at, version-in}
+use Rattle.model.proofs.Given.{Readable, spansWell, numbers, livesAt, enough, reached-at, front-at, passes-at, version-in}
 use Rattle.model.proofs.Fits.{root-is, used-level, level-used, shown-by, within-of, of-within}
 use Rattle.model.proofs.Shows.{Shows}
 use Rattle.model.proofs.Bridge.{root-passes}
@@ -33,12 +33,12 @@ record Rules (least : ℕ) (s : Store) : Type 0 where
   short : length (s .pages) ≤ 4096
   roots : all (λ (x : Slot). isPage (length (s .pages)) (x .root)) (s .slots) ≡ true
   front : (n : ℕ) → n < 5 → isFree (page (s .pages) n) ≡ true
-  begins : firstVersion (s .slots) ≡ 0
+  begins : firstVersion (s .oldest) (s .slots) ≤ s .oldest
   spans : pagesPass (spansWell s) s ≡ true
   used : all (λ (x : Slot). not (isFree (page (s .pages) (x .root)))) (s .slots) ≡ true
-  keys : (v : ℕ) → v ≤ last s → all keysOk (seen s v) ≡ true
-  counts : (v : ℕ) → v ≤ last s → all (enough least) (seen s v) ≡ true
-  reached : (v : ℕ) → v ≤ last s → reachedWell v (numbers s v) 5 (drop 5 (s .pages)) ≡ true
+  keys : (v : ℕ) → Readable s v → all keysOk (seen s v) ≡ true
+  counts : (v : ℕ) → Readable s v → all (enough least) (seen s v) ≡ true
+  reached : (v : ℕ) → Readable s v → reachedWell v (numbers s v) 5 (drop 5 (s .pages)) ≡ true
 
 rules-of : (least : ℕ) (s : Store) → soundAnyLevel least s ≡ true → Rules least s
 unfolding rule2 rule3 rule4 rule5 rule6
@@ -54,21 +54,25 @@ rules-of least s h =
     let low : Bool = leb (last s) 1048574 in
     let roots : Bool = all (λ (x : Slot). isPage (length (s .pages)) (x .root)) (s .slots) in
     let front : Bool = all (λ (p : Page). isFree p && zeroed p) (take 5 (s .pages)) in
-    let (a5, pass) = both-true (long && short && few && low && roots && front) (all (pageFineAnyLevel least (last s) (length (s .pages))) (drop 5 (s .pages))) r1 in
-    let (a4, fr) = both-true (long && short && few && low && roots) front a5 in
-    let (a3, ro) = both-true (long && short && few && low) roots a4 in
-    let (a2, lo) = both-true (long && short && few) low a3 in
+    let old : Bool = leb (s .oldest) (pick (leb least 4) 0 (s .current)) in
+    let (a5, pass) = both-true (long && short && few && low && old && roots && front) (all (pageFineAnyLevel least (last s) (length (s .pages))) (drop 5 (s .pages))) r1 in
+    let (a4, fr) = both-true (long && short && few && low && old && roots) front a5 in
+    let (a3, ro) = both-true (long && short && few && low && old) roots a4 in
+    let (a3b, ol) = both-true (long && short && few && low) old a3 in
+    let (a2, lo) = both-true (long && short && few) low a3b in
     let (a1, fe) = both-true (long && short) few a2 in
     let (lg, sh) = both-true long short a1 in
-    let first : Bool = eqb (firstVersion (s .slots)) 0 in
+    let first : Bool = leb (firstVersion (s .oldest) (s .slots)) (s .oldest) in
     let rising : Bool = inOrder (λ (x y : Slot). ltb (x .version) (y .version)) (s .slots) in
-    let (b1, up) = both-true (first && rising) (all (λ (x : Slot). leb (x .version) (last s)) (s .slots)) r2 in
+    let upper : Bool = all (λ (x : Slot). leb (x .version) (last s)) (s .slots) in
+    let (b2, nw) = both-true (first && rising && upper) (all (λ (x : Slot). ltb (s .oldest) (x .version)) (drop 1 (s .slots))) r2 in
+    let (b1, up) = both-true (first && rising) upper b2 in
     let (sp, us) = both-true (pagesPass (spansWell s) s) (all (λ (x : Slot). not (isFree (page (s .pages) (x .root)))) (s .slots)) r3 in
     record {
       short = leb-true (length (s .pages)) 4096 sh;
       roots = ro;
       front = λ n q. both-true (isFree (page (s .pages) n)) (zeroed (page (s .pages) n)) (front-at (s .pages) fr (leb-true 6 (length (s .pages)) lg) n q) .0;
-      begins = eqb-true (firstVersion (s .slots)) 0 (both-true first rising b1 .0);
+      begins = leb-true (firstVersion (s .oldest) (s .slots)) (s .oldest) (both-true first rising b1 .0);
       spans = sp;
       used = us;
       keys = λ v l. all-in (λ (u : ℕ). all keysOk (seen s u)) v (versions s) r4 (version-in s v l);
@@ -76,7 +80,7 @@ rules-of least s h =
       reached = λ v l. all-in (λ (u : ℕ). reachedWell u (numbers s u) 5 (drop 5 (s .pages))) v (versions s) r6 (version-in s v l);
     }
 
-module _ (least : ℕ) (two : 2 ≤ least) (s : Store) (d : Rules least s) (v : ℕ) (h : v ≤ last s) where
+module _ (least : ℕ) (two : 2 ≤ least) (s : Store) (d : Rules least s) (v : ℕ) (h : Readable s v) where
   abbrev ps : List Page
   ps = s .pages
 
@@ -91,8 +95,13 @@ module _ (least : ℕ) (two : 2 ≤ least) (s : Store) (d : Rules least s) (v : 
   child m l e high i live =
       let rule = all-in _ e (page ps m .entries) (passes-at (spansWell s) s (d .spans) (d .front) m (level-used (page ps m) (suc l) high)) i in
       let (a, b) = within-of (e .start) (e .end) v live in
-      at a b (either-true (eqb (page ps m .level) 1) _ (both-true (inside e (page ps m)) (leadsWell s (page ps m) e) rule .1))
+      at a b (either-true (eqb (page ps m .level) 1) _ (both-true (inside e (page ps m)) (leadsWell s (page ps m) e) (spoken b (either-true (skipped s (page ps m) e) _ rule)) .1))
     where
+      -- it is not expired, so rule 3 speaks of it
+      spoken : v < e .end → (skipped s (page ps m) e ≡ true) ⊎ ((inside e (page ps m) && leadsWell s (page ps m) e) ≡ true) → (inside e (page ps m) && leadsWell s (page ps m) e) ≡ true
+      spoken b (inl z) = absurd (omega (arith, h .from, leb-true (e .end) (s .oldest) (both-true (not (eqb (page ps m .level) 1)) (leb (e .end) (s .oldest)) z .1)))
+      spoken b (inr z) = z
+
       at : e .start ≤ v → v < e .end → (eqb (page ps m .level) 1 ≡ true) ⊎ ((inside e (page ps (e .value)) && eqb (suc (page ps (e .value) .level)) (page ps m .level)) ≡ true)
           → leads l (record { key = e .key; value = e .value }) ≡ true
       at a b (inl z) = absurd (omega (arith, eqb-true (page ps m .level) 1 z))
@@ -107,14 +116,14 @@ module _ (least : ℕ) (two : 2 ≤ least) (s : Store) (d : Rules least s) (v : 
       (λ x i. let e = shown-by v (page ps m) x i in ap (leads l) (e .is) ∙ child m l (e .entry) high (e .is-in) (e .live))
 
   root-used : isFree (page ps root) ≡ false
-  root-used = not-true (isFree (page ps root)) (root-is (λ (n : ℕ). not (isFree (page ps n))) v (s .slots) (d .begins) (d .used))
+  root-used = not-true (isFree (page ps root)) (root-is (λ (n : ℕ). not (isFree (page ps n))) v (s .oldest) (s .slots) (h .from) (d .begins) (d .used))
 
   passing : all (λ (x : Seen). keysOk x && enough least x) (seen s v) ≡ true
   passing = all-by _ (seen s v) (λ x i. both-intro _ _ (all-in keysOk x (seen s v) (d .keys v h) i) (all-in (enough least) x (seen s v) (d .counts v h) i))
 
   root-lives : within (page ps root .start) (page ps root .end) v ≡ true
   root-lives =
-      let (a, b) = both-true (leb 5 root) (ltb root (length ps)) (root-is (isPage (length ps)) v (s .slots) (d .begins) (d .roots)) in
+      let (a, b) = both-true (leb 5 root) (ltb root (length ps)) (root-is (isPage (length ps)) v (s .oldest) (s .slots) (h .from) (d .begins) (d .roots)) in
       let five : 5 ≤ root = leb-true 5 root a in
       let inn : root < length ps = ltb-true root (length ps) b in
       let back : root ≡ 5 + (root - 5) = omega arith in
@@ -152,7 +161,7 @@ fine-wider least l size p h = at (isFree p) h
 rule-wider : (least : ℕ) (s : Store) → rule1 least s ≡ true → rule1AnyLevel least s ≡ true
 unfolding rule1
 rule-wider least s h =
-    let front : Bool = leb 6 (length (s .pages)) && leb (length (s .pages)) 4096 && leb (length (s .slots)) (64 * least) && leb (last s) 1048574 && all (λ (x : Slot). isPage (length (s .pages)) (x .root)) (s .slots)
+    let front : Bool = leb 6 (length (s .pages)) && leb (length (s .pages)) 4096 && leb (length (s .slots)) (64 * least) && leb (last s) 1048574 && leb (s .oldest) (pick (leb least 4) 0 (s .current)) && all (λ (x : Slot). isPage (length (s .pages)) (x .root)) (s .slots)
     && all (λ (p : Page). isFree p && zeroed p) (take 5 (s .pages)) in
     let (a, b) = both-true front (all (pageFine least (last s) (length (s .pages))) (drop 5 (s .pages))) h in
     both-intro _ _ a (all-implies (pageFine least (last s) (length (s .pages))) (pageFineAnyLevel least (last s) (length (s .pages))) (fine-wider least (last s) (length (s .pages))) (drop 5 (s .pages)) b)
@@ -170,11 +179,11 @@ wider least s h =
 
 pub levels : Levels
 levels = record {
-  one = λ least four s ok v h.
+  one = λ least four s ok v from h.
       let d : Rules least s = rules-of least s (holds-true (soundAnyLevel least s) ok) in
-      root-low least v (s .pages) (rootAt (s .slots) v) (settings s v) (shows least (omega arith) s d v h) (d .short) four;
-  two = λ least eight s ok v h.
+      root-low least v (s .pages) (rootAt (s .slots) v) (settings s v) (shows least (omega arith) s d v (record { from = from; upto = h })) (d .short) four;
+  two = λ least eight s ok v from h.
       let d : Rules least s = rules-of least s (holds-true (soundAnyLevel least s) ok) in
-      root-lower least v (s .pages) (rootAt (s .slots) v) (settings s v) (shows least (omega arith) s d v h) (d .short) eight;
+      root-lower least v (s .pages) (rootAt (s .slots) v) (settings s v) (shows least (omega arith) s d v (record { from = from; upto = h })) (d .short) eight;
   wider = λ least s ok. true-holds (soundAnyLevel least s) (wider least s (holds-true (sound least s) ok));
 }

@@ -31,5 +31,7 @@ pub mod Fakes
 pub mod Releasing
 pub mod Returning
 pub mod Singly
+pub mod Unpruned
+pub mod Pruning
 pub mod Promises
 pub mod Sampled

@@ -26,13 +26,14 @@ use Rattle.model.specs.Told.{toldIn, toldBy}
 use Rattle.model.specs.Life
 use Rattle.model.specs.Life.{lifeOf, life, lived, stretchNumbers}
 use Rattle.model.specs.Return.{Came, gave, gaveUp}
-use Rattle.model.specs.Histories.{Call, begins, commits, abandons, inserts, deletes, returns, callBy, after}
+use Rattle.model.specs.Histories.{Call, begins, commits, abandons, inserts, deletes, returns, prunes, callBy, after}
 use Rattle.model.specs.Settings.{Both, lent, onward, together}
 use Rattle.model.specs.Lent.{Listed, listed}
 use Rattle.model.specs.Any.{lookupAny, lifeAny}
 use Rattle.model.specs.Ended.{toCommit, toLife, ofListed, ended}
 use Rattle.model.specs.Telling.{Shape}
 use Rattle.model.proofs.Lists.{all-cons, both-intro}
+use Rattle.model.proofs.Given.{Readable, of-readable, old-current}
 use Rattle.model.proofs.Judging.{accepted-sound}
 use Rattle.model.proofs.Alike.{alike-lookup}
 use Rattle.model.proofs.History.{many-calls}
@@ -70,11 +71,14 @@ module _ (b : List ℕ) (ok : Accepts b) where
   current-low : storeOf b .current < alive
   current-low = omega (arith, last-low, upto)
 
-  looked : (k v : ℕ) → k < keyLimit → v ≤ last (storeOf b) → lookupAny b k v ≡ lookedAt (lookup (storeOf b) k v)
+  kept-low : storeOf b .oldest ≤ storeOf b .current
+  kept-low = old-current (leastOf b) s (accepted-sound (leastOf b) b (taken b ok) .old-low)
+
+  looked : (k v : ℕ) → k < keyLimit → Readable (storeOf b) v → lookupAny b k v ≡ lookedAt (lookup (storeOf b) k v)
   unfolding Calls.get
   looked k v h l =
       lookup-lent b ok k v
-      ∙ ap₂ (λ (p q : Bool). lookedBy (firstOf (rule 5 p ∷ rule 6 q ∷ [])) (lookup s k v)) (lt-leb keyLimit k h) (le-ltb (last s) v l)
+      ∙ ap₂ (λ (p q : Bool). lookedBy (firstOf (rule 5 p ∷ rule 6 q ∷ [])) (lookup s k v)) (lt-leb keyLimit k h) (of-readable s v l)
 
 value-is : (o : Option ℕ) (x : ℕ) → (lookedAt o ≡ Value x) ↔ (o ≡ some x)
 value-is none x = (λ e. absurd (let z : _≡_ {A = ℕ} 0 1 = cc in omega arith), λ e. absurd (let z : _≡_ {A = ℕ} 0 1 = cc in omega arith))
@@ -113,17 +117,17 @@ life-given b ok k h ns =
 -- ---- lookups and lives never disagree; stretches stand apart
 
 pub lives-agree : LivesAgree
-lives-agree b ok k v x h l =
+lives-agree b ok k v x h from l =
     let s = storeOf b in
-    let e = looked b ok k v h (omega (arith, upto b ok)) in
+    let e = looked b ok k v h (omega (arith, upto b ok, from)) in
     let f = value-is (lookup s k v) x in
-    let g = life-lies (s .current) (lookup s k) (current-low b ok) v x l in
+    let g = life-lies (s .oldest) (s .current) (lookup s k) (current-low b ok) v x from l in
     (λ q. g .0 (f .0 (sym e ∙ q)), λ q. e ∙ f .1 (g .1 q))
 
 pub stretches-apart : StretchesApart
 stretches-apart = record {
-  apart = λ b ok k. life-apart (storeOf b .current) (lookup (storeOf b) k) (current-low b ok);
-  ends = λ b k. life-ends (storeOf b .current) (lookup (storeOf b) k);
+  apart = λ b ok k. life-apart (storeOf b .oldest) (storeOf b .current) (lookup (storeOf b) k) (kept-low b ok) (current-low b ok);
+  ends = λ b k. life-ends (storeOf b .oldest) (storeOf b .current) (lookup (storeOf b) k);
 }
 
 -- ---- two stores with one life
@@ -180,12 +184,31 @@ one-kept y abandons (gave (done t)) h = refl
 one-kept y (inserts k x) (gave (done t)) h = refl
 one-kept y (deletes k) (gave (done t)) h = refl
 one-kept y (returns v) (gave (done t)) h = refl
+one-kept y (prunes v) (gave (done t)) h = absurd (let z : _≡_ {A = ℕ} 0 1 = cc in omega arith)
+
+-- and the oldest by prunes alone
+one-old : (y : Both) (c : Call) (r : Came) → keeps c ≡ true → onward y c r .machine .oldest ≡ y .machine .oldest
+one-old y c (gave (refused n)) h = refl
+one-old y c (gaveUp n t) h = refl
+one-old y begins (gave (done t)) h = refl
+one-old y commits (gave (done t)) h = refl
+one-old y abandons (gave (done t)) h = refl
+one-old y (inserts k x) (gave (done t)) h = refl
+one-old y (deletes k) (gave (done t)) h = refl
+one-old y (returns v) (gave (done t)) h = refl
+one-old y (prunes v) (gave (done t)) h = absurd (let z : _≡_ {A = ℕ} 0 1 = cc in omega arith)
 
 all-kept : (least : ℕ) (cs : List Call) → all keeps cs ≡ true → (y : Both) → together least y cs .machine .current ≡ y .machine .current
 all-kept least [] h y = refl
 all-kept least (c ∷ cs) h y =
     let (p, q) = all-cons keeps c cs h in
     all-kept least cs q (onward y c (callBy least (y .store) c)) ∙ one-kept y c (callBy least (y .store) c) p
+
+all-old : (least : ℕ) (cs : List Call) → all keeps cs ≡ true → (y : Both) → together least y cs .machine .oldest ≡ y .machine .oldest
+all-old least [] h y = refl
+all-old least (c ∷ cs) h y =
+    let (p, q) = all-cons keeps c cs h in
+    all-old least cs q (onward y c (callBy least (y .store) c)) ∙ one-old y c (callBy least (y .store) c) p
 
 pub open-unshown : OpenUnshown
 open-unshown b ok ts f u k =
@@ -196,8 +219,10 @@ open-unshown b ok ts f u k =
     let on = goes b ok ts f m in
     let agrees = many-calls (leastOf b) (four b) (callsOf ts) (calls-fit ts f) (lent s) (lent-agrees (leastOf b) s (held-sound b ok)) in
     let kept : storeOf b′ .current ≡ s .current = ap (λ (t : Store). t .current) (left .holds) ∙ agrees .current ∙ all-kept (leastOf b) (callsOf ts) (calls-keep ts u) (lent s) in
+    let old : storeOf b′ .oldest ≡ s .oldest = ap (λ (t : Store). t .oldest) (left .holds) ∙ agrees .oldest ∙ all-old (leastOf b) (callsOf ts) (calls-keep ts u) (lent s) in
     says-same b b′ ok (left .accepts) k
-    (λ h. ap (λ (c : ℕ). lifeOf c (lookup (storeOf b′) k)) kept ∙ life-ext (s .current) (lookup (storeOf b′) k) (lookup s k) (λ v l. alike-lookup s v (storeOf b′) v (on .steady v l) k))
+    (λ h. ap₂ (λ (o c : ℕ). lifeOf o c (lookup (storeOf b′) k)) old kept
+    ∙ life-ext (s .oldest) (s .current) (lookup (storeOf b′) k) (lookup s k) (λ v from l. alike-lookup s v (storeOf b′) v (on .steady v (omega (arith, old, from)) l) k))
 
 -- ---- a commit
 
@@ -220,4 +245,4 @@ left-alone b ok ms given k same =
     let up : last s ≡ next s = ap (λ (q : Bool). lastOf q (s .current)) o in
     says-same b b′ ok (left .accepts) k
     (λ h. ap (λ (t : Store). life t k) is
-    ∙ life-stays (s .current) (lookup s k) (looked-one (lookup s k (next s)) (lookup s k (s .current)) (sym (looked b ok k (next s) h (omega arith)) ∙ same ∙ looked b ok k (s .current) h (upto b ok))))
+    ∙ life-stays (s .current) (lookup s k) (looked-one (lookup s k (next s)) (lookup s k (s .current)) (sym (looked b ok k (next s) h (omega (arith, kept-low b ok))) ∙ same ∙ looked b ok k (s .current) h (omega (arith, upto b ok, kept-low b ok)))) (s .oldest) (kept-low b ok))

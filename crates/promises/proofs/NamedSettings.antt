@@ -24,16 +24,17 @@ use Rattle.model.specs.Store.{last, fresh}
 use Rattle.model.specs.Walk.{settings, between, find, rangeOf, keyLimit}
 use Rattle.model.specs.Layout.{encode, decode}
 use Rattle.model.specs.Judged.{judged}
-use Rattle.model.specs.Calls.{rule, firstOf, pairNumbers, rangedIn, rangedBy, range}
+use Rattle.model.specs.Calls.{rule, firstOf, pairNumbers, rangedIn, rangedBy, range, unreadable}
 use Rattle.model.specs.Lent.{Outcome, Listed, judgedFirst, listed, rangeLent}
 use Rattle.model.specs.Editions.{lentNumber, leastOf}
 use Rattle.model.specs.Any
 use Rattle.model.specs.Any.{insertAny, deleteAny, lookupAny, rangeAny}
 use Rattle.model.specs.Settings.{Machine, step, put}
 use Rattle.model.specs.Histories.{begins, commits, abandons, inserts, deletes}
-use Rattle.model.specs.Ended.{Asked, toFresh, toFreshSecond, toCheck, toOpen, toCommit, toAbandon, toInsert, toDelete, toReturn, toLookup, toRange, toVisits, toDifference, toLife, toState, Ended, ended, Untouched, ofOutcome, ofLooked, ofListed}
+use Rattle.model.specs.Ended.{Asked, toFresh, toFreshSecond, toCheck, toOpen, toCommit, toAbandon, toInsert, toDelete, toReturn, toPrune, toLookup, toRange, toVisits, toDifference, toLife, Ended, ended, Untouched, ofOutcome, ofLooked, ofListed, toState}
 use Rattle.model.specs.Kinds.{admits, knownIn, allowed, unknown}
 use Rattle.model.specs.Named.{before, insertNamed, deleteNamed, lookupNamed, allKnown, barred, rangeNamedBy, rangeNamed, ByName, byOpen, byCommit, byAbandon, byInsert, byDelete, byLookup, byRange, endedNamed}
+use Rattle.model.proofs.Given.{Readable, readable-of, of-readable}
 use Rattle.model.proofs.Lists.{all-cons, both-intro}
 use Rattle.model.proofs.Members.{bool-cases, not-both, In, all-in, all-by, in-those, those-in}
 use Rattle.model.proofs.Fitted.{entered-in}
@@ -79,6 +80,7 @@ returning toAbandon = 0
 returning (toInsert k x) = 0
 returning (toDelete k) = 0
 returning (toReturn v) = 1
+returning (toPrune v) = 0
 returning (toLookup k v) = 0
 returning (toRange lo hi v) = 0
 returning (toVisits k v) = 0
@@ -249,6 +251,38 @@ module _ (f : Pair → Bool) where
       at true e ih = ih (onward x (asked t)) (one-only x t e (ls .0) o)
       at false e ih = ih x o
 
+-- ---- no call by name prunes
+
+old-when : (n o : ℕ) (m t : Machine) → t .oldest ≡ o → m .oldest ≡ o → whenDone n t m .oldest ≡ o
+old-when zero o m t p q = p
+old-when (suc n) o m t p q = q
+
+one-old : (x : Beside) (t : NamedTurn) → onward x (asked t) .machine .oldest ≡ x .machine .oldest
+one-old x t = at (t .call)
+  where
+    o : ℕ
+    o = x .machine .oldest
+
+    number : ByName → ℕ
+    number c = ended (asks c) (x .bytes) (t .list) .number
+
+    at : (c : ByName) → onward x (record { call = asks c; list = t .list }) .machine .oldest ≡ x .machine .oldest
+    at byOpen = old-when (number byOpen) o (x .machine) (step (x .machine) begins) refl refl
+    at byCommit = old-when (number byCommit) o (x .machine) (step (x .machine) commits) refl refl
+    at byAbandon = old-when (number byAbandon) o (x .machine) (step (x .machine) abandons) refl refl
+    at (byInsert k y) = old-when (number (byInsert k y)) o (x .machine) (step (x .machine) (inserts k y)) refl refl
+    at (byDelete k) = old-when (number (byDelete k)) o (x .machine) (step (x .machine) (deletes k)) refl refl
+    at (byLookup k v) = old-when (number (byLookup k v)) o (x .machine) (x .machine) refl refl
+    at (byRange lo hi v) = old-when (number (byRange lo hi v)) o (x .machine) (x .machine) refl refl
+
+many-old : (ts : List NamedTurn) (x : Beside) → along x (plain ts) .machine .oldest ≡ x .machine .oldest
+many-old [] x = refl
+many-old (t ∷ ts) x = at (passes (t .table) (t .call)) (many-old ts)
+  where
+    at : (p : Bool) → ((y : Beside) → along y (plain ts) .machine .oldest ≡ y .machine .oldest) → along x (keep p (asked t) (plain ts)) .machine .oldest ≡ x .machine .oldest
+    at true ih = ih (onward x (asked t)) ∙ one-old x t
+    at false ih = ih x
+
 -- ---- from a fresh store on
 
 one-fits : (c : ByName) → fits c ≡ true → fitting (kindOf (asks c)) ≡ true
@@ -281,8 +315,10 @@ admitted-only least n table ts h v g =
     let a : Agreed (along x (plain ts)) = many-turns (plain ts) f x (fresh-agreed least (h .edition) n (h .six) (h .most)) in
     let e : runNamed (encode least (fresh n)) ts ≡ along x (plain ts) .bytes = many-same ts (encode least (fresh n)) ∙ sym (along-bytes (plain ts) x) in
     let o : (w : ℕ) → all (admitted table) (along x (plain ts) .machine .shows w) ≡ true = many-only (admitted table) ts (within-lets table ts (h .tables)) x (λ w. refl) in
+    let z : storeOf (along x (plain ts) .bytes) .oldest ≡ 0 = a .agrees .oldest ∙ many-old ts x in
+    let r : Readable (storeOf (along x (plain ts) .bytes)) v = record { from = omega (arith, z); upto = subst (λ (b : List ℕ). v ≤ last (storeOf b)) e g } in
     ap (λ (b : List ℕ). all (admitted table) (settings (storeOf b) v)) e
-    ∙ ap (all (admitted table)) (a .agrees .shows v (subst (λ (b : List ℕ). v ≤ last (storeOf b)) e g))
+    ∙ ap (all (admitted table)) (a .agrees .shows v r)
     ∙ o v
 
 -- ---- a NaN
@@ -346,14 +382,14 @@ module _ (least : ℕ) (b : List ℕ) (lo hi v : ℕ) where
     accepts : judged least b .number ≡ 0
     keys : wrong ≡ false
     low : lo < keyLimit
-    readable : v ≤ last (decode least b)
+    readable : Readable (decode least b) v
 
   met : barred least b lo hi v ≡ 0 → Met
   unfolding barred
   met e =
-      let (a, c) = first-zero (judged least b .number) (firstOf (rule 5 wrong ∷ rule 6 (ltb (last (decode least b)) v) ∷ [])) e in
-      let (p, q) = none-holds wrong (ltb (last (decode least b)) v) c in
-      record { accepts = a; keys = p; low = leb-false keyLimit lo (at (leb keyLimit lo) (leb keyLimit hi) (ltb hi lo) p); readable = ltb-false (last (decode least b)) v q }
+      let (a, c) = first-zero (judged least b .number) (firstOf (rule 5 wrong ∷ rule 6 (unreadable (decode least b) v) ∷ [])) e in
+      let (p, q) = none-holds wrong (unreadable (decode least b) v) c in
+      record { accepts = a; keys = p; low = leb-false keyLimit lo (at (leb keyLimit lo) (leb keyLimit hi) (ltb hi lo) p); readable = readable-of (decode least b) v q }
     where
       at : (x y z : Bool) → (x || y || z) ≡ false → x ≡ false
       at true y z e = e
@@ -361,14 +397,14 @@ module _ (least : ℕ) (b : List ℕ) (lo hi v : ℕ) where
 
   meets : Met → barred least b lo hi v ≡ 0
   unfolding barred
-  meets m = rw (m .accepts, m .keys, le-ltb (last (decode least b)) v (m .readable))
+  meets m = rw (m .accepts, m .keys, of-readable (decode least b) v (m .readable))
 
   range-met : 4 ≤ least → Met → rangeOf (decode least b) lo hi v ≡ between lo hi (settings (decode least b) v)
   range-met four m = range-is least (omega arith) (decode least b) (accepted-sound least b (accepted least b (m .accepts))) lo hi v (m .low) (m .readable)
 
   plain-met : (ns : List ℕ) → Met → listed ns (range (decode least b) lo hi v (length ns)) ≡ listed ns (rangedBy 0 (length ns) (rangeOf (decode least b) lo hi v))
   unfolding range
-  plain-met ns m = rw (m .keys, le-ltb (last (decode least b)) v (m .readable))
+  plain-met ns m = rw (m .keys, of-readable (decode least b) v (m .readable))
 
 -- the store's range, by the edition that the bytes name
 any-goes : (b : List ℕ) (lo hi v : ℕ) (ns : List ℕ) → lentNumber b ≡ 0 → rangeAny b lo hi v ns ≡ rangeLent (leastOf b) b lo hi v ns
@@ -427,7 +463,8 @@ never-skipped table b lo hi v ns e = by (lentNumber b) refl
         let all-of = is ∙ room-written ns us (sym (ap (λ (r : Listed). r .number) is) ∙ e) in
         record {
           accepted = ok;
-          readable = m .readable;
+          kept = m .readable .from;
+          readable = m .readable .upto;
           known = sym (ap (allKnown table) f) ∙ q;
           count = ap (λ (r : Listed). r .count ∷ []) all-of;
           list = ap (λ (r : Listed). r .list) all-of;
@@ -437,7 +474,7 @@ never-skipped table b lo hi v ns e = by (lentNumber b) refl
 
 pub never-softer : NeverSofter
 unfolding lookupNamed insertNamed deleteNamed
-never-softer old b ok k x v h found none-of = record {
+never-softer old b ok k x v from h found none-of = record {
   lookup = λ ns. ap (λ (q : Known). ofLooked b ns (judgedFirst (unknown q) (λ n. Refused n) (lookupAny b k v))) none-of;
   range = λ lo hi ns p q t. ap (ofListed b) (range-goes old b lo hi v ns (known b ok) ∙ unknown-is least old b lo hi v ns (meets least b lo hi v (around lo hi p q t)) (not-all lo hi p q t));
   insert = λ y ns. ap (λ (q : Known). ofOutcome ns (before (allowed q y) b (insertAny b k y))) none-of;
@@ -450,7 +487,7 @@ never-softer old b ok k x v h found none-of = record {
     around : (lo hi : ℕ) → lo ≤ k → k ≤ hi → hi < keyLimit → Met least b lo hi v
     around lo hi p q t =
         let low : lo < keyLimit = omega arith in
-        record { accepts = judged-by b ok; keys = rw (lt-leb keyLimit lo low, lt-leb keyLimit hi t, le-ltb hi lo (omega arith)); low = low; readable = h }
+        record { accepts = judged-by b ok; keys = rw (lt-leb keyLimit lo low, lt-leb keyLimit hi t, le-ltb hi lo (omega arith)); low = low; readable = record { from = from; upto = h } }
 
     not-all : (lo hi : ℕ) → lo ≤ k → k ≤ hi → hi < keyLimit → allKnown old (rangeOf (decode least b) lo hi v) ≡ false
     not-all lo hi p q t = at (bool-cases (allKnown old (rangeOf (decode least b) lo hi v)))

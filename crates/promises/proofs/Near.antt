@@ -12,13 +12,13 @@ use lib.ListN.{length}
 use borrow.Author.Tests.{leb-true, le-leb, ltb-true, lt-ltb}
 use Rattle.model.specs.declared.Pair.{Pair}
 use Rattle.model.specs.declared.Looked.the-variants.{Refused}
-use Rattle.model.specs.Store.{last}
+use Rattle.model.specs.Store.{Store, last}
 use Rattle.model.specs.Walk.{keyLimit, lookup, rangeOf}
 use Rattle.model.specs.Layout.{decode}
 use Rattle.model.specs.Judged.{lengthOk, magicOk, editionOk}
 use Rattle.model.specs.Editions.{byEdition, leastOf}
 use Rattle.model.specs.Calls
-use Rattle.model.specs.Calls.{rule, firstOf, lookedNumber, lookedAt, lookedBy, rangedIn, rangedBy}
+use Rattle.model.specs.Calls.{rule, firstOf, unreadable, lookedNumber, lookedAt, lookedBy, rangedIn, rangedBy}
 use Rattle.model.specs.Near
 use Rattle.model.specs.Near.{frontRight, downRight, rangeRight, fromRoot}
 use Rattle.model.specs.Lent
@@ -209,6 +209,22 @@ module _ (front bad late walk : Type 0) (f g h w : Bool) (ff : (f ≡ false) ↔
       same : (i : ℕ) → 1 ≤ i → i ≤ 6 → n ≡ i ↔ c ≡ i
       same i low high = by i low high t
 
+-- 6: above last, or below the oldest
+late-is : (s : Store) (v : ℕ) → (unreadable s v ≡ true) ↔ ((last s < v) ⊎ (v < s .oldest))
+late-is s v = (to (ltb (last s) v) refl, back)
+  where
+    to : (p : Bool) → ltb (last s) v ≡ p → (p || ltb v (s .oldest)) ≡ true → (last s < v) ⊎ (v < s .oldest)
+    to true x e = inl (ltb-true (last s) v x)
+    to false x e = inr (ltb-true v (s .oldest) e)
+
+    or-true : (p : Bool) → (p || true) ≡ true
+    or-true true = refl
+    or-true false = refl
+
+    back : (last s < v) ⊎ (v < s .oldest) → unreadable s v ≡ true
+    back (inl e) = rw (lt-ltb (last s) v e)
+    back (inr e) = rw (lt-ltb v (s .oldest) e) (or-true (ltb (last s) v))
+
 -- ---- a lookup
 
 looked-number : (n : ℕ) (o : Option ℕ) → lookedNumber (lookedBy n o) ≡ n
@@ -225,21 +241,20 @@ module _ (least : ℕ) (b : List ℕ) (k v : ℕ) where
   right-way = fromRoot least b v (λ up n. downRight least b v up k n)
 
   abbrev told : Bool → Bool → ℕ
-  told m e = chain (lengthOk least b) m e (frontRight least b) (leb keyLimit k) (ltb (last (decode least b)) v) right-way
+  told m e = chain (lengthOk least b) m e (frontRight least b) (leb keyLimit k) (unreadable (decode least b) v) right-way
 
   abbrev Looks : Bool → Bool → Bool → ℕ → Type 0
   Looks x m e n =
-      ReadingNumbers x m e (lengthOk least b) (FrontWrong least b) (keyLimit ≤ k) (last (decode least b) < v) (WrongFrom least b v (λ up n. WrongDown least b v up k n)) n
+      ReadingNumbers x m e (lengthOk least b) (FrontWrong least b) (keyLimit ≤ k) ((last (decode least b) < v) ⊎ (v < decode least b .oldest)) (WrongFrom least b v (λ up n. WrongDown least b v up k n)) n
 
   -- by the limits of an edition
   looks-by : magicOk b ≡ true → editionOk least b ≡ true → Looks true true true (lookedNumber (lookupLent least b k v))
   unfolding Lent.lookupLent Near.lookupNear
   looks-by m e =
-      let top : ℕ = last (decode least b) in
       rw (m, e)
-      (carried _ _ _ _ (frontRight least b) (leb keyLimit k) (ltb top v) right-way (front-clauses least b) (leb-true keyLimit k, le-leb keyLimit k) (ltb-true top v, lt-ltb top v) (lookup-clauses least b v k)
+      (carried _ _ _ _ (frontRight least b) (leb keyLimit k) (unreadable (decode least b) v) right-way (front-clauses least b) (leb-true keyLimit k, le-leb keyLimit k) (late-is (decode least b) v) (lookup-clauses least b v k)
       true true true (lengthOk least b) (told true true) _ (inl (sym (looked-number (told true true) (lookup (decode least b) k v))))
-      (numbers-are _ _ _ _ (frontRight least b) (leb keyLimit k) (ltb top v) right-way (front-clauses least b) (leb-true keyLimit k, le-leb keyLimit k) (ltb-true top v, lt-ltb top v) (lookup-clauses least b v k)
+      (numbers-are _ _ _ _ (frontRight least b) (leb keyLimit k) (unreadable (decode least b) v) right-way (front-clauses least b) (leb-true keyLimit k, le-leb keyLimit k) (late-is (decode least b) v) (lookup-clauses least b v k)
       (lengthOk least b)))
 
   looks-done : lookedNumber (lookupLent least b k v) ≡ 0 → lookupLent least b k v ≡ lookedAt (lookup (decode least b) k v)
@@ -320,9 +335,6 @@ module _ (room : ℕ) (xs : List Pair) where
   short (suc n) h e = absurd (omega arith)
 
 module _ (least : ℕ) (b : List ℕ) (lo hi v : ℕ) where
-  abbrev top : ℕ
-  top = last (decode least b)
-
   abbrev wrong : Bool
   wrong = leb keyLimit lo || leb keyLimit hi || ltb hi lo
 
@@ -330,22 +342,22 @@ module _ (least : ℕ) (b : List ℕ) (lo hi v : ℕ) where
   right = fromRoot least b v (λ up n. rangeRight least b v up hi lo n)
 
   abbrev given : Bool → Bool → ℕ
-  given m e = chain (lengthOk least b) m e (frontRight least b) wrong (ltb top v) right
+  given m e = chain (lengthOk least b) m e (frontRight least b) wrong (unreadable (decode least b) v) right
 
   low : given (magicOk b) (editionOk least b) ≤ 6
-  low = chain-low (lengthOk least b) (magicOk b) (editionOk least b) (frontRight least b) wrong (ltb top v) right
+  low = chain-low (lengthOk least b) (magicOk b) (editionOk least b) (frontRight least b) wrong (unreadable (decode least b) v) right
 
   abbrev Ranges : Bool → Bool → Bool → ℕ → Type 0
   Ranges x m e n =
-      ReadingNumbers x m e (lengthOk least b) (FrontWrong least b) ((keyLimit ≤ lo) ⊎ ((keyLimit ≤ hi) ⊎ (hi < lo))) (last (decode least b) < v) (WrongFrom least b v (λ up n. WrongAcross least b v up hi lo n)) n
+      ReadingNumbers x m e (lengthOk least b) (FrontWrong least b) ((keyLimit ≤ lo) ⊎ ((keyLimit ≤ hi) ⊎ (hi < lo))) ((last (decode least b) < v) ⊎ (v < decode least b .oldest)) (WrongFrom least b v (λ up n. WrongAcross least b v up hi lo n)) n
 
   ranges-by : (ns : List ℕ) → magicOk b ≡ true → editionOk least b ≡ true → Ranges true true true (rangeLent least b lo hi v ns .number)
   unfolding Lent.rangeLent Near.rangeNear
   ranges-by ns m e =
       rw (m, e)
-      (carried _ _ _ _ (frontRight least b) wrong (ltb top v) right (front-clauses least b) (bad-is lo hi) (ltb-true top v, lt-ltb top v) (range-clauses least b v lo hi)
+      (carried _ _ _ _ (frontRight least b) wrong (unreadable (decode least b) v) right (front-clauses least b) (bad-is lo hi) (late-is (decode least b) v) (range-clauses least b v lo hi)
       true true true (lengthOk least b) (given true true) _ (ranged-number (length ns) (rangeOf (decode least b) lo hi v) (given true true))
-      (numbers-are _ _ _ _ (frontRight least b) wrong (ltb top v) right (front-clauses least b) (bad-is lo hi) (ltb-true top v, lt-ltb top v) (range-clauses least b v lo hi)
+      (numbers-are _ _ _ _ (frontRight least b) wrong (unreadable (decode least b) v) right (front-clauses least b) (bad-is lo hi) (late-is (decode least b) v) (range-clauses least b v lo hi)
       (lengthOk least b)))
 
   ranges-done : (ns : List ℕ) → (rangeLent least b lo hi v ns .number ≡ 0) ⊎ (rangeLent least b lo hi v ns .number ≡ 14)

@@ -36,6 +36,7 @@ use Rattle.promises.specs.Replayed.{TableLent}
 use Rattle.promises.specs.Bench.{KeptOut}
 use Rattle.promises.specs.Releases.{EmptyReleases}
 use Rattle.promises.specs.Returns.{Returns}
+use Rattle.promises.specs.Prunes.{Prunes}
 use Rattle.promises.specs.Converts.{Converts}
 use Rattle.promises.specs.LiveCounts.{LiveCounts}
 use Rattle.promises.specs.NamedSettings.{NamedRefused, AdmittedOnly, NoNan, NeverSkipped, NeverSofter, RightTable}
@@ -65,6 +66,7 @@ use Rattle.promises.proofs.Tables as tables
 use Rattle.promises.proofs.Replaying as replaying
 use Rattle.promises.proofs.Releasing as releasing
 use Rattle.promises.proofs.Returning as returning
+use Rattle.promises.proofs.Pruning as pruning
 use Rattle.promises.proofs.Singly as singly
 use Rattle.promises.proofs.Fakes as fakes
 
@@ -271,6 +273,11 @@ returns = record {
   stopped = returning.when-stopped;
   abandons = returning.is-abandon;
 }
+
+-- ---- 2026-12, drop what the law lets us drop
+
+pub prunes : Prunes
+prunes = pruning.prunes-keep
 
 -- ---- 2026-08, the converter
 

@@ -23,6 +23,7 @@ use Rattle.model.specs.Calls.{isSome, unchanged, rule, benchLimit, firstOf, loo
 use Rattle.model.specs.Histories.{commits}
 use Rattle.model.specs.Settings.{Machine, edited}
 use Rattle.model.specs.Ended.{toCommit, toInsert, toDelete, toLookup, toDifference, Ended, ofLooked, ended}
+use Rattle.model.proofs.Given.{of-readable, old-current}
 use Rattle.model.proofs.Lists.{both-true}
 use Rattle.model.proofs.Members.{not-both}
 use Rattle.model.proofs.Lookups.{settings-rise, settings-low}
@@ -113,36 +114,39 @@ module _ (b : List ℕ) (o : Opened b) where
   last-is : last t ≡ next t
   last-is = ap (λ (q : Bool). lastOf q (t .current)) (o .opened)
 
+  kept-low : t .oldest ≤ t .current
+  kept-low = old-current (leastOf b) t (a .agrees .is-sound .old-low)
+
   -- what a lookup of either version says
-  looked : (k v : ℕ) (ns : List ℕ) → v ≤ next t → ended (toLookup k v) b ns ≡ ofLooked b ns (lookedBy (firstOf (rule 5 (leb keyLimit k) ∷ rule 6 false ∷ [])) (find k (settings t v)))
-  looked k v ns h =
+  looked : (k v : ℕ) (ns : List ℕ) → t .oldest ≤ v → v ≤ next t → ended (toLookup k v) b ns ≡ ofLooked b ns (lookedBy (firstOf (rule 5 (leb keyLimit k) ∷ rule 6 false ∷ [])) (find k (settings t v)))
+  looked k v ns from h =
       answers (fromLent b) a .lookup k v ns
-      ∙ ap (λ (q : Bool). ofLooked b ns (lookedBy (firstOf (rule 5 (leb keyLimit k) ∷ rule 6 q ∷ [])) (find k (settings t v)))) (le-ltb (last t) v (omega (arith, last-is)))
+      ∙ ap (λ (q : Bool). ofLooked b ns (lookedBy (firstOf (rule 5 (leb keyLimit k) ∷ rule 6 q ∷ [])) (find k (settings t v)))) (of-readable t v (record { from = from; upto = omega (arith, last-is) }))
 
   say-same : Equal t → (k : ℕ) (ns : List ℕ) → SaysSame (ended (toLookup k (next t)) b ns) (ended (toLookup k (t .current)) b ns)
   say-same e k ns =
       let same : ended (toLookup k (next t)) b ns ≡ ended (toLookup k (t .current)) b ns
-      = looked k (next t) ns (omega arith)
+      = looked k (next t) ns (omega (arith, kept-low)) (omega arith)
       ∙ ap (λ (us : List Pair). ofLooked b ns (lookedBy (firstOf (rule 5 (leb keyLimit k) ∷ rule 6 false ∷ [])) (find k us))) e
-      ∙ sym (looked k (t .current) ns (omega arith)) in
+      ∙ sym (looked k (t .current) ns (omega (arith, kept-low)) (omega arith)) in
       record { number = ap (λ (x : Ended). x .number) same; results = ap (λ (x : Ended). x .results) same; list = ap (λ (x : Ended). x .list) same }
 
   find-by : ((k : ℕ) (ns : List ℕ) → SaysSame (ended (toLookup k (next t)) b ns) (ended (toLookup k (t .current)) b ns))
       → (k : ℕ) → within 0 keyLimit k ≡ true → find k (settings t (next t)) ≡ find k (settings t (t .current))
   find-by f k h =
       let low : leb keyLimit k ≡ false = lt-leb keyLimit k (ltb-true k keyLimit (both-true (leb 0 k) (ltb k keyLimit) h .1)) in
-      answer-tells (find k (settings t (next t))) (find k (settings t (t .current))) (sym (found low (next t) (omega arith)) ∙ f k [] .results ∙ found low (t .current) (omega arith))
+      answer-tells (find k (settings t (next t))) (find k (settings t (t .current))) (sym (found low (next t) (omega (arith, kept-low)) (omega arith)) ∙ f k [] .results ∙ found low (t .current) kept-low (omega arith))
     where
-      found : leb keyLimit k ≡ false → (v : ℕ) → v ≤ next t
+      found : leb keyLimit k ≡ false → (v : ℕ) → t .oldest ≤ v → v ≤ next t
           → ended (toLookup k v) b [] .results ≡ bit (lookedFound (lookedAt (find k (settings t v)))) ∷ lookedValue (lookedAt (find k (settings t v))) ∷ []
-      found low v g = ap (λ (x : Ended). x .results) (looked k v [] g ∙ ap (λ (q : Bool). ofLooked b [] (lookedBy (firstOf (rule 5 q ∷ rule 6 false ∷ [])) (find k (settings t v)))) low)
+      found low v from g = ap (λ (x : Ended). x .results) (looked k v [] from g ∙ ap (λ (q : Bool). ofLooked b [] (lookedBy (firstOf (rule 5 q ∷ rule 6 false ∷ [])) (find k (settings t v)))) low)
 
   equal-by : ((k : ℕ) (ns : List ℕ) → SaysSame (ended (toLookup k (next t)) b ns) (ended (toLookup k (t .current)) b ns)) → Equal t
   equal-by f =
       let rise = settings-rise (leastOf b) (omega (arith, four b)) t (a .agrees .is-sound) in
       let low = settings-low (leastOf b) (omega (arith, four b)) t (a .agrees .is-sound) in
-      finds-equal (λ (k : ℕ). within 0 keyLimit k) (settings t (next t)) (settings t (t .current)) (rise (next t) (omega (arith, last-is))) (rise (t .current) (omega (arith, last-is)))
-      (low (next t) (omega (arith, last-is))) (low (t .current) (omega (arith, last-is))) (find-by f)
+      finds-equal (λ (k : ℕ). within 0 keyLimit k) (settings t (next t)) (settings t (t .current)) (rise (next t) (omega (arith, last-is, kept-low))) (rise (t .current) (omega (arith, last-is, kept-low)))
+      (low (next t) (omega (arith, last-is, kept-low))) (low (t .current) (omega (arith, last-is, kept-low))) (find-by f)
 
 -- ---- nothing differs
 
@@ -161,8 +165,11 @@ module _ (b : List ℕ) (o : Opened b) (ms : List ℕ) where
   upto : last z ≡ next z
   upto = ap (λ (q : Bool). lastOf q (z .current)) (o .opened)
 
+  kept-below : z .oldest ≤ z .current
+  kept-below = old-current (leastOf b) z (lent-agreed b (o .accepted) .agrees .is-sound .old-low)
+
   reads : Readable b (z .current) (next z)
-  reads = record { accepted = o .accepted; old = omega (arith, upto); new = omega (arith, upto) }
+  reads = record { accepted = o .accepted; old-kept = kept-below; old = omega (arith, upto); new-kept = omega (arith, kept-below); new = omega (arith, upto) }
 
   abbrev ds : List Delta
   ds = differences z (z .current) (next z)
@@ -178,7 +185,7 @@ module _ (b : List ℕ) (o : Opened b) (ms : List ℕ) where
   none-is : unchanged z ≡ isEmpty ds
   none-is =
       let rise = settings-rise (leastOf b) (omega (arith, four b)) z (lent-agreed b (o .accepted) .agrees .is-sound) in
-      same-none (settings z (z .current)) (settings z (next z)) (rise (z .current) (omega (arith, upto))) (rise (next z) (omega (arith, upto)))
+      same-none (settings z (z .current)) (settings z (next z)) (rise (z .current) (omega (arith, upto, kept-below))) (rise (next z) (omega (arith, upto, kept-below)))
 
   equal-none : Equal z → ended (toDifference (z .current) (next z)) b ms .results ≡ 0 ∷ []
   equal-none e = count-is ∙ ap (λ (n : ℕ). n ∷ []) (none-counted ds (sym none-is ∙ equal-settings z e))

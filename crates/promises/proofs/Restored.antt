@@ -11,7 +11,7 @@ use Rattle.model.specs.Field.{Bytes}
 use Rattle.model.specs.Editions.{leastOf}
 use Rattle.model.specs.Calls.{rule, firstOf}
 use Rattle.model.specs.Basic.{pick}
-use Rattle.model.specs.Histories.{Call, begins, commits, abandons, inserts, deletes, returns}
+use Rattle.model.specs.Histories.{Call, begins, commits, abandons, inserts, deletes, returns, prunes}
 use Rattle.model.specs.Settings.{Machine, step, isInside, lent, together}
 use Rattle.model.specs.Ended.{toOpen, toAbandon, ended}
 use Rattle.model.proofs.Lists.{both-true, both-intro, all-cons}
@@ -51,6 +51,7 @@ inside-open abandons m h o = absurd (not-both false h refl)
 inside-open (inserts k x) m h o = o
 inside-open (deletes k) m h o = o
 inside-open (returns v) m h o = o
+inside-open (prunes v) m h o = o
 
 step-open : (k : Kind) (m : Machine) → staying k 0 ≡ true → m .opened ≡ true → stepped k m .opened ≡ true
 step-open making m h o = absurd (not-both false h refl)

@@ -19,7 +19,7 @@ use Rattle.model.specs.Layout.{encode}
 use Rattle.model.specs.Editions.{leastOf}
 use Rattle.model.specs.Climb.{done}
 use Rattle.model.specs.Calls
-use Rattle.model.specs.Calls.{rule, firstOf, abandon, abandoned}
+use Rattle.model.specs.Calls.{rule, firstOf, beyond, abandon, abandoned}
 use Rattle.model.specs.Differ.{differ, deltaNumbers}
 use Rattle.model.specs.Return
 use Rattle.model.specs.Return.{carried, Came, gave, lacking, orAbandoned, unless, returned}
@@ -27,7 +27,7 @@ use Rattle.model.specs.Histories.{abandons, returns, after}
 use Rattle.model.specs.Lent.{left, leftBy}
 use Rattle.model.specs.Ended.{toAbandon, toReturn, toDifference, Ended, ofOutcome, ended}
 use Rattle.model.proofs.Members.{holds-true}
-use Rattle.model.proofs.Given.{Sound, from-tests}
+use Rattle.model.proofs.Given.{Sound, from-tests, Kept}
 use Rattle.model.proofs.Lookups.{settings-rise}
 use Rattle.model.proofs.Alike.{alike-settings}
 use Rattle.model.proofs.Differs.{none-differs}
@@ -52,7 +52,7 @@ use Rattle.promises.proofs.Restored as restored
 -- a return that is done, on a store
 pub record Whole (least : ℕ) (s : Store) (v : ℕ) (q : Came) : Type 0 where
   pub opened : s .opened ≡ true
-  pub committed : v ≤ s .current
+  pub committed : Kept s v
   pub left-so : Store
   pub is : q ≡ gave (done left-so)
   pub stepped : Stepped least s left-so (settings s v)
@@ -96,7 +96,7 @@ module _ (b : List ℕ) (ok : Accepts b) (v : ℕ) (ns : List ℕ) where
   undoes : Stops (numberBy (returned (leastOf b) (storeOf b) v)) → Undoes (leastOf b) (storeOf b) b (returned (leastOf b) (storeOf b) v)
   undoes =
       returned-by (leastOf b) (λ (q : Came). Stops (numberBy q) → Undoes (leastOf b) (storeOf b) b q) (four b) (storeOf b) sure v
-      (λ n e. absurd (early (ltb (storeOf b .current) v) (not (storeOf b .opened)) e)) (λ o h t g e. absurd (zero e)) (λ o h n l e. record { opened = o; store = refl })
+      (λ n e. absurd (early (beyond (storeOf b .current) (storeOf b .oldest) v) (not (storeOf b .opened)) e)) (λ o h t g e. absurd (zero e)) (λ o h n l e. record { opened = o; store = refl })
 
   -- an abandon of an update that is open
   abandon-is : storeOf b .opened ≡ true → ended toAbandon b ns ≡ ofOutcome ns (record { number = 0; store = encode (leastOf b) (abandoned (storeOf b)) })
@@ -135,11 +135,14 @@ module _ (b : List ℕ) (ok : Accepts b) (v : ℕ) (ns : List ℕ) where
     current-is : storeOf (ended (toReturn v) b ns .store) .current ≡ storeOf b .current
     current-is = ap (λ (t : Store). t .current) holds ∙ w .stepped .current
 
+    old-is : storeOf (ended (toReturn v) b ns .store) .oldest ≡ storeOf b .oldest
+    old-is = ap (λ (t : Store). t .oldest) holds ∙ w .stepped .oldest
+
     shown : settings (storeOf (ended (toReturn v) b ns .store)) (next (storeOf (ended (toReturn v) b ns .store))) ≡ settings (storeOf b) v
     shown = ap (λ (t : Store). settings t (next t)) holds ∙ w .stepped .openly
 
     old-shown : settings (storeOf (ended (toReturn v) b ns .store)) v ≡ settings (storeOf b) v
-    old-shown = ap (λ (t : Store). settings t v) holds ∙ alike-settings (storeOf b) v (w .left-so) v (w .stepped .steady v (w .committed))
+    old-shown = ap (λ (t : Store). settings t v) holds ∙ alike-settings (storeOf b) v (w .left-so) v (w .stepped .steady v (w .committed .from) (omega (arith, w .committed .upto)))
 
     last-is : last (storeOf (ended (toReturn v) b ns .store)) ≡ suc (storeOf b .current)
     last-is = ap₂ lastOf still current-is
@@ -147,7 +150,7 @@ module _ (b : List ℕ) (ok : Accepts b) (v : ℕ) (ns : List ℕ) where
     none : differ (settings (storeOf (ended (toReturn v) b ns .store)) v) (settings (storeOf (ended (toReturn v) b ns .store)) (next (storeOf (ended (toReturn v) b ns .store)))) ≡ []
     none =
         ap₂ differ old-shown shown
-        ∙ none-differs (settings (storeOf b) v) (settings-rise (leastOf b) (omega (arith, four b)) (storeOf b) sure v (omega (arith, w .committed, low (storeOf b .opened) (storeOf b .current))))
+        ∙ none-differs (settings (storeOf b) v) (settings-rise (leastOf b) (omega (arith, four b)) (storeOf b) sure v (omega (arith, w .committed .from, w .committed .upto, low (storeOf b .opened) (storeOf b .current))))
       where
         low : (o : Bool) (n : ℕ) → n ≤ lastOf o n
         low true n = omega arith
@@ -159,9 +162,9 @@ module _ (b : List ℕ) (ok : Accepts b) (v : ℕ) (ns : List ℕ) where
       opened = still;
       current = current-is;
       shows = shown;
-      older = λ u h. views-stay b ok (record { call = toReturn v; list = ns } ∷ []) refl refl u h;
+      older = λ u f h. views-stay b ok (record { call = toReturn v; list = ns } ∷ []) refl refl u (omega (arith, f, old-is)) h;
       nothing-differs = λ ms. nothing ms
-          (difference-given b′ v (next (storeOf b′)) (record { accepted = kept; old = omega (arith, w .committed, last-is); new = omega (arith, last-is, current-is) }) .room ms);
+          (difference-given b′ v (next (storeOf b′)) (record { accepted = kept; old-kept = omega (arith, w .committed .from, old-is); old = omega (arith, w .committed .upto, last-is); new-kept = omega (arith, w .committed .from, w .committed .upto, old-is, current-is); new = omega (arith, last-is, current-is) }) .room ms);
     }
       where
         ds : List Delta
@@ -177,12 +180,12 @@ module _ (b : List ℕ) (ok : Accepts b) (v : ℕ) (ns : List ℕ) where
 
   -- ---- nothing to do
 
-  module _ (o : storeOf b .opened ≡ true) (h : v ≤ storeOf b .current) (same : settings (storeOf b) (next (storeOf b)) ≡ settings (storeOf b) v) where
+  module _ (o : storeOf b .opened ≡ true) (h : Kept (storeOf b) v) (same : settings (storeOf b) (next (storeOf b)) ≡ settings (storeOf b) v) where
     returned-same : returned (leastOf b) (storeOf b) v ≡ gave (done (storeOf b))
     unfolding Return.returned Return.carried Return.through
     returned-same =
         ap₂ (λ (n : ℕ) (ds : List Delta). unless n (orAbandoned (carried (leastOf b) ds (storeOf b)))) (return-free (storeOf b) v o h)
-        (ap (λ (us : List Pair). differ us (settings (storeOf b) v)) same ∙ none-differs (settings (storeOf b) v) (settings-rise (leastOf b) (omega (arith, four b)) (storeOf b) sure v (omega (arith, open-last))))
+        (ap (λ (us : List Pair). differ us (settings (storeOf b) v)) same ∙ none-differs (settings (storeOf b) v) (settings-rise (leastOf b) (omega (arith, four b)) (storeOf b) sure v (omega (arith, open-last, h .from, h .upto))))
       where
         open-last : last (storeOf b) ≡ next (storeOf b)
         open-last = ap (λ (p : Bool). lastOf p (storeOf b .current)) o
@@ -220,4 +223,4 @@ is-abandon b bytes given ts f i v e =
     record { bytes = same; later = λ a ns. ap (λ (q : List ℕ). ended a q ns) same }
 
 pub when-nothing : ReturnNothing
-when-nothing b bytes ok o v h same ns = nothing-so b ok v ns o h same bytes
+when-nothing b bytes ok o v f h same ns = nothing-so b ok v ns o (record { from = f; upto = h }) same bytes

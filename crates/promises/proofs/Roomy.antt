@@ -13,10 +13,11 @@ use Rattle.model.specs.declared.Pair.{Pair}
 use Rattle.model.specs.Store.{last}
 use Rattle.model.specs.Walk.{keyLimit, settings, between}
 use Rattle.model.specs.Calls
-use Rattle.model.specs.Calls.{rule, firstOf}
+use Rattle.model.specs.Calls.{rule, firstOf, unreadable}
 use Rattle.model.specs.Editions.{leastOf}
 use Rattle.model.specs.Ended.{Ended}
 use Rattle.model.proofs.Most.{settings-most}
+use Rattle.model.proofs.Given.{readable-of}
 use Rattle.model.proofs.PlanSizes.{few-those}
 use Rattle.promises.specs.Accepts.{Accepts, storeOf}
 use Rattle.promises.specs.Beside.{fromLent}
@@ -26,12 +27,12 @@ use Rattle.promises.proofs.Lending.{held-sound}
 use Rattle.promises.proofs.Agreed.{lent-agreed}
 use Rattle.promises.proofs.Answering.{answers}
 
-most-settings : (b : List ℕ) → Accepts b → (v : ℕ) → v ≤ last (storeOf b) → length (settings (storeOf b) v) ≤ (length (storeOf b .pages) - 5) * (5 * leastOf b)
-most-settings b ok v h = settings-most (leastOf b) (omega (arith, four b)) (storeOf b) (held-sound b ok) v h
+most-settings : (b : List ℕ) → Accepts b → (v : ℕ) → storeOf b .oldest ≤ v → v ≤ last (storeOf b) → length (settings (storeOf b) v) ≤ (length (storeOf b .pages) - 5) * (5 * leastOf b)
+most-settings b ok v f h = settings-most (leastOf b) (omega (arith, four b)) (storeOf b) (held-sound b ok) v (record { from = f; upto = h })
 
-few-settings : (b : List ℕ) → Accepts b → leastOf b ≡ 4 → length (storeOf b .pages) ≤ 256 → (v : ℕ) → v ≤ last (storeOf b) → length (settings (storeOf b) v) ≤ 5020
-few-settings b ok one small v h =
-    let most : length (settings (storeOf b) v) ≤ (length (storeOf b .pages) - 5) * (5 * 4) = subst (λ (l : ℕ). length (settings (storeOf b) v) ≤ (length (storeOf b .pages) - 5) * (5 * l)) one (most-settings b ok v h) in
+few-settings : (b : List ℕ) → Accepts b → leastOf b ≡ 4 → length (storeOf b .pages) ≤ 256 → (v : ℕ) → storeOf b .oldest ≤ v → v ≤ last (storeOf b) → length (settings (storeOf b) v) ≤ 5020
+few-settings b ok one small v f h =
+    let most : length (settings (storeOf b) v) ≤ (length (storeOf b .pages) - 5) * (5 * 4) = subst (λ (l : ℕ). length (settings (storeOf b) v) ≤ (length (storeOf b .pages) - 5) * (5 * l)) one (most-settings b ok v f h) in
     omega arith
 
 -- a list with the room does not give 14
@@ -49,7 +50,7 @@ no-range-outgrows = record {
   console = few-settings;
   room = λ b ok one small lo hi v ns long e.
       let found : length (between lo hi (settings (storeOf b) v)) ≤ length (settings (storeOf b) v) = few-those (λ (x : Pair). leb lo (x .key) && leb (x .key) hi) (settings (storeOf b) v) in
-      with-room (leb keyLimit lo || leb keyLimit hi || ltb hi lo) (ltb (last (storeOf b)) v) (length ns) (between lo hi (settings (storeOf b) v))
-      (λ z. omega (arith, few-settings b ok one small v (ltb-false (last (storeOf b)) v z)))
+      with-room (leb keyLimit lo || leb keyLimit hi || ltb hi lo) (unreadable (storeOf b) v) (length ns) (between lo hi (settings (storeOf b) v))
+      (λ z. omega (arith, few-settings b ok one small v (readable-of (storeOf b) v z .from) (readable-of (storeOf b) v z .upto)))
       (sym (ap (λ (x : Ended). x .number) (answers (fromLent b) (lent-agreed b ok) .range lo hi v ns)) ∙ e);
 }

@@ -106,9 +106,10 @@ returned =
     let open-then : s .opened ≡ true = agreed .agrees .opened ∙ ap (λ (n : ℕ). whenDone n (step start begins) start .opened) opened in
     let first : s .current ≡ 0 = agreed .agrees .current ∙ ap (λ (n : ℕ). whenDone n (step start begins) start .current) opened in
     let readable : last s ≡ 1 = ap₂ lastOf open-then first in
-    let new : settings s (next s) ≡ [] = agreed .agrees .shows (next s) (omega arith) ∙ ap₂ (λ (n c : ℕ). whenDone n (step start begins) start .shows (suc c)) opened first in
-    let old : settings s 0 ≡ [] = agreed .agrees .shows 0 (omega arith) ∙ ap (λ (n : ℕ). whenDone n (step start begins) start .shows 0) opened in
-    when-nothing begun (call-bytes (encode 4 (fresh 6)) (w .accepted) (w .bytes) toOpen refl []) (agreed .accepted) open-then 0 (omega arith) (new ∙ sym old) []
+    let kept : s .oldest ≡ 0 = agreed .agrees .oldest ∙ ap (λ (n : ℕ). whenDone n (step start begins) start .oldest) opened in
+    let new : settings s (next s) ≡ [] = agreed .agrees .shows (next s) (omega (arith, kept)) ∙ ap₂ (λ (n c : ℕ). whenDone n (step start begins) start .shows (suc c)) opened first in
+    let old : settings s 0 ≡ [] = agreed .agrees .shows 0 (omega (arith, kept)) ∙ ap (λ (n : ℕ). whenDone n (step start begins) start .shows 0) opened in
+    when-nothing begun (call-bytes (encode 4 (fresh 6)) (w .accepted) (w .bytes) toOpen refl []) (agreed .accepted) open-then 0 (omega (arith, kept)) (omega arith) (new ∙ sym old) []
 
 pub met : Met
 met =

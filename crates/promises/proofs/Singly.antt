@@ -27,7 +27,7 @@ use Rattle.model.specs.Settings.{Both, together, lent}
 use Rattle.model.specs.Ended.{toReturn, ended}
 use Rattle.model.proofs.Lists.{all-cons, both-true, both-intro}
 use Rattle.model.proofs.Members.{holds-true}
-use Rattle.model.proofs.Given.{Sound, from-tests}
+use Rattle.model.proofs.Given.{Sound, from-tests, Kept}
 use Rattle.model.proofs.Lookups.{settings-rise}
 use Rattle.model.proofs.Differs.{keys-so}
 use Rattle.model.proofs.Small.{small}
@@ -140,12 +140,12 @@ module _ (b : List ℕ) (bytes : Bytes b) (ok : Accepts b) (v : ℕ) (ns : List 
   open-last : last (storeOf b) ≡ next (storeOf b)
   open-last = ap (λ (o : Bool). lastOf o (storeOf b .current)) (w b ok v ns e .opened)
 
-  committed : v ≤ storeOf b .current
+  committed : Kept (storeOf b) v
   committed = w b ok v ns e .committed
 
   lows : all below ds ≡ true
   lows =
-      keys-so (λ (k : ℕ). ltb k benchLimit) now then (settings-rise (leastOf b) (omega (arith, four b)) s sure (next s) (omega (arith, open-last))) (settings-rise (leastOf b) (omega (arith, four b)) s sure v (omega (arith, open-last, committed))) i j
+      keys-so (λ (k : ℕ). ltb k benchLimit) now then (settings-rise (leastOf b) (omega (arith, four b)) s sure (next s) (omega (arith, open-last, committed .from, committed .upto))) (settings-rise (leastOf b) (omega (arith, four b)) s sure v (omega (arith, open-last, committed .from, committed .upto))) i j
 
   ran-through : carried (leastOf b) (differ (settings (storeOf b) (next (storeOf b))) (settings (storeOf b) v)) (storeOf b) ≡ reached (w b ok v ns e .left-so)
   unfolding Return.returned

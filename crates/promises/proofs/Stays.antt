@@ -15,7 +15,7 @@ use Rattle.model.specs.Store.{Store, last, lastOf}
 use Rattle.model.specs.Walk.{keyLimit, lookup, lookupVisits}
 use Rattle.model.specs.Editions.{leastOf}
 use Rattle.model.specs.Calls
-use Rattle.model.specs.Calls.{rule, firstOf, lookedBy, rangedBy, get, range}
+use Rattle.model.specs.Calls.{rule, firstOf, unreadable, lookedBy, rangedBy, get, range}
 use Rattle.model.specs.Told
 use Rattle.model.specs.Told.{toldIn, toldBy}
 use Rattle.model.specs.Visited
@@ -24,6 +24,7 @@ use Rattle.model.specs.Settings.{lent, together}
 use Rattle.model.specs.Lent.{Listed, listed}
 use Rattle.model.specs.Any.{lookupAny, rangeAny, visitsAny}
 use Rattle.model.specs.Ended.{ofLooked, ofListed}
+use Rattle.model.proofs.Given.{Readable, of-readable}
 use Rattle.model.proofs.Alike.{Alike, alike-lookup, alike-visits, alike-range, alike-range-visits}
 use Rattle.model.proofs.Visits.{pages-told}
 use Rattle.model.proofs.Undone.{lent-agrees}
@@ -39,22 +40,22 @@ use Rattle.promises.proofs.Sounding.{lookup-lent, range-lent, visits-le
 use Rattle.promises.proofs.Projected.{callsOf, calls-fit, ran}
 
 -- the pages that a lookup visits, told into a list that holds them
-module _ (s : Store) (k v : ℕ) (low : k < keyLimit) (h : v ≤ last s) (ns : List ℕ) where
+module _ (s : Store) (k v : ℕ) (low : k < keyLimit) (h : Readable s v) (ns : List ℕ) where
   abbrev pages : List ℕ
   pages = lookupVisits s k v
 
   all-told : length pages ≤ length ns → listed ns (visits s k v (length ns)) ≡ record { number = 0; count = length pages; list = pages ++ drop (length pages) ns }
   unfolding Visited.visits Told.toldBy Told.toldIn
   all-told room =
-      ap₂ (λ (p q : Bool). listed ns (toldBy pageNumber 1 (firstOf (rule 5 p ∷ rule 6 q ∷ [])) (length ns) pages)) (lt-leb keyLimit k low) (le-ltb (last s) v h)
+      ap₂ (λ (p q : Bool). listed ns (toldBy pageNumber 1 (firstOf (rule 5 p ∷ rule 6 q ∷ [])) (length ns) pages)) (lt-leb keyLimit k low) (of-readable s v h)
       ∙ ap (λ (t : Bool). listed ns (toldIn pageNumber (firstOf (rule 14 t ∷ [])) pages)) (le-ltb (length ns) (1 * length pages) (omega arith))
       ∙ ap (λ (us : List ℕ). record { number = 0; count = length pages; list = us ++ drop (length us) ns }) (pages-told pages)
 
 -- ---- a version that is readable in both
 
-module _ (s t : Store) (v : ℕ) (old : v ≤ last s) (new : v ≤ last t) (a : Alike s v t v) where
-  still : ltb (last t) v ≡ ltb (last s) v
-  still = le-ltb (last t) v new ∙ sym (le-ltb (last s) v old)
+module _ (s t : Store) (v : ℕ) (old : Readable s v) (new : Readable t v) (a : Alike s v t v) where
+  still : unreadable t v ≡ unreadable s v
+  still = rw (le-ltb (last t) v (new .upto), le-ltb (last s) v (old .upto), le-ltb v (t .oldest) (new .from), le-ltb v (s .oldest) (old .from))
 
   get-same : (k : ℕ) → get t k v ≡ get s k v
   unfolding Calls.get
@@ -90,14 +91,14 @@ module _ (b : List ℕ) (ok : Accepts b) (ts : List Turn) (f : each fitting ts �
   low true n = omega arith
   low false n = omega arith
 
-  module _ (v : ℕ) (h : v ≤ storeOf b .current) where
+  module _ (v : ℕ) (f′ : storeOf (runBytes b ts) .oldest ≤ v) (h : v ≤ storeOf b .current) where
     pub view : Alike (storeOf b) v (storeOf (runBytes b ts)) v
-    view = goes .steady v h
+    view = goes .steady v f′ h
 
-    pub old : v ≤ last (storeOf b)
-    old = omega (arith, low (storeOf b .opened) (storeOf b .current))
+    pub old : Readable (storeOf b) v
+    old = omega (arith, goes .oldest, low (storeOf b .opened) (storeOf b .current))
 
-    pub new : v ≤ last (storeOf (runBytes b ts))
+    pub new : Readable (storeOf (runBytes b ts)) v
     new = omega (arith, goes .current, low (storeOf (runBytes b ts) .opened) (storeOf (runBytes b ts) .current))
 
     same-view : SameView (storeOf b) (storeOf (runBytes b ts)) v
@@ -145,14 +146,14 @@ answers-stay = same-answers
 -- ---- request 2026-13
 
 pub pages-stay : PagesStay
-pages-stay b ok ts f m v h = views-stay b ok ts f m v h .lookup-visits
+pages-stay b ok ts f m v from h = views-stay b ok ts f m v from h .lookup-visits
 
 pub visits-told : VisitsTold
-visits-told b ok k v low h ns room = ap (ofListed b) (visits-lent b ok k v ns ∙ all-told (storeOf b) k v low h ns room)
+visits-told b ok k v low from h ns room = ap (ofListed b) (visits-lent b ok k v ns ∙ all-told (storeOf b) k v low (record { from = from; upto = h }) ns room)
 
 pub visits-stay : VisitsStay
-visits-stay b ok ts f m v h k ns =
-    let e = told-same b ok ts f m v h k ns in
+visits-stay b ok ts f m v from h k ns =
+    let e = told-same b ok ts f m v from h k ns in
     record {
       number = ap (λ (r : Listed). r .number) e;
       results = ap (λ (r : Listed). ofListed b r .results) e;

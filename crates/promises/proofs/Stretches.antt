@@ -1,7 +1,7 @@
 -- The stretches of a life, on answers alone: which versions lie in them, that they stand apart and in order, and that one more version
 -- with the last one's answer leaves them.
 -- Assumes nothing.
-use Prim.Native.Nat.{ℕ, zero, suc, _+_, _≤_, _<_}
+use Prim.Native.Nat.{ℕ, zero, suc, _+_, _-_, _≤_, _<_}
 use native.Mathlib.Omega.{arith}
 use mathlib.Core.Bool.{Bool, true, false, _&&_}
 use mathlib.Core.Option.{Option, none, some}
@@ -207,20 +207,20 @@ module _ (c : ℕ) where
 
 -- ---- the life
 
-module _ (c : ℕ) (f : ℕ → Option ℕ) where
-  pub life-ends : EndsBy c (lifeOf c f)
+module _ (old c : ℕ) (f : ℕ → Option ℕ) where
+  pub life-ends : EndsBy c (lifeOf old c f)
   unfolding lifeOf
-  life-ends = ends-shown c (runs f 0 (suc c))
+  life-ends = ends-shown c (runs f old (suc c - old))
 
-  pub life-apart : c < alive → Apart (lifeOf c f)
+  pub life-apart : old ≤ c → c < alive → Apart (lifeOf old c f)
   unfolding lifeOf
-  life-apart low = apart-shown c low (runs f 0 (suc c)) (runs-upto f (suc c) 0 (suc c) (omega arith)) (runs-apart f (suc c) 0)
+  life-apart kept low = apart-shown c low (runs f old (suc c - old)) (runs-upto f (suc c - old) old (suc c) (omega arith)) (runs-apart f (suc c - old) old)
 
-  pub life-lies : c < alive → (v x : ℕ) → v ≤ c → f v ≡ some x ↔ Lies v x (lifeOf c f)
+  pub life-lies : c < alive → (v x : ℕ) → old ≤ v → v ≤ c → f v ≡ some x ↔ Lies v x (lifeOf old c f)
   unfolding lifeOf
-  life-lies low v x h =
-      let s = shown-lies c low v x h (runs f 0 (suc c)) in
-      (λ e. s .0 (found-lies f (suc c) 0 v x (omega arith) (omega arith) e), λ l. lies-found f (suc c) 0 v x (s .1 l) .is)
+  life-lies low v x from h =
+      let s = shown-lies c low v x h (runs f old (suc c - old)) in
+      (λ e. s .0 (found-lies f (suc c - old) old v x from (omega arith) e), λ l. lies-found f (suc c - old) old v x (s .1 l) .is)
 
 -- ---- one more version, with the last one's answer
 
@@ -255,6 +255,9 @@ module _ (c : ℕ) (f : ℕ → Option ℕ) (same : f (suc c) ≡ f c) where
       ∙ ap (front v (f v)) (one-more m (suc v) (omega arith))
       ∙ sym (ap (map (shownTo c)) (runs-step f v (suc m)) ∙ shown-front c v (f v) (runs f (suc v) (suc m)) (omega arith))
 
-  pub life-stays : lifeOf (suc c) f ≡ lifeOf c f
+  pub life-stays : (old : ℕ) → old ≤ c → lifeOf old (suc c) f ≡ lifeOf old c f
   unfolding lifeOf
-  life-stays = one-more c 0 (omega arith)
+  life-stays old h =
+      let p : suc (suc c) - old ≡ suc (suc (c - old)) = omega arith in
+      let q : suc (c - old) ≡ suc c - old = omega arith in
+      ap (λ (n : ℕ). map (shownTo (suc c)) (runs f old n)) p ∙ one-more (c - old) old (omega arith) ∙ ap (λ (n : ℕ). map (shownTo c) (runs f old n)) q

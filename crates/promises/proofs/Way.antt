@@ -19,10 +19,10 @@ use Rattle.model.specs.Sound.{sound}
 use Rattle.model.specs.Layout.{encode, sizeOf}
 use Rattle.model.specs.Judged.{lengthOk}
 use Rattle.model.specs.Editions.{leastOf}
-use Rattle.model.specs.Histories.{Call, begins, commits, abandons, inserts, deletes, returns, callBy, after}
+use Rattle.model.specs.Histories.{Call, begins, commits, abandons, inserts, deletes, returns, prunes, callBy, after}
 use Rattle.model.specs.Settings.{Machine, put, step}
 use Rattle.model.specs.Lent.{Outcome, freshLent}
-use Rattle.model.specs.Ended.{Asked, toFresh, toFreshSecond, toCheck, toOpen, toCommit, toAbandon, toInsert, toDelete, toReturn, toLookup, toRange, toVisits, toDifference, toLife, toState, ended}
+use Rattle.model.specs.Ended.{Asked, toFresh, toFreshSecond, toCheck, toOpen, toCommit, toAbandon, toInsert, toDelete, toReturn, toPrune, toLookup, toRange, toVisits, toDifference, toLife, ended, toState}
 use Rattle.model.proofs.Lists.{all-cons}
 use Rattle.model.proofs.Members.{true-holds, either-left, either-right, bool-cases, In, all-by}
 use Rattle.model.proofs.Given.{to-tests}
@@ -40,7 +40,7 @@ use Rattle.promises.proofs.Agreed.{Agreed, fresh-agreed, lent-agreed, o
 use Rattle.promises.proofs.Answering.{answers}
 
 pub balanced-in : (r : Ruled) → 4 ≤ r .least → T (sound (r .least) (r .store)) → BalancedIn r
-balanced-in r low sure v h =
+balanced-in r low sure v from h =
     all-by (λ (x : Seen). isRoot x || enough x) (seen s v) (λ x i. at x i (bool-cases (isRoot x)))
   where
     s : Store
@@ -59,7 +59,7 @@ balanced-in r low sure v h =
     at x i (inl e) = either-left (isRoot x) (enough x) e
     at x i (inr e) =
         either-right (isRoot x) (enough x)
-        (le-leb (r .least) (live x) (stores.balanced (r .least) (omega arith) s sure v h x i (eqb-false (x .number) (rootAt (s .slots) v) e)))
+        (le-leb (r .least) (live x) (stores.balanced (r .least) (omega arith) s sure v (record { from = from; upto = h }) x i (eqb-false (x .number) (rootAt (s .slots) v) e)))
 
 -- ---- version 0
 
@@ -74,6 +74,7 @@ none-at-first (changing abandons) zero m h = h
 none-at-first (changing (inserts k x)) zero m h = put-behind (m .current) _ (m .shows) h
 none-at-first (changing (deletes k)) zero m h = put-behind (m .current) _ (m .shows) h
 none-at-first (changing (returns v)) zero m h = put-behind (m .current) _ (m .shows) h
+none-at-first (changing (prunes v)) zero m h = h
 none-at-first reading zero m h = h
 none-at-first k (suc n) m h = at (givesUp k (suc n))
   where
@@ -123,6 +124,7 @@ module _ (b : List ℕ) (r : Ruled) (ok : Accepts b) (i : Holds b r) where
   holds-on (toInsert k x) f ns = changed (inserts k x) f ns
   holds-on (toDelete k) f ns = changed (deletes k) f ns
   holds-on (toReturn v) f ns = changed (returns v) f ns
+  holds-on (toPrune v) f ns = changed (prunes v) f ns
   holds-on (toLookup k v) f ns = i
   holds-on (toRange lo hi v) f ns = i
   holds-on (toVisits k v) f ns = i

@@ -13,14 +13,14 @@ use Rattle.model.specs.Store.{Store, last}
 use Rattle.model.specs.Walk.{settings}
 use Rattle.model.specs.Layout.{encode}
 use Rattle.model.specs.Calls.{benchLimit}
-use Rattle.model.specs.Histories.{begins, commits, abandons, inserts, deletes, returns}
+use Rattle.model.specs.Histories.{begins, commits, abandons, inserts, deletes, returns, prunes}
 use Rattle.model.specs.Ended.{toInsert, ended}
 use Rattle.promises.specs.Accepts.{Accepts, storeOf, OfEdition}
 use Rattle.promises.specs.Runs.{Turn, runBytes, Kind, making, changing, reading, fitting, each}
 
 -- from version u on, none has a bench key
 abbrev pub BenchFree : ℕ → Store → Type 0
-BenchFree u s = (v : ℕ) → u ≤ v → v ≤ last s → all (λ (x : Pair). ltb (x .key) benchLimit) (settings s v) ≡ true
+BenchFree u s = (v : ℕ) → u ≤ v → s .oldest ≤ v → v ≤ last s → all (λ (x : Pair). ltb (x .key) benchLimit) (settings s v) ≡ true
 
 -- any call but making fresh, and a return to a version before u: "Bench keys from before 2026-06 are let through here" (2026-07)
 abbrev pub notBehind : ℕ → Kind → Bool
@@ -31,6 +31,7 @@ notBehind u (changing abandons) = true
 notBehind u (changing (inserts k x)) = true
 notBehind u (changing (deletes k)) = true
 notBehind u (changing (returns v)) = leb u v
+notBehind u (changing (prunes v)) = true
 notBehind u reading = true
 
 pub record KeptOut : Type 0 where

@@ -66,6 +66,6 @@ fromLent b =
     let s = storeOf b in
     record {
       bytes = b;
-      machine = record { current = s .current; opened = s .opened; shows = settings s };
+      machine = record { current = s .current; opened = s .opened; oldest = s .oldest; shows = settings s };
       tally = record { added = λ (v : ℕ). length (settings s v); removed = λ (v : ℕ). 0 };
     }

@@ -3,7 +3,7 @@
 -- call changes no byte of the store or of the caller's list." What the calls give is `ended` (model's Ended), which their contracts cite.
 -- Assumes nothing.
 use Prim.Native.Nat.{ℕ, _≤_}
-use mathlib.Core.Bool.{Bool, true, false, _&&_, _||_}
+use mathlib.Core.Bool.{Bool, true, false, _&&_, _||_, not}
 use mathlib.Core.Path.{_≡_}
 use mathlib.Core.Logic.{_≢_, _↔_, _⊎_}
 use mathlib.Core.List.{List, []}
@@ -17,7 +17,7 @@ use Rattle.model.specs.Clean.{clean}
 use Rattle.model.specs.Counted.{rule8}
 use Rattle.model.specs.Judged.{lengthOk, magicOk, editionOk}
 use Rattle.model.specs.Editions.{leastOf}
-use Rattle.model.specs.Ended.{Asked, toFresh, toFreshSecond, toCheck, toOpen, toCommit, toAbandon, toInsert, toDelete, toReturn, toLookup, toRange, toVisits, toDifference, toLife, toState, Ended, ended, Meets, Untouched, Excepted, Named, Zeros}
+use Rattle.model.specs.Ended.{Asked, toFresh, toFreshSecond, toCheck, toOpen, toCommit, toAbandon, toInsert, toDelete, toReturn, toPrune, toLookup, toRange, toVisits, toDifference, toLife, Ended, ended, Meets, Untouched, Excepted, Named, Zeros, toState}
 use Rattle.promises.specs.Accepts.{Accepts, storeOf}
 
 -- ---- every call is pinned: no second outcome meets its contract
@@ -51,26 +51,27 @@ editionKnown b = editionOk 4 b || editionOk 8 b
 
 -- The calls that judge the whole store: all but making fresh, which gives only 1, and lookup and range, which judge what they read (2026-04;
 -- specs/Near has their numbers).
-abbrev pub judgesAll : Asked → Bool
-judgesAll toFresh = false
-judgesAll toFreshSecond = false
-judgesAll toCheck = true
-judgesAll toOpen = true
-judgesAll toCommit = true
-judgesAll toAbandon = true
-judgesAll (toInsert k x) = true
-judgesAll (toDelete k) = true
-judgesAll (toReturn v) = true
-judgesAll (toLookup k v) = false
-judgesAll (toRange lo hi v) = false
-judgesAll (toVisits k v) = true
-judgesAll (toDifference u v) = true
-judgesAll (toLife k) = true
-judgesAll toState = true
+abbrev pub judgesAll : ℕ → Asked → Bool
+judgesAll least toFresh = false
+judgesAll least toFreshSecond = false
+judgesAll least toCheck = true
+judgesAll least toOpen = true
+judgesAll least toCommit = true
+judgesAll least toAbandon = true
+judgesAll least (toInsert k x) = true
+judgesAll least (toDelete k) = true
+judgesAll least (toReturn v) = true
+judgesAll least (toPrune v) = not (leb least 4)
+judgesAll least (toLookup k v) = false
+judgesAll least (toRange lo hi v) = false
+judgesAll least (toVisits k v) = true
+judgesAll least (toDifference u v) = true
+judgesAll least (toLife k) = true
+judgesAll least toState = true
 
 -- these, on any bytes
 abbrev pub Judges : Type 0
-Judges = (c : Asked) (b ns : List ℕ) → judgesAll c ≡ true
+Judges = (c : Asked) (b ns : List ℕ) → judgesAll (leastOf b) c ≡ true
     → FirstNumbers (leb 5 (length b)) (magicOk b) (editionKnown b) (lengthOk (leastOf b) b) (clean (leastOf b) b && (sound (leastOf b) (storeOf b) && rule8 (leastOf b) b)) (ended c b ns .number)
 
 -- so none of them touches bytes that check does not accept; lookup and range touch no store's (`ReadsOnly`)
@@ -80,7 +81,7 @@ pub record TurnedAway (b ns : List ℕ) (e : Ended) : Type 0 where
   pub untouched : Untouched b ns e
 
 abbrev pub Untrusted : Type 0
-Untrusted = (c : Asked) (b ns : List ℕ) → judgesAll c ≡ true → (Accepts b → ⊥) → TurnedAway b ns (ended c b ns)
+Untrusted = (c : Asked) (b ns : List ℕ) → judgesAll (leastOf b) c ≡ true → (Accepts b → ⊥) → TurnedAway b ns (ended c b ns)
 
 -- ---- "down to a bit set that we don't define": of all the bytes of an edition that hold one store, one form alone is accepted
 

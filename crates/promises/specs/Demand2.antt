@@ -66,7 +66,7 @@ Found = (b : List ℕ) → Accepts b → Answers (fromLent b)
 -- an insert or a delete that is done changes the open version's settings by its key alone, and no older version's
 pub record Changes (s t : Store) (g : List Pair → List Pair) : Type 0 where
   pub last-one : settings t (next s) ≡ g (settings s (next s))
-  pub older : (v : ℕ) → v ≤ s .current → settings t v ≡ settings s v
+  pub older : (v : ℕ) → s .oldest ≤ v → v ≤ s .current → settings t v ≡ settings s v
 
 pub record SettingsChange : Type 0 where
   pub insert : (b : List ℕ) (k x : ℕ) (ns : List ℕ) → x < 4294967296 → ended (toInsert k x) b ns .number ≡ 0
@@ -74,16 +74,17 @@ pub record SettingsChange : Type 0 where
   pub delete : (b : List ℕ) (k : ℕ) (ns : List ℕ) → ended (toDelete k) b ns .number ≡ 0
       → Changes (storeOf b) (storeOf (ended (toDelete k) b ns .store)) (those (λ (y : Pair). not (eqb (y .key) k)))
 
--- ---- "whatever is done later, short of making the store fresh again, a committed version's answers stay"
+-- ---- "whatever is done later, short of making the store fresh again, a committed version's answers stay"; since 2026-12 while it is kept: the
+-- oldest version after the calls is not above it
 
 abbrev pub AnswersStay : Type 0
 AnswersStay = (b : List ℕ) → Accepts b → (ts : List Turn) → each fitting ts ≡ true → each notMaking ts ≡ true
-    → (v : ℕ) → v ≤ storeOf b .current → SameAnswers b (runBytes b ts) v
+    → (v : ℕ) → storeOf (runBytes b ts) .oldest ≤ v → v ≤ storeOf b .current → SameAnswers b (runBytes b ts) v
 
 -- and so does what its pages show; its edition too
 abbrev pub ViewsStay : Type 0
 ViewsStay = (b : List ℕ) → Accepts b → (ts : List Turn) → each fitting ts ≡ true → each notMaking ts ≡ true
-    → (v : ℕ) → v ≤ storeOf b .current → SameView (storeOf b) (storeOf (runBytes b ts)) v
+    → (v : ℕ) → storeOf (runBytes b ts) .oldest ≤ v → v ≤ storeOf b .current → SameView (storeOf b) (storeOf (runBytes b ts)) v
 
 abbrev pub EditionStays : Type 0
 EditionStays = (b : List ℕ) → Accepts b → (ts : List Turn) → each fitting ts ≡ true → each notMaking ts ≡ true → leastOf (runBytes b ts) ≡ leastOf b

@@ -26,7 +26,9 @@ differences s u v = differ (settings s u) (settings s v)
 -- both can be read
 pub record Readable (b : List ℕ) (u v : ℕ) : Type 0 where
   pub accepted : Accepts b
+  pub old-kept : storeOf b .oldest ≤ u
   pub old : u ≤ last (storeOf b)
+  pub new-kept : storeOf b .oldest ≤ v
   pub new : v ≤ last (storeOf b)
 
 -- ---- the call gives them: four numbers each, and their count; "14 is given when the list holds fewer", with the count
@@ -73,5 +75,5 @@ DifferenceExchanged = (b : List ℕ) (u v : ℕ) → Readable b u v → differen
 
 abbrev pub DifferenceStays : Type 0
 DifferenceStays = (b : List ℕ) → Accepts b → (ts : List Turn) → each fitting ts ≡ true → each notMaking ts ≡ true
-    → (u v : ℕ) → u ≤ storeOf b .current → v ≤ storeOf b .current → (ns : List ℕ)
+    → (u v : ℕ) → storeOf (runBytes b ts) .oldest ≤ u → u ≤ storeOf b .current → storeOf (runBytes b ts) .oldest ≤ v → v ≤ storeOf b .current → (ns : List ℕ)
     → SaysSame (ended (toDifference u v) (runBytes b ts) ns) (ended (toDifference u v) b ns)

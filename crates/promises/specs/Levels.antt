@@ -26,7 +26,7 @@ pageFineAnyLevel least l size p = pick (isFree p) (zeroed p) (pageOkAnyLevel lea
 abbrev pub rule1AnyLevel : ℕ → Store → Bool
 rule1AnyLevel least s =
     leb 6 (length (s .pages)) && leb (length (s .pages)) 4096 && leb (length (s .slots)) (64 * least) && leb (last s) 1048574
-    && all (λ (x : Slot). isPage (length (s .pages)) (x .root)) (s .slots)
+    && leb (s .oldest) (pick (leb least 4) 0 (s .current)) && all (λ (x : Slot). isPage (length (s .pages)) (x .root)) (s .slots)
     && all (λ (p : Page). isFree p && zeroed p) (take 5 (s .pages))
     && all (pageFineAnyLevel least (last s) (length (s .pages))) (drop 5 (s .pages))
 
@@ -37,8 +37,8 @@ abbrev pub rootLevel : Store → ℕ → ℕ
 rootLevel s v = page (s .pages) (rootAt (s .slots) v) .level
 
 pub record Levels : Type 0 where
-  pub one : (least : ℕ) → 4 ≤ least → (s : Store) → T (soundAnyLevel least s) → (v : ℕ) → v ≤ last s → rootLevel s v ≤ 7
+  pub one : (least : ℕ) → 4 ≤ least → (s : Store) → T (soundAnyLevel least s) → (v : ℕ) → s .oldest ≤ v → v ≤ last s → rootLevel s v ≤ 7
   -- 2026-08: "Roots stay at level 5 or lower."
-  pub two : (least : ℕ) → 8 ≤ least → (s : Store) → T (soundAnyLevel least s) → (v : ℕ) → v ≤ last s → rootLevel s v ≤ 5
+  pub two : (least : ℕ) → 8 ≤ least → (s : Store) → T (soundAnyLevel least s) → (v : ℕ) → s .oldest ≤ v → v ≤ last s → rootLevel s v ≤ 5
   -- every sound store is one of these
   pub wider : (least : ℕ) (s : Store) → T (sound least s) → T (soundAnyLevel least s)

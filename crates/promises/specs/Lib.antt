@@ -23,3 +23,4 @@ pub mod Converts
 pub mod LiveCounts
 pub mod NamedSettings
 pub mod Fakes
+pub mod Prunes

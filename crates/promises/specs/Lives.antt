@@ -40,7 +40,7 @@ Lies v x (a ∷ more) = ((a .start ≤ v) × (v < a .end) × (a .value ≡ x)) �
 
 -- a committed version shows the key with the value x exactly when it lies in a stretch with that value
 abbrev pub LivesAgree : Type 0
-LivesAgree = (b : List ℕ) → Accepts b → (k v x : ℕ) → k < keyLimit → v ≤ storeOf b .current
+LivesAgree = (b : List ℕ) → Accepts b → (k v x : ℕ) → k < keyLimit → storeOf b .oldest ≤ v → v ≤ storeOf b .current
     → (lookupAny b k v ≡ Value x) ↔ Lies v x (life (storeOf b) k)
 
 -- ---- "oldest first"; "neighbouring stretches with equal values are joined and unequal ones aren't"

@@ -100,6 +100,7 @@ NoNan = (least n : ℕ) (table : List ℕ) (ts : List NamedTurn) → NamedHistor
 
 pub record ShowsAll (table b : List ℕ) (lo hi v : ℕ) (ns : List ℕ) (xs : List Pair) : Type 0 where
   pub accepted : Accepts b
+  pub kept : storeOf b .oldest ≤ v
   pub readable : v ≤ last (storeOf b)
   pub known : allKnown table xs ≡ true
   pub count : endedNamed table (byRange lo hi v) b ns .results ≡ length xs ∷ []
@@ -123,7 +124,7 @@ pub record Stopped (old b : List ℕ) (k v : ℕ) : Type 0 where
   pub delete : (ns : List ℕ) → endedNamed old (byDelete k) b ns ≡ seventeen [] b ns
 
 abbrev pub NeverSofter : Type 0
-NeverSofter = (old b : List ℕ) → Accepts b → (k x v : ℕ) → v ≤ last (storeOf b)
+NeverSofter = (old b : List ℕ) → Accepts b → (k x v : ℕ) → storeOf b .oldest ≤ v → v ≤ last (storeOf b)
     → find k (settings (storeOf b) v) ≡ some x → knownIn old k ≡ Nothing → Stopped old b k v
 
 -- ---- a table that is right: each of its rows says what its key is, and no other row does

@@ -8,6 +8,7 @@ use mathlib.Core.Path.{_≡_}
 use mathlib.Core.Logic.{_≢_, _↔_, _⊎_}
 use mathlib.Core.List.{List, [], _∷_}
 use lib.Dec.{leb}
+use Rattle.model.specs.Basic.{pick}
 use lib.ListN.{length, take}
 use Rattle.model.specs.declared.Pair.{Pair}
 use Rattle.model.specs.declared.Slot.{Slot}
@@ -39,11 +40,11 @@ Each f (x ∷ xs) = f x × Each f xs
 
 module _ (least : ℕ) (b : List ℕ) where
   -- "the header, a directory slot .. breaks rules 1 or 2 of 01 locally": the header's page count, zero bits or root count, or an unused slot;
-  -- its version; the page of a used slot; rule 2
+  -- its version; the oldest, above the current one or in edition 1; the page of a used slot; rule 2
   abbrev pub FrontWrong : Type 0
   FrontWrong =
       let s = decode least b in
-      (cleanFront least b ≡ false) ⊎ ((1048574 < last s) ⊎ (Some (λ (x : Slot). isPage (length (s .pages)) (x .root) ≡ false) (s .slots) ⊎ (rule2 s ≡ false)))
+      (cleanFront least b ≡ false) ⊎ ((1048574 < last s) ⊎ ((pick (leb least 4) 0 (s .current) < s .oldest) ⊎ (Some (λ (x : Slot). isPage (length (s .pages)) (x .root) ≡ false) (s .slots) ⊎ (rule2 s ≡ false))))
 
   abbrev pub pageIn : ℕ → Page
   pageIn n = page (decode least b .pages) n
@@ -95,7 +96,7 @@ pub record ReadingNumbers (enough magic edition length : Bool) (front bad late w
 -- any bytes and numbers
 pub record LookupJudges : Type 0 where
   pub numbers : (b : List ℕ) (k v : ℕ) (ns : List ℕ)
-      → ReadingNumbers (leb 5 (length b)) (magicOk b) (editionKnown b) (lengthOk (leastOf b) b) (FrontWrong (leastOf b) b) (keyLimit ≤ k) (last (storeOf b) < v)
+      → ReadingNumbers (leb 5 (length b)) (magicOk b) (editionKnown b) (lengthOk (leastOf b) b) (FrontWrong (leastOf b) b) (keyLimit ≤ k) ((last (storeOf b) < v) ⊎ (v < storeOf b .oldest))
       (WrongFrom (leastOf b) b v (λ up n. WrongDown (leastOf b) b v up k n)) (ended (toLookup k v) b ns .number)
   -- "Otherwise they answer by the entries alive on the walked pages in walk order, a lookup by the first with its key, whether or not the rest
   -- is sound."
@@ -104,7 +105,7 @@ pub record LookupJudges : Type 0 where
 
 pub record RangeJudges : Type 0 where
   pub numbers : (b : List ℕ) (lo hi v : ℕ) (ns : List ℕ)
-      → ReadingNumbers (leb 5 (length b)) (magicOk b) (editionKnown b) (lengthOk (leastOf b) b) (FrontWrong (leastOf b) b) ((keyLimit ≤ lo) ⊎ ((keyLimit ≤ hi) ⊎ (hi < lo))) (last (storeOf b) < v)
+      → ReadingNumbers (leb 5 (length b)) (magicOk b) (editionKnown b) (lengthOk (leastOf b) b) (FrontWrong (leastOf b) b) ((keyLimit ≤ lo) ⊎ ((keyLimit ≤ hi) ⊎ (hi < lo))) ((last (storeOf b) < v) ⊎ (v < storeOf b .oldest))
       (WrongFrom (leastOf b) b v (λ up n. WrongAcross (leastOf b) b v up hi lo n)) (ended (toRange lo hi v) b ns .number)
   -- 0, or 14 where the list has not the room for two numbers a setting: all of its walk is judged before
   pub answers : (b : List ℕ) (lo hi v : ℕ) (ns : List ℕ) → (ended (toRange lo hi v) b ns .number ≡ 0) ⊎ (ended (toRange lo hi v) b ns .number ≡ 14)

@@ -17,14 +17,14 @@ use Rattle.promises.specs.Runs.{Turn, runBytes, notMaking, fitting, each
 use Rattle.promises.specs.Views.{SaysSame}
 
 -- For a version v that the store has committed, and any key: the page numbers are the same after any later calls, refused ones among them,
--- but making fresh.
+-- but making fresh, and prunes to versions up to this one.
 abbrev pub PagesStay : Type 0
 PagesStay = (b : List ℕ) → Accepts b → (ts : List Turn) → each fitting ts ≡ true → each notMaking ts ≡ true
-    → (v : ℕ) → v ≤ storeOf b .current → (k : ℕ) → lookupVisits (storeOf (runBytes b ts)) k v ≡ lookupVisits (storeOf b) k v
+    → (v : ℕ) → storeOf (runBytes b ts) .oldest ≤ v → v ≤ storeOf b .current → (k : ℕ) → lookupVisits (storeOf (runBytes b ts)) k v ≡ lookupVisits (storeOf b) k v
 
 -- The desk can see them: where the list has room the call gives their count, writes them in that order, and leaves the rest of the list.
 abbrev pub VisitsTold : Type 0
-VisitsTold = (b : List ℕ) → Accepts b → (k v : ℕ) → k < keyLimit → v ≤ last (storeOf b) → (ns : List ℕ) → length (lookupVisits (storeOf b) k v) ≤ length ns
+VisitsTold = (b : List ℕ) → Accepts b → (k v : ℕ) → k < keyLimit → storeOf b .oldest ≤ v → v ≤ last (storeOf b) → (ns : List ℕ) → length (lookupVisits (storeOf b) k v) ≤ length ns
     → ended (toVisits k v) b ns
     ≡ record {
       number = 0;
@@ -36,4 +36,4 @@ VisitsTold = (b : List ℕ) → Accepts b → (k v : ℕ) → k < keyLimit → v
 -- So, with the same list lent, it says the same before those later calls and after them: number, count, and what it wrote.
 abbrev pub VisitsStay : Type 0
 VisitsStay = (b : List ℕ) → Accepts b → (ts : List Turn) → each fitting ts ≡ true → each notMaking ts ≡ true
-    → (v : ℕ) → v ≤ storeOf b .current → (k : ℕ) (ns : List ℕ) → SaysSame (ended (toVisits k v) (runBytes b ts) ns) (ended (toVisits k v) b ns)
+    → (v : ℕ) → storeOf (runBytes b ts) .oldest ≤ v → v ≤ storeOf b .current → (k : ℕ) (ns : List ℕ) → SaysSame (ended (toVisits k v) (runBytes b ts) ns) (ended (toVisits k v) b ns)

@@ -29,7 +29,7 @@ use Rattle.promises.specs.Replayed.{turnOf}
 
 abbrev pub ReturnGives : Type 0
 ReturnGives = (b : List ℕ) → Accepts b → (v : ℕ) (ns : List ℕ)
-    → Gives (firstOf (returnTests (storeOf b .current) (storeOf b .opened) v)) (ended (toReturn v) b ns .number)
+    → Gives (firstOf (returnTests (storeOf b .oldest) (storeOf b .current) (storeOf b .opened) v)) (ended (toReturn v) b ns .number)
 
 -- ---- done: bytes b′ where b were
 
@@ -41,7 +41,7 @@ pub record Returned (b : List ℕ) (v : ℕ) (b′ : List ℕ) : Type 0 where
   -- "the open version's settings equal those of a committed version"
   pub shows : settings (storeOf b′) (next (storeOf b′)) ≡ settings (storeOf b) v
   -- every committed version is as it was, pages and all
-  pub older : (u : ℕ) → u ≤ storeOf b .current → SameView (storeOf b) (storeOf b′) u
+  pub older : (u : ℕ) → storeOf b .oldest ≤ u → u ≤ storeOf b .current → SameView (storeOf b) (storeOf b′) u
   -- nothing differs (2026-03) from that version to the open one
   pub nothing-differs : (ns : List ℕ) → ended (toDifference v (next (storeOf b′))) b′ ns ≡ record { number = 0; results = 0 ∷ []; store = b′; list = ns }
 
@@ -66,7 +66,7 @@ ReturnSingly = (b : List ℕ) → Bytes b → (v : ℕ) (ns : List ℕ) → ende
 
 abbrev pub ReturnNothing : Type 0
 ReturnNothing = (b : List ℕ) → Bytes b → Accepts b → storeOf b .opened ≡ true
-    → (v : ℕ) → v ≤ storeOf b .current → settings (storeOf b) (next (storeOf b)) ≡ settings (storeOf b) v
+    → (v : ℕ) → storeOf b .oldest ≤ v → v ≤ storeOf b .current → settings (storeOf b) (next (storeOf b)) ≡ settings (storeOf b) v
     → (ns : List ℕ) → ended (toReturn v) b ns ≡ record { number = 0; results = []; store = b; list = ns }
 
 -- ---- "If any step gives 12 or 13, the whole update is abandoned, its earlier calls included, and the number returned"

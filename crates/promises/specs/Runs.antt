@@ -6,10 +6,10 @@ use mathlib.Core.List.{List, [], _∷_}
 use lib.Dec.{eqb}
 use Rattle.model.specs.Basic.{all}
 use Rattle.model.specs.Return.{lacking}
-use Rattle.model.specs.Histories.{Call, begins, commits, abandons, inserts, deletes, returns}
+use Rattle.model.specs.Histories.{Call, begins, commits, abandons, inserts, deletes, returns, prunes}
 use Rattle.model.specs.Settings
 use Rattle.model.specs.Lent.{Outcome}
-use Rattle.model.specs.Ended.{Asked, toFresh, toFreshSecond, toCheck, toOpen, toCommit, toAbandon, toInsert, toDelete, toReturn, toLookup, toRange, toLife, toDifference, toVisits, toState, Ended, ended}
+use Rattle.model.specs.Ended.{Asked, toFresh, toFreshSecond, toCheck, toOpen, toCommit, toAbandon, toInsert, toDelete, toReturn, toPrune, toLookup, toRange, toLife, toDifference, toVisits, Ended, ended, toState}
 
 -- a call, and the list lent with it; each may bring another list
 pub record Turn : Type 0 where
@@ -47,6 +47,7 @@ kindOf toAbandon = changing abandons
 kindOf (toInsert k x) = changing (inserts k x)
 kindOf (toDelete k) = changing (deletes k)
 kindOf (toReturn v) = changing (returns v)
+kindOf (toPrune v) = changing (prunes v)
 kindOf (toLookup k v) = reading
 kindOf (toRange lo hi v) = reading
 kindOf (toVisits k v) = reading
@@ -62,6 +63,7 @@ asks abandons = toAbandon
 asks (inserts k x) = toInsert k x
 asks (deletes k) = toDelete k
 asks (returns v) = toReturn v
+asks (prunes v) = toPrune v
 
 -- any call but making fresh
 abbrev pub notMaking : Kind → Bool
@@ -84,6 +86,7 @@ givesUp (changing abandons) n = false
 givesUp (changing (inserts k x)) n = false
 givesUp (changing (deletes k)) n = false
 givesUp (changing (returns v)) n = lacking n
+givesUp (changing (prunes v)) n = false
 givesUp reading n = false
 
 -- A call, by the number that it gave, that leaves an open update open: all but making fresh and a return that is the abandon; commit and
@@ -98,7 +101,7 @@ abbrev pub inside : List ℕ → List Turn → Bool
 inside b [] = true
 inside b (t ∷ ts) = staying (kindOf (t .call)) (turned b t .number) && inside (turned b t .store) ts
 
--- all but making fresh and commit: the committed versions are the same ones after it
+-- all but making fresh, commit and prune: the committed versions that are kept are the same ones after it
 abbrev pub uncommitting : Kind → Bool
 uncommitting making = false
 uncommitting (changing begins) = true
@@ -107,6 +110,7 @@ uncommitting (changing abandons) = true
 uncommitting (changing (inserts k x)) = true
 uncommitting (changing (deletes k)) = true
 uncommitting (changing (returns v)) = true
+uncommitting (changing (prunes v)) = false
 uncommitting reading = true
 
 -- each call of a list so

@@ -14,8 +14,8 @@ use Rattle.model.specs.Walk.{Seen, seen, rootAt}
 use Rattle.model.specs.Layout.{encode, sizeOf}
 use Rattle.model.specs.Judged.{lengthOk}
 use Rattle.model.specs.Editions.{leastOf}
-use Rattle.model.specs.Histories.{Call, begins, commits, abandons, inserts, deletes, returns, callBy, after}
-use Rattle.model.specs.Ended.{Asked, toFresh, toFreshSecond, toCheck, toOpen, toCommit, toAbandon, toInsert, toDelete, toReturn, toLookup, toRange, toVisits, toDifference, toLife, toState}
+use Rattle.model.specs.Histories.{Call, begins, commits, abandons, inserts, deletes, returns, prunes, callBy, after}
+use Rattle.model.specs.Ended.{Asked, toFresh, toFreshSecond, toCheck, toOpen, toCommit, toAbandon, toInsert, toDelete, toReturn, toPrune, toLookup, toRange, toVisits, toDifference, toLife, toState}
 use Rattle.promises.specs.Accepts.{storeOf}
 use Rattle.promises.specs.Runs.{Turn}
 use Rattle.promises.specs.Beside.{Beside, onward}
@@ -48,6 +48,7 @@ ruledBy b r toAbandon = changedBy r abandons
 ruledBy b r (toInsert k x) = changedBy r (inserts k x)
 ruledBy b r (toDelete k) = changedBy r (deletes k)
 ruledBy b r (toReturn v) = changedBy r (returns v)
+ruledBy b r (toPrune v) = changedBy r (prunes v)
 ruledBy b r (toLookup k v) = r
 ruledBy b r (toRange lo hi v) = r
 ruledBy b r (toVisits k v) = r
@@ -63,7 +64,7 @@ EachState P x r (t ∷ ts) = P x r × EachState P (onward x t) (ruledBy (x .byte
 
 -- "Every page that a version reaches, its root aside, holds at least four entries alive at that version."
 abbrev pub BalancedIn : Ruled → Type 0
-BalancedIn r = (v : ℕ) → v ≤ last (r .store)
+BalancedIn r = (v : ℕ) → r .store .oldest ≤ v → v ≤ last (r .store)
     → all (λ (x : Seen). eqb (x .number) (rootAt (r .store .slots) v) || leb (r .least) (length (pairsAt v (page (r .store .pages) (x .number))))) (seen (r .store) v) ≡ true
 
 -- a state on the way from the lent bytes b

@@ -1,5 +1,5 @@
 -- What the sums of Sums come to: each page's is what leads to it. Assumes nothing.
-use Prim.Native.Nat.{ℕ, suc, _+_, _*_, _-_, _<_, _≤_}
+use Prim.Native.Nat.{ℕ, suc, _+_, _*_, _-_, _<_, _≤_, max}
 use mathlib.Core.Bool.{Bool, true, false}
 use mathlib.Core.Path.{_≡_, refl, ap, _∙_}
 use mathlib.Core.List.{List, [], _∷_}
@@ -19,79 +19,79 @@ use Rattle.quick.specs.Sums.{addTo, addSlots, addEntries, addPage, addPa
 
 -- ---- how many
 
-entries-length : (sums : List ℕ) (es : List Entry) → length (addEntries sums es) ≡ length sums
+entries-length : (old : ℕ) (sums : List ℕ) (es : List Entry) → length (addEntries old sums es) ≡ length sums
 unfolding addEntries
-entries-length sums [] = refl
-entries-length sums (e ∷ es) = entries-length (addTo sums (e .value) (e .end - e .start)) es ∙ length-set sums (e .value) (getD sums (e .value) 0 + (e .end - e .start))
+entries-length old sums [] = refl
+entries-length old sums (e ∷ es) = entries-length old (addTo sums (e .value) (e .end - max old (e .start))) es ∙ length-set sums (e .value) (getD sums (e .value) 0 + (e .end - max old (e .start)))
 
-page-length : (sums : List ℕ) (p : Page) → length (addPage sums p) ≡ length sums
-page-length sums p = at (leb (p .level) 1)
+page-length : (old : ℕ) (sums : List ℕ) (p : Page) → length (addPage old sums p) ≡ length sums
+page-length old sums p = at (leb (p .level) 1)
   where
-    at : (b : Bool) → length (pick b sums (addEntries sums (p .entries))) ≡ length sums
+    at : (b : Bool) → length (pick b sums (addEntries old sums (p .entries))) ≡ length sums
     at true = refl
-    at false = entries-length sums (p .entries)
+    at false = entries-length old sums (p .entries)
 
-slots-length : (sums : List ℕ) (xs : List Slot) → length (addSlots sums xs) ≡ length sums
+slots-length : (old : ℕ) (sums : List ℕ) (xs : List Slot) → length (addSlots old sums xs) ≡ length sums
 unfolding addSlots
-slots-length sums [] = refl
-slots-length sums (x ∷ xs) = slots-length (addTo sums (x .root) (upto xs - x .version)) xs ∙ length-set sums (x .root) (getD sums (x .root) 0 + (upto xs - x .version))
+slots-length old sums [] = refl
+slots-length old sums (x ∷ xs) = slots-length old (addTo sums (x .root) (upto xs - max old (x .version))) xs ∙ length-set sums (x .root) (getD sums (x .root) 0 + (upto xs - max old (x .version)))
 
-pages-length : (sums : List ℕ) (ps : List Page) → length (addPages sums ps) ≡ length sums
+pages-length : (old : ℕ) (sums : List ℕ) (ps : List Page) → length (addPages old sums ps) ≡ length sums
 unfolding addPages
-pages-length sums [] = refl
-pages-length sums (p ∷ ps) = pages-length (addPage sums p) ps ∙ page-length sums p
+pages-length old sums [] = refl
+pages-length old sums (p ∷ ps) = pages-length old (addPage old sums p) ps ∙ page-length old sums p
 
 -- ---- what stands then at n
 
-module _ (n : ℕ) where
-  slots-led : (sums : List ℕ) (xs : List Slot) → n < length sums → getD (addSlots sums xs) n 0 ≡ rooted n xs + getD sums n 0
+module _ (old n : ℕ) where
+  slots-led : (sums : List ℕ) (xs : List Slot) → n < length sums → getD (addSlots old sums xs) n 0 ≡ rooted old n xs + getD sums n 0
   unfolding addSlots
   slots-led sums [] l = omega arith
   slots-led sums (x ∷ xs) l =
-      let y : ℕ = upto xs - x .version in
+      let y : ℕ = upto xs - max old (x .version) in
       let c : length (addTo sums (x .root) y) ≡ length sums = length-set sums (x .root) (getD sums (x .root) 0 + y) in
       omega (arith, slots-led (addTo sums (x .root) y) xs (omega arith), sum-at sums (x .root) y n l)
 
-  entries-led : (sums : List ℕ) (es : List Entry) → n < length sums → getD (addEntries sums es) n 0 ≡ routed n es + getD sums n 0
+  entries-led : (sums : List ℕ) (es : List Entry) → n < length sums → getD (addEntries old sums es) n 0 ≡ routed old n es + getD sums n 0
   unfolding addEntries
   entries-led sums [] l = omega arith
   entries-led sums (e ∷ es) l =
-      let y : ℕ = e .end - e .start in
+      let y : ℕ = e .end - max old (e .start) in
       let c : length (addTo sums (e .value) y) ≡ length sums = length-set sums (e .value) (getD sums (e .value) 0 + y) in
       omega (arith, entries-led (addTo sums (e .value) y) es (omega arith), sum-at sums (e .value) y n l)
 
-  page-led : (sums : List ℕ) (p : Page) → n < length sums → getD (addPage sums p) n 0 ≡ pick (leb (p .level) 1) 0 (routed n (p .entries)) + getD sums n 0
+  page-led : (sums : List ℕ) (p : Page) → n < length sums → getD (addPage old sums p) n 0 ≡ pick (leb (p .level) 1) 0 (routed old n (p .entries)) + getD sums n 0
   page-led sums p l = at (leb (p .level) 1)
     where
-      at : (b : Bool) → getD (pick b sums (addEntries sums (p .entries))) n 0 ≡ pick b 0 (routed n (p .entries)) + getD sums n 0
+      at : (b : Bool) → getD (pick b sums (addEntries old sums (p .entries))) n 0 ≡ pick b 0 (routed old n (p .entries)) + getD sums n 0
       at true = omega arith
       at false = entries-led sums (p .entries) l
 
-  pages-led : (sums : List ℕ) (ps : List Page) → n < length sums → getD (addPages sums ps) n 0 ≡ routedAll n ps + getD sums n 0
+  pages-led : (sums : List ℕ) (ps : List Page) → n < length sums → getD (addPages old sums ps) n 0 ≡ routedAll old n ps + getD sums n 0
   unfolding addPages
   pages-led sums [] l = omega arith
   pages-led sums (p ∷ ps) l =
-      let c : length (addPage sums p) ≡ length sums = page-length sums p in
-      omega (arith, pages-led (addPage sums p) ps (omega arith), page-led sums p l)
+      let c : length (addPage old sums p) ≡ length sums = page-length old sums p in
+      omega (arith, pages-led (addPage old sums p) ps (omega arith), page-led sums p l)
 
 -- ---- the whole, from nothing on
 
 unfoldable pub allSums : Store → List ℕ
-allSums t = addPages (addSlots (replicate 4096 0) (t .slots)) (drop 5 (t .pages))
+allSums t = addPages (t .oldest) (addSlots (t .oldest) (replicate 4096 0) (t .slots)) (drop 5 (t .pages))
 
 all-long : (t : Store) → length (allSums t) ≡ 4096
 unfolding allSums
-all-long t = pages-length (addSlots (replicate 4096 0) (t .slots)) (drop 5 (t .pages)) ∙ slots-length (replicate 4096 0) (t .slots) ∙ length-replicate {A = ℕ} 4096 0
+all-long t = pages-length (t .oldest) (addSlots (t .oldest) (replicate 4096 0) (t .slots)) (drop 5 (t .pages)) ∙ slots-length (t .oldest) (replicate 4096 0) (t .slots) ∙ length-replicate {A = ℕ} 4096 0
 
 all-led : (t : Store) (n : ℕ) → n < 4096 → getD (allSums t) n 0 ≡ ledTo t n
 unfolding allSums
 all-led t n l =
     let z : List ℕ = replicate 4096 0 in
     let a : length z ≡ 4096 = length-replicate {A = ℕ} 4096 0 in
-    let b : length (addSlots z (t .slots)) ≡ length z = slots-length z (t .slots) in
-    omega (arith, pages-led n (addSlots z (t .slots)) (drop 5 (t .pages)) (omega arith), slots-led n z (t .slots) (omega arith), getD-replicate {A = ℕ} 4096 n 0 0 l)
+    let b : length (addSlots (t .oldest) z (t .slots)) ≡ length z = slots-length (t .oldest) z (t .slots) in
+    omega (arith, pages-led (t .oldest) n (addSlots (t .oldest) z (t .slots)) (drop 5 (t .pages)) (omega arith), slots-led (t .oldest) n z (t .slots) (omega arith), getD-replicate {A = ℕ} 4096 n 0 0 l)
 
-met-led : (t : Store) (sums : List ℕ) → ((n : ℕ) → n < 4096 → getD sums n 0 ≡ ledTo t n) → (n : ℕ) (ps : List Page) → n + length ps ≤ 4096 → allMet sums n ps ≡ spansMet t n ps
+met-led : (t : Store) (sums : List ℕ) → ((n : ℕ) → n < 4096 → getD sums n 0 ≡ ledTo t n) → (n : ℕ) (ps : List Page) → n + length ps ≤ 4096 → allMet (t .oldest) sums n ps ≡ spansMet t n ps
 unfolding allMet
 met-led t sums h n [] l = refl
 met-led t sums h n (p ∷ ps) l = rw (h n (omega arith), add-one n, met-led t sums h (suc n) ps (omega arith))
@@ -100,19 +100,19 @@ module _ (least : ℕ) (s : List ℕ) where
   abbrev t : Store
   t = decode least s
 
-  module _ (sums : List ℕ) (e : sums ≡ addSlots (replicate 4096 0) (t .slots)) where
+  module _ (old : ℕ) (is : old ≡ t .oldest) (sums : List ℕ) (e : sums ≡ addSlots old (replicate 4096 0) (t .slots)) where
     pub slots-in : readHeader least s .roots ≤ 512 → Sums 512 sums
-    slots-in l = rw (e, slots-of least s) (fewer (addSlots (replicate 4096 0) (readSlots s (512 * least) (readHeader least s .roots))) (slots-more (replicate 4096 0) s (512 * least) (readHeader least s .roots) none) (omega arith))
+    slots-in l = rw (e, slots-of least s) (fewer (addSlots old (replicate 4096 0) (readSlots s (512 * least) (readHeader least s .roots))) (slots-more old (replicate 4096 0) s (512 * least) (readHeader least s .roots) none) (omega arith))
 
-    module _ (both : List ℕ) (f : both ≡ addPages sums (drop 5 (t .pages))) where
+    module _ (both : List ℕ) (f : both ≡ addPages old sums (drop 5 (t .pages))) where
       sums-are : both ≡ allSums t
       unfolding allSums
-      sums-are = f ∙ ap (λ (x : List ℕ). addPages x (drop 5 (t .pages))) e
+      sums-are = f ∙ ap (λ (x : List ℕ). addPages old x (drop 5 (t .pages))) e ∙ ap (λ (o : ℕ). addPages o (addSlots o (replicate 4096 0) (t .slots)) (drop 5 (t .pages))) is
 
       pub sums-long : length both ≡ 4096
       sums-long = ap (λ (x : List ℕ). length x) sums-are ∙ all-long t
 
-      pub met-all : sizeOf least s ≤ 4096 → allMet both 5 (drop 5 (t .pages)) ≡ spansMet t 5 (drop 5 (t .pages))
+      pub met-all : sizeOf least s ≤ 4096 → allMet old both 5 (drop 5 (t .pages)) ≡ spansMet t 5 (drop 5 (t .pages))
       met-all l =
           let k : length (drop 5 (t .pages)) ≡ sizeOf least s - 5 = ap (λ (ps : List Page). length ps) (behind least s) ∙ length-pages least s 5 (sizeOf least s - 5) in
-          met-led t both (λ n h. ap (λ (x : List ℕ). getD x n 0) sums-are ∙ all-led t n h) 5 (drop 5 (t .pages)) (omega arith)
+          ap (λ (o : ℕ). allMet o both 5 (drop 5 (t .pages))) is ∙ met-led t both (λ n h. ap (λ (x : List ℕ). getD x n 0) sums-are ∙ all-led t n h) 5 (drop 5 (t .pages)) (omega arith)

@@ -16,11 +16,11 @@ pub record Ruled (least : ℕ) (s : Store) : Type 0 where
   pub third : rule3 s ≡ true
 
 module _ (least : ℕ) (s : Store) (h : Ruled least s) where
-  by : quick least s ≡ (spansMet s 5 (drop 5 (s .pages)) && slotsFine least (s .pages) (s .slots) && (rule4 s && rule5 least s))
+  by : quick least s ≡ (spansMet s 5 (drop 5 (s .pages)) && slotsFine least (s .oldest) (s .pages) (s .slots) && (rule4 s && rule5 least s))
   by = quick-by least (h .two) s (h .first) (h .second) (h .third)
 
-  pub not-led : (spansMet s 5 (drop 5 (s .pages)) && slotsFine least (s .pages) (s .slots)) ≡ false → false ≡ quick least s
+  pub not-led : (spansMet s 5 (drop 5 (s .pages)) && slotsFine least (s .oldest) (s .pages) (s .slots)) ≡ false → false ≡ quick least s
   not-led e = sym (by ∙ ap (λ (b : Bool). b && (rule4 s && rule5 least s)) e)
 
-  pub noted : (r : Bool) → r ≡ (rule4 s && rule5 least s) → (spansMet s 5 (drop 5 (s .pages)) && slotsFine least (s .pages) (s .slots)) ≡ true → r ≡ quick least s
+  pub noted : (r : Bool) → r ≡ (rule4 s && rule5 least s) → (spansMet s 5 (drop 5 (s .pages)) && slotsFine least (s .oldest) (s .pages) (s .slots)) ≡ true → r ≡ quick least s
   noted r q e = q ∙ sym (by ∙ ap (λ (b : Bool). b && (rule4 s && rule5 least s)) e)

@@ -8,14 +8,14 @@ use lib.ListN.{drop}
 use Rattle.model.specs.Basic.{pick, inOrder}
 use Rattle.model.specs.Page.{Page}
 use Rattle.model.specs.Store.{Store}
-use Rattle.model.specs.Sound.{rule2, rule3, pagesPass}
+use Rattle.model.specs.Sound.{rule2, rule3, rule7, pagesPass}
 use Rattle.model.specs.Layout.{decode}
 use Rattle.model.specs.Clean.{clean}
 use Rattle.model.specs.Counted.{rule8}
 use Rattle.model.proofs.Lists.{both-true}
 use Rattle.model.specs.Judged.{lengthOk, magicOk, editionOk, judged}
 use Rattle.model.proofs.QuickLent.{number-quickly}
-use Rattle.model.specs.Quick.{apart, childrenFine, slotsFine, spansMet, quick, quickIn}
+use Rattle.model.specs.Quick.{kept, apart, childrenFine, slotsFine, spansMet, quick, quickIn}
 
 -- numbers 1 to 3: the length, the name, the edition
 abbrev pub refusedBy : Bool → Bool → Bool → ℕ
@@ -24,12 +24,12 @@ refusedBy x y z = pick x (pick y (pick z 0 3) 2) 1
 -- ---- rules 4 to 6
 
 -- where sums and slots are found right, the pages are left
-pub quick-pages : (least : ℕ) (s : Store) → (spansMet s 5 (drop 5 (s .pages)) && slotsFine least (s .pages) (s .slots)) ≡ true
-    → quick least s ≡ pagesPass (λ (p : Page). inOrder apart (p .entries) && childrenFine least (s .pages) (p .level) (p .entries)) s
+pub quick-pages : (least : ℕ) (s : Store) → (spansMet s 5 (drop 5 (s .pages)) && slotsFine least (s .oldest) (s .pages) (s .slots)) ≡ true
+    → quick least s ≡ pagesPass (λ (p : Page). inOrder apart (kept (s .oldest) (p .entries)) && childrenFine least (s .oldest) (s .pages) (p .level) (kept (s .oldest) (p .entries))) s
 unfolding quick
-quick-pages least s e = ap (λ (b : Bool). b && pagesPass (λ (p : Page). inOrder apart (p .entries) && childrenFine least (s .pages) (p .level) (p .entries)) s) e
+quick-pages least s e = ap (λ (b : Bool). b && pagesPass (λ (p : Page). inOrder apart (kept (s .oldest) (p .entries)) && childrenFine least (s .oldest) (s .pages) (p .level) (kept (s .oldest) (p .entries))) s) e
 
--- ---- rules 1 to 6
+-- ---- rules 1 to 7
 
 module _ (least : ℕ) (b : List ℕ) where
   pub in-first : clean least b ≡ false → quickIn least b ≡ false
@@ -46,15 +46,21 @@ module _ (least : ℕ) (b : List ℕ) where
       unfolding quickIn
       in-third z = rw (x, y, z)
 
-      pub in-rest : rule3 (decode least b) ≡ true → quickIn least b ≡ quick least (decode least b)
-      unfolding quickIn
-      in-rest z = rw (x, y, z)
+      module _ (z : rule3 (decode least b) ≡ true) where
+        pub in-quick : quick least (decode least b) ≡ false → quickIn least b ≡ false
+        unfolding quickIn
+        in-quick u = rw (x, y, z, u)
+
+        pub in-rest : quick least (decode least b) ≡ true → quickIn least b ≡ rule7 (decode least b)
+        unfolding quickIn
+        in-rest u = rw (x, y, z, u)
 
   pub in-clean : quickIn least b ≡ true → clean least b ≡ true
   unfolding quickIn
   in-clean e =
       let s = decode least b in
-      both-true (clean least b) (rule2 s) (both-true (clean least b && rule2 s) (rule3 s) (both-true (clean least b && rule2 s && rule3 s) (quick least s) e .0) .0) .0
+      let (q, r7) = both-true (clean least b && rule2 s && rule3 s && quick least s) (rule7 s) e in
+      both-true (clean least b) (rule2 s) (both-true (clean least b && rule2 s) (rule3 s) (both-true (clean least b && rule2 s && rule3 s) (quick least s) q .0) .0) .0
 
   -- ---- the number, with rule 8
 

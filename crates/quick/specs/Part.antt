@@ -1,23 +1,27 @@
 -- One page's tests, one entry at a time for a loop. Assumes nothing.
-use Prim.Native.Nat.{ℕ, _+_, _*_, _-_, _<_, _≤_, min, max}
+use Prim.Native.Nat.{ℕ, zero, suc, _+_, _*_, _-_, _<_, _≤_, min, max}
 use mathlib.Core.Bool.{Bool, true, false, _&&_, _||_, not}
-use mathlib.Core.Path.{_≡_, refl, ap, sym, _∙_}
+use mathlib.Core.Path.{_≡_, refl, ap, sym, _∙_, subst}
 use mathlib.Core.Logic.{_⊎_, inl, inr}
 use mathlib.Core.List.{List, [], _∷_}
 use native.Mathlib.Omega.{arith}
 use lib.Dec.{leb, ltb, eqb}
 use lib.ListN.{length}
-use borrow.Author.Tests.{le-leb, lt-leb}
+use borrow.Author.Tests.{le-leb, lt-leb, le-ltb, lt-ltb, leb-true, leb-false, ne-eqb}
 use Rattle.bits.specs.Put.{less}
 use Rattle.model.specs.declared.Entry.{Entry}
-use Rattle.model.specs.Basic.{all, those, keep, pick}
+use Rattle.model.specs.Basic.{all, those, keep, pick, inOrder}
+use Rattle.model.specs.Entry.{before}
 use Rattle.model.specs.Layout.{readEntry, readEntries, decodePage}
-use Rattle.model.specs.Quick.{meets, past, pastAll, apart, lowOver, keyOver, liveCount, manyOver, fineOver}
+use Rattle.model.specs.Quick.{meets, past, pastAll, kept, apart, lowOver, keyOver, liveCount, manyOver, fineOver}
 use Rattle.model.specs.Inner.{firstOk, throughout}
-use Rattle.model.proofs.Rising.{rising}
+use Rattle.model.proofs.Lists.{both-true}
+use Rattle.model.proofs.Members.{In, in-those}
+use Rattle.model.proofs.QuickLaws.{apart-neighbours}
+use Rattle.model.proofs.QuickSpans.{kept-order}
 use Rattle.page.specs.declared.Head.{Head}
 use Rattle.page.specs.Head.{readHead}
-use Rattle.page.specs.Read.{level-of, entries-of, entries-step, entries-end}
+use Rattle.page.specs.Read.{level-of, entries-of, entries-step, entries-end, read-sized}
 
 -- where the entry ends inside the stretch, m are alive
 abbrev pub endFine : ℕ → ℕ → ℕ → List Entry → Entry → Bool
@@ -46,6 +50,41 @@ leb-min m x = at (less x m)
     at : (x < m) ⊎ (m ≤ x) → leb m (min m x) ≡ leb m x
     at (inl l) = lt-leb m (min m x) (omega arith) ∙ sym (lt-leb m x l)
     at (inr l) = le-leb m (min m x) (omega arith) ∙ sym (le-leb m x l)
+
+-- ---- "No live key stands twice in a page": each entry that is kept against the next one
+
+-- d against the first of those kept, and each of them against the next
+abbrev pub behind : ℕ → Entry → List Entry → Bool
+behind old d es = firstOk apart d (kept old es) && inOrder apart (kept old es)
+
+behind-one : (old : ℕ) (d e : Entry) (es : List Entry) → inOrder before (e ∷ es) ≡ true → behind old d (e ∷ es) ≡ ((leb (e .end) old || apart d e) && behind old (pick (leb (e .end) old) d e) es)
+behind-one old d e es o = at (leb (e .end) old) refl
+  where
+    at : (t : Bool) → leb (e .end) old ≡ t → (firstOk apart d (keep (ltb old (e .end)) e (kept old es)) && inOrder apart (keep (ltb old (e .end)) e (kept old es))) ≡ ((t || apart d e) && behind old (pick t d e) es)
+    at true q = ap (λ (b : Bool). firstOk apart d (keep b e (kept old es)) && inOrder apart (keep b e (kept old es))) (le-ltb old (e .end) (leb-true (e .end) old q))
+    at false q =
+        let late = lt-ltb old (e .end) (leb-false (e .end) old q) in
+        let ordered : inOrder before (e ∷ kept old es) ≡ true = ap (λ (b : Bool). inOrder before (keep b e (kept old es))) (sym late) ∙ kept-order old before (e ∷ es) o in
+        let rest : inOrder before (kept old es) ≡ true = both-true (all (before e) (kept old es)) (inOrder before (kept old es)) ordered .1 in
+        ap (λ (b : Bool). firstOk apart d (keep b e (kept old es)) && inOrder apart (keep b e (kept old es))) late
+        ∙ ap (λ (b : Bool). apart d e && b) (apart-neighbours (e ∷ kept old es) ordered ∙ ap (λ (b : Bool). firstOk apart e (kept old es) && b) (sym (apart-neighbours (kept old es) rest)))
+
+small : (p : List ℕ) (o k : ℕ) (e : Entry) → In e (readEntries p o k) → e .key < 16777216
+unfolding readEntries
+small p o zero e i = absurd i
+small p o (suc k) e (inl q) = subst (λ (x : Entry). x .key < 16777216) (sym q) (read-sized p o .key)
+small p o (suc k) e (inr i) = small p (o + 96) k e i
+
+-- before the first one: no key is as large as that of nobody
+pub behind-start : (old : ℕ) (d : Entry) (p : List ℕ) (n : ℕ) → 16777216 ≤ d .key → inOrder apart (kept old (readEntries p 128 n)) ≡ behind old d (readEntries p 128 n)
+behind-start old d p n h = sym (ap (λ (b : Bool). b && inOrder apart (kept old (readEntries p 128 n))) (first (readEntries p 128 n) (small p 128 n)))
+  where
+    first : (es : List Entry) → ((e : Entry) → In e es → e .key < 16777216) → firstOk apart d (kept old es) ≡ true
+    first es f = at (kept old es) (λ e i. f e (in-those (λ (x : Entry). ltb old (x .end)) e es i .1))
+      where
+        at : (xs : List Entry) → ((e : Entry) → In e xs → e .key < 16777216) → firstOk apart d xs ≡ true
+        at [] g = refl
+        at (x ∷ xs) g = ap (λ (b : Bool). not b || leb (d .end) (x .start)) (ne-eqb (d .key) (x .key) (λ z. omega (arith, g x (inl refl))))
 
 -- ---- what is left from place i on
 
@@ -86,18 +125,16 @@ module _ (p : List ℕ) (i n : ℕ) where
     pub count-end : n ≤ i → length (those f here) ≡ 0
     count-end h = ap (λ (es : List Entry). length (those f es)) (entries-end p (128 + 96 * i) i n h)
 
-  -- the entry behind d, if there is one
-  pub next-none : (d : Entry) → n ≤ i → firstOk apart d here ≡ true
-  next-none d h = ap (firstOk apart d) (entries-end p (128 + 96 * i) i n h)
+  -- those kept, behind the entry d
+  pub apart-step : (old : ℕ) (d : Entry) → i < n → inOrder before here ≡ true
+      → behind old d here ≡ ((leb (e .end) old || apart d e) && behind old (pick (leb (e .end) old) d e) rest)
+  apart-step old d h o = ap (behind old d) (entries-step p i n h) ∙ behind-one old d e rest (ap (inOrder before) (sym (entries-step p i n h)) ∙ o)
 
-  pub next-some : (d : Entry) → i < n → firstOk apart d here ≡ apart d e
-  next-some d h = ap (firstOk apart d) (entries-step p i n h)
+  pub apart-end : (old : ℕ) (d : Entry) → n ≤ i → behind old d here ≡ true
+  apart-end old d h = ap (behind old d) (entries-end p (128 + 96 * i) i n h)
 
-  pub rising-step : i < n → rising apart here ≡ (firstOk apart e rest && rising apart rest)
-  rising-step h = ap (rising apart) (entries-step p i n h)
-
-  pub rising-end : n ≤ i → rising apart here ≡ true
-  rising-end h = ap (rising apart) (entries-end p (128 + 96 * i) i n h)
+  pub order-step : i < n → inOrder before here ≡ true → inOrder before rest ≡ true
+  order-step h o = both-true (all (before e) rest) (inOrder before rest) (ap (inOrder before) (sym (entries-step p i n h)) ∙ o) .1
 
 pub one-most : (b : Bool) → pick b 1 0 ≤ 1
 one-most true = omega arith

@@ -1,5 +1,5 @@
 -- The slots of the root directory, one at a time for a loop, and what rule 1 gives of them. Assumes nothing.
-use Prim.Native.Nat.{ℕ, zero, suc, _+_, _*_, _-_, _<_, _≤_, pred}
+use Prim.Native.Nat.{ℕ, zero, suc, _+_, _*_, _-_, _<_, _≤_, pred, max}
 use mathlib.Core.Bool.{true, _&&_}
 use mathlib.Core.Path.{_≡_, refl, ap, _∙_}
 use mathlib.Core.List.{List}
@@ -51,11 +51,11 @@ module _ (s : List ℕ) (o i n : ℕ) where
   pub upto-none : n ≤ i → upto here ≡ alive
   upto-none h = ap upto (slots-end s (o + 32 * i) i n h)
 
-  pub slots-fine-step : (least : ℕ) (ps : List Page) → i < n → slotsFine least ps here ≡ (slotFine least (x .version) (upto rest) (page ps (x .root)) && slotsFine least ps rest)
-  slots-fine-step least ps h = ap (slotsFine least ps) (slots-step s o i n h)
+  pub slots-fine-step : (least old : ℕ) (ps : List Page) → i < n → slotsFine least old ps here ≡ (slotFine least (max old (x .version)) (upto rest) (page ps (x .root)) && slotsFine least old ps rest)
+  slots-fine-step least old ps h = ap (slotsFine least old ps) (slots-step s o i n h)
 
-  pub slots-fine-end : (least : ℕ) (ps : List Page) → n ≤ i → slotsFine least ps here ≡ true
-  slots-fine-end least ps h = ap (slotsFine least ps) (slots-end s (o + 32 * i) i n h)
+  pub slots-fine-end : (least old : ℕ) (ps : List Page) → n ≤ i → slotsFine least old ps here ≡ true
+  slots-fine-end least old ps h = ap (slotsFine least old ps) (slots-end s (o + 32 * i) i n h)
 
 module _ (least : ℕ) (s : List ℕ) where
   pub slots-start : (n : ℕ) → n ≡ readHeader least s .roots → decode least s .slots ≡ readSlots s (512 * least + 32 * 0) (n - 0)

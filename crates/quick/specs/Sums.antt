@@ -1,5 +1,5 @@
 -- The spans of what leads to each page, added up by page number as the code does it: one slot, one router at a time. Assumes nothing.
-use Prim.Native.Nat.{ℕ, zero, suc, _+_, _*_, _-_, _<_, _≤_}
+use Prim.Native.Nat.{ℕ, zero, suc, _+_, _*_, _-_, _<_, _≤_, max}
 use mathlib.Core.Bool.{Bool, true, false, _&&_, _||_}
 use mathlib.Core.Path.{_≡_, ap, sym, _∙_}
 use mathlib.Core.List.{List, [], _∷_}
@@ -25,29 +25,29 @@ use Rattle.store.specs.Read.{version-lt, slots-step, slots-end, pages-step, pag
 abbrev pub addTo : List ℕ → ℕ → ℕ → List ℕ
 addTo sums n x = set sums n (getD sums n 0 + x)
 
-unfoldable pub addSlots : List ℕ → List Slot → List ℕ
-addSlots sums [] = sums
-addSlots sums (x ∷ xs) = addSlots (addTo sums (x .root) (upto xs - x .version)) xs
+unfoldable pub addSlots : ℕ → List ℕ → List Slot → List ℕ
+addSlots old sums [] = sums
+addSlots old sums (x ∷ xs) = addSlots old (addTo sums (x .root) (upto xs - max old (x .version))) xs
 
-unfoldable pub addEntries : List ℕ → List Entry → List ℕ
-addEntries sums [] = sums
-addEntries sums (e ∷ es) = addEntries (addTo sums (e .value) (e .end - e .start)) es
+unfoldable pub addEntries : ℕ → List ℕ → List Entry → List ℕ
+addEntries old sums [] = sums
+addEntries old sums (e ∷ es) = addEntries old (addTo sums (e .value) (e .end - max old (e .start))) es
 
 -- a leaf's entries lead nowhere
-abbrev pub addPage : List ℕ → Page → List ℕ
-addPage sums p = pick (leb (p .level) 1) sums (addEntries sums (p .entries))
+abbrev pub addPage : ℕ → List ℕ → Page → List ℕ
+addPage old sums p = pick (leb (p .level) 1) sums (addEntries old sums (p .entries))
 
-unfoldable pub addPages : List ℕ → List Page → List ℕ
-addPages sums [] = sums
-addPages sums (p ∷ ps) = addPages (addPage sums p) ps
+unfoldable pub addPages : ℕ → List ℕ → List Page → List ℕ
+addPages old sums [] = sums
+addPages old sums (p ∷ ps) = addPages old (addPage old sums p) ps
 
-abbrev pub pageMet : ℕ → Page → Bool
-pageMet sum p = isFree p || eqb sum (p .end - p .start)
+abbrev pub pageMet : ℕ → ℕ → Page → Bool
+pageMet old sum p = isFree p || eqb sum (p .end - max old (p .start))
 
 -- the pages from number n on
-unfoldable pub allMet : List ℕ → ℕ → List Page → Bool
-allMet sums n [] = true
-allMet sums n (p ∷ ps) = pageMet (getD sums n 0) p && allMet sums (n + 1) ps
+unfoldable pub allMet : ℕ → List ℕ → ℕ → List Page → Bool
+allMet old sums n [] = true
+allMet old sums n (p ∷ ps) = pageMet old (getD sums n 0) p && allMet old sums (n + 1) ps
 
 -- A sum for each page number, of at most k spans. In all there are 512 slots and 40 routers of each of 4,096 pages, under 200,000.
 pub record Sums (k : ℕ) (sums : List ℕ) : Type 0 where
@@ -84,52 +84,52 @@ none = record { all = length-replicate {A = ℕ} 4096 0; most = λ n t. omega (a
 
 -- ---- what is left from slot i, from entry i, from page n on
 
-module _ (sums s : List ℕ) (o i n : ℕ) where
+module _ (old : ℕ) (sums s : List ℕ) (o i n : ℕ) where
   pub add-slots-step : i < n
-      → addSlots sums (readSlots s (o + 32 * i) (n - i))
-      ≡ addSlots (addTo sums (readSlot s (o + 32 * i) .root) (upto (readSlots s (o + 32 * (i + 1)) (n - (i + 1))) - readSlot s (o + 32 * i) .version)) (readSlots s (o + 32 * (i + 1)) (n - (i + 1)))
+      → addSlots old sums (readSlots s (o + 32 * i) (n - i))
+      ≡ addSlots old (addTo sums (readSlot s (o + 32 * i) .root) (upto (readSlots s (o + 32 * (i + 1)) (n - (i + 1))) - max old (readSlot s (o + 32 * i) .version))) (readSlots s (o + 32 * (i + 1)) (n - (i + 1)))
   unfolding addSlots
-  add-slots-step h = ap (addSlots sums) (slots-step s o i n h)
+  add-slots-step h = ap (addSlots old sums) (slots-step s o i n h)
 
-  pub add-slots-end : n ≤ i → addSlots sums (readSlots s (o + 32 * i) (n - i)) ≡ sums
+  pub add-slots-end : n ≤ i → addSlots old sums (readSlots s (o + 32 * i) (n - i)) ≡ sums
   unfolding addSlots
-  add-slots-end h = ap (addSlots sums) (slots-end s (o + 32 * i) i n h)
+  add-slots-end h = ap (addSlots old sums) (slots-end s (o + 32 * i) i n h)
 
-module _ (sums p : List ℕ) (i n : ℕ) where
+module _ (old : ℕ) (sums p : List ℕ) (i n : ℕ) where
   pub add-entries-step : i < n
-      → addEntries sums (readEntries p (128 + 96 * i) (n - i))
-      ≡ addEntries (addTo sums (readEntry p (128 + 96 * i) .value) (readEntry p (128 + 96 * i) .end - readEntry p (128 + 96 * i) .start)) (readEntries p (128 + 96 * (i + 1)) (n - (i + 1)))
+      → addEntries old sums (readEntries p (128 + 96 * i) (n - i))
+      ≡ addEntries old (addTo sums (readEntry p (128 + 96 * i) .value) (readEntry p (128 + 96 * i) .end - max old (readEntry p (128 + 96 * i) .start))) (readEntries p (128 + 96 * (i + 1)) (n - (i + 1)))
   unfolding addEntries
-  add-entries-step h = ap (addEntries sums) (entries-step p i n h)
+  add-entries-step h = ap (addEntries old sums) (entries-step p i n h)
 
-  pub add-entries-end : n ≤ i → addEntries sums (readEntries p (128 + 96 * i) (n - i)) ≡ sums
+  pub add-entries-end : n ≤ i → addEntries old sums (readEntries p (128 + 96 * i) (n - i)) ≡ sums
   unfolding addEntries
-  add-entries-end h = ap (addEntries sums) (entries-end p (128 + 96 * i) i n h)
+  add-entries-end h = ap (addEntries old sums) (entries-end p (128 + 96 * i) i n h)
 
-module _ (sums : List ℕ) (least : ℕ) (s : List ℕ) (n m : ℕ) where
-  pub add-pages-step : n < m → addPages sums (readPages least s n (m - n)) ≡ addPages (addPage sums (decodePage least (pageOf least s n))) (readPages least s (n + 1) (m - (n + 1)))
+module _ (old : ℕ) (sums : List ℕ) (least : ℕ) (s : List ℕ) (n m : ℕ) where
+  pub add-pages-step : n < m → addPages old sums (readPages least s n (m - n)) ≡ addPages old (addPage old sums (decodePage least (pageOf least s n))) (readPages least s (n + 1) (m - (n + 1)))
   unfolding addPages
-  add-pages-step h = ap (addPages sums) (pages-step least s n m h)
+  add-pages-step h = ap (addPages old sums) (pages-step least s n m h)
 
-  pub add-pages-end : m ≤ n → addPages sums (readPages least s n (m - n)) ≡ sums
+  pub add-pages-end : m ≤ n → addPages old sums (readPages least s n (m - n)) ≡ sums
   unfolding addPages
-  add-pages-end h = ap (addPages sums) (pages-end least s n m h)
+  add-pages-end h = ap (addPages old sums) (pages-end least s n m h)
 
-  pub met-step : n < m → allMet sums n (readPages least s n (m - n)) ≡ (pageMet (getD sums n 0) (decodePage least (pageOf least s n)) && allMet sums (n + 1) (readPages least s (n + 1) (m - (n + 1))))
+  pub met-step : n < m → allMet old sums n (readPages least s n (m - n)) ≡ (pageMet old (getD sums n 0) (decodePage least (pageOf least s n)) && allMet old sums (n + 1) (readPages least s (n + 1) (m - (n + 1))))
   unfolding allMet
-  met-step h = ap (allMet sums n) (pages-step least s n m h)
+  met-step h = ap (allMet old sums n) (pages-step least s n m h)
 
-  pub met-end : m ≤ n → allMet sums n (readPages least s n (m - n)) ≡ true
+  pub met-end : m ≤ n → allMet old sums n (readPages least s n (m - n)) ≡ true
   unfolding allMet
-  met-end h = ap (allMet sums n) (pages-end least s n m h)
+  met-end h = ap (allMet old sums n) (pages-end least s n m h)
 
 -- ---- a page by its front
 
-module _ (least : ℕ) (p : List ℕ) (h : Head) (f : h ≡ readHead least p) where
-  pub met-by : (sum : ℕ) → pageMet sum (decodePage least p) ≡ (eqb (h .level) 0 || eqb sum (h .end - h .start))
+module _ (least old : ℕ) (p : List ℕ) (h : Head) (f : h ≡ readHead least p) where
+  pub met-by : (sum : ℕ) → pageMet old sum (decodePage least p) ≡ (eqb (h .level) 0 || eqb sum (h .end - max old (h .start)))
   met-by sum = rw (level-of least p, start-of least p, end-of least p, f)
 
-  pub page-by : (sums : List ℕ) → addPage sums (decodePage least p) ≡ pick (leb (h .level) 1) sums (addEntries sums (readEntries p 128 (h .count)))
+  pub page-by : (sums : List ℕ) → addPage old sums (decodePage least p) ≡ pick (leb (h .level) 1) sums (addEntries old sums (readEntries p 128 (h .count)))
   page-by sums = rw (level-of least p, entries-of least p, f)
 
 -- ---- all of a list
@@ -139,27 +139,27 @@ unfolding readSlots
 upto-most s o zero = omega arith
 upto-most s o (suc n) = omega (arith, version-lt s o)
 
-pub slots-more : {k : ℕ} (sums : List ℕ) (s : List ℕ) (o n : ℕ) → Sums k sums → Sums (k + n) (addSlots sums (readSlots s o n))
+pub slots-more : {k : ℕ} (old : ℕ) (sums : List ℕ) (s : List ℕ) (o n : ℕ) → Sums k sums → Sums (k + n) (addSlots old sums (readSlots s o n))
 unfolding addSlots readSlots
-slots-more sums s o zero h = fewer sums h (omega arith)
-slots-more {k} sums s o (suc n) h =
+slots-more old sums s o zero h = fewer sums h (omega arith)
+slots-more {k} old sums s o (suc n) h =
     let x : Slot = readSlot s o in
-    let y : ℕ = upto (readSlots s (o + 32) n) - x .version in
+    let y : ℕ = upto (readSlots s (o + 32) n) - max old (x .version) in
     let g = one-more sums (x .root) y h (omega (arith, upto-most s (o + 32) n)) in
-    fewer (addSlots (addTo sums (x .root) y) (readSlots s (o + 32) n)) (slots-more (addTo sums (x .root) y) s (o + 32) n g) (omega arith)
+    fewer (addSlots old (addTo sums (x .root) y) (readSlots s (o + 32) n)) (slots-more old (addTo sums (x .root) y) s (o + 32) n g) (omega arith)
 
-pub entries-more : {k : ℕ} (sums : List ℕ) (p : List ℕ) (o n : ℕ) → Sums k sums → Sums (k + n) (addEntries sums (readEntries p o n))
+pub entries-more : {k : ℕ} (old : ℕ) (sums : List ℕ) (p : List ℕ) (o n : ℕ) → Sums k sums → Sums (k + n) (addEntries old sums (readEntries p o n))
 unfolding addEntries readEntries
-entries-more sums p o zero h = fewer sums h (omega arith)
-entries-more {k} sums p o (suc n) h =
+entries-more old sums p o zero h = fewer sums h (omega arith)
+entries-more {k} old sums p o (suc n) h =
     let e : Entry = readEntry p o in
-    let y : ℕ = e .end - e .start in
+    let y : ℕ = e .end - max old (e .start) in
     let g = one-more sums (e .value) y h (omega (arith, read-sized p o .end)) in
-    fewer (addEntries (addTo sums (e .value) y) (readEntries p (o + 96) n)) (entries-more (addTo sums (e .value) y) p (o + 96) n g) (omega arith)
+    fewer (addEntries old (addTo sums (e .value) y) (readEntries p (o + 96) n)) (entries-more old (addTo sums (e .value) y) p (o + 96) n g) (omega arith)
 
-pub page-more : {k : ℕ} (sums : List ℕ) (least : ℕ) (p : List ℕ) → readHead least p .count ≤ 40 → Sums k sums → Sums (k + 40) (addPage sums (decodePage least p))
-page-more {k} sums least p few h = at (leb (decodePage least p .level) 1)
+pub page-more : {k : ℕ} (old : ℕ) (sums : List ℕ) (least : ℕ) (p : List ℕ) → readHead least p .count ≤ 40 → Sums k sums → Sums (k + 40) (addPage old sums (decodePage least p))
+page-more {k} old sums least p few h = at (leb (decodePage least p .level) 1)
   where
-    at : (b : Bool) → Sums (k + 40) (pick b sums (addEntries sums (decodePage least p .entries)))
+    at : (b : Bool) → Sums (k + 40) (pick b sums (addEntries old sums (decodePage least p .entries)))
     at true = fewer sums h (omega arith)
-    at false = rw (entries-of least p) (fewer (addEntries sums (readEntries p 128 (readHead least p .count))) (entries-more sums p 128 (readHead least p .count) h) (omega arith))
+    at false = rw (entries-of least p) (fewer (addEntries old sums (readEntries p 128 (readHead least p .count))) (entries-more old sums p 128 (readHead least p .count) h) (omega arith))

@@ -5,17 +5,18 @@ use mathlib.Core.Path.{_≡_, refl, ap, sym, _∙_}
 use mathlib.Core.List.{List, [], _∷_}
 use native.Mathlib.Omega.{arith}
 use lib.Dec.{leb, ltb}
-use borrow.Author.Tests.{le-ltb, leb-true, leb-false, ltb-false}
+use borrow.Author.Tests.{le-ltb, lt-ltb, leb-true, leb-false, ltb-false}
+use Rattle.model.specs.Basic.{keep, pick}
 use Rattle.model.specs.declared.Entry.{Entry}
 use Rattle.model.specs.Page.{Page}
 use Rattle.model.specs.Store.{page}
 use Rattle.model.specs.Layout.{readEntry, readEntries, pageOf, decode}
-use Rattle.model.specs.Quick.{meets, past, pastAll, lastFine, lasts, under, nextFine, nexts, fineOver, routersFine}
+use Rattle.model.specs.Quick.{meets, past, pastAll, kept, lastFine, lasts, under, nextFine, nexts, fineOver, routersFine}
 use Rattle.page.specs.Read.{entries-step, entries-end, entries-of}
 use Rattle.store.specs.Read.{page-at}
 use Rattle.local.specs.Local.{IsPage, countAt}
 use Rattle.quick.specs.declared.under.Way.{Way}
-use Rattle.quick.specs.Part.{highOver, past-more}
+use Rattle.quick.specs.Part.{highOver, past-more, past-grows}
 
 -- where entry e is the last one alive, those behind it being es: its key is under h, and its page is asked for that stretch
 abbrev pub wayIf : Bool → ℕ → ℕ → ℕ → Entry → List Entry → Way
@@ -85,6 +86,42 @@ next-is f g a b e = at (meets a b e) refl
     at true q = refl
     at false q = sym (g (e .key) (max a (e .start)) (min b (e .end)) (ltb-false (max a (e .start)) (min b (e .end)) q))
 
+-- ---- an entry that ended by the oldest version has no part in a stretch from there on
+
+past-out : (old a : ℕ) (e : Entry) → old ≤ a → e .end ≤ old → past a e ≡ a
+past-out old a e h l = at (leb (e .start) a)
+  where
+    at : (t : Bool) → pick t (max a (e .end)) a ≡ a
+    at true = omega arith
+    at false = refl
+
+meets-out : (old a b : ℕ) (e : Entry) → old ≤ a → e .end ≤ old → meets a b e ≡ false
+meets-out old a b e h l = le-ltb (max a (e .start)) (min b (e .end)) (omega arith)
+
+pub nexts-kept : (f : ℕ → ℕ → ℕ → Bool) (old a b : ℕ) (es : List Entry) → old ≤ a → nexts f a b (kept old es) ≡ nexts f a b es
+nexts-kept f old a b [] h = refl
+nexts-kept f old a b (e ∷ es) h = at (ltb old (e .end)) refl (nexts-kept f old a b es h) (nexts-kept f old (past a e) b es (omega (arith, past-more a e)))
+  where
+    at : (t : Bool) → ltb old (e .end) ≡ t → nexts f a b (kept old es) ≡ nexts f a b es → nexts f (past a e) b (kept old es) ≡ nexts f (past a e) b es → nexts f a b (keep t e (kept old es)) ≡ nexts f a b (e ∷ es)
+    at true q x y = ap (λ (z : Bool). nextFine f a b e && z) y
+    at false q x y =
+        let l : e .end ≤ old = ltb-false old (e .end) q in
+        x ∙ sym (ap (λ (t : Bool). (not t || f (e .key) (max a (e .start)) (min b (e .end))) && nexts f (past a e) b es) (meets-out old a b e h l) ∙ ap (λ (c : ℕ). nexts f c b es) (past-out old a e h l))
+
+router-one : (least old up : ℕ) (ps : List Page) (e : Entry) (es : List Entry) → routersFine least old up ps (kept old (e ∷ es))
+    ≡ ((leb (e .end) old || (fineOver least (e .key) (max old (e .start)) (e .end) (page ps (e .value)) && nexts (underPage up ps (e .value)) (max old (e .start)) (e .end) es)) && routersFine least old up ps (kept old es))
+router-one least old up ps e es = at (leb (e .end) old) refl
+  where
+    fine : Bool
+    fine = fineOver least (e .key) (max old (e .start)) (e .end) (page ps (e .value))
+
+    at : (t : Bool) → leb (e .end) old ≡ t → routersFine least old up ps (keep (ltb old (e .end)) e (kept old es))
+        ≡ ((t || (fine && nexts (underPage up ps (e .value)) (max old (e .start)) (e .end) es)) && routersFine least old up ps (kept old es))
+    at true q = ap (λ (b : Bool). routersFine least old up ps (keep b e (kept old es))) (le-ltb old (e .end) (leb-true (e .end) old q))
+    at false q =
+        ap (λ (b : Bool). routersFine least old up ps (keep b e (kept old es))) (lt-ltb old (e .end) (leb-false (e .end) old q))
+        ∙ ap (λ (b : Bool). (fine && b) && routersFine least old up ps (kept old es)) (nexts-kept (underPage up ps (e .value)) old (max old (e .start)) (e .end) es (omega arith))
+
 -- ---- what is left from place i on
 
 module _ (ps : List Page) (up : ℕ) (p : List ℕ) (i n : ℕ) where
@@ -113,11 +150,12 @@ module _ (ps : List Page) (up : ℕ) (p : List ℕ) (i n : ℕ) where
   pub nexts-end : (m a b : ℕ) → n ≤ i → nexts (underPage up ps m) a b here ≡ true
   nexts-end m a b l = ap (nexts (underPage up ps m) a b) (entries-end p (128 + 96 * i) i n l)
 
-  pub routers-step : (least : ℕ) → i < n → routersFine least up ps here ≡ ((fineOver least (e .key) (e .start) (e .end) (page ps (e .value)) && nexts (underPage up ps (e .value)) (e .start) (e .end) rest) && routersFine least up ps rest)
-  routers-step least l = ap (routersFine least up ps) (entries-step p i n l)
+  pub routers-step : (least old : ℕ) → i < n → routersFine least old up ps (kept old here)
+      ≡ ((leb (e .end) old || (fineOver least (e .key) (max old (e .start)) (e .end) (page ps (e .value)) && nexts (underPage up ps (e .value)) (max old (e .start)) (e .end) rest)) && routersFine least old up ps (kept old rest))
+  routers-step least old l = ap (λ (es : List Entry). routersFine least old up ps (kept old es)) (entries-step p i n l) ∙ router-one least old up ps e rest
 
-  pub routers-end : (least : ℕ) → n ≤ i → routersFine least up ps here ≡ true
-  routers-end least l = ap (routersFine least up ps) (entries-end p (128 + 96 * i) i n l)
+  pub routers-end : (least old : ℕ) → n ≤ i → routersFine least old up ps (kept old here) ≡ true
+  routers-end least old l = ap (λ (es : List Entry). routersFine least old up ps (kept old es)) (entries-end p (128 + 96 * i) i n l)
 
 -- ---- page n of the bytes
 
@@ -143,3 +181,17 @@ way-page h a b e es w q = ap (λ (x : Way). x .page) q ∙ at (meets a b e)
     at : (t : Bool) → wayIf t h a b e es .page ≡ e .value
     at true = refl
     at false = refl
+
+-- a way that is not empty lies in the stretch and in the entry's span
+pub way-late : (h a b : ℕ) (e : Entry) (es : List Entry) (w : Way) → w ≡ wayOf h a b e es → w .from < w .upto → (a ≤ w .from) × (w .upto ≤ e .end)
+way-late h a b e es w q l = at (meets a b e) q
+  where
+    at : (t : Bool) → w ≡ wayIf t h a b e es → (a ≤ w .from) × (w .upto ≤ e .end)
+    at true z =
+        let f : w .from ≡ min (min b (e .end)) (pastAll (max a (e .start)) es) = ap (λ (x : Way). x .from) z in
+        let u : w .upto ≡ min b (e .end) = ap (λ (x : Way). x .upto) z in
+        (omega (arith, past-grows (max a (e .start)) es), omega arith)
+    at false z =
+        let f : w .from ≡ 0 = ap (λ (x : Way). x .from) z in
+        let u : w .upto ≡ 0 = ap (λ (x : Way). x .upto) z in
+        absurd (omega arith)

@@ -2,7 +2,7 @@
 use model::Entry;
 ghost use mathlib.Core.Path.{_≡_};
 ghost use mathlib.Core.Bool.{_||_, _&&_, not};
-ghost use Prim.Native.Nat.{_-_, min, max};
+ghost use Prim.Native.Nat.{_-_, _≤_, min, max};
 ghost use lib.Dec.{leb, ltb, eqb};
 ghost use Rattle.model.specs.Basic.{pick};
 ghost use Rattle.model.specs.Entry.{liveAt};
@@ -35,6 +35,13 @@ pub(crate) fn span(a: u32, b: u32) -> u32
         return 0;
     }
     b - a
+}
+
+// The same from the oldest version on.
+pub(crate) fn span_from(old: u32, a: u32, b: u32) -> u32
+    ensures { λ r. ⌜ r ≡ b - max old a ⌝ }
+{
+    span(larger(old, a), b)
 }
 
 // Whether the entry is alive at a version of the stretch.
@@ -74,6 +81,38 @@ pub(crate) fn apart(d: Entry, e: Entry) -> bool
         return true;
     }
     d.end <= e.start
+}
+
+// The same of the entry behind d, unless it ended by the oldest version.
+pub(crate) fn apart_kept(old: u32, d: Entry, e: Entry) -> bool
+    ensures { λ r. ⌜ r ≡ (leb (e .end) old || apart d e) ⌝ }
+{
+    if e.end <= old {
+        return true;
+    }
+    apart(d, e)
+}
+
+// Of d and e behind it the last one that is kept.
+pub(crate) fn last_kept(old: u32, d: Entry, e: Entry) -> Entry
+    ensures { λ r. ⌜ r ≡ pick (leb (e .end) old) d e ⌝ }
+{
+    if e.end <= old {
+        return d;
+    }
+    e
+}
+
+// What stands before the first entry: no key is as large as its own.
+pub(crate) fn nobody() -> Entry
+    ensures { λ r. ⌜ 16777216 ≤ r .key ⌝ }
+{
+    Entry {
+        key: 16777216,
+        start: 0,
+        end: 0,
+        value: 0,
+    }
 }
 
 // The key is at least low, if the entry is alive in the stretch.

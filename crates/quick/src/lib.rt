@@ -38,7 +38,7 @@ pub(crate) fn wide(x: u32) -> usize
 // The sums and the slots: rule 6, once rules 4 and 5 hold (notes/specs/Six, `six-by`). Each is one pass over the store.
 pub fn led(s: &[u8], l: Limits) -> bool
     requires { ⌜ Edition l × Good (l .least) (now s) × GoodSlots (l .least) (now s) ⌝ }
-    ensures { λ r. ⌜ r ≡ (spansMet (decode (l .least) (now (s .entry))) 5 (drop 5 (decode (l .least) (now (s .entry)) .pages)) && slotsFine (l .least) (decode (l .least) (now (s .entry)) .pages) (decode (l .least) (now (s .entry)) .slots)) ⌝ }
+    ensures { λ r. ⌜ r ≡ (spansMet (decode (l .least) (now (s .entry))) 5 (drop 5 (decode (l .least) (now (s .entry)) .pages)) && slotsFine (l .least) (decode (l .least) (now (s .entry)) .oldest) (decode (l .least) (now (s .entry)) .pages) (decode (l .least) (now (s .entry)) .slots)) ⌝ }
 {
     if !sums::spans_met(s, l) {
         return false;
@@ -56,17 +56,18 @@ fn budget(size: usize) -> u32
 
 // The pages, where the sums and the slots are right: what is found is rules 4 to 6, if something of the budget is left.
 fn pages_within(s: &[u8], l: Limits) -> Within
-    requires { ⌜ Edition l × Good (l .least) (now s) ⌝ }
-    ensures { λ r. ⌜ ((spansMet (decode (l .least) (now (s .entry))) 5 (drop 5 (decode (l .least) (now (s .entry)) .pages)) && slotsFine (l .least) (decode (l .least) (now (s .entry)) .pages) (decode (l .least) (now (s .entry)) .slots)) ≡ true → 0 < r .left → r .fine ≡ quick (l .least) (decode (l .least) (now (s .entry)))) ⌝ }
+    requires { ⌜ Edition l × Good (l .least) (now s) × GoodSlots (l .least) (now s) ⌝ }
+    ensures { λ r. ⌜ ((spansMet (decode (l .least) (now (s .entry))) 5 (drop 5 (decode (l .least) (now (s .entry)) .pages)) && slotsFine (l .least) (decode (l .least) (now (s .entry)) .oldest) (decode (l .least) (now (s .entry)) .pages) (decode (l .least) (now (s .entry)) .slots)) ≡ true → 0 < r .left → r .fine ≡ quick (l .least) (decode (l .least) (now (s .entry)))) ⌝ }
 {
+    let h = store::header(s, l);
     let size = store::size(s, l);
-    pages::pages_fine(s, l, budget(size))
+    pages::pages_fine(s, l, h.oldest, budget(size))
 }
 
 // Whether rules 4 to 6 are found to hold within the budget; `fit` is what `led` gave. Only `true` tells: `false` stands too where the
 // budget is used up. For check, which asks the notes in either case, and so asks them once.
 pub fn surely(s: &[u8], l: Limits, fit: bool) -> bool
-    requires { ⌜ Edition l × Good (l .least) (now s) × (fit ≡ (spansMet (decode (l .least) (now s)) 5 (drop 5 (decode (l .least) (now s) .pages)) && slotsFine (l .least) (decode (l .least) (now s) .pages) (decode (l .least) (now s) .slots))) ⌝ }
+    requires { ⌜ Edition l × Good (l .least) (now s) × GoodSlots (l .least) (now s) × (fit ≡ (spansMet (decode (l .least) (now s)) 5 (drop 5 (decode (l .least) (now s) .pages)) && slotsFine (l .least) (decode (l .least) (now s) .oldest) (decode (l .least) (now s) .pages) (decode (l .least) (now s) .slots))) ⌝ }
     ensures { λ r. ⌜ (r ≡ true → quick (l .least) (decode (l .least) (now (s .entry))) ≡ true) ⌝ }
 {
     if !fit {
@@ -95,7 +96,7 @@ fn quick(s: &[u8], l: Limits, h: Header) -> bool
     notes::both_hold(s, l, h)
 }
 
-// Rules 1 to 6 of lent bytes, which make `size` pages.
+// Rules 1 to 7 of lent bytes, which make `size` pages.
 fn rules_hold(s: &[u8], l: Limits, size: usize) -> bool
     requires { ⌜ Edition l × Sized (l .least) (now s) size ⌝ }
     ensures { λ r. ⌜ r ≡ quickIn (l .least) (now (s .entry)) ⌝ }
@@ -110,7 +111,10 @@ fn rules_hold(s: &[u8], l: Limits, size: usize) -> bool
     if !local::third_rule(s, l, h) {
         return false;
     }
-    quick(s, l, h)
+    if !quick(s, l, h) {
+        return false;
+    }
+    local::seventh_rule(s, l, h)
 }
 
 // The numbers 1 to 3, or 0.

@@ -8,8 +8,8 @@ ghost use Rattle.model.specs.Basic.{all, those, inOrder};
 ghost use Rattle.model.specs.Entry.{before};
 ghost use Rattle.model.specs.Limits.{Edition};
 ghost use Rattle.model.specs.Layout.{readEntry, readEntries, decodePage};
-ghost use Rattle.model.specs.Quick.{apart, lowOver, keyOver, liveCount, manyOver, fineOver, pastAll};
-ghost use Rattle.model.specs.Inner.{throughout, firstOk};
+ghost use Rattle.model.specs.Quick.{kept, apart, lowOver, keyOver, liveCount, manyOver, fineOver, pastAll};
+ghost use Rattle.model.specs.Inner.{throughout};
 ghost use Rattle.page.specs.Head.{readHead};
 ghost use Rattle.notes.specs.Linked.{Stands};
 ghost use Rattle.quick.specs.Part.{endFine, highOver};
@@ -208,29 +208,20 @@ pub(crate) fn fine_over(page: &[u8], l: Limits, m: usize, low: u32, a: u32, b: u
     many_over(page, h.count, m, a, b)
 }
 
-// Entry i and the next one, if there is one, are apart.
-fn apart_next(page: &[u8], n: usize, i: usize) -> bool
-    requires { ⌜ Stands (now page) n × (i + 1 ≤ n) ⌝ }
-    ensures { λ r. ⌜ r ≡ firstOk apart (readEntry (now (page .entry)) (128 + 96 * i)) (readEntries (now (page .entry)) (128 + 96 * (i + 1)) (n - (i + 1))) ⌝ }
-{
-    if n <= i + 1 {
-        return true;
-    }
-    let d = page::entry_at(page, i);
-    let e = page::entry_at(page, i + 1);
-    crate::entry::apart(d, e)
-}
-
-// "No live key stands twice in a page". Entries stand in order, so that each to the next is enough.
-pub(crate) fn all_apart(page: &[u8], n: usize) -> bool
+// "No live key stands twice in a page", of the entries that have not ended by the oldest version. They stand in order, so that each to the
+// next is enough.
+pub(crate) fn all_apart(page: &[u8], n: usize, old: u32) -> bool
     requires { ⌜ Stands (now page) n × (inOrder before (readEntries (now page) 128 n) ≡ true) ⌝ }
-    ensures { λ r. ⌜ r ≡ inOrder apart (readEntries (now (page .entry)) 128 n) ⌝ }
+    ensures { λ r. ⌜ r ≡ inOrder apart (kept old (readEntries (now (page .entry)) 128 n)) ⌝ }
 {
+    let mut d = crate::entry::nobody();
     let mut i = 0;
     while i < n {
-        if !apart_next(page, n, i) {
+        let e = page::entry_at(page, i);
+        if !crate::entry::apart_kept(old, d, e) {
             return false;
         }
+        d = crate::entry::last_kept(old, d, e);
         i += 1;
     }
     true

@@ -3,14 +3,14 @@ use crate::within::Within;
 use model::Entry;
 use model::Limits;
 ghost use mathlib.Core.Path.{_≡_};
-ghost use Prim.Native.Nat.{_+_, _*_, _-_, _≤_, min, max};
+ghost use Prim.Native.Nat.{_+_, _*_, _-_, _≤_, _<_, min, max};
 ghost use Rattle.model.specs.Limits.{Edition};
-ghost use Rattle.model.specs.Layout.{readEntry, readEntries, decode};
-ghost use Rattle.model.specs.Quick.{under, nexts, routersFine};
+ghost use Rattle.model.specs.Layout.{readEntry, readEntries, readHeader, decode};
+ghost use Rattle.model.specs.Quick.{kept, under, nexts, routersFine};
 ghost use Rattle.local.specs.Local.{IsPage, levelAt};
 ghost use Rattle.quick.specs.Good.{Good};
 ghost use Rattle.notes.specs.Linked.{Stands};
-ghost use Rattle.quick.specs.Routers.{routerFine, entriesAt};
+ghost use Rattle.quick.specs.Routers.{routerFrom, routerFine, entriesAt};
 ghost use Rattle.quick.specs.Under.{underPage};
 ghost use Rattle.quick.specs.Within.{Answers};
 
@@ -25,7 +25,7 @@ fn next_fine(
     e: Entry,
     left: u32,
 ) -> Within
-    requires { ⌜ Edition l × Good (l .least) (now s) × IsPage (l .least) (now s) m × (levelAt (l .least) (now s) m ≡ up + 1) ⌝ }
+    requires { ⌜ Edition l × Good (l .least) (now s) × IsPage (l .least) (now s) m × (levelAt (l .least) (now s) m ≡ up + 1) × (readHeader (l .least) (now s) .oldest ≤ a) ⌝ }
     ensures { λ r. ⌜ Answers left (under up (decode (l .least) (now (s .entry)) .pages) (e .key) (max a (e .start)) (min b (e .end)) m) r ⌝ }
 {
     let c = crate::entry::larger(a, e.start);
@@ -47,7 +47,7 @@ fn nexts_fine(
     b: u32,
     left: u32,
 ) -> Within
-    requires { ⌜ Edition l × Good (l .least) (now s) × IsPage (l .least) (now s) m × (levelAt (l .least) (now s) m ≡ up + 1) × Stands (now p) n × (i ≤ n) ⌝ }
+    requires { ⌜ Edition l × Good (l .least) (now s) × IsPage (l .least) (now s) m × (levelAt (l .least) (now s) m ≡ up + 1) × Stands (now p) n × (i ≤ n) × (readHeader (l .least) (now s) .oldest ≤ a) ⌝ }
     ensures { λ r. ⌜ Answers left (nexts (underPage up (decode (l .least) (now (s .entry)) .pages) m) a b (readEntries (now (p .entry)) (128 + 96 * i) (n - i))) r ⌝ }
 {
     let mut rest = left;
@@ -75,27 +75,61 @@ fn nexts_fine(
     }
 }
 
-// The router at place i of the page p, and those behind it.
-fn router_fine(s: &[u8], l: Limits, up: usize, p: &[u8], n: usize, i: usize, left: u32) -> Within
-    requires { ⌜ Edition l × Good (l .least) (now s) × Stands (now p) n × (i + 1 ≤ n) × IsPage (l .least) (now s) (readEntry (now p) (128 + 96 * i) .value) × (levelAt (l .least) (now s) (readEntry (now p) (128 + 96 * i) .value) ≡ up + 1) ⌝ }
-    ensures { λ r. ⌜ Answers left (routerFine (l .least) up (decode (l .least) (now (s .entry)) .pages) (readEntry (now (p .entry)) (128 + 96 * i)) (readEntries (now (p .entry)) (128 + 96 * (i + 1)) (n - (i + 1)))) r ⌝ }
+// The router at place i of the page p from version a on, and those behind it.
+fn router_from(
+    s: &[u8],
+    l: Limits,
+    up: usize,
+    p: &[u8],
+    n: usize,
+    i: usize,
+    a: u32,
+    left: u32,
+) -> Within
+    requires { ⌜ Edition l × Good (l .least) (now s) × Stands (now p) n × (i + 1 ≤ n) × IsPage (l .least) (now s) (readEntry (now p) (128 + 96 * i) .value) × (levelAt (l .least) (now s) (readEntry (now p) (128 + 96 * i) .value) ≡ up + 1) × (readHeader (l .least) (now s) .oldest ≤ a) ⌝ }
+    ensures { λ r. ⌜ Answers left (routerFrom (l .least) up (decode (l .least) (now (s .entry)) .pages) a (readEntry (now (p .entry)) (128 + 96 * i)) (readEntries (now (p .entry)) (128 + 96 * (i + 1)) (n - (i + 1)))) r ⌝ }
 {
     let e = page::entry_at(p, i);
     let m = crate::wide(e.value);
     let c = store::part(s, l, m);
-    if !crate::part::fine_over(c, l, l.least, e.key, e.start, e.end) {
+    if !crate::part::fine_over(c, l, l.least, e.key, a, e.end) {
         return Within {
             fine: false,
             left: left,
         };
     }
-    nexts_fine(s, l, up, m, p, n, i + 1, e.start, e.end, left)
+    nexts_fine(s, l, up, m, p, n, i + 1, a, e.end, left)
+}
+
+// The same from the oldest version on. Of a router that ended by then nothing is asked: its page may be free or used again.
+fn router_fine(
+    s: &[u8],
+    l: Limits,
+    up: usize,
+    p: &[u8],
+    n: usize,
+    i: usize,
+    old: u32,
+    left: u32,
+) -> Within
+    requires { ⌜ Edition l × Good (l .least) (now s) × Stands (now p) n × (i + 1 ≤ n) × (old < readEntry (now p) (128 + 96 * i) .end → IsPage (l .least) (now s) (readEntry (now p) (128 + 96 * i) .value) × (levelAt (l .least) (now s) (readEntry (now p) (128 + 96 * i) .value) ≡ up + 1)) × (old ≡ readHeader (l .least) (now s) .oldest) ⌝ }
+    ensures { λ r. ⌜ Answers left (routerFine (l .least) old up (decode (l .least) (now (s .entry)) .pages) (readEntry (now (p .entry)) (128 + 96 * i)) (readEntries (now (p .entry)) (128 + 96 * (i + 1)) (n - (i + 1)))) r ⌝ }
+{
+    let e = page::entry_at(p, i);
+    if e.end <= old {
+        return Within {
+            fine: true,
+            left: left,
+        };
+    }
+    let a = crate::entry::larger(old, e.start);
+    router_from(s, l, up, p, n, i, a, left)
 }
 
 // The routers of page n, which lead to pages `up` levels above the leaves.
-pub(crate) fn routers_fine(s: &[u8], l: Limits, up: usize, n: usize, left: u32) -> Within
-    requires { ⌜ Edition l × Good (l .least) (now s) × IsPage (l .least) (now s) n × (levelAt (l .least) (now s) n ≡ up + 2) ⌝ }
-    ensures { λ r. ⌜ Answers left (routersFine (l .least) up (decode (l .least) (now (s .entry)) .pages) (entriesAt (l .least) (now (s .entry)) n)) r ⌝ }
+pub(crate) fn routers_fine(s: &[u8], l: Limits, up: usize, n: usize, old: u32, left: u32) -> Within
+    requires { ⌜ Edition l × Good (l .least) (now s) × IsPage (l .least) (now s) n × (levelAt (l .least) (now s) n ≡ up + 2) × (old ≡ readHeader (l .least) (now s) .oldest) ⌝ }
+    ensures { λ r. ⌜ Answers left (routersFine (l .least) old up (decode (l .least) (now (s .entry)) .pages) (kept old (entriesAt (l .least) (now (s .entry)) n))) r ⌝ }
 {
     let p = store::part(s, l, n);
     let f = page::head_of(p, l);
@@ -103,7 +137,7 @@ pub(crate) fn routers_fine(s: &[u8], l: Limits, up: usize, n: usize, left: u32) 
     let mut rest = left;
     let mut i = 0;
     while i < count {
-        let r = router_fine(s, l, up, p, count, i, rest);
+        let r = router_fine(s, l, up, p, count, i, old, rest);
         if !r.fine {
             return r;
         }

@@ -1,7 +1,7 @@
-// The root directory: a slot's root is right from the slot's version up to the next slot's.
+// The root directory: a slot's root is right from the slot's version, or the oldest, up to the next slot's.
 use model::Limits;
 ghost use mathlib.Core.Path.{_≡_};
-ghost use Prim.Native.Nat.{_+_, _*_, _-_, _≤_, _<_};
+ghost use Prim.Native.Nat.{_+_, _*_, _-_, _≤_, _<_, max};
 ghost use lib.ListN.{length};
 ghost use lib.Dec.{leb};
 ghost use mathlib.Core.Bool.{true};
@@ -54,26 +54,27 @@ fn root_fine(page: &[u8], l: Limits, a: u32, b: u32) -> bool
     crate::part::fine_over(page, l, m, 0, a, b)
 }
 
-fn slot_fine(s: &[u8], l: Limits, i: usize, roots: usize) -> bool
+fn slot_fine(s: &[u8], l: Limits, i: usize, roots: usize, old: u32) -> bool
     requires { ⌜ Edition l × Good (l .least) (now s) × GoodSlots (l .least) (now s) × (roots ≡ readHeader (l .least) (now s) .roots) × (i + 1 ≤ roots) ⌝ }
-    ensures { λ r. ⌜ r ≡ slotFine (l .least) (slotAt (l .least) (now (s .entry)) i .version) (upto (readSlots (now (s .entry)) (512 * l .least + 32 * (i + 1)) (roots - (i + 1)))) (page (decode (l .least) (now (s .entry)) .pages) (slotAt (l .least) (now (s .entry)) i .root)) ⌝ }
+    ensures { λ r. ⌜ r ≡ slotFine (l .least) (max old (slotAt (l .least) (now (s .entry)) i .version)) (upto (readSlots (now (s .entry)) (512 * l .least + 32 * (i + 1)) (roots - (i + 1)))) (page (decode (l .least) (now (s .entry)) .pages) (slotAt (l .least) (now (s .entry)) i .root)) ⌝ }
 {
     let x = store::slot(s, l, i);
     let b = upto_at(s, l, i + 1, roots);
     let n = crate::wide(x.root);
-    root_fine(store::part(s, l, n), l, x.version, b)
+    let a = crate::entry::larger(old, x.version);
+    root_fine(store::part(s, l, n), l, a, b)
 }
 
 // Each root of the directory throughout its stretch.
 pub(crate) fn slots_fine(s: &[u8], l: Limits) -> bool
     requires { ⌜ Edition l × Good (l .least) (now s) × GoodSlots (l .least) (now s) ⌝ }
-    ensures { λ r. ⌜ r ≡ slotsFine (l .least) (decode (l .least) (now (s .entry)) .pages) (decode (l .least) (now (s .entry)) .slots) ⌝ }
+    ensures { λ r. ⌜ r ≡ slotsFine (l .least) (decode (l .least) (now (s .entry)) .oldest) (decode (l .least) (now (s .entry)) .pages) (decode (l .least) (now (s .entry)) .slots) ⌝ }
 {
     let h = store::header(s, l);
     let roots = crate::wide(h.roots);
     let mut i = 0;
     while i < roots {
-        if !slot_fine(s, l, i, roots) {
+        if !slot_fine(s, l, i, roots, h.oldest) {
             return false;
         }
         i += 1;

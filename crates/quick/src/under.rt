@@ -8,8 +8,7 @@ ghost use Rattle.model.specs.Basic.{pick};
 ghost use Rattle.model.specs.Limits.{Edition};
 ghost use Rattle.model.specs.Layout.{readEntry, readEntries, decode};
 ghost use Rattle.model.specs.Quick.{under};
-ghost use Rattle.local.specs.Local.{IsPage, levelAt};
-ghost use Rattle.quick.specs.Good.{Good};
+ghost use Rattle.quick.specs.Good.{Good, Asks};
 ghost use Rattle.notes.specs.Linked.{Stands};
 ghost use Rattle.quick.specs.Under.{wayOf};
 ghost use Rattle.quick.specs.Within.{Answers};
@@ -59,7 +58,7 @@ pub(crate) fn under(
     n: usize,
     left: u32,
 ) -> Within
-    requires { ⌜ Edition l × Good (l .least) (now s) × IsPage (l .least) (now s) n × (levelAt (l .least) (now s) n ≡ up + 1) ⌝ }
+    requires { ⌜ Edition l × Good (l .least) (now s) × Asks (l .least) (now s) a b up n ⌝ }
     ensures { λ r. ⌜ Answers (left - pick (ltb a b) 1 0) (under up (decode (l .least) (now (s .entry)) .pages) h a b n) r ⌝ }
 {
     if b <= a {

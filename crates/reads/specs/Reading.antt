@@ -1,29 +1,30 @@
 -- Visits and difference by their guard: 5, then 6.
 -- Assumes nothing.
-use Prim.Native.Nat.{ℕ, _≤_, _<_}
+use Prim.Native.Nat.{ℕ}
 use native.Mathlib.Omega.{arith}
 use mathlib.Core.Bool.{Bool, true, false}
 use mathlib.Core.Path.{_≡_, refl, ap, ap₂, sym, _∙_}
 use mathlib.Core.List.{List, [], _∷_}
-use lib.Dec.{leb, ltb}
+use lib.Dec.{leb}
 use lib.ListN.{length}
-use borrow.Author.Tests.{ltb-false, lt-ltb, le-ltb}
-use Rattle.model.specs.Store.{Store, last, lastOf}
+use Rattle.model.specs.Store.{Store, lastOf}
 use Rattle.model.specs.Walk.{keyLimit, lookupVisits}
 use Rattle.model.specs.Layout.{readHeader, decode}
 use Rattle.model.specs.Judged.{judged}
 use Rattle.model.specs.declared.Limits.{Limits}
+use Rattle.model.specs.declared.Header.{Header}
 use Rattle.model.specs.Limits.{Edition}
-use Rattle.model.specs.Calls.{Rule, rule, firstOf}
+use Rattle.model.specs.Calls.{Rule, rule, firstOf, beyond, unreadable}
 use Rattle.model.specs.Told.{toldBy}
 use Rattle.model.specs.Visited.{pageNumber, visits}
 use Rattle.model.specs.Lent.{judgedFirst, Listed, listed, visitsLent}
+use Rattle.model.proofs.Given.{readable-of}
 use Rattle.walk.specs.Sure.{Readable}
 use Rattle.reads.specs.Guard.{guarded, refused-by, goes-by, chain-number, by-guard, guard-sound, guard-chain}
 
 -- are the keys wrong? then the version
 abbrev pub reading : Bool → ℕ → Store → List Rule
-reading bad v s = rule 5 bad ∷ rule 6 (ltb (last s) v) ∷ []
+reading bad v s = rule 5 bad ∷ rule 6 (unreadable s v) ∷ []
 
 module _ (least : ℕ) (b : List ℕ) where
   pub visits-guard : (k v : ℕ) (ns : List ℕ) → visitsLent least b k v ns
@@ -51,26 +52,27 @@ module _ (least : ℕ) (b : List ℕ) where
 
   -- ---- what the guard gives
 
-  pub last-of : last (decode least b) ≡ lastOf (readHeader least b .opened) (readHeader least b .current)
+  -- a version that cannot be read, by the header
+  pub unread-of : (h : Header) → h ≡ readHeader least b → (v : ℕ) (y : Bool) → y ≡ beyond (lastOf (h .opened) (h .current)) (h .oldest) v → unreadable (decode least b) v ≡ y
   unfolding decode
-  last-of = refl
+  unread-of h e v y f = sym (ap (λ (x : Header). beyond (lastOf (x .opened) (x .current)) (x .oldest) v) e) ∙ sym f
 
   module _ (v : ℕ) (j : judged least b .number ≡ 0) where
     pub gives-five : (bad : Bool) → bad ≡ true → 5 ≡ guarded least b (reading bad v)
     gives-five bad e = sym (ap (λ (x : Bool). firstOf (reading x v (decode least b))) e) ∙ chain-number least b (reading bad v) j
 
-    module _ (bad : Bool) (e : bad ≡ false) (last : ℕ) (f : last ≡ lastOf (readHeader least b .opened) (readHeader least b .current)) where
+    module _ (bad : Bool) (e : bad ≡ false) where
       abbrev both : Bool → Bool → ℕ
       both x y = firstOf (rule 5 x ∷ rule 6 y ∷ [])
 
-      late : (y : Bool) → ltb last v ≡ y → both false y ≡ guarded least b (reading bad v)
-      late y g = sym (ap₂ both e (ap (λ (n : ℕ). ltb n v) (last-of ∙ sym f) ∙ g)) ∙ chain-number least b (reading bad v) j
+      late : (y : Bool) → unreadable (decode least b) v ≡ y → both false y ≡ guarded least b (reading bad v)
+      late y g = sym (ap₂ both e g) ∙ chain-number least b (reading bad v) j
 
-      pub gives-six : last < v → 6 ≡ guarded least b (reading bad v)
-      gives-six h = late true (lt-ltb last v h)
+      pub gives-six : unreadable (decode least b) v ≡ true → 6 ≡ guarded least b (reading bad v)
+      gives-six g = late true g
 
-      pub gives-none : v ≤ last → 0 ≡ guarded least b (reading bad v)
-      gives-none h = late false (le-ltb last v h)
+      pub gives-none : unreadable (decode least b) v ≡ false → 0 ≡ guarded least b (reading bad v)
+      gives-none g = late false g
 
 -- ---- what the guard's 0 says
 
@@ -84,8 +86,8 @@ module _ {l : Limits} (d : Edition l) (b : List ℕ) (bad : Bool) (v : ℕ) (z :
   reads = record {
     edition = d;
     sound = guard-sound (l .least) b (reading bad v) z;
-    version = ltb-false (last (decode (l .least) b)) v (none-holds bad (ltb (last (decode (l .least) b)) v) (guard-chain (l .least) b (reading bad v) z) .1);
+    version = readable-of (decode (l .least) b) v (none-holds bad (unreadable (decode (l .least) b) v) (guard-chain (l .least) b (reading bad v) z) .1);
   }
 
   pub keys-right : bad ≡ false
-  keys-right = none-holds bad (ltb (last (decode (l .least) b)) v) (guard-chain (l .least) b (reading bad v) z) .0
+  keys-right = none-holds bad (unreadable (decode (l .least) b) v) (guard-chain (l .least) b (reading bad v) z) .0

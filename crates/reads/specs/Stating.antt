@@ -35,9 +35,9 @@ module _ {l : Limits} {b : List ℕ} (k : Kept l b) where
   pub free-fits : length (freeOnes (pagesOf l b)) < 2 ^ 32
   free-fits = omega (arith, free-few (pagesOf l b), k .most)
 
-  -- the header has the number of pages and of roots
+  -- the header has the number of pages, that of roots and the oldest version
   abbrev by-header : Header → ℕ → ℕ → State
-  by-header h edition free = record { number = 0; pages = h .pages; current = h .current; opened = h .opened; roots = h .roots; edition = edition; free = free }
+  by-header h edition free = record { number = 0; pages = h .pages; current = h .current; opened = h .opened; roots = h .roots; edition = edition; free = free; oldest = h .oldest }
 
   pub told : (h : Header) → h ≡ readHeader (l .least) b → (edition : ℕ) → edition ≡ editionOf (l .least) → (free : ℕ) → free ≡ length (freeOnes (pagesOf l b))
       → by-header h edition free ≡ stateOf (l .least) (decode (l .least) b)

@@ -5,16 +5,26 @@ ghost use mathlib.Core.Path.{_≡_};
 ghost use Rattle.model.specs.Limits.{Edition};
 ghost use Rattle.model.specs.Lent.{differenceLent};
 ghost use Rattle.walk.specs.Counted.{withList};
-ghost use Rattle.reads.specs.Differing.{later};
+ghost use Rattle.reads.specs.Guard.{guarded};
+ghost use Rattle.reads.specs.Differing.{differing};
 
-// The later of two versions: both can be read exactly when this one can.
-fn later(old: u32, new: u32) -> u32
-    ensures { λ r. ⌜ r ≡ later old new ⌝ }
+// The guard of a difference: judging, then 6 where either version is above last or below the oldest.
+fn guard_differing(s: &[u8], l: Limits, old: u32, new: u32) -> u32
+    requires { ⌜ Edition l ⌝ }
+    ensures { λ r. ⌜ r ≡ guarded (l .least) (now (s .entry)) (differing old new) ⌝ }
 {
-    if old < new {
-        return new;
+    let n = quick::number(s, l);
+    if n != 0 {
+        return n;
     }
-    old
+    let h = store::header(s, l);
+    if near::guard::unreadable(h, old) {
+        return 6;
+    }
+    if near::guard::unreadable(h, new) {
+        return 6;
+    }
+    0
 }
 
 // What differs from the old version to the new, in key order: how many differences there are, and key, kind (0 added, 1 removed, 2
@@ -23,7 +33,7 @@ pub fn difference_in(s: &[u8], l: Limits, old: u32, new: u32, list: &mut [u32]) 
     requires { ⌜ Edition l ⌝ }
     ensures { λ r. ⌜ withList r (now (list .exit)) ≡ differenceLent (l .least) (now (s .entry)) old new (now (list .entry)) ⌝ }
 {
-    let n = crate::guard_reading(s, l, false, later(old, new));
+    let n = guard_differing(s, l, old, new);
     if n != 0 {
         return Counted {
             number: n,

@@ -19,7 +19,7 @@ ghost use Rattle.model.specs.Limits.{Edition};
 ghost use Rattle.reads.specs.Guard.{guarded};
 ghost use Rattle.reads.specs.Reading.{reading};
 
-// The guard of visits and difference: judging, then 5 where the key is wrong, then 6. Offered to callers that read many
+// The guard of visits: judging, then 5 where the key is wrong, then 6. Offered to callers that read many
 // times from a store that nobody writes in between.
 pub fn guard_reading(s: &[u8], l: Limits, bad: bool, v: u32) -> u32
     requires { ⌜ Edition l ⌝ }
@@ -33,7 +33,7 @@ pub fn guard_reading(s: &[u8], l: Limits, bad: bool, v: u32) -> u32
         return 5;
     }
     let h = store::header(s, l);
-    if h.last() < v {
+    if near::guard::unreadable(h, v) {
         return 6;
     }
     0

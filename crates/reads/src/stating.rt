@@ -22,6 +22,7 @@ pub fn untold(n: u32) -> State
         roots: 0,
         edition: 0,
         free: 0,
+        oldest: 0,
     }
 }
 
@@ -49,10 +50,11 @@ fn told(s: &[u8], l: Limits) -> State
         roots: h.roots,
         edition: model::edition_of(l),
         free: free,
+        oldest: h.oldest,
     }
 }
 
-// Page count, current version, whether an update is open, roots used, edition and free pages.
+// Page count, current version, whether an update is open, roots used, edition, free pages and oldest version.
 pub fn state_in(s: &[u8], l: Limits) -> State
     requires { ⌜ Edition l ⌝ }
     ensures { λ r. ⌜ r ≡ stateLent (l .least) (now (s .entry)) ⌝ }

@@ -23,7 +23,7 @@ pub fn lookup(s: &[u8], l: Limits, key: u32, v: u32, sure: bool) -> Looked
         return Looked::Refused(5);
     }
     let h = store::header(s, l);
-    if h.last() < v {
+    if near::guard::unreadable(h, v) {
         return Looked::Refused(6);
     }
     walk::lookup(s, l, key, v)
@@ -42,7 +42,7 @@ pub fn range(s: &[u8], l: Limits, low: u32, high: u32, v: u32, list: &mut [u32])
         };
     }
     let h = store::header(s, l);
-    if h.last() < v {
+    if near::guard::unreadable(h, v) {
         return Counted {
             number: 6,
             count: 0,

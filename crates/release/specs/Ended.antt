@@ -1,8 +1,9 @@
 -- A leaf that ended by the current version has nothing of the open one: "An entry's span lies in its page's span". Assumes nothing.
 use Prim.Native.Nat.{ℕ, suc, _≤_, _<_}
 use native.Mathlib.Omega.{arith}
-use mathlib.Core.Bool.{Bool, true, false, _&&_}
+use mathlib.Core.Bool.{Bool, true, false}
 use mathlib.Core.Path.{_≡_, refl, ap, sym, _∙_}
+use mathlib.Core.Logic.{inl}
 use mathlib.Core.List.{List, [], _∷_}
 use lib.ListN.{length}
 use borrow.Author.Tests.{ne-eqb}
@@ -11,7 +12,7 @@ use Rattle.model.specs.declared.Entry.{Entry}
 use Rattle.model.specs.declared.Limits.{Limits}
 use Rattle.model.specs.Page.{Page, isFree}
 use Rattle.model.specs.Store.{Store, page, next, last}
-use Rattle.model.specs.Sound.{entryOk, inside, leadsWell}
+use Rattle.model.specs.Sound.{entryOk, liesWell}
 use Rattle.model.specs.Layout.{pageOf, decodePage, decode}
 use Rattle.model.proofs.Lists.{both-true, both-intro}
 use Rattle.model.proofs.Given.{Sound, entry-ok}
@@ -23,17 +24,17 @@ use Rattle.walk.specs.Sure.{five, size}
 use Rattle.release.specs.Settled.{settled}
 use Rattle.release.specs.Opened.{Opened}
 
-module _ (s : Store) (p : Page) (h : p .end < next s) where
+module _ (s : Store) (p : Page) (leaf : p .level ≡ 1) (h : p .end < next s) where
   quiet : (e : Entry) → e .end ≤ p .end → e .start < e .end → settled s e ≡ true
   quiet e a b = rw (ne-eqb (e .start) (next s) (λ (z : e .start ≡ next s). omega (arith, z, h, a, b)), ne-eqb (e .end) (next s) (λ (z : e .end ≡ next s). omega (arith, z, h, a)))
 
-  all-quiet : (es : List Entry) → all (entryOk (last s) (length (s .pages)) (p .level)) es ≡ true → all (λ (e : Entry). inside e p && leadsWell s p e) es ≡ true → all (settled s) es ≡ true
+  all-quiet : (es : List Entry) → all (entryOk (last s) (length (s .pages)) (p .level)) es ≡ true → all (liesWell s p) es ≡ true → all (settled s) es ≡ true
   all-quiet [] a b = refl
   all-quiet (e ∷ es) a b =
       let (x, xs) = both-true (entryOk (last s) (length (s .pages)) (p .level) e) (all (entryOk (last s) (length (s .pages)) (p .level)) es) a in
-      let (y, ys) = both-true (inside e p && leadsWell s p e) (all (λ (e : Entry). inside e p && leadsWell s p e) es) b in
+      let (y, ys) = both-true (liesWell s p e) (all (liesWell s p) es) b in
       let g = entry-ok s p e x y in
-      both-intro (settled s e) (all (settled s) es) (quiet e (g .sooner) (g .span .some)) (all-quiet es xs ys)
+      both-intro (settled s e) (all (settled s) es) (quiet e (g .sooner (inl leaf)) (g .span .some)) (all-quiet es xs ys)
 
 end-read : (least : ℕ) (p : List ℕ) → decodePage least p .end ≡ readHead least p .end
 unfolding decodePage readHead
@@ -48,4 +49,4 @@ module _ {l : Limits} {b : List ℕ} {c : ℕ} (o : Opened l b c) (n : ℕ) (e :
       let s : Store = decode (l .least) b in
       let d = sure (o .edition) b (o .sound) in
       let u : isFree (page (s .pages) n) ≡ false = level-used (page (s .pages) n) 0 e in
-      sym (all-quiet s (page (s .pages) n) (omega (arith, h, end-is, o .current)) (page (s .pages) n .entries) (d .pages n u .entries) (d .spans n u))
+      sym (all-quiet s (page (s .pages) n) e (omega (arith, h, end-is, o .current)) (page (s .pages) n .entries) (d .pages n u .entries) (d .spans n u))

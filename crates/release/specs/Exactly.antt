@@ -20,7 +20,7 @@ use Rattle.model.specs.Walk.{keyLimit, find, settings}
 use Rattle.model.specs.Same.{samePairs}
 use Rattle.model.specs.Calls.{unchanged}
 use Rattle.model.proofs.Members.{In, all-in, all-by, in-count, bool-cases, not-both}
-use Rattle.model.proofs.Given.{Sound, GoodEntry, entry-of, used-in, high-used}
+use Rattle.model.proofs.Given.{Readable, old-current, Sound, GoodEntry, entry-of, used-in, high-used}
 use Rattle.model.proofs.Fits.{level-used, within-of, of-within}
 use Rattle.model.proofs.Lookups.{lookup-is, settings-rise, settings-low}
 use Rattle.model.proofs.Same.{same-equal, equal-same, finds-equal}
@@ -37,8 +37,12 @@ module _ (least : ℕ) (two : 2 ≤ least) (s : Store) (d : Sound least s) (o : 
   last-is : last s ≡ next s
   last-is = ap (λ (q : Bool). lastOf q (s .current)) o
 
-  has-is : (v : ℕ) → v ≤ next s → (e : Entry) → e .key < keyLimit → has s v e ≡ isValue (find (e .key) (settings s v)) (e .value)
-  has-is v h e low = ap (λ (x : Option ℕ). isValue x (e .value)) (lookup-is least two s d (e .key) v low (omega (arith, last-is)))
+  -- both versions can be read
+  reads : (v : ℕ) → s .current ≤ v → v ≤ next s → Readable s v
+  reads v g h = omega (arith, last-is, old-current least s (d .old-low))
+
+  has-is : (v : ℕ) → s .current ≤ v → v ≤ next s → (e : Entry) → e .key < keyLimit → has s v e ≡ isValue (find (e .key) (settings s v)) (e .value)
+  has-is v g h e low = ap (λ (x : Option ℕ). isValue x (e .value)) (lookup-is least two s d (e .key) v low (reads v g h))
 
   value-of : (x : Option ℕ) (z : ℕ) → isValue x z ≡ true → x ≡ some z
   value-of none z h = absurd (not-both false h refl)
@@ -53,10 +57,10 @@ module _ (least : ℕ) (two : 2 ≤ least) (s : Store) (d : Sound least s) (o : 
         g : GoodEntry s (page (s .pages) n) e
         g = entry-of least s d n (level-used (page (s .pages) n) 0 l) e i
 
-        shown : (v u : ℕ) → v ≤ next s → u ≤ next s → settings s v ≡ settings s u → liveAt u e ≡ true → has s v e ≡ true
-        shown v u h k f a =
-            has-is v h e (g .key) ∙ ap (λ (us : List Pair). isValue (find (e .key) us) (e .value)) f
-            ∙ ap (λ (x : Option ℕ). isValue x (e .value)) (alive-found least two s d u (omega (arith, last-is)) n l e i a) ∙ eq-eqb (e .value) (e .value) refl
+        shown : (v u : ℕ) → s .current ≤ v → v ≤ next s → s .current ≤ u → u ≤ next s → settings s v ≡ settings s u → liveAt u e ≡ true → has s v e ≡ true
+        shown v u p h r k f a =
+            has-is v p h e (g .key) ∙ ap (λ (us : List Pair). isValue (find (e .key) us) (e .value)) f
+            ∙ ap (λ (x : Option ℕ). isValue x (e .value)) (alive-found least two s d u (reads u r k) n l e i a) ∙ eq-eqb (e .value) (e .value) refl
 
         ends : (e .end ≤ last s) ⊎ (e .end ≡ alive) → e .start ≡ next s → next s < e .end
         ends (inl x) y = absurd (omega (arith, g .span .some, last-is))
@@ -65,10 +69,10 @@ module _ (least : ℕ) (two : 2 ≤ least) (s : Store) (d : Sound least s) (o : 
         at : (x : Bool) → eqb (e .start) (next s) ≡ x → (y : Bool) → eqb (e .end) (next s) ≡ y → pick x (has s (s .current) e) (pick y (has s (next s) e) true) ≡ true
         at true x y z =
             let a = eqb-true (e .start) (next s) x in
-            shown (s .current) (next s) (omega arith) (omega arith) q (of-within (e .start) (e .end) (next s) (omega arith) (ends (g .span .ends) a))
+            shown (s .current) (next s) (omega arith) (omega arith) (omega arith) (omega arith) q (of-within (e .start) (e .end) (next s) (omega arith) (ends (g .span .ends) a))
         at false x true z =
             let b = eqb-true (e .end) (next s) z in
-            shown (next s) (s .current) (omega arith) (omega arith) (sym q) (of-within (e .start) (e .end) (s .current) (omega (arith, g .span .some)) (omega arith))
+            shown (next s) (s .current) (omega arith) (omega arith) (omega arith) (omega arith) (sym q) (of-within (e .start) (e .end) (s .current) (omega (arith, g .span .some)) (omega arith))
         at false x false z = refl
 
   equal-settled : settings s (s .current) ≡ settings s (next s) → settledFrom s 5 ≡ true
@@ -91,7 +95,7 @@ module _ (least : ℕ) (two : 2 ≤ least) (s : Store) (d : Sound least s) (o : 
 
     -- what the open version has, the current one has
     back : (k z : ℕ) → find k (settings s (next s)) ≡ some z → find k (settings s (s .current)) ≡ some z
-    back k z f = by (found-alive least two s d (next s) k z f)
+    back k z f = by (found-alive least two s d (next s) (reads (next s) (omega arith) (omega arith) .from) k z f)
       where
         by : Alive s (next s) k z → find k (settings s (s .current)) ≡ some z
         by a = subst (λ (y : ℕ). find k (settings s (s .current)) ≡ some y) (a .value) (subst (λ (y : ℕ). find y (settings s (s .current)) ≡ some (a .entry .value)) (a .key) (at (eqb (a .entry .start) (next s)) refl))
@@ -102,16 +106,16 @@ module _ (least : ℕ) (two : 2 ≤ least) (s : Store) (d : Sound least s) (o : 
             at : (b : Bool) → eqb (a .entry .start) (next s) ≡ b → find (a .entry .key) (settings s (s .current)) ≡ some (a .entry .value)
             at true x =
                 value-of (find (a .entry .key) (settings s (s .current))) (a .entry .value)
-                (sym (has-is (s .current) (omega arith) (a .entry) (g .key))
+                (sym (has-is (s .current) (omega arith) (omega arith) (a .entry) (g .key))
                 ∙ ap (λ (b : Bool). pick b (has s (s .current) (a .entry)) (pick (eqb (a .entry .end) (next s)) (has s (next s) (a .entry)) true)) (sym x) ∙ entry-settled (a .number) (a .leaf) (a .entry) (a .is-in))
             at false x =
                 let (p, r) = within-of (a .entry .start) (a .entry .end) (next s) (a .live) in
                 let n : a .entry .start ≡ next s → ⊥ = eqb-false (a .entry .start) (next s) x in
-                alive-found least two s d (s .current) (omega (arith, last-is)) (a .number) (a .leaf) (a .entry) (a .is-in) (of-within (a .entry .start) (a .entry .end) (s .current) (less (a .entry .start) (s .current) p n) (omega arith))
+                alive-found least two s d (s .current) (reads (s .current) (omega arith) (omega arith)) (a .number) (a .leaf) (a .entry) (a .is-in) (of-within (a .entry .start) (a .entry .end) (s .current) (less (a .entry .start) (s .current) p n) (omega arith))
 
     -- and the other way round
     on : (k z : ℕ) → find k (settings s (s .current)) ≡ some z → find k (settings s (next s)) ≡ some z
-    on k z f = by (found-alive least two s d (s .current) k z f)
+    on k z f = by (found-alive least two s d (s .current) (reads (s .current) (omega arith) (omega arith) .from) k z f)
       where
         by : Alive s (s .current) k z → find k (settings s (next s)) ≡ some z
         by a = subst (λ (y : ℕ). find k (settings s (next s)) ≡ some y) (a .value) (subst (λ (y : ℕ). find y (settings s (next s)) ≡ some (a .entry .value)) (a .key) (at (eqb (a .entry .end) (next s)) refl))
@@ -126,12 +130,12 @@ module _ (least : ℕ) (two : 2 ≤ least) (s : Store) (d : Sound least s) (o : 
             at true x =
                 let n : eqb (a .entry .start) (next s) ≡ false = ne-eqb (a .entry .start) (next s) (λ (e : a .entry .start ≡ next s). omega (arith, span .0)) in
                 value-of (find (a .entry .key) (settings s (next s))) (a .entry .value)
-                (sym (has-is (next s) (omega arith) (a .entry) (g .key))
+                (sym (has-is (next s) (omega arith) (omega arith) (a .entry) (g .key))
                 ∙ ap (λ (b : Bool). pick b (has s (next s) (a .entry)) true) (sym x)
                 ∙ ap (λ (b : Bool). pick b (has s (s .current) (a .entry)) (pick (eqb (a .entry .end) (next s)) (has s (next s) (a .entry)) true)) (sym n)
                 ∙ entry-settled (a .number) (a .leaf) (a .entry) (a .is-in))
             at false x =
-                alive-found least two s d (next s) (omega (arith, last-is)) (a .number) (a .leaf) (a .entry) (a .is-in)
+                alive-found least two s d (next s) (reads (next s) (omega arith) (omega arith)) (a .number) (a .leaf) (a .entry) (a .is-in)
                 (of-within (a .entry .start) (a .entry .end) (next s) (omega (arith, span .0)) (more (a .entry .end) (s .current) (span .1) (eqb-false (a .entry .end) (next s) x)))
 
     options : (a b : Option ℕ) → ((z : ℕ) → a ≡ some z → b ≡ some z) → ((z : ℕ) → b ≡ some z → a ≡ some z) → a ≡ b
@@ -141,8 +145,8 @@ module _ (least : ℕ) (two : 2 ≤ least) (s : Store) (d : Sound least s) (o : 
 
     settled-equal : settings s (s .current) ≡ settings s (next s)
     settled-equal =
-        finds-equal (λ (k : ℕ). within 0 keyLimit k) (settings s (s .current)) (settings s (next s)) (settings-rise least two s d (s .current) (omega (arith, last-is))) (settings-rise least two s d (next s) (omega (arith, last-is)))
-        (settings-low least two s d (s .current) (omega (arith, last-is))) (settings-low least two s d (next s) (omega (arith, last-is)))
+        finds-equal (λ (k : ℕ). within 0 keyLimit k) (settings s (s .current)) (settings s (next s)) (settings-rise least two s d (s .current) (reads (s .current) (omega arith) (omega arith))) (settings-rise least two s d (next s) (reads (next s) (omega arith) (omega arith)))
+        (settings-low least two s d (s .current) (reads (s .current) (omega arith) (omega arith))) (settings-low least two s d (next s) (reads (next s) (omega arith) (omega arith)))
         (λ k i. options (find k (settings s (s .current))) (find k (settings s (next s))) (on k) (back k))
 
   -- Nothing is told by the walks that the leaves do not tell.

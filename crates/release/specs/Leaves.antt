@@ -21,7 +21,7 @@ use Rattle.model.proofs.Lists.{both-true}
 use Rattle.model.proofs.Members.{In, in-left, in-right, those-in, map-in, all-in}
 use Rattle.model.proofs.Once.{in-flat}
 use Rattle.model.proofs.Walks.{Reach}
-use Rattle.model.proofs.Given.{Sound}
+use Rattle.model.proofs.Given.{Readable, Sound}
 use Rattle.model.proofs.Fits.{level-used, shown-by, root-level, lives-by, reached-of, reach-level}
 use Rattle.model.proofs.Lookups.{settings-rise}
 
@@ -76,13 +76,13 @@ module _ (least : ℕ) (two : 2 ≤ least) (s : Store) (d : Sound least s) where
   abbrev height : ℕ → ℕ
   height v = heightOf (s .pages) (rootAt (s .slots) v)
 
-  pub found-alive : (v k z : ℕ) → find k (settings s v) ≡ some z → Alive s v k z
-  found-alive v k z h =
+  pub found-alive : (v : ℕ) → s .oldest ≤ v → (k z : ℕ) → find k (settings s v) ≡ some z → Alive s v k z
+  found-alive v from k z h =
       let (m, r, i) = shown-leaf (s .pages) v (height v) (rootAt (s .slots) v) (pair k z) (find-in k z (settings s v) h) in
       let g = shown-by v (page (s .pages) m) (pair k z) i in
       record {
         number = m;
-        leaf = reach-level least two s d v (height v) (rootAt (s .slots) v) 0 m (root-level least two s d v) r;
+        leaf = reach-level least two s d v from (height v) (rootAt (s .slots) v) 0 m (root-level least two s d v from) r;
         entry = g .entry;
         is-in = g .is-in;
         live = g .live;
@@ -90,9 +90,9 @@ module _ (least : ℕ) (two : 2 ≤ least) (s : Store) (d : Sound least s) where
         value = sym (ap (λ (x : Pair). x .value) (g .is));
       }
 
-  pub alive-found : (v : ℕ) → v ≤ last s → (n : ℕ) → page (s .pages) n .level ≡ 1 → (e : Entry) → In e (page (s .pages) n .entries) → liveAt v e ≡ true → find (e .key) (settings s v) ≡ some (e .value)
+  pub alive-found : (v : ℕ) → Readable s v → (n : ℕ) → page (s .pages) n .level ≡ 1 → (e : Entry) → In e (page (s .pages) n .entries) → liveAt v e ≡ true → find (e .key) (settings s v) ≡ some (e .value)
   alive-found v h n l e i a =
-      let (j, r) = reached-of least two s d v h n (lives-by least two s d v n e (level-used (page (s .pages) n) 0 l) i a) in
-      let z : j ≡ 0 = omega (arith, reach-level least two s d v (height v) (rootAt (s .slots) v) j n (root-level least two s d v) r) in
+      let (j, r) = reached-of least two s d v h n (lives-by least two s d v (h .from) n e (level-used (page (s .pages) n) 0 l) i a) in
+      let z : j ≡ 0 = omega (arith, reach-level least two s d v (h .from) (height v) (rootAt (s .slots) v) j n (root-level least two s d v (h .from)) r) in
       in-find (pairOf e) (settings s v) (settings-rise least two s d v h)
       (leaf-shown (s .pages) v (height v) (rootAt (s .slots) v) n (pairOf e) (subst (λ (k : ℕ). Reach (s .pages) v (height v) (rootAt (s .slots) v) k n) z r) (map-in pairOf e (those (liveAt v) (page (s .pages) n .entries)) (those-in (liveAt v) e (page (s .pages) n .entries) a i)))

@@ -20,6 +20,7 @@ use Rattle.model.specs.Judged.{isSound}
 use Rattle.model.specs.Calls.{unchanged}
 use Rattle.store.specs.Read.{count-pages}
 use Rattle.store.specs.Exactly.{header-of}
+use Rattle.model.proofs.Given.{old-current}
 use Rattle.store.specs.Sure.{sure, whole, exact}
 use Rattle.walk.specs.Sure.{Readable}
 use Rattle.walk.specs.Scan.{entry}
@@ -40,8 +41,8 @@ module _ {l : Limits} {b : List ℕ} {c : ℕ} (o : Opened l b c) where
   last-is = ap (λ (q : Bool). lastOf q (decode (l .least) b .current)) (o .opened) ∙ ap suc (o .current)
 
   -- both versions can be read
-  pub reads-upto : (v : ℕ) → v ≤ c + 1 → Readable l b v
-  reads-upto v h = record { edition = o .edition; sound = o .sound; version = omega (arith, last-is) }
+  pub reads-upto : (v : ℕ) → c ≤ v → v ≤ c + 1 → Readable l b v
+  reads-upto v g h = record { edition = o .edition; sound = o .sound; version = omega (arith, last-is, o .current, old-current (l .least) (decode (l .least) b) (sure (o .edition) b (o .sound) .old-low)) }
 
   next-is : next (decode (l .least) b) ≡ c + 1
   next-is = omega (arith, o .current)

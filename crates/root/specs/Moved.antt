@@ -22,7 +22,7 @@ use Rattle.parts.specs.Kept.{Inside, pagesOf}
 module _ (l : Limits) (b : List ℕ) (s : Store) (n : ℕ) where
   -- the store that is left
   abbrev after : Store
-  after = record { current = s .current; opened = s .opened; slots = climb.putSlot (next s) n (s .slots); pages = pagesOf l b }
+  after = record { current = s .current; opened = s .opened; oldest = s .oldest; slots = climb.putSlot (next s) n (s .slots); pages = pagesOf l b }
 
   roots-in : Sound (l .least) after → Inside l b n
   unfolding climb.putSlot

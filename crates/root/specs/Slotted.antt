@@ -1,5 +1,5 @@
 -- The slots of a store whose update is open, and what a new root makes of them in the bytes. Assumes nothing.
-use Prim.Native.Nat.{ℕ, suc, _+_, _*_, _-_, _^_, _<_}
+use Prim.Native.Nat.{ℕ, suc, _+_, _*_, _-_, _^_, _≤_, _<_}
 use mathlib.Core.Path.{_≡_, ap, sym, _∙_, subst}
 use mathlib.Core.Bool.{true, false}
 use mathlib.Core.List.{List, [], _∷_, _++_}
@@ -40,16 +40,16 @@ pub record Slotted (l : Limits) (b : List ℕ) : Type 0 where
   pub upto : all (λ (x : Slot). leb (x .version) (next (decode (l .least) b))) (slotsOf l b) ≡ true
   pub low : next (decode (l .least) b) < 2 ^ 20
 
-some-slot : (xs : List Slot) → firstVersion xs ≡ 0 → 0 < length xs
-some-slot [] e = absurd (omega arith)
-some-slot (x ∷ xs) e = omega arith
+some-slot : (old : ℕ) (xs : List Slot) → firstVersion old xs ≤ old → 0 < length xs
+some-slot old [] e = absurd (omega arith)
+some-slot old (x ∷ xs) e = omega arith
 
 -- a sound store whose update is open
 pub slotted-sound : {l : Limits} → Edition l → (b : List ℕ) → isSound (l .least) b ≡ true → decode (l .least) b .opened ≡ true → Slotted l b
 slotted-sound {l} d b h o =
     let e : lastOf (decode (l .least) b .opened) (decode (l .least) b .current) ≡ next (decode (l .least) b) = rw o in
     let z = sure d b h in
-    record { some = some-slot (slotsOf l b) (z .begins); rises = z .rises; upto = rw e at (z .upto); low = omega (arith, z .last-low) }
+    record { some = some-slot (decode (l .least) b .oldest) (slotsOf l b) (z .begins); rises = z .rises; upto = rw e at (z .upto); low = omega (arith, z .last-low) }
 
 -- pages that change leave the slots as they are
 pub slotted-after : {l : Limits} {b b′ : List ℕ} {ps : List Page} → Kept l b → Becomes l b b′ ps → Slotted l b → Slotted l b′

@@ -10,12 +10,12 @@ use lib.Seq.{take-all}
 use Rattle.bits.specs.Lay.{Shows, two-parts}
 use Rattle.bits.specs.Over.{zero-part}
 use Rattle.model.specs.declared.Slot.{Slot}
-use Rattle.model.specs.Limits.{rootBits}
+use Rattle.model.specs.Limits.{rootBits, oldestBits}
 use Rattle.model.specs.Field.{field, Bytes}
 use Rattle.model.specs.Store.{Store}
 use Rattle.model.specs.Layout.{pageOf, readHeader, readSlots, readPages, slotsBytes, pagesBytes, headerBytes, headerOf, encode, decode, sizeOf}
 use Rattle.page.specs.Clean.{Clean, exact}
-use Rattle.store.specs.Read.{size-is, length-slots, count-pages, behind, current-of, opened-of, slots-of}
+use Rattle.store.specs.Read.{size-is, length-slots, count-pages, behind, current-of, opened-of, oldest-of, slots-of}
 use Rattle.store.specs.Parts.{page-take}
 use Rattle.store.specs.Slots.{directory, directory-bytes, slots-part}
 use Rattle.store.specs.Header.{nameParts, header-part}
@@ -27,7 +27,7 @@ pub record Exactly (least : ℕ) (s : List ℕ) (size : ℕ) : Type 0 where
   -- the four bytes and the edition
   pub name : Shows s 0 (nameParts least)
   pub counted : readHeader least s .pages ≡ size
-  pub spare : field s (74 + rootBits least) (512 * least - (74 + rootBits least)) ≡ 0
+  pub spare : field s (74 + rootBits least + oldestBits least) (512 * least - (74 + rootBits least + oldestBits least)) ≡ 0
   pub roots : readHeader least s .roots ≤ 64 * least
   pub rest : field s (512 * least + 32 * readHeader least s .roots) (2560 * least - (512 * least + 32 * readHeader least s .roots)) ≡ 0
   pub clean : (n : ℕ) → 5 ≤ n → n < size → Clean least (pageOf least s n)
@@ -65,7 +65,7 @@ module _ (least : ℕ) (four : 4 ≤ least) (eight : least ≤ 8) (s : List ℕ)
     header-of =
         let p : length (decode least s .pages) ≡ readHeader least s .pages = count-pages least s (omega (arith, size-of, x .six)) ∙ size-of ∙ sym (x .counted) in
         let n : length (decode least s .slots) ≡ r = ap length (slots-of least s) ∙ length-slots s (512 * least) r in
-        λ i. record { pages = p i; current = current-of least s i; opened = opened-of least s i; roots = n i }
+        λ i. record { pages = p i; current = current-of least s i; opened = opened-of least s i; roots = n i; oldest = oldest-of least s i }
 
     front-is : headerBytes least (headerOf (decode least s)) ≡ take (64 * least) (drop 0 s)
     front-is = ap (headerBytes least) header-of ∙ header-part least four eight s (x .bytes) (omega (arith, long)) (x .name) (x .spare)

@@ -18,7 +18,7 @@ use Rattle.model.specs.Store.{fresh}
 use Rattle.model.specs.Layout.{pageOf, withPage, encodePage, slotsBytes, pagesBytes, headerOf, padded, encode, liveIn}
 use Rattle.page.specs.declared.Head.{Head}
 use Rattle.page.specs.Head.{headOf, putHead}
-use Rattle.page.specs.Editions.{count-bits, root-bits}
+use Rattle.page.specs.Editions.{count-bits, root-bits, oldest-bits}
 use Rattle.page.specs.Front.{head-put}
 use Rattle.page.specs.Exact.{valid-free, free-zeros, bodyBytes, head-valid, live-fits}
 use Rattle.page.specs.Exact as page
@@ -37,7 +37,7 @@ abbrev pub rootSlot : Slot
 rootSlot = record { version = 0; root = 5 }
 
 abbrev pub freshHeader : ℕ → Header
-freshHeader n = record { pages = n; current = 0; opened = false; roots = 1 }
+freshHeader n = record { pages = n; current = 0; opened = false; roots = 1; oldest = 0 }
 
 -- ---- the name, byte by byte
 
@@ -127,7 +127,7 @@ module _ (least : ℕ) (four : 4 ≤ least) (eight : least ≤ 8) where
     unfolding putHeader named
     header-laid =
         rw (name-is, header-is least four eight (freshHeader size))
-        (lay-left named rest 40 (valueParts least (freshHeader size)) (omega (arith, named-length, root-bits least eight)))
+        (lay-left named rest 40 (valueParts least (freshHeader size)) (omega (arith, named-length, root-bits least eight, oldest-bits least)))
 
     abbrev dir : List Slot
     dir = directory least (rootSlot ∷ [])
@@ -153,7 +153,7 @@ module _ (least : ℕ) (four : 4 ≤ least) (eight : least ≤ 8) where
         let p : pageOf least (bytesOf least h dir ps) 5 ≡ encodePage least free
         = page-out least four eight h dir ps full (all-free (size - 5)) 5 (omega arith) (omega arith) ∙ ap (encodePage least) (get-free (size - 5) 0) in
         let e : headerOf (fresh size) ≡ h
-        = λ i. record { pages = (length-set (replicate size free) 5 q ∙ length-replicate size free) i; current = 0; opened = false; roots = 1 } in
+        = λ i. record { pages = (length-set (replicate size free) 5 q ∙ length-replicate size free) i; current = 0; opened = false; roots = 1; oldest = 0 } in
         let d : drop 5 (set (replicate size free) 5 q) ≡ set ps 0 q = drop-set (replicate size free) 5 5 q (omega arith) ∙ ap (λ (l : List Page). set l 0 q) (drop-free size) in
         ap (λ (b : List ℕ). withPage least b 5 (putHead least (pageOf least b 5) rootHead)) begun-is
         ∙ ap (withPage least (bytesOf least h dir ps) 5) (ap (λ (b : List ℕ). putHead least b rootHead) p ∙ root-put)

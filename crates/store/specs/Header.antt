@@ -12,11 +12,11 @@ use Rattle.bits.specs.Lay.{Shows, Fit, total, length-lay, bytes-lay, length-pac
 use Rattle.bits.specs.Over.{lay-left, lay-append, lay-twice}
 use Rattle.model.specs.declared.Header.{Header}
 use Rattle.model.specs.Basic.{pick}
-use Rattle.model.specs.Limits.{rootBits, editionOf}
+use Rattle.model.specs.Limits.{rootBits, oldestBits, editionOf}
 use Rattle.model.specs.Field.{field, Part, _bits_, Bytes, lay, zeros, packed}
 use Rattle.model.specs.Layout.{bit, headerParts, headerBytes, readHeader}
-use Rattle.page.specs.Editions.{Rooted, root-bits}
-use Rattle.store.specs.Read.{pages-lt, current-lt, roots-lt}
+use Rattle.page.specs.Editions.{Rooted, root-bits, Aged, oldest-bits}
+use Rattle.store.specs.Read.{pages-lt, current-lt, roots-lt, oldest-lt}
 
 -- "the four bytes 52 43 53 54; edition 8 bits (1)"
 abbrev pub namedBy : ℕ → List Part
@@ -25,9 +25,9 @@ namedBy edition = 8 bits 0x52 ∷ 8 bits 0x43 ∷ 8 bits 0x53 ∷ 8 bits 0x54 �
 abbrev pub nameParts : ℕ → List Part
 nameParts least = namedBy (editionOf least)
 
--- "page count 13; current version 20; open flag 1; number of roots 9"
+-- "page count 13; current version 20; open flag 1; number of roots 9"; in edition 2 the oldest version 20
 abbrev pub valueParts : ℕ → Header → List Part
-valueParts least h = 13 bits (h .pages) ∷ 20 bits (h .current) ∷ 1 bits (bit (h .opened)) ∷ rootBits least bits (h .roots) ∷ []
+valueParts least h = 13 bits (h .pages) ∷ 20 bits (h .current) ∷ 1 bits (bit (h .opened)) ∷ rootBits least bits (h .roots) ∷ oldestBits least bits (h .oldest) ∷ []
 
 -- bytes with this header laid over theirs
 unfoldable pub putHeader : ℕ → List ℕ → Header → List ℕ
@@ -38,9 +38,10 @@ pub record HeaderFits (least : ℕ) (h : Header) : Type 0 where
   pub pages : h .pages < 2 ^ 13
   pub current : h .current < 2 ^ 20
   pub roots : h .roots < 2 ^ rootBits least
+  pub oldest : h .oldest < 2 ^ oldestBits least
 
 pub header-fits : (least : ℕ) (s : List ℕ) → HeaderFits least (readHeader least s)
-header-fits least s = record { pages = pages-lt least s; current = current-lt least s; roots = roots-lt least s }
+header-fits least s = record { pages = pages-lt least s; current = current-lt least s; roots = roots-lt least s; oldest = oldest-lt least s }
 
 pub bit-small : (b : Bool) → bit b < 2 ^ 1
 bit-small true = omega arith
@@ -73,11 +74,14 @@ module _ (least : ℕ) (four : 4 ≤ least) (eight : least ≤ 8) where
   width : Rooted least (rootBits least)
   width = root-bits least eight
 
-  total-is : (h : Header) → total (headerParts least h) ≡ 74 + rootBits least
+  age : Aged (oldestBits least)
+  age = oldest-bits least
+
+  total-is : (h : Header) → total (headerParts least h) ≡ 74 + rootBits least + oldestBits least
   total-is h = omega arith
 
   values-fit : (h : Header) → HeaderFits least h → Fit (valueParts least h)
-  values-fit h f = (f .pages, (f .current, (bit-small (h .opened), (f .roots, refl))))
+  values-fit h f = (f .pages, (f .current, (bit-small (h .opened), (f .roots, (f .oldest, refl)))))
 
   -- the header's page with its name alone
   named : List ℕ
@@ -101,17 +105,17 @@ module _ (least : ℕ) (four : 4 ≤ least) (eight : least ≤ 8) where
       let a : List ℕ = lay named 40 (valueParts least g) in
       let n : length a ≡ 64 * least = length-lay named 40 (valueParts least g) ∙ named-length in
       rw (header-is g, header-is h)
-      (lay-left a f 40 (valueParts least h) (omega (arith, width))
-      ∙ ap (λ (x : List ℕ). x ++ f) (lay-twice named 40 (valueParts least g) (valueParts least h) named-bytes (omega (arith, width, named-length)) refl (values-fit h z)))
+      (lay-left a f 40 (valueParts least h) (omega (arith, width, age))
+      ∙ ap (λ (x : List ℕ). x ++ f) (lay-twice named 40 (valueParts least g) (valueParts least h) named-bytes (omega (arith, width, age, named-length)) refl (values-fit h z)))
 
   pub header-bytes : (h : Header) → Bytes (headerBytes least h)
   unfolding headerBytes
-  header-bytes h = bytes-packed (64 * least) (headerParts least h) (omega (arith, total-is h, width))
+  header-bytes h = bytes-packed (64 * least) (headerParts least h) (omega (arith, total-is h, width, age))
 
   pub header-shows : (h : Header) → HeaderFits least h → Shows (headerBytes least h) 0 (headerParts least h)
   unfolding headerBytes
   header-shows h z =
-      packed-shows (64 * least) (headerParts least h) (omega (arith, total-is h, width))
+      packed-shows (64 * least) (headerParts least h) (omega (arith, total-is h, width, age))
       (omega arith, (omega arith, (omega arith, (omega arith, (edition-small least, values-fit h z)))))
 
   pub header-read : (h : Header) (f : List ℕ) → HeaderFits least h → readHeader least (headerBytes least h ++ f) ≡ h
@@ -125,17 +129,20 @@ module _ (least : ℕ) (four : 4 ≤ least) (eight : least ≤ 8) where
       let a : field (t ++ f) 40 13 ≡ h .pages = field-left t f 40 13 (omega arith) ∙ v .0 in
       let b : field (t ++ f) 53 20 ≡ h .current = field-left t f 53 20 (omega arith) ∙ v .1 .0 in
       let c : eqb (field (t ++ f) 73 1) 1 ≡ h .opened = ap (λ (x : ℕ). eqb x 1) (field-left t f 73 1 (omega arith) ∙ v .1 .1 .0) ∙ bit-back (h .opened) in
+      let g : Aged (oldestBits least) = age in
       let d : field (t ++ f) 74 (rootBits least) ≡ h .roots = field-left t f 74 (rootBits least) (omega arith) ∙ v .1 .1 .1 .0 in
-      λ i. record { pages = a i; current = b i; opened = c i; roots = d i }
+      let e : field (t ++ f) (74 + rootBits least) (oldestBits least) ≡ h .oldest = field-left t f (74 + rootBits least) (oldestBits least) (omega arith) ∙ v .1 .1 .1 .1 .0 in
+      λ i. record { pages = a i; current = b i; opened = c i; roots = d i; oldest = e i }
 
   -- a page 0 with the name, whose spare bits are zero, is that of the header that is read
-  pub header-part : (s : List ℕ) → Bytes s → 64 * least ≤ length s → Shows s 0 (nameParts least) → field s (74 + rootBits least) (512 * least - (74 + rootBits least)) ≡ 0
+  pub header-part : (s : List ℕ) → Bytes s → 64 * least ≤ length s → Shows s 0 (nameParts least) → field s (74 + rootBits least + oldestBits least) (512 * least - (74 + rootBits least + oldestBits least)) ≡ 0
       → headerBytes least (readHeader least s) ≡ take (64 * least) (drop 0 s)
   unfolding headerBytes readHeader
   header-part s b len names e =
       let h : Header = readHeader least s in
       let t : List ℕ = take (64 * least) (drop 0 s) in
       let w : Rooted least (rootBits least) = width in
+      let g : Aged (oldestBits least) = age in
       let at : (a n : ℕ) → a + n ≤ 512 * least → field t a n ≡ field s a n
       = λ a n l. field-part s 0 (64 * least) a n (omega arith) ∙ ap (λ (y : ℕ). field s y n) (omega arith) in
       packed-whole t (64 * least) (headerParts least h) (part-bytes s 0 (64 * least) b) (part-length s 0 (64 * least) (omega arith)) (omega (arith, total-is h)) (
@@ -148,10 +155,10 @@ module _ (least : ℕ) (four : 4 ≤ least) (eight : least ≤ 8) where
               at 24 8 (omega arith) ∙ names .1 .1 .1 .0,
               (
                 at 32 8 (omega arith) ∙ names .1 .1 .1 .1 .0,
-                (at 40 13 (omega arith), (at 53 20 (omega arith), (at 73 1 (omega arith) ∙ sym (bit-field s 73), (at 74 (rootBits least) (omega arith), refl)))),
+                (at 40 13 (omega arith), (at 53 20 (omega arith), (at 73 1 (omega arith) ∙ sym (bit-field s 73), (at 74 (rootBits least) (omega arith), (at (74 + rootBits least) (oldestBits least) (omega arith), refl))))),
               ),
             ),
           ),
         ),
       )
-      (λ i l k. bit-part s 0 (64 * least) i (omega arith) ∙ zero-at s (74 + rootBits least) (512 * least - (74 + rootBits least)) e (8 * 0 + i) (omega (arith, total-is h)) (omega arith))
+      (λ i l k. bit-part s 0 (64 * least) i (omega arith) ∙ zero-at s (74 + rootBits least + oldestBits least) (512 * least - (74 + rootBits least + oldestBits least)) e (8 * 0 + i) (omega (arith, total-is h)) (omega arith))

@@ -7,6 +7,7 @@ use native.Mathlib.Nat.{add-mul}
 use lib.ListN.{length, getD, take, drop, replicate, length-append, length-drop, take-append-drop}
 use lib.Seq.{ext-getD, getD-drop}
 use Rattle.model.specs.declared.Header.{Header}
+use Rattle.model.specs.Limits.{oldestBits}
 use Rattle.model.specs.Page.{Page, free}
 use Rattle.model.specs.Store.{Store, page}
 use Rattle.model.specs.Layout.{pageOf, decodePage, encodePage, readHeader, readSlot, readSlots, readPages, slotsBytes, pagesBytes, headerBytes, headerOf, noSlot, encode, decode, sizeOf}
@@ -24,6 +25,7 @@ pub record Holds (least : ℕ) (s : Store) : Type 0 where
   pub most : length (s .pages) < 2 ^ 13
   pub front : take 5 (s .pages) ≡ replicate 5 free
   pub current : s .current < 2 ^ 20
+  pub oldest : s .oldest < 2 ^ oldestBits least
   pub few : length (s .slots) ≤ 64 * least
   pub slots : (k : ℕ) → SlotFits (getD (s .slots) k noSlot)
   pub pages : AllValid least (s .pages)
@@ -33,7 +35,7 @@ module _ (least : ℕ) (four : 4 ≤ least) (eight : least ≤ 8) (s : Store) (v
   ps = drop 5 (s .pages)
 
   pub header-holds : HeaderFits least (headerOf s)
-  header-holds = record { pages = v .most; current = v .current; roots = omega (arith, v .few, root-bits least eight) }
+  header-holds = record { pages = v .most; current = v .current; roots = omega (arith, v .few, root-bits least eight); oldest = v .oldest }
 
   pub front-length : length (frontOf least s) ≡ 5 * (64 * least)
   front-length =
@@ -98,4 +100,4 @@ module _ (least : ℕ) (four : 4 ≤ least) (eight : least ≤ 8) (s : Store) (v
       = ap (λ (k : ℕ). replicate 5 free ++ readPages least b 5 (k - 5)) n ∙ ap (λ (l : List Page). replicate 5 free ++ l) pages-encoded
       ∙ ap (λ (l : List Page). l ++ drop 5 (s .pages)) (sym (v .front)) ∙ take-append-drop 5 (s .pages) in
       let q : readSlots b (512 * least) (readHeader least b .roots) ≡ s .slots = ap (λ (h : Header). readSlots b (512 * least) (h .roots)) header-encoded ∙ slots-encoded in
-      λ i. record { current = header-encoded i .current; opened = header-encoded i .opened; slots = q i; pages = p i }
+      λ i. record { current = header-encoded i .current; opened = header-encoded i .opened; oldest = header-encoded i .oldest; slots = q i; pages = p i }

@@ -6,7 +6,7 @@ use lib.ListN.{length, getD, take, drop, replicate}
 use native.Mathlib.Omega.{arith}
 use native.Mathlib.Nat.{mul-div-left}
 use Rattle.bits.specs.Laws.{field-lt}
-use Rattle.model.specs.Limits.{rootBits}
+use Rattle.model.specs.Limits.{rootBits, oldestBits}
 use Rattle.model.specs.Page.{free}
 use Rattle.model.specs.Store.{page}
 use Rattle.model.specs.Layout.{pageOf, decodePage, readHeader, readSlot, readSlots, readPages, decode, sizeOf, noSlot}
@@ -105,6 +105,10 @@ module _ (least : ℕ) (s : List ℕ) where
   unfolding decode
   opened-of = refl
 
+  pub oldest-of : decode least s .oldest ≡ readHeader least s .oldest
+  unfolding decode
+  oldest-of = refl
+
   pub slots-of : decode least s .slots ≡ readSlots s (512 * least) (readHeader least s .roots)
   unfolding decode
   slots-of = refl
@@ -120,6 +124,10 @@ module _ (least : ℕ) (s : List ℕ) where
   pub roots-lt : readHeader least s .roots < 2 ^ rootBits least
   unfolding readHeader
   roots-lt = field-lt s 74 (rootBits least)
+
+  pub oldest-lt : readHeader least s .oldest < 2 ^ oldestBits least
+  unfolding readHeader
+  oldest-lt = field-lt s (74 + rootBits least) (oldestBits least)
 
 pub version-lt : (s : List ℕ) (o : ℕ) → readSlot s o .version < 2 ^ 20
 unfolding readSlot

@@ -20,13 +20,13 @@ use Rattle.store.specs.Inside.{bytesOf, encode-of, header-in, slot-in, p
 use Rattle.store.specs.Holds.{Holds, header-holds, behind-valid}
 
 abbrev pub withPages : Store → List Page → Store
-withPages s ps = record { current = s .current; opened = s .opened; slots = s .slots; pages = ps }
+withPages s ps = record { current = s .current; opened = s .opened; oldest = s .oldest; slots = s .slots; pages = ps }
 
 abbrev pub withSlots : Store → List Slot → Store
-withSlots s xs = record { current = s .current; opened = s .opened; slots = xs; pages = s .pages }
+withSlots s xs = record { current = s .current; opened = s .opened; oldest = s .oldest; slots = xs; pages = s .pages }
 
 abbrev pub withState : Store → ℕ → Bool → Store
-withState s v b = record { current = v; opened = b; slots = s .slots; pages = s .pages }
+withState s v b = record { current = v; opened = b; oldest = s .oldest; slots = s .slots; pages = s .pages }
 
 pub drop-set : (ps : List Page) (m n : ℕ) (q : Page) → m ≤ n → drop m (set ps n q) ≡ set (drop m ps) (n - m) q
 drop-set ps zero n q h = let e : n - 0 ≡ n = omega arith in rw e
@@ -50,7 +50,7 @@ module _ (least : ℕ) (four : 4 ≤ least) (eight : least ≤ 8) (s : Store) (v
   pub page-set : (n : ℕ) (q : Page) → 5 ≤ n → n < length (s .pages) → withPage least (encode least s) n (encodePage least q) ≡ encode least (withPages s (set (s .pages) n q))
   page-set n q le lt =
       let t : Store = withPages s (set (s .pages) n q) in
-      let e : headerOf t ≡ h = λ i. record { pages = length-set (s .pages) n q i; current = s .current; opened = s .opened; roots = length (s .slots) } in
+      let e : headerOf t ≡ h = λ i. record { pages = length-set (s .pages) n q i; current = s .current; opened = s .opened; roots = length (s .slots); oldest = s .oldest } in
       ap (λ (b : List ℕ). withPage least b n (encodePage least q)) (encode-of least s)
       ∙ page-in least four eight h dir ps full (behind-valid least four eight s v) n q le (omega (arith, length-drop 5 (s .pages)))
       ∙ ap (λ (g : Header). bytesOf least g dir (set ps (n - 5) q)) (sym e) ∙ ap (bytesOf least (headerOf t) dir) (sym (drop-set (s .pages) 5 n q le)) ∙ sym (encode-of least t)
@@ -61,13 +61,13 @@ module _ (least : ℕ) (four : 4 ≤ least) (eight : least ≤ 8) (s : Store) (v
       let t : Store = withState s c o in
       let f : HeaderFits least h = header-holds least four eight s v in
       ap (λ (b : List ℕ). putHeader least b (headerOf t)) (encode-of least s)
-      ∙ header-in least four eight h dir ps (headerOf t) (record { pages = f .pages; current = lt; roots = f .roots }) ∙ sym (encode-of least t)
+      ∙ header-in least four eight h dir ps (headerOf t) (record { pages = f .pages; current = lt; roots = f .roots; oldest = f .oldest }) ∙ sym (encode-of least t)
 
   -- a slot in use made another
   pub slot-set : (i : ℕ) (x : Slot) → i < length (s .slots) → SlotFits x → lay (encode least s) (512 * least + 32 * i) (slotParts x) ≡ encode least (withSlots s (set (s .slots) i x))
   slot-set i x lt f =
       let t : Store = withSlots s (set (s .slots) i x) in
-      let e : headerOf t ≡ h = λ j. record { pages = length (s .pages); current = s .current; opened = s .opened; roots = length-set (s .slots) i x j } in
+      let e : headerOf t ≡ h = λ j. record { pages = length (s .pages); current = s .current; opened = s .opened; roots = length-set (s .slots) i x j; oldest = s .oldest } in
       ap (λ (b : List ℕ). lay b (512 * least + 32 * i) (slotParts x)) (encode-of least s)
       ∙ slot-in least four eight h dir ps i x (omega (arith, v .few, full)) f
       ∙ ap (λ (g : Header). bytesOf least g (set dir i x) ps) (sym e) ∙ ap (λ (xs : List Slot). bytesOf least (headerOf t) xs ps) (directory-set least (s .slots) i x lt) ∙ sym (encode-of least t)
@@ -80,7 +80,7 @@ module _ (least : ℕ) (four : 4 ≤ least) (eight : least ≤ 8) (s : Store) (v
       let g : HeaderFits least h = header-holds least four eight s v in
       ap (λ (b : List ℕ). putHeader least (lay b (512 * least + 32 * i) (slotParts x)) (headerOf t)) (encode-of least s)
       ∙ ap (λ (b : List ℕ). putHeader least b (headerOf t)) (slot-in least four eight h dir ps i x (omega (arith, full)) f)
-      ∙ header-in least four eight h (set dir i x) ps (headerOf t) (record { pages = g .pages; current = g .current; roots = omega (arith, root-bits least eight) })
+      ∙ header-in least four eight h (set dir i x) ps (headerOf t) (record { pages = g .pages; current = g .current; roots = omega (arith, root-bits least eight); oldest = g .oldest })
       ∙ ap (λ (ys : List Slot). bytesOf least (headerOf t) ys ps) e ∙ sym (encode-of least t)
 
   -- one slot more
@@ -120,13 +120,14 @@ module _ (least : ℕ) (s : Store) (v : Holds least s) where
         most = omega (arith, length-set (s .pages) n q, v .most);
         front = take-set (s .pages) 5 n q h ∙ v .front;
         current = v .current;
+        oldest = v .oldest;
         few = v .few;
         slots = v .slots;
         pages = valid-set least (s .pages) n q (v .pages) z;
       }
 
   pub holds-slots : (xs : List Slot) → length xs ≤ 64 * least → ((k : ℕ) → SlotFits (getD xs k noSlot)) → Holds least (withSlots s xs)
-  holds-slots xs h f = record { five = v .five; most = v .most; front = v .front; current = v .current; few = h; slots = f; pages = v .pages }
+  holds-slots xs h f = record { five = v .five; most = v .most; front = v .front; current = v .current; oldest = v .oldest; few = h; slots = f; pages = v .pages }
 
   pub holds-state : (c : ℕ) (o : Bool) → c < 2 ^ 20 → Holds least (withState s c o)
-  holds-state c o h = record { five = v .five; most = v .most; front = v .front; current = h; few = v .few; slots = v .slots; pages = v .pages }
+  holds-state c o h = record { five = v .five; most = v .most; front = v .front; current = h; oldest = v .oldest; few = v .few; slots = v .slots; pages = v .pages }

@@ -15,7 +15,7 @@ use Rattle.bits.specs.Laws.{field-byte}
 use Rattle.bits.specs.Put.{less}
 use Rattle.bits.specs.Lay.{Shows, part-bytes}
 use Rattle.model.specs.Basic.{eqList}
-use Rattle.model.specs.Limits.{rootBits, editionOf}
+use Rattle.model.specs.Limits.{rootBits, oldestBits, editionOf}
 use Rattle.model.specs.Field.{field, Bytes}
 use Rattle.model.specs.Page.{free}
 use Rattle.model.specs.Store.{page}
@@ -25,7 +25,7 @@ use Rattle.model.specs.Judged.{lengthOk, magicOk, editionOk}
 use Rattle.model.proofs.Lists.{both-true}
 use Rattle.page.specs.Exact.{Valid, valid-free, valid-read}
 use Rattle.page.specs.Clean.{Clean, clean-page, passed}
-use Rattle.store.specs.Read.{size-is, front-free, front-five, count-pages, page-at, current-of, current-lt, slots-of, length-slots, pages-lt}
+use Rattle.store.specs.Read.{size-is, front-free, front-five, count-pages, page-at, current-of, current-lt, oldest-of, oldest-lt, slots-of, length-slots, pages-lt}
 use Rattle.store.specs.Parts.{page-fits, length-page, page-take}
 use Rattle.store.specs.Slots.{slots-fit}
 use Rattle.store.specs.Header.{nameParts}
@@ -93,7 +93,7 @@ module _ (least : ℕ) (eight : least ≤ 8) (s : List ℕ) (b : Bytes s) (w : W
   unfolding cleanFront
   exactly m e f c =
       let r : ℕ = readHeader least s .roots in
-      let spare : Bool = eqb (field s (74 + rootBits least) (512 * least - (74 + rootBits least))) 0 in
+      let spare : Bool = eqb (field s (74 + rootBits least + oldestBits least) (512 * least - (74 + rootBits least + oldestBits least))) 0 in
       let rest : Bool = eqb (field s (512 * least + 32 * r) (2560 * least - (512 * least + 32 * r))) 0 in
       let x = both-true (eqb (readHeader least s .pages) (sizeOf least s)) (spare && (leb r (64 * least) && rest)) f in
       let y = both-true spare (leb r (64 * least) && rest) (x .1) in
@@ -139,6 +139,7 @@ module _ (least : ℕ) (four : 4 ≤ least) (eight : least ≤ 8) (s : List ℕ)
         most = omega arith;
         front = front-five least s;
         current = rw (current-of least s) (current-lt least s);
+        oldest = rw (oldest-of least s) (oldest-lt least s);
         few = rw (slots-of least s) (omega (arith, length-slots s (512 * least) (readHeader least s .roots), x .roots));
         slots = λ k. rw (slots-of least s) (slots-fit s (512 * least) (readHeader least s .roots) k);
         pages = valid;

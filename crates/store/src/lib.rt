@@ -78,6 +78,7 @@ pub fn header(s: &[u8], l: Limits) -> Header
         current: bits::field(s, 53, 20),
         opened: flag == 1,
         roots: bits::field(s, 74, l.rooter),
+        oldest: bits::field(s, 74 + l.rooter, l.aged),
     }
 }
 
@@ -126,6 +127,7 @@ pub fn put_header(s: &mut [u8], l: Limits, h: Header)
     bits::put_field(s, 53, 20, h.current as u64);
     bits::put_field(s, 73, 1, flag(h.opened));
     bits::put_field(s, 74, l.rooter, h.roots as u64);
+    bits::put_field(s, 74 + l.rooter, l.aged, h.oldest as u64);
 }
 
 // Writes slot i of the root directory.

@@ -62,6 +62,7 @@ pub fn make(s: &mut [u8], l: Limits, edition: u8)
             current: 0,
             opened: false,
             roots: 1,
+            oldest: 0,
         },
     );
     crate::put_slot(

@@ -47,21 +47,22 @@ back-holds least w s p q h = record {
   most = omega (arith, h .most, length-map (s .pages) (back w));
   front = take-map (back w) 5 (s .pages) ∙ ap (map (back w)) (h .front) ∙ frees w 5 p;
   current = h .current;
+  oldest = h .oldest;
   few = h .few;
   slots = h .slots;
   pages = λ k. subst (Valid least) (sym (List·getD-map (back w) (s .pages) k free) ∙ ap (λ (x : Page). getD (map (back w) (s .pages)) k x) (free-back w p)) (valid-back least w _ q (h .pages k));
 }
 
-some-slot : (xs : List Slot) → firstVersion xs ≡ 0 → 0 < length xs
-some-slot [] e = absurd (omega arith)
-some-slot (x ∷ xs) e = omega arith
+some-slot : (old : ℕ) (xs : List Slot) → firstVersion old xs ≤ old → 0 < length xs
+some-slot old [] e = absurd (omega arith)
+some-slot old (x ∷ xs) e = omega arith
 
 module _ {l : Limits} (d : Edition l) (b : List ℕ) (h : isSound (l .least) b ≡ true) (k : Kept (l .least) b) where
   roots-are : readHeader (l .least) b .roots ≡ length (decode (l .least) b .slots)
   roots-are = sym (ap (λ (x : Header). x .roots) (k .header))
 
   pub some-roots : 0 < readHeader (l .least) b .roots
-  some-roots = omega (arith, roots-are, some-slot (decode (l .least) b .slots) (sure d b h .begins))
+  some-roots = omega (arith, roots-are, some-slot (decode (l .least) b .oldest) (decode (l .least) b .slots) (sure d b h .begins))
 
 module _ {l : Limits} (d : Edition l) (b : List ℕ) (h : isSound (l .least) b ≡ true) (k : Kept (l .least) b) (o : decode (l .least) b .opened ≡ true)
     (w : ℕ) (e : w ≡ next (decode (l .least) b)) (low : w < 2 ^ 20) where
@@ -112,6 +113,7 @@ module _ {l : Limits} (d : Edition l) (b : List ℕ) (h : isSound (l .least) b �
     current = sym (ap (λ (x : Header). x .current) (k .header)) i;
     opened = false;
     roots = q i;
+    oldest = sym (ap (λ (x : Header). x .oldest) (k .header)) i;
   }
 
   -- what is left is what an abandon leaves
@@ -119,7 +121,7 @@ module _ {l : Limits} (d : Edition l) (b : List ℕ) (h : isSound (l .least) b �
   unfolding abandoned
   abandoned-is xs q =
       let t : Store = withState (withSlots s1 (those (other w) (s .slots))) (s .current) false in
-      ap (λ (ys : List Slot). withState (withSlots s1 ys) (s .current) false) (sym q) ∙ ap (λ (n : ℕ). record { current = s .current; opened = false; slots = those (other n) (s .slots); pages = map (back n) (s .pages) }) e
+      ap (λ (ys : List Slot). withState (withSlots s1 ys) (s .current) false) (sym q) ∙ ap (λ (n : ℕ). record { current = s .current; opened = false; oldest = s .oldest; slots = those (other n) (s .slots); pages = map (back n) (s .pages) }) e
 
   pub abandoned-bytes : (b1 b2 : List ℕ) (r : ℕ) → b1 ≡ encode least s1 → Cleared least b1 b2 (readHeader least b .roots) w r
       → putHeader least b2 (withFlag (withRoots (readHeader least b) r) false) ≡ encode least (abandoned s)

@@ -80,6 +80,7 @@ set-holds least s n q h five low v = record {
   most = omega (arith, h .most, length-set (s .pages) n q);
   front = take-set-le 5 (s .pages) n q five ∙ h .front;
   current = h .current;
+  oldest = h .oldest;
   few = h .few;
   slots = h .slots;
   pages = λ k. ⊎-elim

@@ -64,7 +64,7 @@ dropped least four eight s v xs x e =
     ∙ ap (λ (b : List ℕ). putHeader least b (headerOf t))
     (slot-in least four eight (headerOf s) (directory least (s .slots)) (drop 5 (s .pages)) (length xs) noSlot (omega arith) none-fits)
     ∙ header-in least four eight (headerOf s) (set (directory least (s .slots)) (length xs) noSlot) (drop 5 (s .pages)) (headerOf t)
-    (record { pages = g .pages; current = g .current; roots = omega (arith, root-bits least eight) })
+    (record { pages = g .pages; current = g .current; roots = omega (arith, root-bits least eight); oldest = g .oldest })
     ∙ ap (λ (ys : List Slot). bytesOf least (headerOf t) ys (drop 5 (s .pages))) (ap (λ (ys : List Slot). set (directory least ys) (length xs) noSlot) e ∙ directory-drop least xs x low)
     ∙ sym (encode-of least t)
 

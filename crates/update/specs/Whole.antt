@@ -15,7 +15,7 @@ use Rattle.model.specs.Judged.{isSound}
 use Rattle.model.specs.Climb.{climb, Result, done, refused, rooted, update}
 use Rattle.model.specs.Plan.{planUp, slotLeft, outlookNumber, outlook, plan}
 use Rattle.model.specs.Lent.{left}
-use Rattle.model.proofs.Given.{Sound}
+use Rattle.model.proofs.Given.{Sound, old-current}
 use Rattle.model.proofs.Fits.{ready}
 use Rattle.model.proofs.PlanSound.{plan-refused, plan-done}
 use Rattle.store.specs.Sure.{sure}
@@ -66,7 +66,7 @@ module _ {l : Limits} {b : List ℕ} {k : ℕ} (u : Begun l b k) where
     pub readable : Readable l b w
     readable =
         let q : last (decode (l .least) b) ≡ next (decode (l .least) b) = ap (λ (x : Bool). lastOf x (decode (l .least) b .current)) (u .opened) in
-        record { edition = u .edition; sound = u .sound; version = omega arith }
+        record { edition = u .edition; sound = u .sound; version = omega (arith, old-current (l .least) (decode (l .least) b) (sure (u .edition) b (u .sound) .old-low)) }
 
     module _ (to : plan-code.Way) (leads : Leads l b w k to) (c : code.Change) where
       abbrev ups : List Around

@@ -26,7 +26,7 @@ use Rattle.model.specs.Judged.{lengthOk, magicOk, editionOk, judged}
 use Rattle.model.proofs.Lists.{both-intro}
 use Rattle.model.proofs.Given.{Sound, to-tests}
 use Rattle.model.proofs.Judging.{Accepted, judged-accepted}
-use Rattle.page.specs.Editions.{root-bits}
+use Rattle.page.specs.Editions.{root-bits, oldest-bits}
 use Rattle.store.specs.Header.{header-length}
 use Rattle.store.specs.Exactly.{encode-is}
 use Rattle.store.specs.Holds.{Holds, header-holds, encoded-length, decode-encoded}
@@ -56,9 +56,9 @@ module _ (least : ℕ) (four : 4 ≤ least) (eight : least ≤ 8) (s : Store) (v
   unfolding headerBytes
   header-shows =
       let h = header-holds least four eight s v in
-      packed-shows (64 * least) (headerParts least (headerOf s)) (omega (arith, total-is least four eight s v, root-bits least eight)) (
+      packed-shows (64 * least) (headerParts least (headerOf s)) (omega (arith, total-is least four eight s v, root-bits least eight, oldest-bits least)) (
         omega arith,
-        (omega arith, (omega arith, (omega arith, (edition-small least, (h .pages, (h .current, (bit-small (s .opened), (h .roots, refl)))))))),
+        (omega arith, (omega arith, (omega arith, (edition-small least, (h .pages, (h .current, (bit-small (s .opened), (h .roots, (h .oldest, refl))))))))),
       )
 
   name-field : (at : ℕ) → at ≤ 32 → field b at 8 ≡ field header at 8

@@ -93,6 +93,10 @@ module _ (least : ℕ) (s : Store) (d : Sound least s) where
           let r : x .root < 4096 = page-number (x .root) (all-at (λ (y : Slot). isPage (length (s .pages)) (y .root)) noSlot (s .slots) (d .roots) k l) in
           record { version = omega (arith, d .last-low); root = omega arith }
 
+  old-low : (b : Bool) → s .oldest ≤ pick b 0 (s .current) → s .oldest < 2 ^ pick b 0 20
+  old-low true h = omega arith
+  old-low false h = omega (arith, current-low, d .last-low)
+
   -- what its bytes ask of a store
   pub holds : Holds least s
   holds = record {
@@ -100,6 +104,7 @@ module _ (least : ℕ) (s : Store) (d : Sound least s) where
     most = omega (arith, d .short);
     front = front-free;
     current = omega (arith, current-low, d .last-low);
+    oldest = old-low (leb least 4) (d .old-low);
     few = d .slots-few;
     slots = slot-held;
     pages = page-valid;

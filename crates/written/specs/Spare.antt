@@ -10,13 +10,13 @@ use borrow.Author.Tests.{le-leb, eq-eqb}
 use Rattle.bits.specs.Append.{field-left, field-right}
 use Rattle.bits.specs.Lay.{total, zero-field, zeros-bit, length-zeros, bytes-zeros, bytes-append, bytes-packed, packed-rest}
 use Rattle.model.specs.declared.Slot.{Slot}
-use Rattle.model.specs.Limits.{rootBits}
+use Rattle.model.specs.Limits.{rootBits, oldestBits}
 use Rattle.model.specs.Field.{field, Bytes, zeros}
 use Rattle.model.specs.Page.{Page}
 use Rattle.model.specs.Store.{Store, page}
 use Rattle.model.specs.Layout.{pageOf, encodePage, slotBytes, slotsBytes, headerBytes, headerParts, headerOf, pagesBytes, sizeOf, encode}
 use Rattle.model.specs.Clean.{cleanPage, cleanPages, cleanFront}
-use Rattle.page.specs.Editions.{root-bits}
+use Rattle.page.specs.Editions.{root-bits, oldest-bits}
 use Rattle.page.specs.Passes.{encode-bytes, encode-clean}
 use Rattle.store.specs.Read.{size-is}
 use Rattle.store.specs.Slots.{slotParts, slots-length, directory-bytes}
@@ -50,7 +50,7 @@ module _ (least : ℕ) (four : 4 ≤ least) (eight : least ≤ 8) (s : Store) (v
   abbrev r : ℕ
   r = length (s .slots)
 
-  pub total-is : total (headerParts least (headerOf s)) ≡ 74 + rootBits least
+  pub total-is : total (headerParts least (headerOf s)) ≡ 74 + rootBits least + oldestBits least
   total-is = omega arith
 
   -- the directory's unused slots as zeros
@@ -61,15 +61,16 @@ module _ (least : ℕ) (four : 4 ≤ least) (eight : least ≤ 8) (s : Store) (v
       store-is least s ∙ ap (λ (y : List ℕ). (header ++ y) ++ pagesBytes least ps) (directory-bytes least (s .slots))
       ∙ ap (λ (y : List ℕ). y ++ pagesBytes least ps) (sym (append-assoc header x z)) ∙ append-assoc (header ++ x) z (pagesBytes least ps)
 
-  header-spare : field (encode least s) (74 + rootBits least) (512 * least - (74 + rootBits least)) ≡ 0
+  header-spare : field (encode least s) (74 + rootBits least + oldestBits least) (512 * least - (74 + rootBits least + oldestBits least)) ≡ 0
   unfolding headerBytes
   header-spare =
       let w = root-bits least eight in
+      let o = oldest-bits least in
       let n : length header ≡ 64 * least = header-length least (headerOf s) in
-      let t : total (headerParts least (headerOf s)) ≡ 74 + rootBits least = total-is in
-      ap (λ (b : List ℕ). field b (74 + rootBits least) (512 * least - (74 + rootBits least))) (store-parts ∙ append-assoc header (slotsBytes (s .slots)) (zeros (4 * (64 * least - r)) ++ pagesBytes least ps))
-      ∙ field-left header (slotsBytes (s .slots) ++ (zeros (4 * (64 * least - r)) ++ pagesBytes least ps)) (74 + rootBits least) (512 * least - (74 + rootBits least)) (omega arith)
-      ∙ zero-field header (74 + rootBits least) (512 * least - (74 + rootBits least)) (λ i l h. packed-rest (64 * least) (headerParts least (headerOf s)) i (omega arith) (omega arith))
+      let t : total (headerParts least (headerOf s)) ≡ 74 + rootBits least + oldestBits least = total-is in
+      ap (λ (b : List ℕ). field b (74 + rootBits least + oldestBits least) (512 * least - (74 + rootBits least + oldestBits least))) (store-parts ∙ append-assoc header (slotsBytes (s .slots)) (zeros (4 * (64 * least - r)) ++ pagesBytes least ps))
+      ∙ field-left header (slotsBytes (s .slots) ++ (zeros (4 * (64 * least - r)) ++ pagesBytes least ps)) (74 + rootBits least + oldestBits least) (512 * least - (74 + rootBits least + oldestBits least)) (omega arith)
+      ∙ zero-field header (74 + rootBits least + oldestBits least) (512 * least - (74 + rootBits least + oldestBits least)) (λ i l h. packed-rest (64 * least) (headerParts least (headerOf s)) i (omega arith) (omega arith))
 
   -- "Unused slots are zero."
   slots-rest : field (encode least s) (512 * least + 32 * r) (2560 * least - (512 * least + 32 * r)) ≡ 0
@@ -105,7 +106,7 @@ module _ (least : ℕ) (four : 4 ≤ least) (eight : least ≤ 8) (s : Store) (v
 
   header-bytes : Bytes header
   unfolding headerBytes
-  header-bytes = bytes-packed (64 * least) (headerParts least (headerOf s)) (omega (arith, total-is, root-bits least eight))
+  header-bytes = bytes-packed (64 * least) (headerParts least (headerOf s)) (omega (arith, total-is, root-bits least eight, oldest-bits least))
 
   -- each is a byte
   pub encoded-bytes : Bytes (encode least s)

@@ -19,6 +19,7 @@ impl Engine for Proved {
             Call::Insert(key, value) => Answer::of(insert(store, key, value)),
             Call::Delete(key) => Answer::of(delete(store, key)),
             Call::Return(version) => Answer::of(return_to(store, version)),
+            Call::Prune(version) => Answer::of(prune(store, version)),
             Call::Check => {
                 let (number, rule) = check(store);
                 Answer {

@@ -19,10 +19,7 @@ const ALIVE: u32 = 1_048_575;
 
 /// Both, with a fresh store of an edition.
 fn fresh(edition: &'static Edition, pages: usize) -> Both {
-    let mut both = Both {
-        tree: vec![0xEE; pages * edition.page_bytes],
-        ..Both::default()
-    };
+    let mut both = Both::lent(vec![0xEE; pages * edition.page_bytes]);
     both.done(&[making(edition)]);
     both
 }
@@ -39,7 +36,8 @@ fn making(edition: &Edition) -> Call {
 /// A reading of what a history has: with a list that is long enough, or not quite.
 fn reading(history: &History, rng: &mut Rng) -> Call {
     let model = history.model();
-    let (one, other) = (rng.between(0, model.last()), rng.between(0, model.last()));
+    let (old, last) = (model.oldest, model.last());
+    let (one, other) = (rng.between(old, last), rng.between(old, last));
     let call = match rng.below(4) {
         0 => Call::Range(0, HIGHEST_KEY, one, 0),
         1 => Call::Difference(one, other, 0),
@@ -69,7 +67,7 @@ fn early(history: &History, rng: &mut Rng) -> Call {
         1 => Call::Abandon,
         2 => Call::Insert(rng.below(HIGHEST_KEY), 1),
         3 => Call::Delete(rng.below(HIGHEST_KEY)),
-        _ => Call::Return(rng.between(0, current)),
+        _ => Call::Return(rng.between(history.model().oldest, current)),
     }
 }
 
@@ -90,7 +88,7 @@ fn run(both: &mut Both, history: &mut History, seed: u64, calls: usize) {
 }
 
 fn histories(edition: &'static Edition, seeds: u64, calls: usize) {
-    let mut all = Both::default();
+    let mut all = Both::lent(Vec::new());
     for seed in 0..rounds(seeds) {
         let pages = 6 + 9 * (seed as usize % 7);
         let mut history = History::of(edition, seed, KINDS[seed as usize % 4], pages);
@@ -211,9 +209,13 @@ fn updates() {
     assert_eq!(both.call(Call::Life(8, 3)).count, 1);
 }
 
-/// Two releases: 7 and 9, then 7 with another value and 8.
 fn two_releases() -> Both {
-    let mut both = fresh(&FIRST, 8);
+    two_releases_of(&FIRST)
+}
+
+/// Two releases: 7 and 9, then 7 with another value and 8.
+fn two_releases_of(edition: &'static Edition) -> Both {
+    let mut both = fresh(edition, 8);
     both.done(&[Call::Open, Call::Insert(7, 70), Call::Insert(9, 90)]);
     both.done(&[Call::Commit, Call::Open, Call::Delete(7)]);
     both.done(&[Call::Insert(7, 71), Call::Delete(9), Call::Insert(8, 80)]);
@@ -252,6 +254,44 @@ fn an_abandon_leaves_the_items_as_they_were() {
     both.done(&[Call::Delete(8), Call::Insert(1, 1), Call::Return(1)]);
     both.done(&[Call::Insert(8, 8), Call::Abandon]);
     assert_eq!(both.plain.held(), before);
+}
+
+/// What ended at or before the version goes, and 6 stands below it.
+#[test]
+fn prunes() {
+    let mut both = two_releases_of(&SECOND);
+    for version in [3, HIGHEST_VERSION, ALIVE, u32::MAX] {
+        assert_eq!(both.number(Call::Prune(version)), 6);
+    }
+    both.done(&[Call::Open]);
+    assert_eq!(both.number(Call::Prune(3)), 6);
+    assert_eq!(both.number(Call::Prune(1)), 8);
+    both.done(&[Call::Abandon, Call::Prune(0), Call::Prune(1)]);
+    assert_eq!(both.plain.state.count, 4, "nothing had ended by then");
+    both.done(&[Call::Prune(2), Call::Prune(2)]);
+    let items = [[7, 2, ALIVE, 71], [8, 2, ALIVE, 80]];
+    assert_eq!(both.plain.held(), items.concat());
+    for version in [0, 1] {
+        assert_eq!(both.number(Call::Lookup(7, version)), 6);
+        assert_eq!(both.number(Call::Range(0, 9, version, 8)), 6);
+        assert_eq!(both.number(Call::Difference(version, 2, 8)), 6);
+        assert_eq!(both.number(Call::Difference(2, version, 8)), 6);
+        assert_eq!(both.number(Call::Return(version)), 6);
+        assert_eq!(both.number(Call::Prune(version)), 6);
+    }
+    both.done(&[Call::Life(7, 3), Call::Life(9, 0), Call::Range(0, 9, 2, 4)]);
+    both.done(&[Call::Open, Call::Delete(7), Call::Commit, Call::Open]);
+    both.done(&[Call::Return(2), Call::Commit, Call::Prune(3)]);
+    assert_eq!(both.call(Call::Life(7, 3)).count, 1);
+    assert_eq!(both.call(Call::Difference(3, 4, 4)).count, 1);
+}
+
+#[test]
+fn edition_1_is_not_pruned() {
+    let mut both = two_releases();
+    for version in [0, 1, 3, u32::MAX] {
+        assert_eq!(both.number(Call::Prune(version)), 3);
+    }
 }
 
 // ---- the room, and states that are none
@@ -311,13 +351,13 @@ fn a_return_wants_room_for_its_own_inserts() {
 
 #[test]
 fn no_room_at_all() {
-    let mut engine = Engine::new(&mut []);
+    let mut engine = Engine::new(1, &mut []);
     assert_eq!((engine.open(), engine.insert(1, 1)), (0, 14));
     assert_eq!((engine.commit(), engine.return_to(0)), (15, 0));
     assert_eq!(engine.lookup(1, 1), (0, false, 0));
     assert_eq!(engine.range(0, HIGHEST_KEY, 1, &mut []), (0, 0));
     assert_eq!((engine.life(1, &mut []), engine.abandon()), ((0, 0), 0));
-    assert_eq!(engine.state(), State::default());
+    assert_eq!(engine.state(), State::fresh(1));
 }
 
 /// All calls that the plain engine has, with numbers that are refused otherwise too.
@@ -325,6 +365,7 @@ fn every_call() -> Vec<Call> {
     let mut calls = vec![Call::Commit, Call::Abandon, Call::Insert(1, 1)];
     calls.extend([Call::Insert(u32::MAX, 1), Call::Delete(7), Call::Delete(1)]);
     calls.extend([Call::Return(0), Call::Return(9), Call::Lookup(7, 1)]);
+    calls.extend([Call::Prune(0), Call::Prune(9)]);
     calls.extend([Call::Lookup(u32::MAX, 9), Call::Range(0, 9, 1, 8)]);
     calls.extend([Call::Range(9, 0, 9, 0), Call::Difference(0, 1, 8)]);
     calls.extend([
@@ -364,6 +405,13 @@ fn a_state_that_is_none() {
             is_none(&mut lent(&both, 100));
             assert_eq!(lent(&both, 100).number(Call::Open), 4);
         }
+    }
+    // an oldest version that is none, and no edition
+    for (oldest, edition) in [(3, 1), (u32::MAX, 2), (0, 0), (0, 3), (2, u32::MAX)] {
+        let mut both = two_releases();
+        (both.plain.state.oldest, both.plain.state.edition) = (oldest, edition);
+        is_none(&mut lent(&both, 100));
+        assert_eq!(lent(&both, 100).number(Call::Open), 4);
     }
     // an open version that is none, and what is neither open nor not
     for (current, opened) in [(HIGHEST_VERSION, 1), (2, 2), (2, u32::MAX)] {
@@ -412,6 +460,8 @@ fn any_items(rng: &mut Rng) -> Plain {
         current: rng.below(7),
         opened: rng.below(2),
         count,
+        oldest: 0,
+        edition: 2,
     };
     Plain { items, state }
 }

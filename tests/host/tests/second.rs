@@ -15,13 +15,12 @@ use std::collections::BTreeMap;
 
 use beside::calls;
 use beside::met::Met;
-use beside::stores::{some_keys, some_versions, stores_of};
-use beside::{both, may_write, rounds};
+use beside::stores::{all_alike, border_calls, stores_of};
+use beside::{both, rounds};
 use reference::damage::{kinds, tamper};
 use reference::edition::{Edition, EDITIONS, SECOND};
 use reference::engine::Call;
 use reference::history::{History, Kind, KINDS};
-use reference::layout::HIGHEST_KEY;
 use reference::model::Model;
 use reference::rng::Rng;
 use reference::samples::second_store;
@@ -75,38 +74,6 @@ fn histories_from_elsewhere() {
         met.run(&mut history, bytes, 60);
     }
     println!("{met:?}");
-}
-
-/// Calls at the borders of keys, versions and lists.
-fn border_calls(bytes: &[u8], rng: &mut Rng) -> Vec<Call> {
-    let mut calls = vec![Call::Check, Call::Open, Call::Commit, Call::Abandon];
-    let (keys, versions) = (some_keys(bytes, rng), some_versions(bytes, rng));
-    for key in &keys {
-        calls.push(Call::Insert(*key, rng.word()));
-        calls.push(Call::Delete(*key));
-        calls.push(Call::Life(*key, rng.below(9) as usize));
-    }
-    for version in versions.iter().copied() {
-        let key = *rng.pick(&keys).unwrap_or(&0);
-        let other = *rng.pick(&versions).unwrap_or(&0);
-        let room = rng.below(300) as usize;
-        calls.push(Call::Return(version));
-        calls.push(Call::Lookup(key, version));
-        calls.push(Call::Visits(key, version, rng.below(6) as usize));
-        calls.push(Call::Range(0, HIGHEST_KEY, version, room));
-        calls.push(Call::Range(key, HIGHEST_KEY, version, 0));
-        calls.push(Call::Difference(version, other, 2 * room));
-    }
-    calls
-}
-
-fn all_alike(bytes: &[u8], rng: &mut Rng, tally: &mut BTreeMap<u32, u64>) {
-    for call in border_calls(bytes, rng) {
-        let (answer, after) = both(call, bytes);
-        *tally.entry(answer.number).or_default() += 1;
-        let untouched = !may_write(call, answer.number);
-        assert!(!untouched || after == bytes, "{call:?}");
-    }
 }
 
 #[test]

@@ -29,6 +29,7 @@ fn read(bytes: &[u8]) -> (u32, State) {
         roots: image.slots.len() as u32,
         edition: u32::from(image.edition().number),
         free: (image.pages.len() - image.used().count()) as u32,
+        oldest: image.header.oldest,
     };
     (0, state)
 }
@@ -52,7 +53,7 @@ fn told_as_it_is_read_on_bytes_of_every_kind() {
 }
 
 /// After each call of a history: the image's numbers, and the machine's current
-/// version and open update.
+/// version, open update and oldest version.
 fn along(edition: &'static Edition, seed: u64) -> Vec<State> {
     let pages = 6 + 7 * (seed as usize % 5);
     let mut bytes = vec![0xEE; edition.page_bytes * pages];
@@ -66,9 +67,9 @@ fn along(edition: &'static Edition, seed: u64) -> Vec<State> {
         let (number, state) = host::state(&bytes);
         assert_eq!((number, state), read(&bytes), "seed {seed}: {call:?}");
         let model = history.model();
-        let machine = (model.current, u32::from(model.is_open()));
+        let machine = (model.current, u32::from(model.is_open()), model.oldest);
         assert_eq!(
-            (state.current, state.open),
+            (state.current, state.open, state.oldest),
             machine,
             "seed {seed}: {call:?}"
         );
@@ -91,6 +92,8 @@ fn told_after_each_call_of_a_history() {
             .any(|state| state.open == 1 && state.current > 0));
         assert!(states.iter().any(|state| state.free == 0));
         assert!(states.iter().any(|state| state.roots > 1));
+        let pruned = states.iter().any(|state| state.oldest > 0);
+        assert_eq!(pruned, edition != &FIRST);
     }
 }
 

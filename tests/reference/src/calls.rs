@@ -135,7 +135,7 @@ fn refused_before_walking(bytes: &[u8], wrong_key: bool, version: u32) -> Option
     if wrong_key {
         return Some(number::ARGUMENT);
     }
-    (version > store::header(bytes).last()).then_some(number::VERSION)
+    (!store::header(bytes).can_read(version)).then_some(number::VERSION)
 }
 
 /// The number and the count of pages that a lookup visits; their numbers, from
@@ -164,6 +164,16 @@ pub fn life(bytes: &[u8], key: u32, list: &mut [u32]) -> (u32, u32) {
         Some(refusal) => (refusal, 0),
         None => unjudged::life(bytes, key, list),
     }
+}
+
+/// Drops what is only needed below a committed version: edition 2 alone.
+pub fn prune(bytes: &mut [u8], version: u32) -> u32 {
+    match judging::named_edition(bytes) {
+        Err(refusal) => return refusal,
+        Ok(edition) if *edition == FIRST => return number::EDITION,
+        Ok(_) => {}
+    }
+    judged(bytes).unwrap_or_else(|| unjudged::prune(bytes, version))
 }
 
 /// The number by which judging refuses the store, if it does.

@@ -13,6 +13,9 @@ pub struct Edition {
     pub slots: u32,
     /// In the header.
     pub root_count: Field,
+    /// In the header after it: the oldest version (2026-12). Edition 1 has none,
+    /// and its oldest version is 0.
+    pub oldest: Option<Field>,
     /// In a page's 16 bytes, behind its level.
     pub entry_count: Field,
     pub page_start: Field,
@@ -33,6 +36,7 @@ pub static FIRST: Edition = Edition {
     page_bytes: 256,
     slots: 256,
     root_count: Field::new(74, 9),
+    oldest: None,
     entry_count: Field::new(4, 5),
     page_start: Field::new(9, 20),
     page_end: Field::new(29, 20),
@@ -48,6 +52,7 @@ pub static SECOND: Edition = Edition {
     page_bytes: 512,
     slots: 512,
     root_count: Field::new(74, 10),
+    oldest: Some(Field::new(84, 20)),
     entry_count: Field::new(4, 6),
     page_start: Field::new(10, 20),
     page_end: Field::new(30, 20),
@@ -73,6 +78,11 @@ impl Edition {
     pub fn of(store: &[u8]) -> &'static Edition {
         let number = store.get(4).copied().unwrap_or(0);
         Edition::named(number).unwrap_or(&FIRST)
+    }
+
+    /// The bit behind the last field of the header.
+    pub fn header_end(&self) -> usize {
+        self.oldest.unwrap_or(self.root_count).end()
     }
 
     /// The bit behind the last field of a page's 16 bytes.

@@ -20,6 +20,8 @@ pub enum Call {
     Abandon,
     /// Version.
     Return(u32),
+    /// Version.
+    Prune(u32),
     /// Key and version.
     Lookup(u32, u32),
     /// Low, high, version, and how many numbers the lent list holds.
@@ -129,6 +131,7 @@ pub fn apply(call: Call, store: &mut [u8], list: &mut [u32]) -> Answer {
         Call::Commit => Answer::of(calls::commit(store)),
         Call::Abandon => Answer::of(calls::abandon(store)),
         Call::Return(version) => Answer::of(calls::return_to(store, version)),
+        Call::Prune(version) => Answer::of(calls::prune(store, version)),
         Call::Check => {
             let (number, rule) = calls::check(store);
             Answer {

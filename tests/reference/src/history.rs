@@ -56,6 +56,9 @@ pub struct History {
     /// Whether it goes back to earlier versions. That undoes what has grown, so
     /// only half of the histories do.
     returns: bool,
+    /// Whether it prunes: half of edition 2's do, and an eighth of edition 1's,
+    /// where that is refused.
+    prunes: bool,
     /// Refusals for lack of a page or slot since the last fresh store.
     stuck: u32,
     begun: bool,
@@ -70,7 +73,7 @@ impl History {
 
     /// The same of any edition.
     pub fn of(edition: &'static Edition, seed: u64, kind: Kind, pages: usize) -> History {
-        let model = Model::fresh();
+        let model = Model::fresh_of(edition);
         let history = History::on_store_of(edition, seed, kind, pages, model);
         History {
             begun: false,
@@ -110,6 +113,10 @@ impl History {
             left: 0,
             abandons: rng.between(2, 12),
             returns: seed / 4 % 2 == 1,
+            prunes: match edition == &FIRST {
+                true => seed / 8 % 8 == 7,
+                false => seed / 8 % 2 == 1,
+            },
             stuck: 0,
             begun: true,
             model,
@@ -162,6 +169,9 @@ impl History {
 
     fn update(&mut self) -> Call {
         if !self.model.is_open() {
+            if self.prunes && self.rng.once_in(8) {
+                return self.prune();
+            }
             self.left = self.length_of_update();
             return Call::Open;
         }
@@ -183,11 +193,25 @@ impl History {
     }
 
     fn go_back(&mut self) -> Call {
-        let current = self.model.current;
-        Call::Return(match self.rng.below(4) {
+        Call::Return(self.some_committed())
+    }
+
+    fn some_committed(&mut self) -> u32 {
+        let (oldest, current) = (self.model.oldest, self.model.current);
+        match self.rng.below(4) {
             0 => current,
-            1 => current.saturating_sub(1),
-            _ => self.rng.between(0, current),
+            1 => current.saturating_sub(1).max(oldest),
+            _ => self.rng.between(oldest, current),
+        }
+    }
+
+    /// Mostly to a version among the older half.
+    fn prune(&mut self) -> Call {
+        let oldest = self.model.oldest;
+        Call::Prune(match self.rng.below(6) {
+            0 => oldest,
+            1 => self.some_committed(),
+            _ => oldest + (self.some_committed() - oldest) / 2,
         })
     }
 
@@ -295,11 +319,11 @@ impl History {
     }
 
     fn some_version(&mut self) -> u32 {
-        let last = self.model.last();
+        let (oldest, last) = (self.model.oldest, self.model.last());
         match self.rng.below(3) {
             0 => last,
-            1 => last.saturating_sub(1),
-            _ => self.rng.between(0, last),
+            1 => last.saturating_sub(1).max(oldest),
+            _ => self.rng.between(oldest, last),
         }
     }
 
@@ -349,7 +373,10 @@ impl History {
             1 => u32::MAX,
             _ => self.rng.between(HIGHEST_KEY + 1, u32::MAX),
         };
+        let oldest = self.model.oldest;
         let late = match self.rng.below(2) {
+            // Too early is refused as too late is.
+            _ if oldest > 0 && self.rng.once_in(2) => self.rng.between(0, oldest - 1),
             0 => self.model.last() + 1,
             _ => self.rng.between(self.model.last() + 1, u32::MAX),
         };
@@ -359,6 +386,13 @@ impl History {
         };
         let (key, version) = (self.some_key(), self.some_version());
         let word = self.rng.word();
+        if self.prunes && self.rng.once_in(8) {
+            return match self.rng.once_in(2) {
+                true => Call::Prune(late),
+                false if self.model.is_open() => self.prune(),
+                false => Call::Prune(self.model.last() + 1),
+            };
+        }
         match self.rng.below(if self.returns { 20 } else { 18 }) {
             0 => Call::Insert(too_large, word),
             1 => Call::Delete(too_large),

@@ -76,10 +76,10 @@ impl Image {
         self.slots[behind - 1].root
     }
 
-    /// The versions up to last at which anything starts or ends, rising, 0
-    /// among them. Between two of them no slot begins and no entry or page
-    /// starts or ends, so the walk at a version is the walk at the last of
-    /// these at or below it.
+    /// The versions from the oldest to last at which anything starts or ends,
+    /// rising, the oldest among them. Between two of them no slot begins and no
+    /// entry or page starts or ends, so the walk at a version is the walk at the
+    /// last of these at or below it.
     pub fn turning_points(&self) -> Vec<u32> {
         let slots = self.slots.iter().map(|slot| slot.version);
         let spans = self.used().flat_map(|(_, page)| {
@@ -87,9 +87,9 @@ impl Image {
             entries.chain([page.span])
         });
         let ends = spans.flat_map(|span| [span.start, span.end]);
-        let last = self.header.last();
-        let mut versions: Vec<u32> = slots.chain(ends).chain([0]).collect();
-        versions.retain(|version| *version <= last);
+        let oldest = self.header.oldest;
+        let mut versions: Vec<u32> = slots.chain(ends).chain([oldest]).collect();
+        versions.retain(|version| self.header.can_read(*version));
         versions.sort_unstable();
         versions.dedup();
         versions

@@ -222,6 +222,7 @@ pub struct Header {
     pub current: u32,
     pub open: bool,
     pub roots: u32,
+    pub oldest: u32,
 }
 
 impl Header {
@@ -233,6 +234,7 @@ impl Header {
             current,
             open,
             roots: 0,
+            oldest: 0,
         }
     }
 
@@ -244,6 +246,7 @@ impl Header {
             current: at::CURRENT.get(bytes),
             open: at::OPEN_FLAG.get(bytes) == 1,
             roots: edition.root_count.get(bytes),
+            oldest: edition.oldest.map_or(0, |oldest| oldest.get(bytes)),
         }
     }
 
@@ -254,6 +257,14 @@ impl Header {
         at::CURRENT.set(bytes, self.current);
         at::OPEN_FLAG.set(bytes, u32::from(self.open));
         self.edition.root_count.set(bytes, self.roots);
+        if let Some(oldest) = self.edition.oldest {
+            oldest.set(bytes, self.oldest);
+        }
+    }
+
+    /// Whether a version can be read: from the oldest to last.
+    pub fn can_read(&self, version: u32) -> bool {
+        (self.oldest..=self.last()).contains(&version)
     }
 
     /// "Last": the open version if one is open, else the current one.

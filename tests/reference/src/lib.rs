@@ -10,7 +10,7 @@
 //! - [`walk`]: lookups and ranges on a sound store; [`reading`]: the same on any
 //!   bytes, judged as they go; [`update`] over a [`draft`]: the page rules;
 //!   [`mod@abandon`]; [`mod@difference`]; [`mod@life`]; [`returning`];
-//!   [`convert`]: from edition 1 to edition 2;
+//!   [`convert`]: from edition 1 to edition 2; [`mod@prune`];
 //! - [`unjudged`]: the calls on a store known to be sound, and [`calls`]: the
 //!   calls as the console has them, on any bytes; [`named`]: named settings and
 //!   the viewer above them;
@@ -22,7 +22,7 @@
 //!   [`beside`]: two of them on the same history, compared byte for byte;
 //! - [`model`]: the settings of each version as a plain ordered map;
 //! - [`history`], [`lines`]: calls and console input from a seed;
-//! - [`foreign`], [`tall`]: sound stores that no history makes;
+//! - [`foreign`], [`pruned`], [`tall`]: sound stores that no history makes;
 //! - [`damage`]: unsound stores, with the rule that each one breaks;
 //!   [`wild`]: stores that keep rules 1 and 2 alone;
 //! - [`samples`]: sound stores of all these shapes from a seed;
@@ -51,6 +51,8 @@ pub mod lines;
 pub mod model;
 pub mod named;
 pub mod number;
+pub mod prune;
+pub mod pruned;
 pub mod reading;
 pub mod returning;
 pub mod rng;

@@ -3,7 +3,7 @@
 //! "Every stretch of committed versions in which it held one value, oldest
 //! first": start, end and value. A stretch ends at the first version behind
 //! it, or is alive where the current version is in it, whatever an open update
-//! has done since.
+//! has done since. None starts before the oldest version (2026-12).
 
 use crate::image::Image;
 use crate::layout::ALIVE;
@@ -11,9 +11,9 @@ use crate::{store, walk};
 
 /// The stretches of `key`, asked for at every committed version.
 pub fn literally(bytes: &[u8], key: u32) -> Vec<[u32; 3]> {
-    let current = store::header(bytes).current;
+    let header = store::header(bytes);
     let value = |version| (version, walk::lookup(bytes, key, version));
-    stretches((0..=current).map(value))
+    stretches((header.oldest..=header.current).map(value))
 }
 
 /// The same, asked for only where anything starts or ends: between two such

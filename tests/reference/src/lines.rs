@@ -66,11 +66,12 @@ impl Session {
         self.write(call, input, Some(rng));
     }
 
-    /// The console has no line for a return, and none stands for it.
+    /// The console has no line for a return or a prune, and none stands for
+    /// them.
     fn next_call(&mut self) -> Call {
         loop {
             match self.history.next_call() {
-                Call::Return(_) => continue,
+                Call::Return(_) | Call::Prune(_) => continue,
                 call => return call,
             }
         }
@@ -95,7 +96,11 @@ impl Session {
         match call {
             Call::Fresh | Call::FreshSecond => format!("store {}", self.pages),
             // There is no line for these; a lookup stands for them.
-            Call::Check | Call::Difference(..) | Call::Life(..) | Call::Return(_) => {
+            Call::Check
+            | Call::Difference(..)
+            | Call::Life(..)
+            | Call::Return(_)
+            | Call::Prune(_) => {
                 format!("get 0 {}", self.history.model().last())
             }
             Call::Open => "open".to_string(),

@@ -8,6 +8,7 @@
 use std::collections::BTreeMap;
 
 use crate::difference::differences;
+use crate::edition::{Edition, FIRST, SECOND};
 use crate::engine::{Answer, Call};
 use crate::image::Image;
 use crate::layout::{FIRST_BENCH_KEY, HIGHEST_KEY, HIGHEST_VERSION};
@@ -17,7 +18,10 @@ pub type Settings = BTreeMap<u32, u32>;
 
 #[derive(Clone, Debug, PartialEq, Eq)]
 pub struct Model {
+    /// Known for prune's 3 alone.
+    edition: &'static Edition,
     pub current: u32,
+    pub oldest: u32,
     /// The settings from a version on, up to the next one that stands here.
     committed: BTreeMap<u32, Settings>,
     open: Option<Settings>,
@@ -31,8 +35,14 @@ impl Default for Model {
 
 impl Model {
     pub fn fresh() -> Model {
+        Model::fresh_of(&FIRST)
+    }
+
+    pub fn fresh_of(edition: &'static Edition) -> Model {
         Model {
+            edition,
             current: 0,
+            oldest: 0,
             committed: BTreeMap::from([(0, Settings::new())]),
             open: None,
         }
@@ -46,7 +56,9 @@ impl Model {
         let versions = Image::read(bytes).turning_points();
         let committed = versions.into_iter().filter(|v| *v <= header.current);
         Model {
+            edition: header.edition,
             current: header.current,
+            oldest: header.oldest,
             committed: committed.map(|v| (v, settings(v))).collect(),
             open: header.open.then(|| settings(header.last())),
         }
@@ -60,13 +72,13 @@ impl Model {
         self.current + u32::from(self.is_open())
     }
 
-    /// The settings alive at `version`, which is at most last.
+    /// The settings alive at `version`, which can be read.
     pub fn at(&self, version: u32) -> &Settings {
         match &self.open {
             Some(open) if version > self.current => open,
             _ => {
                 let mut upto = self.committed.range(..=version);
-                upto.next_back().expect("version 0 is always there").1
+                upto.next_back().expect("the oldest is always there").1
             }
         }
     }
@@ -85,7 +97,8 @@ impl Model {
             Call::Open => Answer::of(self.number_of_open()),
             Call::Commit if self.nothing_changed() => Answer::of(number::NOTHING_CHANGED),
             Call::Commit | Call::Abandon => Answer::of(self.number_unless_open()),
-            Call::Return(version) if version > self.current => Answer::of(number::VERSION),
+            Call::Return(version) if !self.is_committed(version) => Answer::of(number::VERSION),
+            Call::Prune(version) => Answer::of(self.number_of_prune(version)),
             Call::Return(_) => Answer::of(self.number_unless_open()),
             Call::Insert(key, _) if key >= FIRST_BENCH_KEY => Answer::of(number::ARGUMENT),
             Call::Insert(key, _) => Answer::of(self.number_of_update(key, number::KEY_ALIVE)),
@@ -97,6 +110,26 @@ impl Model {
             Call::Visits(key, version, _) => Answer::of(self.number_of_reading(key, version)),
             Call::Difference(old, new, length) => self.answer_to_difference(old, new, length),
             Call::Life(key, length) => self.answer_to_life(key, length),
+        }
+    }
+
+    fn is_committed(&self, version: u32) -> bool {
+        (self.oldest..=self.current).contains(&version)
+    }
+
+    fn can_read(&self, version: u32) -> bool {
+        (self.oldest..=self.last()).contains(&version)
+    }
+
+    fn number_of_prune(&self, version: u32) -> u32 {
+        if self.edition == &FIRST {
+            number::EDITION
+        } else if !self.is_committed(version) {
+            number::VERSION
+        } else if self.is_open() {
+            number::ALREADY_OPEN
+        } else {
+            number::DONE
         }
     }
 
@@ -142,7 +175,7 @@ impl Model {
     fn number_of_reading(&self, key: u32, version: u32) -> u32 {
         if key > HIGHEST_KEY {
             number::ARGUMENT
-        } else if version > self.last() {
+        } else if !self.can_read(version) {
             number::VERSION
         } else {
             number::DONE
@@ -166,7 +199,7 @@ impl Model {
         if low > high || high > HIGHEST_KEY {
             return Answer::of(number::ARGUMENT);
         }
-        if version > self.last() {
+        if !self.can_read(version) {
             return Answer::of(number::VERSION);
         }
         let wanted = self.listed(low, high, version).len();
@@ -183,7 +216,7 @@ impl Model {
     }
 
     fn answer_to_difference(&self, old: u32, new: u32, length: usize) -> Answer {
-        if old.max(new) > self.last() {
+        if !self.can_read(old) || !self.can_read(new) {
             return Answer::of(number::VERSION);
         }
         let wanted = self.differing(old, new).len();
@@ -216,7 +249,8 @@ impl Model {
     /// Makes the change of a call that was accepted.
     pub fn record(&mut self, call: Call) {
         match call {
-            Call::Fresh | Call::FreshSecond => *self = Model::fresh(),
+            Call::Fresh => *self = Model::fresh_of(&FIRST),
+            Call::FreshSecond => *self = Model::fresh_of(&SECOND),
             Call::Open => self.open = Some(self.at(self.current).clone()),
             Call::Insert(key, value) => {
                 self.opened().insert(key, value);
@@ -232,9 +266,17 @@ impl Model {
             }
             Call::Abandon => self.open = None,
             Call::Return(version) => *self.opened() = self.at(version).clone(),
+            Call::Prune(version) => self.prune(version),
             Call::Check | Call::Lookup(..) | Call::Range(..) => {}
             Call::Visits(..) | Call::Difference(..) | Call::Life(..) => {}
         }
+    }
+
+    fn prune(&mut self, version: u32) {
+        let oldest = self.at(version).clone();
+        self.committed = self.committed.split_off(&version);
+        self.committed.insert(version, oldest);
+        self.oldest = version;
     }
 
     fn opened(&mut self) -> &mut Settings {

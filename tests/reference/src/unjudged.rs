@@ -8,7 +8,7 @@
 use crate::difference::differences;
 use crate::layout::{Header, FIRST_BENCH_KEY, HIGHEST_KEY, HIGHEST_VERSION};
 use crate::update::{self, Change};
-use crate::{abandon, life, number, returning, store, walk};
+use crate::{abandon, life, number, prune, returning, store, walk};
 
 pub fn open(bytes: &mut [u8]) -> u32 {
     let header = store::header(bytes);
@@ -111,7 +111,7 @@ pub fn abandon(bytes: &mut [u8]) -> u32 {
 /// the update with the number of the first step that is refused.
 pub fn return_to(bytes: &mut [u8], version: u32) -> u32 {
     let header = store::header(bytes);
-    if version > header.current {
+    if !(header.oldest..=header.current).contains(&version) {
         return number::VERSION;
     }
     if !header.open {
@@ -124,12 +124,25 @@ pub fn return_to(bytes: &mut [u8], version: u32) -> u32 {
     number
 }
 
+/// Prunes to a committed version at least the oldest. Wants edition 2.
+pub fn prune(bytes: &mut [u8], version: u32) -> u32 {
+    let header = store::header(bytes);
+    if !(header.oldest..=header.current).contains(&version) {
+        return number::VERSION;
+    }
+    if header.open {
+        return number::ALREADY_OPEN;
+    }
+    prune::prune(bytes, version);
+    number::DONE
+}
+
 /// The number, whether the key was found, and its value.
 pub fn lookup(bytes: &[u8], key: u32, version: u32) -> (u32, bool, u32) {
     if key > HIGHEST_KEY {
         return (number::ARGUMENT, false, 0);
     }
-    if version > store::header(bytes).last() {
+    if !store::header(bytes).can_read(version) {
         return (number::VERSION, false, 0);
     }
     match walk::lookup(bytes, key, version) {
@@ -144,7 +157,7 @@ pub fn range(bytes: &[u8], low: u32, high: u32, version: u32, list: &mut [u32]) 
     if low > HIGHEST_KEY || high > HIGHEST_KEY || low > high {
         return (number::ARGUMENT, 0);
     }
-    if version > store::header(bytes).last() {
+    if !store::header(bytes).can_read(version) {
         return (number::VERSION, 0);
     }
     let settings = walk::range(bytes, low, high, version);
@@ -164,7 +177,7 @@ pub fn visits(bytes: &[u8], key: u32, version: u32, list: &mut [u32]) -> (u32, u
     if key > HIGHEST_KEY {
         return (number::ARGUMENT, 0);
     }
-    if version > store::header(bytes).last() {
+    if !store::header(bytes).can_read(version) {
         return (number::VERSION, 0);
     }
     let path = walk::path(bytes, key, version);
@@ -180,8 +193,8 @@ pub fn visits(bytes: &[u8], key: u32, version: u32, list: &mut [u32]) -> (u32, u
 
 /// The number and the count of differences between two readable versions.
 pub fn difference(bytes: &[u8], old: u32, new: u32, list: &mut [u32]) -> (u32, u32) {
-    let last = store::header(bytes).last();
-    if old > last || new > last {
+    let header = store::header(bytes);
+    if !header.can_read(old) || !header.can_read(new) {
         return (number::VERSION, 0);
     }
     let settings = |version| walk::settings(bytes, version);

@@ -6,13 +6,16 @@ use crate::store;
 
 /// "The root of v is the last slot at or below v."
 pub fn root(bytes: &[u8], version: u32) -> u32 {
+    store::slot(bytes, slot_index(bytes, version)).root
+}
+
+/// The place of that slot.
+pub fn slot_index(bytes: &[u8], version: u32) -> u32 {
     let roots = store::header(bytes).roots;
     (0..roots)
-        .map(|index| store::slot(bytes, index))
-        .take_while(|slot| slot.version <= version)
+        .take_while(|index| store::slot(bytes, *index).version <= version)
         .last()
-        .expect("a sound directory begins at version 0")
-        .root
+        .expect("a sound directory begins at or below the oldest version")
 }
 
 /// A page met on the way down, and its low key there.

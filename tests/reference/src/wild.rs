@@ -30,12 +30,18 @@ pub fn wild_store_of(edition: &'static Edition, rng: &mut Rng) -> Vec<u8> {
         slots: Vec::new(),
         pages: pages.collect(),
     };
-    for version in 0..=last {
-        if version == 0 || rng.once_in(3) {
+    if edition.oldest.is_some() && rng.once_in(2) {
+        image.header.oldest = rng.between(0, image.header.current);
+    }
+    // One slot at or below the oldest version, and any behind it.
+    let oldest = image.header.oldest;
+    for version in oldest..=last {
+        if version == oldest || rng.once_in(3) {
             let root = FIRST_PAGE + highest(&levels, rng);
             image.slots.push(Slot { version, root });
         }
     }
+    image.slots[0].version = rng.between(0, oldest);
     image.write()
 }
 

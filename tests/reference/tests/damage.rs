@@ -58,6 +58,7 @@ fn all_calls_refuse(bytes: &[u8], number: u32, rule: u32, rng: &mut Rng) {
         Call::Commit,
         Call::Abandon,
         Call::Return(two),
+        Call::Prune(two),
         Call::Visits(two, 0, 8),
         Call::Difference(one, two, 8),
         Call::Life(two, 8),
@@ -65,6 +66,12 @@ fn all_calls_refuse(bytes: &[u8], number: u32, rule: u32, rng: &mut Rng) {
     for call in calls {
         let mut list = [3; 8];
         let list = &mut list[..call.list_length()];
+        let first = bytes.get(4) == Some(&1) && number != 2;
+        let number = match call {
+            // In 3's place edition 1 too.
+            Call::Prune(_) if first => 3,
+            _ => number,
+        };
         assert_eq!(apply(call, &mut lent, list), Answer::of(number));
         assert!(list.iter().all(|number| *number == 3));
     }
@@ -109,10 +116,13 @@ fn each_rule_is_the_lowest_broken_one(edition: &'static Edition, rounds: u64) {
         let damaged = seeds.filter(|seed| damage_once(edition, &damage, *seed));
         let times = damaged.count() as u64;
         println!("rule {} {:>5} times: {}", damage.rule, times, damage.name);
-        let fewest = if damage.rule == 8 && edition == &FIRST {
-            0
-        } else {
-            20
+        // The live count and the oldest version are edition 2's. Few of its stores
+        // here have what ended before the oldest: `pruned` has more of them.
+        let ended = damage.name.contains("oldest version") || damage.name.contains("ended");
+        let second_alone = damage.rule == 8 || damage.name.contains("the oldest");
+        let fewest = match edition == &FIRST && second_alone || ended {
+            true => 0,
+            false => 20,
         };
         assert!(
             times >= fewest,

@@ -29,6 +29,7 @@ struct Met {
     roots_that_went: u64,
     returns: u64,
     stopped: u64,
+    prunes: u64,
 }
 
 impl Met {
@@ -41,6 +42,7 @@ impl Met {
         self.roots_that_went += followed.roots_that_went;
         self.returns += followed.returns;
         self.stopped += followed.stopped;
+        self.prunes += followed.prunes;
     }
 
     fn given(&self, number: u32) -> u64 {
@@ -114,6 +116,7 @@ fn small_stores_of_edition_2() {
     }
     assert!(met.abandons > 50 && met.roots_that_went > 3, "{met:?}");
     assert!(met.returns > 300 && met.stopped > 10, "{met:?}");
+    assert!(met.prunes > 300, "{met:?}");
 }
 
 #[test]

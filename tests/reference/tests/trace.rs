@@ -194,7 +194,7 @@ fn lines_there_and_back() {
 }
 
 const WORDS: &str = "store store2 open insert delete commit abandon get range check visits list \
-                     byte cut rawinsert rawcommit diff life return convert swap";
+                     byte cut rawinsert rawcommit diff life return convert swap prune";
 const NUMBERS: &str = "0 1 2 3 4 5 6 7 8 10 11 12 14 15 bad";
 
 /// How often each first word and each number stands in generated lines.

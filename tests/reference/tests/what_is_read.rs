@@ -191,7 +191,7 @@ fn damage_on_and_off_the_walk() {
         for _ in 0..6 {
             let (one, other) = (*rng.pick(&keys).unwrap(), *rng.pick(&keys).unwrap());
             let (low, high) = (one.min(other), one.max(other));
-            let version = rng.between(0, last);
+            let version = rng.between(store::header(&sound).oldest, last);
             let walked = walked(&sound, low, high, version);
             let mut bytes = sound.clone();
             for number in store::page_numbers(&sound).filter(|n| !walked.contains(n)) {

@@ -116,7 +116,7 @@ impl Both {
             pages,
             tree: pages.map_or(Ok(Vec::new()), |pages| fresh(pages, edition))?,
             items: Vec::new(),
-            state: State::default(),
+            state: State::fresh(edition),
         })
     }
 
@@ -149,7 +149,7 @@ impl Both {
         };
         self.tree = tree;
         self.items.clear();
-        self.state = State::default();
+        self.state = State::fresh(self.edition);
         (Answer::Done, Beside::Answers(Answer::Done))
     }
 
@@ -187,6 +187,7 @@ fn by_tree(store: &mut [u8], call: Call) -> Answer {
         Call::Commit => Answer::of(rcst::commit(store)),
         Call::Abandon => Answer::of(rcst::abandon(store)),
         Call::Return(version) => Answer::of(rcst::return_to(store, version)),
+        Call::Prune(version) => Answer::of(rcst::prune(store, version)),
         Call::Get(key, version) => Answer::looked(rcst::lookup(store, key, version)),
         Call::Range(low, high, version) => {
             Answer::listed(2, |list| rcst::range(store, low, high, version, list))
@@ -207,6 +208,7 @@ fn by_plain(engine: &mut Engine, call: Call) -> Answer {
         Call::Commit => Answer::of(engine.commit()),
         Call::Abandon => Answer::of(engine.abandon()),
         Call::Return(version) => Answer::of(engine.return_to(version)),
+        Call::Prune(version) => Answer::of(engine.prune(version)),
         Call::Get(key, version) => Answer::looked(engine.lookup(key, version)),
         Call::Range(low, high, version) => {
             Answer::listed(2, |list| engine.range(low, high, version, list))

@@ -1,4 +1,4 @@
-//! The lines of a history: the console's, and three for calls that the console has
+//! The lines of a history: the console's, and four for calls that the console has
 //! not. An empty line, or one that begins with `#`, says nothing.
 
 use crate::fault::Fault;
@@ -17,6 +17,8 @@ pub enum Call {
     Abandon,
     /// Version.
     Return(u32),
+    /// Version.
+    Prune(u32),
     /// Key and version.
     Get(u32, u32),
     /// Low, high and version.
@@ -61,6 +63,7 @@ fn call(word: &str, numbers: &[&str]) -> Option<Call> {
         ("commit", []) => Call::Commit,
         ("abandon", []) => Call::Abandon,
         ("return", [version]) => Call::Return(*version),
+        ("prune", [version]) => Call::Prune(*version),
         ("get", [key, version]) => Call::Get(*key, *version),
         ("range", [low, high, version]) => Call::Range(*low, *high, *version),
         ("diff", [old, new]) => Call::Difference(*old, *new),

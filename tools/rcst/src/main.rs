@@ -16,6 +16,7 @@ mod fresh;
 mod history;
 mod line;
 mod names;
+mod passed;
 mod picture;
 mod place;
 mod plain;

@@ -27,7 +27,7 @@ fn made(
     store: &mut [u8],
     act: impl FnOnce(&mut [u8], u32) -> Result<(), Fault>,
 ) -> Result<u32, Fault> {
-    done("open", rcst::open(store)).map_err(advised)?;
+    done("open", rcst::open(store)).map_err(left_open)?;
     let version = state(store)
         .map_err(|number| Fault::number("open", number))?
         .last();
@@ -36,7 +36,8 @@ fn made(
     Ok(version)
 }
 
-fn advised(fault: Fault) -> Fault {
+/// A refusal by 8, with what to do about it.
+pub fn left_open(fault: Fault) -> Fault {
     match u32::from(fault.status) {
         rcst::number::UPDATE_ALREADY_OPEN => {
             fault.but("a program ended inside an update; 'rcst abandon' ends it")

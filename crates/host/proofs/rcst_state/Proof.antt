@@ -18,7 +18,7 @@ returns : tie.Need-returns
 returns c =
     let t = c .before .before .state .result in
     let e = c .before .before .state .ensures in
-    (ap (λ (x : State). x .number) e, ap (λ (n : ℕ). t .pages ∷ t .current ∷ n ∷ t .roots ∷ t .edition ∷ t .free ∷ []) (c .before .flag .ensures) ∙ ap stateNumbers e)
+    (ap (λ (x : State). x .number) e, ap (λ (n : ℕ). t .pages ∷ t .current ∷ n ∷ t .roots ∷ t .edition ∷ t .free ∷ t .oldest ∷ []) (c .before .flag .ensures) ∙ ap stateNumbers e)
 
 pub rcst-state-spec : {M : Type 1} → statement M
 rcst-state-spec = tie.close (tie.spec state-requires flag-requires returns)

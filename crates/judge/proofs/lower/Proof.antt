@@ -67,13 +67,16 @@ surely-requires : tie.Need-surely-requires
 surely-requires c κs =
     let e = c .before .before .before .before .before .before .before .before .before in
     let a = e .args in
-    (e .pre .0, good (a .l .least) (a .s .now) (a .size) (e .pre .1) (one (c .before .before .before .before .before .before)) (three (c .before)), c .led .ensures)
+    (e .pre .0, good (a .l .least) (a .s .now) (a .size) (e .pre .1) (one (c .before .before .before .before .before .before)) (three (c .before)), good-slots (a .l .least) (a .s .now) (a .size) (e .pre .1) (one (c .before .before .before .before .before .before)), c .led .ensures)
+
+seventh-requires : tie.Need-seventh-requires
+seventh-requires c κs = let at = c .before .before .before in (at .before .before .before .before .before .before .before .before .pre .0, is-held (at .before .before .before .before))
 
 returns-4 : tie.Need-returns-4
 returns-4 c =
-    let at = c .before .before .before in
+    let at = c .before .before .before .before in
     let e = at .before .before .before .before .before .before .before .before in
-    named-sound (e .args .l .least) (e .args .s .now) (omega (arith, e .pre .0 .four)) (one (at .before .before .before .before .before)) (two (at .before .before)) (three at) (c .before .surely .ensures (c .if4 .taken))
+    named-sound (e .args .l .least) (e .args .s .now) (omega (arith, e .pre .0 .four)) (one (at .before .before .before .before .before)) (two (at .before .before)) (three at) (c .before .before .surely .ensures (c .before .if4 .taken)) (c .seventh .result) (c .seventh .ensures)
 
 broken-requires : tie.Need-broken-requires
 broken-requires c κs = (c .before .before .before .before .before .before .before .before .before .before .before .pre .0, is-ready (c .before .before .before))
@@ -88,13 +91,13 @@ last-requires : tie.Need-last-requires
 last-requires c κs = rw (c .before .before .before .before .before .before .before .before .before .header .ensures) (current-lt (c .before .before .before .before .before .before .before .before .before .before .before .before .before .args .l .least) (c .before .before .before .before .before .before .before .before .before .before .before .before .before .args .s .now))
 
 version-ok-requires : tie.Need-version-ok-requires
-version-ok-requires c κs = let y = is-ready (c .before .before .before .before .before .before) in (c .before .before .before .before .before .before .before .before .before .before .before .before .before .before .pre .0, y, omega (arith, c .last .ensures, y .last))
+version-ok-requires c κs = let y = is-ready (c .before .before .before .before .before .before) in (c .before .before .before .before .before .before .before .before .before .before .before .before .before .before .pre .0, y, omega (arith, c .last .ensures, y .last), omega (arith, c .last .ensures, y .old))
 
 returns-6 : tie.Need-returns-6
 returns-6 c =
     let at = c .before .before .before .before .before .before .before .before in
     let a = c .before .before .before .before .before .before .before .before .before .before .before .before .before .before .before .before .args in
-    six-last (a .l .least) (a .s .now) (one (at .before .before .before .before .before)) (two (at .before .before)) (three at) (c .before .before .before .before .broken .result) (c .before .before .before .before .broken .ensures) (c .before .before .before .if5 .left) (c .before .before .before .before .before .before .before .before .before .before .before .before .header .result) (c .before .before .last .result) (c .before .before .before .before .before .before .before .before .before .before .before .before .header .ensures) (c .before .before .last .ensures) (sym (c .before .version-ok .ensures) ∙ not-true (c .before .version-ok .result) (c .if6 .taken))
+    six-last (a .l .least) (a .s .now) (one (at .before .before .before .before .before)) (two (at .before .before)) (three at) (c .before .before .before .before .broken .result) (c .before .before .before .before .broken .ensures) (c .before .before .before .if5 .left) (c .before .before .before .before .before .before .before .before .before .before .before .before .header .result) (c .before .before .last .result) (c .before .before .before .before .before .before .before .before .before .before .before .before .header .ensures) (c .before .before .last .ensures) (omega (arith, is-ready at .old, c .before .before .last .ensures)) (sym (c .before .version-ok .ensures) ∙ not-true (c .before .version-ok .result) (c .if6 .taken))
 
 returns-7 : tie.Need-returns-7
 returns-7 c =
@@ -103,12 +106,20 @@ returns-7 c =
     let a = e .args in
     six-led (a .l .least) (a .s .now) (one (at .before .before .before .before .before)) (two (at .before .before)) (three at) (c .before .before .before .before .before .broken .result) (c .before .before .before .before .before .broken .ensures) (c .before .before .before .before .if5 .left) (omega (arith, e .pre .0 .four)) (c .before .before .before .before .before .before .before .before .led .result) (c .before .before .before .before .before .before .before .before .led .ensures) (not-true (c .before .before .before .before .before .before .before .before .led .result) (c .if7 .taken))
 
+seventh-requires-2 : tie.Need-seventh-requires-2
+seventh-requires-2 c κs =
+    let at = c .before .before .before .before .before .before .before .before .before in
+    (at .before .before .before .before .before .before .before .before .pre .0, is-held (at .before .before .before .before))
+
 returns-8 : tie.Need-returns-8
 returns-8 c =
-    let at = c .before .before .before .before .before .before .before .before .before in
-    let e = c .before .before .before .before .before .before .before .before .before .before .before .before .before .before .before .before .before in
+    let at-if = c .before in
+    let at-led = at-if .before .before .before .before .before .before .before .before in
+    let at = at-led .before in
+    let e = at .before .before .before .before .before .before .before .before in
     let a = e .args in
-    six-none (a .l .least) (a .s .now) (one (at .before .before .before .before .before)) (two (at .before .before)) (three at) (c .before .before .before .before .before .broken .result) (c .before .before .before .before .before .broken .ensures) (c .before .before .before .before .if5 .left) (omega (arith, e .pre .0 .four)) (c .before .before .before .before .before .before .before .before .led .result) (c .before .before .before .before .before .before .before .before .led .ensures) (not-false (c .before .before .before .before .before .before .before .before .led .result) (c .if7 .left))
+    let at-broken = at-if .before .before .before .before .before in
+    six-none (a .l .least) (a .s .now) (one (at .before .before .before .before .before)) (two (at .before .before)) (three at) (at-broken .broken .result) (at-broken .broken .ensures) (at-if .before .before .before .before .if5 .left) (omega (arith, e .pre .0 .four)) (at-led .led .result) (at-led .led .ensures) (not-false (at-led .led .result) (at-if .if7 .left)) (c .seventh2 .result) (c .seventh2 .ensures)
 
 pub lower-spec : {M : Type 1} → statement M
 lower-spec =
@@ -123,6 +134,7 @@ lower-spec =
     returns-3
     led-requires
     surely-requires
+    seventh-requires
     returns-4
     broken-requires
     returns-5
@@ -130,4 +142,5 @@ lower-spec =
     version-ok-requires
     returns-6
     returns-7
+    seventh-requires-2
     returns-8)

@@ -20,13 +20,13 @@ add-answer-until : tie.Need-add-answer-until Inv-loop μ-loop
 add-answer-until c = omega (arith, low (c .before .pre .0))
 
 answer-until-requires : tie.Need-answer-until-requires Inv-loop μ-loop
-answer-until-requires c κs = let p = c .before .pre in (reads-at (p .0) (c .before .args .v) (p .2), p .1, omega (arith, p .2))
+answer-until-requires c κs = let p = c .before .pre in (reads-at (p .0) (c .before .args .v) (p .2) (p .3), p .1, omega (arith, p .3))
 
 loop-holds : tie.Need-loop-holds Inv-loop μ-loop
 loop-holds c = let u = c .answer-until .ensures in record { above = u .above; below = omega (arith, u .below); same = u .still }
 
 lookup-requires : tie.Need-lookup-requires Inv-loop μ-loop
-lookup-requires c κs = let p = c .before .before .before .before .pre in (reads-at (p .0) (c .before .loop .u) (c .loop-test .taken), p .1)
+lookup-requires c κs = let p = c .before .before .before .before .pre in (reads-at (p .0) (c .before .loop .u) (omega (arith, p .2, c .before .loop .inv .above)) (c .loop-test .taken), p .1)
 
 same-requires : tie.Need-same-requires Inv-loop μ-loop
 same-requires c κs = search needs
@@ -37,7 +37,7 @@ returns c =
     let k = c .before .before .before .before .loop in
     let f = lookup (decode (a .l .least) (a .s .now)) (a .key) in
     lasts-other (a .c) f (a .v) (k .u) (k .inv)
-    (same-false (f (a .v)) (f (k .u)) (ap₂ sameAs (sym (c .before .before .before .before .before .before .before .pre .3)) (sym (c .before .before .lookup .ensures)) ∙ sym (c .before .same .ensures) ∙ not-true (c .before .same .result) (c .if1 .taken)))
+    (same-false (f (a .v)) (f (k .u)) (ap₂ sameAs (sym (c .before .before .before .before .before .before .before .pre .4)) (sym (c .before .before .lookup .ensures)) ∙ sym (c .before .same .ensures) ∙ not-true (c .before .same .result) (c .if1 .taken)))
 
 add-answer-until-2 : tie.Need-add-answer-until-2 Inv-loop μ-loop
 add-answer-until-2 c = omega (arith, low (c .before .before .before .before .before .before .before .pre .0))
@@ -46,7 +46,7 @@ answer-until-requires-2 : tie.Need-answer-until-requires-2 Inv-loop μ-loop
 answer-until-requires-2 c κs =
     let p = c .before .before .before .before .before .before .before .pre in
     let k = c .before .before .before .before .loop in
-    (reads-at (p .0) (k .u) (c .before .before .before .loop-test .taken), p .1, omega (arith, c .before .before .before .loop-test .taken))
+    (reads-at (p .0) (k .u) (omega (arith, p .2, k .inv .above)) (c .before .before .before .loop-test .taken), p .1, omega (arith, c .before .before .before .loop-test .taken))
 
 loop-less : tie.Need-loop-less Inv-loop μ-loop
 loop-less c = omega (arith, c .answer-until2 .ensures .above, c .before .before .before .before .loop-test .taken)
@@ -58,7 +58,7 @@ loop-again c =
     let f = lookup (decode (a .l .least) (a .s .now)) (a .key) in
     let u = c .answer-until2 .ensures in
     lasts-on (a .c) f (a .v) (k .u) (c .answer-until2 .result) (k .inv)
-    (same-true (f (a .v)) (f (k .u)) (ap₂ sameAs (sym (c .before .before .before .before .before .before .before .before .pre .3)) (sym (c .before .before .before .lookup .ensures)) ∙ sym (c .before .before .same .ensures) ∙ not-false (c .before .before .same .result) (c .before .if1 .left)))
+    (same-true (f (a .v)) (f (k .u)) (ap₂ sameAs (sym (c .before .before .before .before .before .before .before .before .pre .4)) (sym (c .before .before .before .lookup .ensures)) ∙ sym (c .before .before .same .ensures) ∙ not-false (c .before .before .same .result) (c .before .if1 .left)))
     (u .above) (omega (arith, u .below)) (u .still)
 
 returns-2 : tie.Need-returns-2 Inv-loop μ-loop

@@ -1,18 +1,18 @@
 -- `life` meets its contract: counted first, then written. Assumes nothing.
 use Prim.Native.Nat.{ℕ}
 use native.Mathlib.Omega.{arith}
-use mathlib.Core.Path.{ap, sym, _∙_}
+use mathlib.Core.Path.{ap₂, sym, _∙_}
 use borrow.Author.Needs.{needs}
 use lib.ListN.{length}
 use Rattle.model.specs.Walk.{lookup}
-use Rattle.model.specs.Layout.{decode}
+use Rattle.model.specs.Layout.{readHeader, decode}
 use Rattle.model.specs.Told.{toldBy}
 use Rattle.model.specs.Life.{lifeOf, stretchNumbers}
 use Rattle.model.specs.Lent.{listed}
 use Rattle.model.proofs.Telling.{none-room, counted, told-short, second-space, told-all}
-use Rattle.store.specs.Read.{current-of}
+use Rattle.store.specs.Read.{current-of, oldest-of}
 use Rattle.store.specs.Sure.{few, front}
-use Rattle.life.specs.Lived.{stretches, reads-current, few-stretches}
+use Rattle.life.specs.Lived.{stretches, reads-current, old-upto, few-stretches}
 use Rattle.life.proofs.life.Statement.{statement}
 use Rattle.life.proofs.life.Tie as tie
 
@@ -26,14 +26,14 @@ tell-all-requires : tie.Need-tell-all-requires
 tell-all-requires c κs =
     let p = c .before .before .before .before .pre in
     let a = c .before .before .before .before .args in
-    rw (c .before .header .ensures) (reads-current (p .0) (a .s .now) (p .1), p .2, none-room stretches (few-stretches (p .0) (a .s .now) (p .1) _))
+    rw (c .before .header .ensures) (reads-current (p .0) (a .s .now) (p .1), p .2, none-room stretches (few-stretches (p .0) (a .s .now) (p .1) _ _), omega (arith, oldest-of (a .l .least) (a .s .now)), old-upto (p .0) (a .s .now) (p .1))
 
 mul-if1 : tie.Need-mul-if1
 mul-if1 c =
     let p = c .before .before .before .before .before .before .before .pre in
     let a = c .before .before .before .before .before .before .before .args in
     let g = rw (c .before .before .before .before .header .ensures) at (c .before .before .tell-all .ensures) in
-    omega (arith, counted stretches g, few-stretches (p .0) (a .s .now) (p .1) (lookup (decode (a .l .least) (a .s .now)) (a .key)))
+    omega (arith, counted stretches g, few-stretches (p .0) (a .s .now) (p .1) (readHeader (a .l .least) (a .s .now) .oldest) (lookup (decode (a .l .least) (a .s .now)) (a .key)))
 
 same-length : tie.Need-same-length
 same-length c = search needs
@@ -43,14 +43,14 @@ returns c =
     let a = c .before .before .before .before .before .before .before .before .args in
     let g = rw (c .before .before .before .before .before .header .ensures) at (c .before .before .before .tell-all .ensures) in
     told-short stretches g (c .if1 .taken)
-    ∙ ap (λ (n : ℕ). listed (a .list .now) (toldBy stretchNumbers 3 0 (length (a .list .now)) (lifeOf n (lookup (decode (a .l .least) (a .s .now)) (a .key))))) (sym (current-of (a .l .least) (a .s .now)))
+    ∙ ap₂ (λ (m n : ℕ). listed (a .list .now) (toldBy stretchNumbers 3 0 (length (a .list .now)) (lifeOf m n (lookup (decode (a .l .least) (a .s .now)) (a .key))))) (sym (oldest-of (a .l .least) (a .s .now))) (sym (current-of (a .l .least) (a .s .now)))
 
 tell-all-requires-2 : tie.Need-tell-all-requires-2
 tell-all-requires-2 c κs =
     let p = c .before .before .before .before .before .before .before .before .before .pre in
     let a = c .before .before .before .before .before .before .before .before .before .args in
     let g = rw (c .before .before .before .before .before .before .header .ensures) at (c .before .before .before .before .tell-all .ensures) in
-    rw (c .before .before .before .before .before .before .header .ensures) (reads-current (p .0) (a .s .now) (p .1), p .2, second-space stretches g (c .before .if1 .left) (few-stretches (p .0) (a .s .now) (p .1) _))
+    rw (c .before .before .before .before .before .before .header .ensures) (reads-current (p .0) (a .s .now) (p .1), p .2, second-space stretches g (c .before .if1 .left) (few-stretches (p .0) (a .s .now) (p .1) _ _), omega (arith, oldest-of (a .l .least) (a .s .now)), old-upto (p .0) (a .s .now) (p .1))
 
 same-length-2 : tie.Need-same-length-2
 same-length-2 c = search needs
@@ -61,7 +61,7 @@ returns-2 c =
     let h = c .before .before .before .before .before .before .before .before .before .header .ensures in
     let g = rw h at (c .before .before .before .before .before .before .before .tell-all .ensures) in
     told-all stretches g (c .before .before .before .before .if1 .left) (rw h at (c .before .before .tell-all2 .ensures))
-    ∙ ap (λ (n : ℕ). listed (a .list .now) (toldBy stretchNumbers 3 0 (length (a .list .now)) (lifeOf n (lookup (decode (a .l .least) (a .s .now)) (a .key))))) (sym (current-of (a .l .least) (a .s .now)))
+    ∙ ap₂ (λ (m n : ℕ). listed (a .list .now) (toldBy stretchNumbers 3 0 (length (a .list .now)) (lifeOf m n (lookup (decode (a .l .least) (a .s .now)) (a .key))))) (sym (oldest-of (a .l .least) (a .s .now))) (sym (current-of (a .l .least) (a .s .now)))
 
 pub life-spec : {M : Type 1} → statement M
 life-spec =

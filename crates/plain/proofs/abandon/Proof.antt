@@ -9,7 +9,7 @@ use Rattle.model.specs.Calls.{benchLimit}
 use Rattle.plain.specs.Plain.{valueAt}
 use Rattle.plain.specs.Items.{plainOf, from, found-some, found-none}
 use Rattle.plain.specs.Calls.{givenBy, abandon-seven, abandon-left}
-use Rattle.plain.specs.Sweep.{swept-read}
+use Rattle.plain.specs.Sweep.{fate, swept-read}
 use mathlib.Core.Bool.{true}
 use borrow.Author.Tests.{not-true, not-false}
 use borrow.Author.Needs.{needs}
@@ -38,7 +38,7 @@ returns-2 c =
     let a = c .before .before .before .before .before .before .before .before .args in
     let g = c .before .before .sweep in
     abandon-left (a .s) (a .items .now) 0 (a .s .current + 1) (omega arith) (not-false (a .s .opened) (c .before .before .before .before .before .if1 .left)) _
-    (swept-read (a .s .current + 1) true 0 (a .s .count) (a .items .now) _ (g .result) (c .before .before .before .before .before .before .before .before .pre .lent) (g .ensures))
+    (swept-read (fate (a .s .current + 1) true 0) (a .s .count) (a .items .now) _ (g .result) (c .before .before .before .before .before .before .before .before .pre .lent) (g .ensures))
 
 pub abandon-spec : {M : Type 1} → statement M
 abandon-spec = tie.close (tie.spec refused-requires returns add-sweep sweep-requires same-length returns-2)

@@ -43,7 +43,7 @@ returns-3 c =
     let a = c .before .before .before .before .before .before .args in
     let is : a .s .current + 1 ≡ suc (a .s .current) = omega arith in
     let e = sym (c .before .same-settings .ensures) ∙ c .if2 .left in
-    ap {B = Given} (λ (w : ℕ). record { number = 0; plain = record { current = w; opened = false; items = from (a .items .now) 0 (a .s .count) } }) is
+    ap {B = Given} (λ (w : ℕ). record { number = 0; plain = record { current = w; opened = false; oldest = a .s .oldest; edition = a .s .edition; items = from (a .items .now) 0 (a .s .count) } }) is
     ∙ commit-done (plainOf (a .s) (a .items .now)) (not-false (a .s .opened) (c .before .before .before .if1 .left)) (ap (λ (w : ℕ). isEmpty (differs (a .s .current) w (from (a .items .now) 0 (a .s .count)))) (sym is) ∙ e)
 
 pub commit-spec : {M : Type 1} → statement M

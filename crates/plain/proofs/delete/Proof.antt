@@ -9,7 +9,7 @@ use Rattle.model.specs.Calls.{benchLimit}
 use Rattle.plain.specs.Plain.{valueAt}
 use Rattle.plain.specs.Items.{plainOf, from, found-some, found-none}
 use Rattle.plain.specs.Calls.{givenBy, delete-five, delete-seven, delete-eleven, delete-left}
-use Rattle.plain.specs.Sweep.{swept-laid}
+use Rattle.plain.specs.Sweep.{fate, swept-laid}
 use mathlib.Core.Bool.{false}
 use borrow.Author.Tests.{not-true, not-false}
 use borrow.Author.Needs.{needs}
@@ -73,7 +73,7 @@ returns-4 c =
     let g = c .before .before .before .sweep in
     ap₂ (λ (r : Left) (ns : List ℕ). givenBy r ns) (c .done .ensures) (g .ensures .list)
     ∙ delete-left (a .s) (a .items .now) (a .key) (a .s .current + 1) w (not-false (a .s .opened) (c .before .before .before .before .before .before .before .before .before .before .if2 .left)) h (v .result .value) (found-some _ (v .result) (v .ensures) (not-false (v .result .is) (c .before .before .before .before .before .if3 .left))) _
-    (swept-laid (a .s .current + 1) false (a .key) (a .s .count) (a .items .now) (g .result) (c .before .before .before .before .before .before .before .before .before .before .before .before .before .before .pre .lent) (g .ensures .count))
+    (swept-laid (fate (a .s .current + 1) false (a .key)) (a .s .count) (a .items .now) (g .result) (c .before .before .before .before .before .before .before .before .before .before .before .before .before .before .pre .lent) (g .ensures .count))
 
 pub delete-spec : {M : Type 1} → statement M
 delete-spec = tie.close (tie.spec refused-requires returns refused-requires-2 returns-2 add-w value-at-requires refused-requires-3 same-length returns-3 sweep-requires done-requires same-length-2 returns-4)

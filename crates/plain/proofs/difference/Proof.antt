@@ -9,8 +9,8 @@ use borrow.Author.Needs.{needs}
 use Rattle.plain.proofs.difference.Statement.{statement}
 use Rattle.plain.proofs.difference.Tie as tie
 
-last-requires : tie.Need-last-requires
-last-requires c κs = c .before .before .pre .version
+unreadable-requires : tie.Need-unreadable-requires
+unreadable-requires c κs = c .before .before .pre .version
 
 told-as-requires : tie.Need-told-as-requires
 told-as-requires c κs = search needs
@@ -18,10 +18,10 @@ told-as-requires c κs = search needs
 returns : tie.Need-returns
 returns c =
     let a = c .before .before .before .before .before .args in
-    rw (c .told-as .ensures) (difference-old (plainOf (a .s) (a .items .now)) (a .u) (a .v) (a .list .now) (omega (arith, c .before .before .last .ensures, c .before .if1 .taken)))
+    rw (c .told-as .ensures) (difference-old (plainOf (a .s) (a .items .now)) (a .u) (a .v) (a .list .now) (sym (c .before .before .unreadable .ensures) ∙ c .before .if1 .taken))
 
-last-requires-2 : tie.Need-last-requires-2
-last-requires-2 c κs = c .before .before .before .before .pre .version
+unreadable-requires-2 : tie.Need-unreadable-requires-2
+unreadable-requires-2 c κs = c .before .before .before .before .pre .version
 
 told-as-requires-2 : tie.Need-told-as-requires-2
 told-as-requires-2 c κs = search needs
@@ -30,7 +30,7 @@ returns-2 : tie.Need-returns-2
 returns-2 c =
     let a = c .before .before .before .before .before .before .before .args in
     rw (c .told-as2 .ensures)
-    (difference-new (plainOf (a .s) (a .items .now)) (a .u) (a .v) (a .list .now) (omega (arith, c .before .before .before .before .last .ensures, c .before .before .before .if1 .left)) (omega (arith, c .before .before .last2 .ensures, c .before .if2 .taken)))
+    (difference-new (plainOf (a .s) (a .items .now)) (a .u) (a .v) (a .list .now) (sym (c .before .before .before .before .unreadable .ensures) ∙ c .before .before .before .if1 .left) (sym (c .before .before .unreadable2 .ensures) ∙ c .before .if2 .taken))
 
 tell-differences-requires : tie.Need-tell-differences-requires
 tell-differences-requires c κs = let a = c .before .before .before .before .before .before .before .args in (c .before .before .before .before .before .before .before .pre .lent .room, none-room deltas (differs-few (a .u) (a .v) (from (a .items .now) 0 (a .s .count))))
@@ -49,7 +49,7 @@ returns-3 c =
     let a = c .before .before .before .before .before .before .before .before .before .before .before .before .args in
     rw (c .told-as3 .ensures)
     (told-short deltas (c .before .before .before .before .tell-differences .ensures) (c .before .if3 .taken)
-    ∙ difference-done (plainOf (a .s) (a .items .now)) (a .u) (a .v) (a .list .now) (omega (arith, c .before .before .before .before .before .before .before .before .before .last .ensures, c .before .before .before .before .before .before .before .before .if1 .left)) (omega (arith, c .before .before .before .before .before .before .before .last2 .ensures, c .before .before .before .before .before .before .if2 .left)))
+    ∙ difference-done (plainOf (a .s) (a .items .now)) (a .u) (a .v) (a .list .now) (sym (c .before .before .before .before .before .before .before .before .before .unreadable .ensures) ∙ c .before .before .before .before .before .before .before .before .if1 .left) (sym (c .before .before .before .before .before .before .before .unreadable2 .ensures) ∙ c .before .before .before .before .before .before .if2 .left))
 
 tell-differences-requires-2 : tie.Need-tell-differences-requires-2
 tell-differences-requires-2 c κs =
@@ -67,9 +67,9 @@ returns-4 c =
     let a = c .before .before .before .before .before .before .before .before .before .before .before .before .before .before .before .before .args in
     rw (c .told-as4 .ensures)
     (told-all deltas (c .before .before .before .before .before .before .before .before .tell-differences .ensures) (c .before .before .before .before .before .if3 .left) (c .before .before .before .tell-differences2 .ensures)
-    ∙ difference-done (plainOf (a .s) (a .items .now)) (a .u) (a .v) (a .list .now) (omega (arith, c .before .before .before .before .before .before .before .before .before .before .before .before .before .last .ensures, c .before .before .before .before .before .before .before .before .before .before .before .before .if1 .left)) (omega (arith, c .before .before .before .before .before .before .before .before .before .before .before .last2 .ensures, c .before .before .before .before .before .before .before .before .before .before .if2 .left)))
+    ∙ difference-done (plainOf (a .s) (a .items .now)) (a .u) (a .v) (a .list .now) (sym (c .before .before .before .before .before .before .before .before .before .before .before .before .before .unreadable .ensures) ∙ c .before .before .before .before .before .before .before .before .before .before .before .before .if1 .left) (sym (c .before .before .before .before .before .before .before .before .before .before .before .unreadable2 .ensures) ∙ c .before .before .before .before .before .before .before .before .before .before .if2 .left))
 
 pub difference-spec : {M : Type 1} → statement M
 difference-spec =
     tie.close
-    (tie.spec last-requires told-as-requires returns last-requires-2 told-as-requires-2 returns-2 tell-differences-requires mul-if3 told-as-requires-3 same-length returns-3 tell-differences-requires-2 told-as-requires-4 same-length-2 returns-4)
+    (tie.spec unreadable-requires told-as-requires returns unreadable-requires-2 told-as-requires-2 returns-2 tell-differences-requires mul-if3 told-as-requires-3 same-length returns-3 tell-differences-requires-2 told-as-requires-4 same-length-2 returns-4)

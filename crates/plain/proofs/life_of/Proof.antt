@@ -20,12 +20,12 @@ tell-life-requires : tie.Need-tell-life-requires
 tell-life-requires c κs =
     let a = c .before .before .before .before .args in
     let p = c .before .before .before .before .pre in
-    (p .lent .room, p .version, none-room stretches (few-stretches (a .s .current) (λ (w : ℕ). valueAt (a .key) w (from (a .items .now) 0 (a .s .count))) (p .version)))
+    (p .lent .room, p .version, none-room stretches (few-stretches (a .s .oldest) (a .s .current) (λ (w : ℕ). valueAt (a .key) w (from (a .items .now) 0 (a .s .count))) (p .version)))
 
 mul-if2 : tie.Need-mul-if2
 mul-if2 c =
     let a = c .before .before .before .before .before .before .before .args in
-    omega (arith, counted stretches (c .before .before .tell-life .ensures), few-stretches (a .s .current) (λ (w : ℕ). valueAt (a .key) w (from (a .items .now) 0 (a .s .count))) (c .before .before .before .before .before .before .before .pre .version))
+    omega (arith, counted stretches (c .before .before .tell-life .ensures), few-stretches (a .s .oldest) (a .s .current) (λ (w : ℕ). valueAt (a .key) w (from (a .items .now) 0 (a .s .count))) (c .before .before .before .before .before .before .before .pre .version))
 
 told-as-requires-2 : tie.Need-told-as-requires-2
 told-as-requires-2 c κs = search needs
@@ -43,7 +43,7 @@ tell-life-requires-2 : tie.Need-tell-life-requires-2
 tell-life-requires-2 c κs =
     let a = c .before .before .before .before .before .before .before .before .before .args in
     let p = c .before .before .before .before .before .before .before .before .before .pre in
-    (p .lent .room, p .version, second-space stretches (c .before .before .before .before .tell-life .ensures) (c .before .if2 .left) (few-stretches (a .s .current) (λ (w : ℕ). valueAt (a .key) w (from (a .items .now) 0 (a .s .count))) (p .version)))
+    (p .lent .room, p .version, second-space stretches (c .before .before .before .before .tell-life .ensures) (c .before .if2 .left) (few-stretches (a .s .oldest) (a .s .current) (λ (w : ℕ). valueAt (a .key) w (from (a .items .now) 0 (a .s .count))) (p .version)))
 
 told-as-requires-3 : tie.Need-told-as-requires-3
 told-as-requires-3 c κs = search needs

@@ -11,13 +11,13 @@ use Rattle.plain.proofs.lookup.Tie as tie
 returns : tie.Need-returns
 returns c = let a = c .before .before .args in lookup-five (plainOf (a .s) (a .items .now)) (a .key) (a .v) (c .if1 .taken)
 
-last-requires : tie.Need-last-requires
-last-requires c κs = c .before .before .pre .version
+unreadable-requires : tie.Need-unreadable-requires
+unreadable-requires c κs = c .before .before .pre .version
 
 returns-2 : tie.Need-returns-2
 returns-2 c =
     let a = c .before .before .before .before .args in
-    lookup-six (plainOf (a .s) (a .items .now)) (a .key) (a .v) (omega (arith, c .before .before .if1 .left)) (omega (arith, c .before .last .ensures, c .if2 .taken))
+    lookup-six (plainOf (a .s) (a .items .now)) (a .key) (a .v) (omega (arith, c .before .before .if1 .left)) (sym (c .before .unreadable .ensures) ∙ c .if2 .taken)
 
 value-at-requires : tie.Need-value-at-requires
 value-at-requires c κs = c .before .before .before .before .pre .lent .room
@@ -26,13 +26,13 @@ returns-3 : tie.Need-returns-3
 returns-3 c =
     let a = c .before .before .before .before .before .before .args in
     looked-found (valueAt (a .key) (a .v) (from (a .items .now) 0 (a .s .count))) (c .before .value-at .ensures) (c .if3 .taken)
-    ∙ lookup-done (plainOf (a .s) (a .items .now)) (a .key) (a .v) (omega (arith, c .before .before .before .before .if1 .left)) (omega (arith, c .before .before .before .last .ensures, c .before .before .if2 .left))
+    ∙ lookup-done (plainOf (a .s) (a .items .now)) (a .key) (a .v) (omega (arith, c .before .before .before .before .if1 .left)) (sym (c .before .before .before .unreadable .ensures) ∙ c .before .before .if2 .left)
 
 returns-4 : tie.Need-returns-4
 returns-4 c =
     let a = c .before .before .before .before .before .before .args in
     looked-none (valueAt (a .key) (a .v) (from (a .items .now) 0 (a .s .count))) (c .before .value-at .ensures) (c .if3 .left)
-    ∙ lookup-done (plainOf (a .s) (a .items .now)) (a .key) (a .v) (omega (arith, c .before .before .before .before .if1 .left)) (omega (arith, c .before .before .before .last .ensures, c .before .before .if2 .left))
+    ∙ lookup-done (plainOf (a .s) (a .items .now)) (a .key) (a .v) (omega (arith, c .before .before .before .before .if1 .left)) (sym (c .before .before .before .unreadable .ensures) ∙ c .before .before .if2 .left)
 
 pub lookup-spec : {M : Type 1} → statement M
-lookup-spec = tie.close (tie.spec returns last-requires returns-2 value-at-requires returns-3 returns-4)
+lookup-spec = tie.close (tie.spec returns unreadable-requires returns-2 value-at-requires returns-3 returns-4)

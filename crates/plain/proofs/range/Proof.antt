@@ -20,8 +20,8 @@ returns c =
     let a = c .before .before .before .before .before .args in
     rw (c .told-as .ensures) (range-five (plainOf (a .s) (a .items .now)) (a .low) (a .high) (a .v) (a .list .now) (sym (c .before .before .bad-range .ensures) ∙ c .before .if1 .taken))
 
-last-requires : tie.Need-last-requires
-last-requires c κs = c .before .before .before .before .pre .version
+unreadable-requires : tie.Need-unreadable-requires
+unreadable-requires c κs = c .before .before .before .before .pre .version
 
 told-as-requires-2 : tie.Need-told-as-requires-2
 told-as-requires-2 c κs = search needs
@@ -29,7 +29,7 @@ told-as-requires-2 c κs = search needs
 returns-2 : tie.Need-returns-2
 returns-2 c =
     let a = c .before .before .before .before .before .before .before .args in
-    rw (c .told-as2 .ensures) (range-six (plainOf (a .s) (a .items .now)) (a .low) (a .high) (a .v) (a .list .now) (sym (c .before .before .before .before .bad-range .ensures) ∙ c .before .before .before .if1 .left) (omega (arith, c .before .before .last .ensures, c .before .if2 .taken)))
+    rw (c .told-as2 .ensures) (range-six (plainOf (a .s) (a .items .now)) (a .low) (a .high) (a .v) (a .list .now) (sym (c .before .before .before .before .bad-range .ensures) ∙ c .before .before .before .if1 .left) (sym (c .before .before .unreadable .ensures) ∙ c .before .if2 .taken))
 
 tell-settings-requires : tie.Need-tell-settings-requires
 tell-settings-requires c κs =
@@ -54,7 +54,7 @@ returns-3 c =
     let a = c .before .before .before .before .before .before .before .before .before .before .before .before .args in
     rw (c .told-as3 .ensures)
     (told-short pairs (c .before .before .before .before .tell-settings .ensures) (c .before .if3 .taken)
-    ∙ range-done (plainOf (a .s) (a .items .now)) (a .low) (a .high) (a .v) (a .list .now) (sym (c .before .before .before .before .before .before .before .before .before .bad-range .ensures) ∙ c .before .before .before .before .before .before .before .before .if1 .left) (omega (arith, c .before .before .before .before .before .before .before .last .ensures, c .before .before .before .before .before .before .if2 .left)))
+    ∙ range-done (plainOf (a .s) (a .items .now)) (a .low) (a .high) (a .v) (a .list .now) (sym (c .before .before .before .before .before .before .before .before .before .bad-range .ensures) ∙ c .before .before .before .before .before .before .before .before .if1 .left) (sym (c .before .before .before .before .before .before .before .unreadable .ensures) ∙ c .before .before .before .before .before .before .if2 .left))
 
 tell-settings-requires-2 : tie.Need-tell-settings-requires-2
 tell-settings-requires-2 c κs =
@@ -73,9 +73,9 @@ returns-4 c =
     let a = c .before .before .before .before .before .before .before .before .before .before .before .before .before .before .before .before .args in
     rw (c .told-as4 .ensures)
     (told-all pairs (c .before .before .before .before .before .before .before .before .tell-settings .ensures) (c .before .before .before .before .before .if3 .left) (c .before .before .before .tell-settings2 .ensures)
-    ∙ range-done (plainOf (a .s) (a .items .now)) (a .low) (a .high) (a .v) (a .list .now) (sym (c .before .before .before .before .before .before .before .before .before .before .before .before .before .bad-range .ensures) ∙ c .before .before .before .before .before .before .before .before .before .before .before .before .if1 .left) (omega (arith, c .before .before .before .before .before .before .before .before .before .before .before .last .ensures, c .before .before .before .before .before .before .before .before .before .before .if2 .left)))
+    ∙ range-done (plainOf (a .s) (a .items .now)) (a .low) (a .high) (a .v) (a .list .now) (sym (c .before .before .before .before .before .before .before .before .before .before .before .before .before .bad-range .ensures) ∙ c .before .before .before .before .before .before .before .before .before .before .before .before .if1 .left) (sym (c .before .before .before .before .before .before .before .before .before .before .before .unreadable .ensures) ∙ c .before .before .before .before .before .before .before .before .before .before .if2 .left))
 
 pub range-spec : {M : Type 1} → statement M
 range-spec =
     tie.close
-    (tie.spec bad-range-requires told-as-requires returns last-requires told-as-requires-2 returns-2 tell-settings-requires mul-if3 told-as-requires-3 same-length returns-3 tell-settings-requires-2 told-as-requires-4 same-length-2 returns-4)
+    (tie.spec bad-range-requires told-as-requires returns unreadable-requires told-as-requires-2 returns-2 tell-settings-requires mul-if3 told-as-requires-3 same-length returns-3 tell-settings-requires-2 told-as-requires-4 same-length-2 returns-4)

@@ -1,5 +1,5 @@
 -- `return_to` meets its contract. Assumes nothing.
-use Prim.Native.Nat.{ℕ, suc, _+_, _≤_}
+use Prim.Native.Nat.{suc, _+_}
 use native.Mathlib.Omega.{arith}
 use mathlib.Core.Path.{_≡_, ap, sym, _∙_}
 use borrow.Author.Tests.{not-true, not-false}
@@ -11,13 +11,16 @@ use borrow.Author.Needs.{needs}
 use Rattle.plain.proofs.return_to.Statement.{statement}
 use Rattle.plain.proofs.return_to.Tie as tie
 
+uncommitted-requires : tie.Need-uncommitted-requires
+uncommitted-requires c κs = search needs
+
 refused-requires : tie.Need-refused-requires
 refused-requires c κs = search needs
 
 returns : tie.Need-returns
 returns c =
     let a = c .before .before .before .before .args in
-    ap (λ (r : Left). givenBy r (a .items .now)) (c .refused .ensures) ∙ return-six (plainOf (a .s) (a .items .now)) (a .v) (c .before .if1 .taken)
+    ap (λ (r : Left). givenBy r (a .items .now)) (c .refused .ensures) ∙ return-six (plainOf (a .s) (a .items .now)) (a .v) (sym (c .before .before .uncommitted .ensures) ∙ c .before .if1 .taken)
 
 refused-requires-2 : tie.Need-refused-requires-2
 refused-requires-2 c κs = search needs
@@ -25,7 +28,7 @@ refused-requires-2 c κs = search needs
 returns-2 : tie.Need-returns-2
 returns-2 c =
     let a = c .before .before .before .before .before .before .args in
-    let h : a .v ≤ a .s .current = omega (arith, c .before .before .before .if1 .left) in
+    let h = sym (c .before .before .before .before .uncommitted .ensures) ∙ c .before .before .before .if1 .left in
     ap (λ (r : Left). givenBy r (a .items .now)) (c .refused2 .ensures) ∙ return-seven (plainOf (a .s) (a .items .now)) (a .v) h (not-true (a .s .opened) (c .before .if2 .taken))
 
 add-w : tie.Need-add-w
@@ -37,7 +40,7 @@ end-others-requires c κs = c .before .before .before .before .before .before .b
 set-missing-requires : tie.Need-set-missing-requires
 set-missing-requires c κs =
     let a = c .before .before .before .before .before .before .before .before .before .before .before .args in
-    let h : a .v ≤ a .s .current = omega (arith, c .before .before .before .before .before .before .before .before .if1 .left) in
+    let h = sym (c .before .before .before .before .before .before .before .before .before .uncommitted .ensures) ∙ c .before .before .before .before .before .before .before .before .if1 .left in
     let is : a .s .current + 1 ≡ suc (a .s .current) = omega arith in
     let t = c .before .before .before .end-others .ensures in
     (t .lent, return-room (a .s) (a .items .now) (a .v) (a .s .current + 1) is h (not-false (a .s .opened) (c .before .before .before .before .before .before .if2 .left)) _ _ t (c .before .before .before .before .before .before .before .before .before .before .before .pre .1))
@@ -51,10 +54,10 @@ same-length c = search needs
 returns-3 : tie.Need-returns-3
 returns-3 c =
     let a = c .before .before .before .before .before .before .before .before .before .before .before .before .before .before .before .args in
-    let h : a .v ≤ a .s .current = omega (arith, c .before .before .before .before .before .before .before .before .before .before .before .before .if1 .left) in
+    let h = sym (c .before .before .before .before .before .before .before .before .before .before .before .before .before .uncommitted .ensures) ∙ c .before .before .before .before .before .before .before .before .before .before .before .before .if1 .left in
     let is : a .s .current + 1 ≡ suc (a .s .current) = omega arith in
     let t = c .before .before .before .before .before .before .before .end-others .ensures in
     rw (c .done .ensures) (return-left (a .s) (a .items .now) (a .v) (a .s .current + 1) is h (not-false (a .s .opened) (c .before .before .before .before .before .before .before .before .before .before .if2 .left)) _ _ t _ _ (c .before .before .before .set-missing .ensures))
 
 pub return-to-spec : {M : Type 1} → statement M
-return-to-spec = tie.close (tie.spec refused-requires returns refused-requires-2 returns-2 add-w end-others-requires set-missing-requires done-requires same-length returns-3)
+return-to-spec = tie.close (tie.spec uncommitted-requires refused-requires returns refused-requires-2 returns-2 add-w end-others-requires set-missing-requires done-requires same-length returns-3)

@@ -13,7 +13,7 @@ returns : tie.Need-returns
 returns c = let a = c .before .before .before .args in not-led (a .l .least) (decode (a .l .least) (a .s .now)) (c .before .before .before .pre .4) (sym (c .before .led .ensures) ∙ not-true (c .before .led .result) (c .if1 .taken))
 
 pages-within-requires : tie.Need-pages-within-requires
-pages-within-requires c κs = let r = c .before .before .before .pre in (r .0, r .1)
+pages-within-requires c κs = let r = c .before .before .before .pre in (r .0, r .1, r .2)
 
 returns-2 : tie.Need-returns-2
 returns-2 c = c .before .before .pages-within .ensures (sym (c .before .before .before .before .led .ensures) ∙ not-false (c .before .before .before .before .led .result) (c .before .before .before .if1 .left)) (c .if2 .taken)

@@ -1,5 +1,5 @@
 -- `quick::rules_hold` meets its contract: the rules that hold so far give what the next one asks. Assumes nothing.
-use Rattle.quick.specs.Number.{in-first, in-second, in-third, in-rest}
+use Rattle.quick.specs.Number.{in-first, in-second, in-third, in-quick, in-rest}
 use Rattle.quick.specs.Given.{good}
 use Rattle.quick.specs.Slots.{good-slots}
 use Rattle.notes.specs.Given.{ready}
@@ -68,9 +68,24 @@ returns-3 c = let a = c .before .before .before .before .before .before .before 
 quick-requires : tie.Need-quick-requires
 quick-requires c κs = let a = c .before .before .before .before .before .before .before .before .args in (c .before .before .before .before .before .before .before .before .pre .0, good (a .l .least) (a .s .now) (a .size) (c .before .before .before .before .before .before .before .before .pre .1) (one ((c .before .before .before .before .before))) (three ((c))), good-slots (a .l .least) (a .s .now) (a .size) (c .before .before .before .before .before .before .before .before .pre .1) (one ((c .before .before .before .before .before))), ready (a .l .least) (a .s .now) (c .before .before .before .before .header .result) (is-held (c .before .before .before .before)) (two (c .before .before)) (three ((c))), record { two = omega (arith, c .before .before .before .before .before .before .before .before .pre .0 .four); first = clean-first (a .l .least) (a .s .now) (one (c .before .before .before .before .before)); second = two (c .before .before); third = three ((c)) })
 
--- src/lib.rt:42:1
+-- quick judging
 returns-4 : tie.Need-returns-4
-returns-4 c = let a = c .before .before .before .before .before .before .before .before .before .args in c .quick .ensures ∙ sym (in-rest (a .l .least) (a .s .now) (one ((c .before .before .before .before .before .before))) (two ((c .before .before .before))) (three ((c .before))))
+returns-4 c =
+    let at-three = c .before .before in
+    let a = at-three .before .before .before .before .before .before .before .before .args in
+    sym (in-quick (a .l .least) (a .s .now) (one (at-three .before .before .before .before .before)) (two (at-three .before .before)) (three at-three) (sym (c .before .quick .ensures) ∙ not-true (c .before .quick .result) (c .if4 .taken)))
+
+seventh-rule-requires : tie.Need-seventh-rule-requires
+seventh-rule-requires c κs =
+    let at-three = c .before .before in
+    (at-three .before .before .before .before .before .before .before .before .pre .0, is-held (at-three .before .before .before .before))
+
+returns-5 : tie.Need-returns-5
+returns-5 c =
+    let at-three = c .before .before .before in
+    let a = at-three .before .before .before .before .before .before .before .before .args in
+    c .seventh-rule .ensures
+    ∙ sym (in-rest (a .l .least) (a .s .now) (one (at-three .before .before .before .before .before)) (two (at-three .before .before)) (three at-three) (sym (c .before .before .quick .ensures) ∙ not-false (c .before .before .quick .result) (c .before .if4 .left)))
 
 pub rules-hold-spec : {M : Type 1} → statement M
 rules-hold-spec =
@@ -84,4 +99,6 @@ rules-hold-spec =
     third-rule-requires
     returns-3
     quick-requires
-    returns-4)
+    returns-4
+    seventh-rule-requires
+    returns-5)

@@ -10,7 +10,7 @@ returns : tie.Need-returns
 returns c e = wrong e
 
 pages-within-requires : tie.Need-pages-within-requires
-pages-within-requires c κs = let r = c .before .before .pre in (r .0, r .1)
+pages-within-requires c κs = let r = c .before .before .pre in (r .0, r .1, r .2)
 
 returns-2 : tie.Need-returns-2
 returns-2 c e = wrong e
@@ -19,7 +19,7 @@ returns-3 : tie.Need-returns-3
 returns-3 c e =
     let at-if = c .before .before .before in
     let s = at-if .before .before in
-    sym (c .before .before .pages-within .ensures (sym (s .pre .2) ∙ not-false (s .args .fit) (at-if .if1 .left)) (omega (arith, c .if2 .left))) ∙ e
+    sym (c .before .before .pages-within .ensures (sym (s .pre .3) ∙ not-false (s .args .fit) (at-if .if1 .left)) (omega (arith, c .if2 .left))) ∙ e
 
 pub surely-spec : {M : Type 1} → statement M
 surely-spec = tie.close (tie.spec returns pages-within-requires returns-2 returns-3)

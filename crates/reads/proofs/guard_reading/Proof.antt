@@ -4,7 +4,7 @@ use mathlib.Core.Path.{sym, _∙_}
 use borrow.Author.Needs.{needs}
 use Rattle.store.specs.Sure.{few, front}
 use Rattle.store.specs.Read.{current-lt}
-use Rattle.reads.specs.Reading.{reading, gives-five, gives-six, gives-none}
+use Rattle.reads.specs.Reading.{reading, unread-of, gives-five, gives-six, gives-none}
 use Rattle.reads.specs.Guard.{judged-number, zero-sound}
 use Rattle.reads.proofs.guard_reading.Statement.{statement}
 use Rattle.reads.proofs.guard_reading.Tie as tie
@@ -31,22 +31,26 @@ header-requires c κs =
     let h = zero-sound (a .l .least) (a .s .now) (sym e ∙ c .before .if1 .left) in
     (c .before .before .before .before .pre, omega (arith, front (c .before .before .before .before .pre) (a .s .now) h), few (c .before .before .before .before .pre) (a .s .now) h)
 
-last-requires : tie.Need-last-requires
-last-requires c κs = rw (c .header .ensures) (current-lt (c .before .before .before .before .before .args .l .least) (c .before .before .before .before .before .args .s .now))
+unreadable-requires : tie.Need-unreadable-requires
+unreadable-requires c κs = rw (c .header .ensures) (current-lt (c .before .before .before .before .before .args .l .least) (c .before .before .before .before .before .args .s .now))
 
 returns-3 : tie.Need-returns-3
 returns-3 c =
     let a = c .before .before .before .before .before .before .before .args in
     let e = c .before .before .before .before .before .number .ensures in
-    gives-six (a .l .least) (a .s .now) (a .v) (sym e ∙ c .before .before .before .before .if1 .left) (a .bad) (c .before .before .before .if2 .left) (c .before .last .result) (rw (c .before .before .header .ensures) at (c .before .last .ensures)) (c .if3 .taken)
+    let h = c .before .before .header in
+    let u = c .before .unreadable in
+    gives-six (a .l .least) (a .s .now) (a .v) (sym e ∙ c .before .before .before .before .if1 .left) (a .bad) (c .before .before .before .if2 .left) (unread-of (a .l .least) (a .s .now) (h .result) (h .ensures) (a .v) (u .result) (u .ensures) ∙ c .if3 .taken)
 
 returns-4 : tie.Need-returns-4
 returns-4 c =
     let a = c .before .before .before .before .before .before .before .args in
     let e = c .before .before .before .before .before .number .ensures in
-    gives-none (a .l .least) (a .s .now) (a .v) (sym e ∙ c .before .before .before .before .if1 .left) (a .bad) (c .before .before .before .if2 .left) (c .before .last .result) (rw (c .before .before .header .ensures) at (c .before .last .ensures)) (c .if3 .left)
+    let h = c .before .before .header in
+    let u = c .before .unreadable in
+    gives-none (a .l .least) (a .s .now) (a .v) (sym e ∙ c .before .before .before .before .if1 .left) (a .bad) (c .before .before .before .if2 .left) (unread-of (a .l .least) (a .s .now) (h .result) (h .ensures) (a .v) (u .result) (u .ensures) ∙ c .if3 .left)
 
 pub guard-reading-spec : {M : Type 1} → statement M
 guard-reading-spec =
     tie.close
-    (tie.spec number-requires returns returns-2 header-requires last-requires returns-3 returns-4)
+    (tie.spec number-requires returns returns-2 header-requires unreadable-requires returns-3 returns-4)

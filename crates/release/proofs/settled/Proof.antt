@@ -9,7 +9,7 @@ add-if1 : tie.Need-add-if1
 add-if1 c = omega (arith, next-low (c .before .pre .0))
 
 has-requires : tie.Need-has-requires
-has-requires c κs = let o = c .before .before .before .pre .0 in (reads-upto o _ (omega arith), c .before .before .before .pre .1)
+has-requires c κs = let o = c .before .before .before .pre .0 in (reads-upto o _ (omega arith) (omega arith), c .before .before .before .pre .1)
 
 returns : tie.Need-returns
 returns c = c .has .ensures ∙ settled-start (c .before .before .before .before .pre .0) (c .before .before .before .before .args .e) (c .before .if1 .taken)
@@ -21,7 +21,7 @@ add-has : tie.Need-add-has
 add-has c = omega (arith, next-low (c .before .before .before .before .before .pre .0))
 
 has-requires-2 : tie.Need-has-requires-2
-has-requires-2 c κs = let o = c .before .before .before .before .before .pre .0 in (reads-upto o _ (omega arith), c .before .before .before .before .before .pre .1)
+has-requires-2 c κs = let o = c .before .before .before .before .before .pre .0 in (reads-upto o _ (omega arith) (omega arith), c .before .before .before .before .before .pre .1)
 
 returns-2 : tie.Need-returns-2
 returns-2 c =

@@ -1,5 +1,5 @@
 -- `store::header` meets its contract: the fields are read one by one. Assumes nothing.
-use Rattle.page.specs.Editions.{rooter-is, rooter-roots}
+use Rattle.page.specs.Editions.{rooter-is, rooter-roots, aged-is, aged-few}
 use Rattle.model.specs.Layout.{readHeader}
 use native.Mathlib.Omega.{arith}
 use borrow.Author.Needs.{needs}
@@ -18,10 +18,16 @@ field-requires-3 c κs = search needs
 field-requires-4 : tie.Need-field-requires-4
 field-requires-4 c κs = omega (arith, rooter-roots (c .before .before .before .before .pre .0))
 
+add-field : tie.Need-add-field
+add-field c = omega (arith, rooter-roots (c .before .before .before .before .before .before .pre .0))
+
+field-requires-5 : tie.Need-field-requires-5
+field-requires-5 c κs = omega (arith, rooter-roots (c .before .before .before .before .before .before .pre .0), aged-few (c .before .before .before .before .before .before .pre .0))
+
 returns : tie.Need-returns
 unfolding readHeader
-returns c = rw (← rooter-is (c .before .before .before .before .before .pre .0)) cc
+returns c = rw (← rooter-is (c .before .before .before .before .before .before .before .pre .0), ← aged-is (c .before .before .before .before .before .before .before .pre .0)) cc
 
 pub header-spec : {M : Type 1} → statement M
 header-spec =
-    tie.close (tie.spec field-requires field-requires-2 field-requires-3 field-requires-4 returns)
+    tie.close (tie.spec field-requires field-requires-2 field-requires-3 field-requires-4 add-field field-requires-5 returns)

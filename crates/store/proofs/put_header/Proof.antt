@@ -1,6 +1,6 @@
 -- `store::put_header` meets its contract: the fields are laid one after the other. Assumes nothing.
 use Rattle.store.specs.Header.{putHeader, bit-small}
-use Rattle.page.specs.Editions.{rooter-is, rooter-roots}
+use Rattle.page.specs.Editions.{rooter-is, rooter-roots, aged-is, aged-few}
 use Rattle.model.specs.Field.{lay}
 use native.Mathlib.Omega.{arith}
 use borrow.Author.Needs.{needs}
@@ -31,12 +31,22 @@ cast-put-field-3 c = search needs
 put-field-requires-4 : tie.Need-put-field-requires-4
 put-field-requires-4 c κs = (omega (arith, c .before .before .before .before .before .before .before .before .before .before .before .before .before .before .before .before .before .before .pre .0 .four, rooter-roots (c .before .before .before .before .before .before .before .before .before .before .before .before .before .before .before .before .before .before .pre .0)), rw (rooter-is (c .before .before .before .before .before .before .before .before .before .before .before .before .before .before .before .before .before .before .pre .0)) (c .before .before .before .before .before .before .before .before .before .before .before .before .before .before .before .before .before .before .pre .1 .roots), omega (arith, rooter-roots (c .before .before .before .before .before .before .before .before .before .before .before .before .before .before .before .before .before .before .pre .0)), omega arith)
 
+add-put-field : tie.Need-add-put-field
+add-put-field c = omega (arith, rooter-roots (c .before .before .before .before .before .before .before .before .before .before .before .before .before .before .before .before .before .before .before .before .before .before .before .pre .0))
+
+cast-put-field-4 : tie.Need-cast-put-field-4
+cast-put-field-4 c = search needs
+
+put-field-requires-5 : tie.Need-put-field-requires-5
+put-field-requires-5 c κs =
+    (omega (arith, c .before .before .before .before .before .put-field4 .kept .0, c .before .before .before .before .before .before .before .before .before .before .put-field3 .kept .0, c .before .before .before .before .before .before .before .before .before .before .before .before .before .before .before .put-field2 .kept .0, c .before .before .before .before .before .before .before .before .before .before .before .before .before .before .before .before .before .before .before .before .put-field .kept .0, c .before .before .before .before .before .before .before .before .before .before .before .before .before .before .before .before .before .before .before .before .before .before .before .before .pre .2, c .before .before .before .before .before .before .before .before .before .before .before .before .before .before .before .before .before .before .before .before .before .before .before .before .pre .0 .four, rooter-roots (c .before .before .before .before .before .before .before .before .before .before .before .before .before .before .before .before .before .before .before .before .before .before .before .before .pre .0), aged-few (c .before .before .before .before .before .before .before .before .before .before .before .before .before .before .before .before .before .before .before .before .before .before .before .before .pre .0)), rw (aged-is (c .before .before .before .before .before .before .before .before .before .before .before .before .before .before .before .before .before .before .before .before .before .before .before .before .pre .0)) (c .before .before .before .before .before .before .before .before .before .before .before .before .before .before .before .before .before .before .before .before .before .before .before .before .pre .1 .oldest), omega (arith, aged-few (c .before .before .before .before .before .before .before .before .before .before .before .before .before .before .before .before .before .before .before .before .before .before .before .before .pre .0)), omega (arith, c .before .before .before .before .before .put-field4 .kept .0, c .before .before .before .before .before .before .before .before .before .before .put-field3 .kept .0, c .before .before .before .before .before .before .before .before .before .before .before .before .before .before .before .put-field2 .kept .0, c .before .before .before .before .before .before .before .before .before .before .before .before .before .before .before .before .before .before .before .before .put-field .kept .0, c .before .before .before .before .before .before .before .before .before .before .before .before .before .before .before .before .before .before .before .before .before .before .before .before .pre .3))
+
 same-length : tie.Need-same-length
 same-length c = search needs
 
 returns : tie.Need-returns
 unfolding putHeader lay
-returns c = rw (← rooter-is (c .before .before .before .before .before .before .before .before .before .before .before .before .before .before .before .before .before .before .before .before .before .pre .0)) cc
+returns c = rw (← rooter-is (c .before .before .before .before .before .before .before .before .before .before .before .before .before .before .before .before .before .before .before .before .before .before .before .before .before .before .before .pre .0), ← aged-is (c .before .before .before .before .before .before .before .before .before .before .before .before .before .before .before .before .before .before .before .before .before .before .before .before .before .before .before .pre .0)) cc
 
 pub put-header-spec : {M : Type 1} → statement M
 put-header-spec =
@@ -50,5 +60,8 @@ put-header-spec =
     put-field-requires-3
     cast-put-field-3
     put-field-requires-4
+    add-put-field
+    cast-put-field-4
+    put-field-requires-5
     same-length
     returns)

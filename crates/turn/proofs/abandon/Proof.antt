@@ -6,8 +6,10 @@ use borrow.Author.Needs.{needs}
 use Rattle.model.specs.Layout.{decode}
 use Rattle.model.specs.Store.{next}
 use Rattle.model.specs.declared.Header.{Header}
+use Rattle.model.proofs.Given.{old-current}
 use Rattle.store.specs.Sure.{sure, few, front, roots}
 use Rattle.store.specs.Header.{header-fits}
+use Rattle.store.specs.Read.{current-of}
 use Rattle.turn.specs.Abandoned.{some-roots, abandoned-bytes}
 use Rattle.turn.specs.Ended.{all-past}
 use Rattle.turn.specs.Turned.{kept, next-low}
@@ -30,13 +32,14 @@ undo-pages-requires c κs =
     let a = c .before .before .before .before .before .before .args in
     let d = c .before .before .before .before .before .before .pre .0 in
     let k = kept d (a .s .now) (c .before .before .before .before .before .before .pre .1) (λ i. c .before .before .before .before .before .slice-known .given i .fits) in
+    let sound = sure d (a .s .now) (c .before .before .before .before .before .before .pre .1) in
     let e = ap (λ (h : Header). h .current) (c .before .before .before .header .ensures) in (
       d,
       omega arith,
       omega (arith, e, next-low d (a .s .now) (c .before .before .before .before .before .before .pre .1)),
       k,
       c .wide .ensures ∙ ap (λ (h : Header). h .pages) (c .before .before .before .header .ensures ∙ sym (k .header)),
-      all-past (a .l .least) (decode (a .l .least) (a .s .now)) (sure d (a .s .now) (c .before .before .before .before .before .before .pre .1)) _ (omega arith),
+      all-past (a .l .least) (decode (a .l .least) (a .s .now)) sound _ (omega (arith, e, current-of (a .l .least) (a .s .now), old-current (a .l .least) (decode (a .l .least) (a .s .now)) (sound .old-low))),
     )
 
 drop-slot-requires : tie.Need-drop-slot-requires
@@ -66,7 +69,7 @@ put-header-requires c κs =
     let f = header-fits (a .l .least) (a .s .now) in
     let n = c .before .before .before .before .before .drop-slot .kept .0 ∙ c .before .before .before .before .before .before .before .before .before .undo-pages .kept .0 in (
       d,
-      rw (c .with-flag .ensures, c .before .with-roots .ensures, c .before .before .before .before .before .before .before .before .before .before .before .before .before .header .ensures) (record { pages = f .pages; current = f .current; roots = omega (arith, c .before .before .before .before .before .drop-slot .ensures .fewer, ap (λ (h : Header). h .roots) (c .before .before .before .before .before .before .before .before .before .before .before .before .before .header .ensures), f .roots) }),
+      rw (c .with-flag .ensures, c .before .with-roots .ensures, c .before .before .before .before .before .before .before .before .before .before .before .before .before .header .ensures) (record { pages = f .pages; current = f .current; roots = omega (arith, c .before .before .before .before .before .drop-slot .ensures .fewer, ap (λ (h : Header). h .roots) (c .before .before .before .before .before .before .before .before .before .before .before .before .before .header .ensures), f .roots); oldest = f .oldest }),
       omega (arith, n, front d (a .s .now) (c .before .before .before .before .before .before .before .before .before .before .before .before .before .before .before .before .pre .1)),
       omega (arith, n, few d (a .s .now) (c .before .before .before .before .before .before .before .before .before .before .before .before .before .before .before .before .pre .1)),
     )

@@ -20,7 +20,7 @@ put-header-requires : tie.Need-put-header-requires
 put-header-requires c κs =
     let a = c .before .before .before .before .before .args in
     let f = header-fits (a .l .least) (a .s .now) in
-    (c .before .before .before .before .before .pre .0, rw (c .with-flag .ensures, c .before .before .header .ensures) (record { pages = f .pages; current = f .current; roots = f .roots }), omega (arith, front (c .before .before .before .before .before .pre .0) (a .s .now) (c .before .before .before .before .before .pre .1)), few (c .before .before .before .before .before .pre .0) (a .s .now) (c .before .before .before .before .before .pre .1))
+    (c .before .before .before .before .before .pre .0, rw (c .with-flag .ensures, c .before .before .header .ensures) (record { pages = f .pages; current = f .current; roots = f .roots; oldest = f .oldest }), omega (arith, front (c .before .before .before .before .before .pre .0) (a .s .now) (c .before .before .before .before .before .pre .1)), few (c .before .before .before .before .before .pre .0) (a .s .now) (c .before .before .before .before .before .pre .1))
 
 same-length : tie.Need-same-length
 same-length c = search needs

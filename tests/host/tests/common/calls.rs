@@ -57,6 +57,10 @@ pub fn return_to(bytes: &mut [u8], version: u32) -> u32 {
     call(Call::Return(version), bytes).number
 }
 
+pub fn prune(bytes: &mut [u8], version: u32) -> u32 {
+    call(Call::Prune(version), bytes).number
+}
+
 pub fn lookup(bytes: &[u8], key: u32, version: u32) -> (u32, bool, u32) {
     let answer = call(Call::Lookup(key, version), &mut bytes.to_vec());
     (answer.number, answer.found, answer.value)

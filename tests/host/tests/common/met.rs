@@ -15,8 +15,9 @@ use reference::{store, walk};
 #[derive(Debug, Default)]
 pub struct Met {
     pub numbers: Tally,
-    /// Those of returns alone.
+    /// Those of returns alone, and of prunes.
     pub returns: Tally,
+    pub prunes: Tally,
     pub works: BTreeMap<&'static str, u64>,
     pub highest_level: u32,
 }
@@ -49,8 +50,10 @@ impl Met {
         *self.numbers.entry(answer.number).or_default() += 1;
         let untouched = !may_write(call, answer.number);
         assert!(!untouched || left == before, "{call:?}");
-        if let Call::Return(_) = call {
-            *self.returns.entry(answer.number).or_default() += 1;
+        match call {
+            Call::Return(_) => *self.returns.entry(answer.number).or_default() += 1,
+            Call::Prune(_) => *self.prunes.entry(answer.number).or_default() += 1,
+            _ => {}
         }
         if answer.number == 0 && matches!(call, Call::Insert(..) | Call::Delete(_)) {
             self.observe(&before, left);

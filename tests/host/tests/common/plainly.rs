@@ -13,13 +13,21 @@ use reference::number::DONE;
 const LENT: u32 = 0xAAAA_AAAA;
 
 /// The plain engine with the room that it is lent.
-#[derive(Clone, Debug, Default, PartialEq, Eq)]
+#[derive(Clone, Debug, PartialEq, Eq)]
 pub struct Plain {
     pub items: Vec<u32>,
     pub state: State,
 }
 
 impl Plain {
+    /// No items, beside a fresh store of the edition.
+    pub fn fresh(edition: u32) -> Plain {
+        Plain {
+            items: Vec::new(),
+            state: State::fresh(edition),
+        }
+    }
+
     /// A call on the plain engine; one that is refused, or reads, changes nothing.
     pub fn apply(&mut self, call: Call, list: &mut [u32]) -> Answer {
         let before = self.clone();
@@ -50,6 +58,7 @@ fn applied(engine: &mut plain::Engine, call: Call, list: &mut [u32]) -> Answer {
         Call::Insert(key, value) => Answer::of(engine.insert(key, value)),
         Call::Delete(key) => Answer::of(engine.delete(key)),
         Call::Return(version) => Answer::of(engine.return_to(version)),
+        Call::Prune(version) => Answer::of(engine.prune(version)),
         Call::Lookup(key, version) => {
             let (number, found, value) = engine.lookup(key, version);
             Answer {
@@ -71,7 +80,6 @@ fn counted((number, count): (u32, usize)) -> Answer {
 
 /// A store, and the plain engine with room for one item for each insert that the
 /// store accepted, a return's own included, and no more: the premise.
-#[derive(Default)]
 pub struct Both {
     pub tree: Vec<u8>,
     pub plain: Plain,
@@ -81,6 +89,16 @@ pub struct Both {
 }
 
 impl Both {
+    /// Lent bytes, with no store in them yet.
+    pub fn lent(bytes: Vec<u8>) -> Both {
+        Both {
+            tree: bytes,
+            plain: Plain::fresh(1),
+            given: BTreeMap::new(),
+            returns: BTreeMap::new(),
+        }
+    }
+
     /// A call on both: equal in number, results and every number of the list. One to
     /// which the tree gives 12 or 13 is left out of the plain sequence, and a return
     /// that ends so is an abandon there.
@@ -93,7 +111,8 @@ impl Both {
             *self.returns.entry(answer.number).or_default() += 1;
         }
         match (call, answer.number) {
-            (Call::Fresh | Call::FreshSecond, _) => self.plain = Plain::default(),
+            (Call::Fresh, _) => self.plain = Plain::fresh(1),
+            (Call::FreshSecond, _) => self.plain = Plain::fresh(2),
             (Call::Check | Call::Visits(..), _) => {}
             (Call::Return(_), 12 | 13) => assert_eq!(self.plain.number(Call::Abandon), DONE),
             (_, 12 | 13) => {}

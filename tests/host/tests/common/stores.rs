@@ -1,7 +1,11 @@
 //! Bytes of every kind to lend: sound, damaged, and any at all.
 
+use std::collections::BTreeMap;
+
+use super::{both, may_write};
 use reference::damage::{kinds, tamper};
 use reference::edition::{Edition, FIRST};
+use reference::engine::Call;
 use reference::layout::{FIRST_BENCH_KEY, HIGHEST_KEY, HIGHEST_VERSION};
 use reference::rng::Rng;
 use reference::samples::sound_store_of;
@@ -36,7 +40,8 @@ pub fn some_keys(bytes: &[u8], rng: &mut Rng) -> Vec<u32> {
     let mut keys = vec![0, 1, HIGHEST_KEY, HIGHEST_KEY + 1, u32::MAX];
     keys.extend([FIRST_BENCH_KEY - 1, FIRST_BENCH_KEY]);
     if reference::calls::check(bytes).0 == 0 {
-        let version = rng.between(0, store::header(bytes).last());
+        let header = store::header(bytes);
+        let version = rng.between(header.oldest, header.last());
         let settings = walk::range(bytes, 0, HIGHEST_KEY, version);
         for _ in 0..3 {
             keys.extend(rng.pick(&settings).map(|(key, _)| *key));
@@ -54,6 +59,44 @@ pub fn some_versions(bytes: &[u8], rng: &mut Rng) -> Vec<u32> {
     };
     let between = rng.between(0, last);
     let mut versions = vec![0, 1, last.saturating_sub(1), last, last + 1];
+    if bytes.len() >= 256 && Edition::of(bytes) != &FIRST {
+        let oldest = store::header(bytes).oldest;
+        versions.extend([oldest.saturating_sub(1), oldest, oldest + 1]);
+    }
     versions.extend([between, HIGHEST_VERSION, HIGHEST_VERSION + 1, u32::MAX]);
     versions
+}
+
+/// Calls at the borders of keys, versions and lists.
+pub fn border_calls(bytes: &[u8], rng: &mut Rng) -> Vec<Call> {
+    let mut calls = vec![Call::Check, Call::Open, Call::Commit, Call::Abandon];
+    let (keys, versions) = (some_keys(bytes, rng), some_versions(bytes, rng));
+    for key in &keys {
+        calls.push(Call::Insert(*key, rng.word()));
+        calls.push(Call::Delete(*key));
+        calls.push(Call::Life(*key, rng.below(9) as usize));
+    }
+    for version in versions.iter().copied() {
+        let key = *rng.pick(&keys).unwrap_or(&0);
+        let other = *rng.pick(&versions).unwrap_or(&0);
+        let room = rng.below(300) as usize;
+        calls.push(Call::Return(version));
+        calls.push(Call::Prune(version));
+        calls.push(Call::Lookup(key, version));
+        calls.push(Call::Visits(key, version, rng.below(6) as usize));
+        calls.push(Call::Range(0, HIGHEST_KEY, version, room));
+        calls.push(Call::Range(key, HIGHEST_KEY, version, 0));
+        calls.push(Call::Difference(version, other, 2 * room));
+    }
+    calls
+}
+
+/// All of these by both programs; how often each number was given.
+pub fn all_alike(bytes: &[u8], rng: &mut Rng, tally: &mut BTreeMap<u32, u64>) {
+    for call in border_calls(bytes, rng) {
+        let (answer, after) = both(call, bytes);
+        *tally.entry(answer.number).or_default() += 1;
+        let untouched = !may_write(call, answer.number);
+        assert!(!untouched || after == bytes, "{call:?}");
+    }
 }

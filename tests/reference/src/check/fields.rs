@@ -28,7 +28,8 @@ fn header_holds(bytes: &[u8]) -> bool {
     header.page_count == store::page_count(bytes)
         && header.last() <= HIGHEST_VERSION
         && header.roots <= header.edition.slots
-        && zero_from(store::page_bytes(bytes, 0), header.edition.root_count.end())
+        && header.oldest <= header.current
+        && zero_from(store::page_bytes(bytes, 0), header.edition.header_end())
 }
 
 fn slot_holds(bytes: &[u8], index: u32) -> bool {

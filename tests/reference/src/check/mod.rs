@@ -4,16 +4,17 @@
 //! hold. A single walk that tested rules 4 and 5 together would answer 5 for a
 //! store that breaks 5 at version 1 and 4 at version 3; the answer is 4.
 //!
-//! Rule 7 (a page that starts at the open version holds only alive entries
-//! that start there) is not tested: by rule 3 such an entry starts at the open
-//! version or later, by rule 1 no later; its span is not empty and its end is
-//! at most the open version or alive, so it is alive.
+//! Rule 7 follows from rules 1 and 3 but for routers that rule 3 skips: an entry
+//! of a page that starts at the open version starts there or later, by rule 1 no
+//! later; its span is not empty and its end is at most the open version or
+//! alive, so it is alive.
 
 mod bounds;
 mod directory;
 mod fields;
 mod fill;
 mod live_counts;
+mod newest;
 mod reach;
 mod spans;
 
@@ -88,7 +89,7 @@ fn front_holds(bytes: &[u8]) -> bool {
     }
     let header = store::header(bytes);
     let slots: Vec<Slot> = (0..header.roots).map(|i| store::slot(bytes, i)).collect();
-    directory::holds(&slots, header.last())
+    directory::holds(&slots, header)
 }
 
 fn lowest_broken_rule(store: &[u8]) -> Option<u32> {
@@ -96,7 +97,7 @@ fn lowest_broken_rule(store: &[u8]) -> Option<u32> {
         return Some(1);
     }
     let image = Image::read(store);
-    if !directory::holds(&image.slots, image.header.last()) {
+    if !directory::holds(&image.slots, image.header) {
         return Some(2);
     }
     if !spans::hold(&image) {
@@ -111,6 +112,9 @@ fn lowest_broken_rule(store: &[u8]) -> Option<u32> {
     }
     if !versions.iter().all(|v| reach::holds(&image, *v)) {
         return Some(6);
+    }
+    if !newest::holds(&image) {
+        return Some(7);
     }
     if !live_counts::hold(store) {
         return Some(8);

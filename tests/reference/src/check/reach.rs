@@ -5,7 +5,7 @@ use crate::layout::MOST_PAGES;
 
 /// Whether the pages reached at `version` are just the used pages whose span
 /// contains it. Starts and ends of pages are turning points, so testing there
-/// tests every version.
+/// tests every version from the oldest on.
 pub fn holds(image: &Image, version: u32) -> bool {
     let mut reached = [false; MOST_PAGES];
     mark(image, image.root(version), version, &mut reached);

@@ -16,7 +16,12 @@ pub fn hold(image: &Image) -> bool {
         })
 }
 
+/// "Rule 3 skips routers whose span ended at or before the oldest (their pages
+/// may be free or used again)", wholly (2026-12).
 fn entry_holds(image: &Image, page: &Page, entry: &Entry) -> bool {
+    if page.is_index() && entry.span.end <= image.header.oldest {
+        return true;
+    }
     entry.span.lies_in(page.span) && (!page.is_index() || router_holds(image, page, entry))
 }
 

@@ -72,20 +72,24 @@ fn low_key_too_high(image: &mut Image, rng: &mut Rng) -> Option<()> {
     let place = some_router(image, rng, |place| place.page_in(image).level == LEAF + 1)?;
     let router = place.entry(image);
     let child = image.page(router.value);
-    let lowest = child.live(router.span.start).map(|entry| entry.key).min()?;
+    let from = router.span.start.max(image.header.oldest);
+    let lowest = child.live(from).map(|entry| entry.key).min()?;
     let above = place.behind(image).map_or(ABOVE_ALL_KEYS, |next| next.key);
     let key = some_between(rng, lowest + 1, above.checked_sub(1)?)?;
     place.entry_mut(image).key = key;
     Some(())
 }
 
-/// A page is reached at every version of its span, so also where the two
-/// lives meet. Only the later end changes: order and lower rules stay.
+/// A page is reached at every version of its span from the oldest on, so also
+/// where the two lives meet. Only the later end changes: order and lower rules
+/// stay.
 fn lives_on(image: &mut Image, rng: &mut Rng) -> Option<()> {
+    let oldest = image.header.oldest;
     let place = some_entry(image, rng, |place| {
+        let key = place.entry(image).key;
         let next_life = place.behind(image);
         place.page_in(image).level == LEAF
-            && next_life.is_some_and(|next| next.key == place.entry(image).key)
+            && next_life.is_some_and(|next| next.key == key && next.span.end > oldest)
     })?;
     let end = place.page_in(image).span.end;
     place.entry_mut(image).span.end = end;
@@ -95,12 +99,15 @@ fn lives_on(image: &mut Image, rng: &mut Rng) -> Option<()> {
 /// Two entries beside each other that are alive at once, the first of them
 /// the older: the second may take the first one's key and stay in order.
 fn key_twice(image: &mut Image, rng: &mut Rng) -> Option<()> {
+    let oldest = image.header.oldest;
     let place = some_entry(image, rng, |place| {
         let entry = place.entry(image);
+        let at_once = entry.span.start.max(oldest);
         let older = place.before(image).is_some_and(|before| {
             before.key < entry.key
                 && before.span.start < entry.span.start
-                && before.span.contains(entry.span.start)
+                && before.span.contains(at_once)
+                && entry.span.contains(at_once)
         });
         older && place.page_in(image).level == LEAF
     })?;

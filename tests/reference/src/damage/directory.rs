@@ -8,7 +8,8 @@ use crate::store;
 
 pub const KINDS: &[(&str, OnBytes)] = &[
     ("no root at all", no_root),
-    ("a directory that does not begin at 0", no_beginning),
+    ("a directory that begins above the oldest", no_beginning),
+    ("a second slot at or below the oldest", second_too_early),
     ("two slots of one version", slots_alike),
     ("a slot that falls behind", slot_falls),
     ("a slot above last", slot_above_last),
@@ -28,11 +29,26 @@ fn set_version(bytes: &mut [u8], index: u32, version: u32) -> bool {
 }
 
 fn no_beginning(bytes: &mut [u8], rng: &mut Rng) -> bool {
+    let above = store::header(bytes).oldest + 1;
     let version = match rng.below(2) {
-        0 => 1,
-        _ => rng.between(1, at::SLOT_VERSION.highest()),
+        0 => above,
+        _ => rng.between(above, at::SLOT_VERSION.highest()),
     };
     set_version(bytes, 0, version)
+}
+
+/// The oldest version raised over the second slot's.
+fn second_too_early(bytes: &mut [u8], rng: &mut Rng) -> bool {
+    let header = store::header(bytes);
+    let (Some(oldest), true) = (header.edition.oldest, header.roots > 1) else {
+        return false;
+    };
+    let second = store::slot(bytes, 1).version;
+    match some_between(rng, second, header.current) {
+        Some(version) => oldest.set(bytes, version),
+        None => return false,
+    }
+    true
 }
 
 fn slots_alike(bytes: &mut [u8], rng: &mut Rng) -> bool {

@@ -17,6 +17,7 @@ pub const KINDS: &[(&str, OnBytes)] = &[
     ("the page count", page_count),
     ("more roots than slots", too_many_roots),
     ("a current version that cannot be", current_too_high),
+    ("an oldest version above current", oldest_too_high),
     ("a level above 7", level_too_high),
     ("a count above the edition's", count_too_high),
     ("a count one too high", count_one_more),
@@ -40,7 +41,7 @@ fn set_some_bit(bytes: &mut [u8], rng: &mut Rng, from: usize) -> bool {
 }
 
 fn header_bit(bytes: &mut [u8], rng: &mut Rng) -> bool {
-    let used = Edition::of(bytes).root_count.end();
+    let used = Edition::of(bytes).header_end();
     set_some_bit(store::page_bytes_mut(bytes, 0), rng, used)
 }
 
@@ -105,6 +106,19 @@ fn current_too_high(bytes: &mut [u8], _: &mut Rng) -> bool {
     let open = store::header(bytes).open;
     let highest = HIGHEST_VERSION - u32::from(open);
     at::CURRENT.set(bytes, highest + 1);
+    true
+}
+
+fn oldest_too_high(bytes: &mut [u8], rng: &mut Rng) -> bool {
+    let Some(oldest) = Edition::of(bytes).oldest else {
+        return false;
+    };
+    let current = store::header(bytes).current;
+    let above = match rng.below(2) {
+        0 => current + 1,
+        _ => rng.between(current + 1, oldest.highest()),
+    };
+    oldest.set(bytes, above);
     true
 }
 

@@ -3,9 +3,14 @@
 //! Which rule breaks is known from how the damage is done, not by asking the
 //! program's own judging: each kind says why the lower rules still hold where
 //! that is not plain. A kind that finds no place in a store leaves it alone.
+//!
+//! Rules 2 to 6 speak of the versions from the oldest on, so a kind looks for a
+//! place that shows there: an entry or a page that outlives the oldest version.
+//! What has ended by then is damaged in `expired`.
 
 mod bounds;
 mod directory;
+mod expired;
 mod fields;
 mod fill;
 mod live_counts;
@@ -59,6 +64,11 @@ pub fn kinds() -> Vec<Damage> {
         (4, bounds::KINDS),
         (5, fill::KINDS),
         (6, reach::KINDS),
+        (1, expired::BREAK_1),
+        (2, expired::BREAK_2),
+        (3, expired::BREAK_3),
+        (6, expired::BREAK_6),
+        (7, expired::BREAK_7),
     ];
     let mut all = Vec::new();
     for (rule, kinds) in on_bytes {
@@ -111,6 +121,11 @@ impl Place {
         &mut image.page_mut(self.page).entries[self.index]
     }
 
+    /// Whether the entry ended at or before the oldest version.
+    fn has_expired(self, image: &Image) -> bool {
+        self.entry(image).span.end <= image.header.oldest
+    }
+
     /// The entry that stands before this one in its page.
     fn before(self, image: &Image) -> Option<Entry> {
         let entries = &self.page_in(image).entries;
@@ -150,9 +165,10 @@ fn some_between(rng: &mut Rng, low: u32, high: u32) -> Option<u32> {
     (low <= high).then(|| rng.between(low, high))
 }
 
+/// A router that has not ended by the oldest version.
 fn some_router(image: &Image, rng: &mut Rng, fits: impl Fn(Place) -> bool) -> Option<Place> {
     some_entry(image, rng, |place| {
-        place.page_in(image).is_index() && fits(place)
+        place.page_in(image).is_index() && !place.has_expired(image) && fits(place)
     })
 }
 
@@ -202,7 +218,7 @@ fn is_first_somewhere(image: &Image, place: Place) -> bool {
 /// leaf root rule 6.
 fn root_outside_span(image: &mut Image, rng: &mut Rng, index: bool) -> Option<()> {
     let slot = rng.below(image.slots.len() as u32) as usize;
-    let from = image.slots[slot].version;
+    let from = image.slots[slot].version.max(image.header.oldest);
     let next = image.slots.get(slot + 1).map(|next| next.version);
     let to = next.unwrap_or(image.header.last() + 1);
     let root = some_page(image, rng, |page| {

@@ -24,14 +24,15 @@ fn leaf_root_outside_span(image: &mut Image, rng: &mut Rng) -> Option<()> {
 
 fn ends_later(image: &mut Image, rng: &mut Rng) -> Option<()> {
     let number = some_page(image, rng, |page| page.span.end != ALIVE)?;
-    let end = image.page(number).span.end;
+    let end = image.page(number).span.end.max(image.header.oldest);
     let later = some_between(rng, end + 1, image.header.last());
     image.page_mut(number).span.end = later.filter(|_| rng.once_in(2)).unwrap_or(ALIVE);
     Some(())
 }
 
 fn starts_earlier(image: &mut Image, rng: &mut Rng) -> Option<()> {
-    let number = some_page(image, rng, |page| page.span.start > 0)?;
+    let oldest = image.header.oldest;
+    let number = some_page(image, rng, |page| page.span.start > oldest)?;
     let start = image.page(number).span.start;
     image.page_mut(number).span.start = rng.below(start);
     Some(())

@@ -36,10 +36,15 @@ fn router_to_other_level(image: &mut Image, rng: &mut Rng) -> Option<()> {
     Some(())
 }
 
-/// A page that keeps entries: its children are then two levels lower.
+/// A page that keeps entries which are not skipped: its children are then two
+/// levels lower.
 fn level_up(image: &mut Image, rng: &mut Rng) -> Option<()> {
+    let oldest = image.header.oldest;
     let number = some_page(image, rng, |page| {
-        page.is_index() && page.level < HIGHEST_LEVEL && !page.entries.is_empty()
+        let mut routers = page.entries.iter();
+        page.is_index()
+            && page.level < HIGHEST_LEVEL
+            && routers.any(|router| router.span.end > oldest)
     })?;
     image.page_mut(number).level += 1;
     Some(())
@@ -52,8 +57,10 @@ fn entry_before_page(image: &mut Image, rng: &mut Rng) -> Option<()> {
     let place = some_entry(image, rng, |place| {
         let page = place.page_in(image);
         let before = place.before(image);
+        let skipped = page.is_index() && place.has_expired(image);
         before.is_none_or(|before| before.key < place.entry(image).key)
             && earliest(page) < page.span.start
+            && !skipped
     })?;
     let page = place.page_in(image);
     let start = some_between(rng, earliest(page), page.span.start - 1)?;
@@ -62,7 +69,11 @@ fn entry_before_page(image: &mut Image, rng: &mut Rng) -> Option<()> {
 }
 
 fn entry_behind_page(image: &mut Image, rng: &mut Rng) -> Option<()> {
-    let place = some_entry(image, rng, |place| place.page_in(image).span.end != ALIVE)?;
+    let oldest = image.header.oldest;
+    let place = some_entry(image, rng, |place| {
+        let end = place.page_in(image).span.end;
+        end != ALIVE && end >= oldest
+    })?;
     let end = place.page_in(image).span.end;
     let later = some_between(rng, end + 1, image.header.last());
     place.entry_mut(image).span.end = later.filter(|_| rng.once_in(2)).unwrap_or(ALIVE);

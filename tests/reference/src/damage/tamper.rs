@@ -33,7 +33,7 @@ pub fn set_some_field(bytes: &mut [u8], rng: &mut Rng) {
     let key = near(at::KEY.get(&bytes[other_at..]), rng);
     let entry_at = some_entry_at(bytes, rng);
     let page_at = entry_at / edition.page_bytes * edition.page_bytes;
-    let (field, value, at) = match rng.below(17) {
+    let (field, value, at) = match rng.below(18) {
         0 => (at::CURRENT, version, 0),
         1 => (at::OPEN_FLAG, rng.below(2), 0),
         2 => (at::SLOT_VERSION, version, slot_at),
@@ -43,6 +43,10 @@ pub fn set_some_field(bytes: &mut [u8], rng: &mut Rng) {
         6 | 7 => (at::ENTRY_START, version, entry_at),
         8 | 9 => (at::ENTRY_END, version, entry_at),
         10 => (at::VALUE, number, entry_at),
+        17 => match edition.oldest {
+            Some(oldest) => (oldest, version, 0),
+            None => (at::KEY, key, entry_at),
+        },
         16 => match edition.live_count {
             Some(live_count) => (live_count, near(rng.below(41), rng), page_at),
             None => (at::KEY, key, entry_at),

@@ -138,7 +138,8 @@ impl Writer {
             _ => self.rng.between(10, 48),
         };
         self.write_fresh(edition, pages);
-        History::on_store_of(edition, seed, kind, pages as usize, Model::fresh())
+        let model = Model::fresh_of(edition);
+        History::on_store_of(edition, seed, kind, pages as usize, model)
     }
 
     /// Damage, some calls on it, and the bytes as they were.
@@ -203,7 +204,7 @@ impl Writer {
             _ => self.rng.below(12),
         };
         let (key, other) = (self.any_key(), self.any_key());
-        let call = match self.rng.below(15) {
+        let call = match self.rng.below(16) {
             0 => Call::Check,
             1 => Call::Open,
             2 => Call::Insert(key, other),
@@ -215,6 +216,7 @@ impl Writer {
             10 => Call::Difference(version, self.rng.below(12), 40),
             11 => Call::Life(key, 9),
             12 => Call::Return(version),
+            13 => Call::Prune(version),
             _ => Call::Range(key, other, version, self.rng.below(400) as usize),
         };
         self.write_call(call);
@@ -259,6 +261,8 @@ pub const MALFORMED: &[&str] = &[
     "return",
     "return 1 2",
     "return to 1",
+    "prune",
+    "prune 1 2",
     "diff 1",
     "diff 1 2 3",
     "difference 1 2",

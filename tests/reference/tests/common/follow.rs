@@ -1,5 +1,6 @@
 //! A history on this program, beside one ordered map for each version.
 
+use super::literal::pruned;
 use super::roomier;
 use crate::calls;
 use reference::beside::Tally;
@@ -22,6 +23,7 @@ pub struct Followed {
     /// Returns that were done, and that ended in 12 or 13.
     pub returns: u64,
     pub stopped: u64,
+    pub prunes: u64,
 }
 
 struct Follower {
@@ -131,6 +133,10 @@ impl Follower {
                 self.followed.returns += 1;
             }
             Call::Fresh | Call::FreshSecond => self.settings = (0, 0),
+            Call::Prune(version) => {
+                assert_eq!(pruned(&before, version), self.followed.store, "{call:?}");
+                self.followed.prunes += 1;
+            }
             Call::Check | Call::Lookup(..) | Call::Range(..) => return,
             Call::Visits(..) | Call::Difference(..) | Call::Life(..) => return,
         }
@@ -227,8 +233,9 @@ fn lacks_exactly_when_needed(call: Call, given: u32, before: &[u8], after: &[u8]
 pub fn every_version_answers(bytes: &[u8], model: &Model) {
     assert_eq!(calls::check(bytes), (0, 0));
     let last = model.last();
-    let step = (last / 400).max(1) as usize;
-    for version in (0..=last).step_by(step).chain([last]) {
+    let step = ((last - model.oldest) / 400).max(1) as usize;
+    let versions = (model.oldest..=last).step_by(step);
+    for version in versions.chain([last]) {
         let mut list = vec![0; 2 * model.at(version).len()];
         let (number, count) = unjudged::range(bytes, 0, HIGHEST_KEY, version, &mut list);
         assert_eq!((number, count as usize), (0, list.len() / 2));

@@ -26,6 +26,8 @@ struct Store {
     /// The number told by each page, and the number of its entries that have
     /// not ended.
     live: Vec<(u64, u64)>,
+    oldest: u64,
+    open: bool,
     last: u64,
     slots: Vec<(u64, usize)>,
     pages: Vec<Page>,
@@ -74,6 +76,40 @@ fn zero(bytes: &[u8], from: usize, to: usize) -> bool {
     (from..to).all(|at| bits(bytes, at, 1) == 0)
 }
 
+fn set_bits(bytes: &mut [u8], from: usize, width: usize, number: u64) {
+    for at in from..from + width {
+        let bit = number >> (from + width - 1 - at) & 1;
+        let place = 7 - at % 8;
+        bytes[at / 8] = bytes[at / 8] & !(1 << place) | (bit as u8) << place;
+    }
+}
+
+/// What a prune of a store of edition 2 leaves, where it is done: "frees every
+/// page that ended at or before it and drops directory slots not needed from it
+/// on", and the oldest version.
+pub fn pruned(bytes: &[u8], version: u32) -> Vec<u8> {
+    let mut after = bytes.to_vec();
+    let version = u64::from(version);
+    for page in after.chunks_mut(512).skip(5) {
+        if bits(page, 0, 4) != 0 && bits(page, 30, 20) <= version {
+            page.fill(0);
+        }
+    }
+    let roots = bits(bytes, 74, 10) as usize;
+    let slots: Vec<&[u8]> = bytes[512..].chunks(4).take(roots).collect();
+    // A slot is needed from a version on unless the next one begins by then.
+    let needed = |index: &usize| match slots.get(index + 1) {
+        Some(next) => bits(next, 0, 20) > version,
+        None => true,
+    };
+    let needed: Vec<&[u8]> = (0..roots).filter(needed).map(|i| slots[i]).collect();
+    after[512..512 + 4 * roots].fill(0);
+    after[512..512 + 4 * needed.len()].copy_from_slice(&needed.concat());
+    set_bits(&mut after, 74, 10, needed.len() as u64);
+    set_bits(&mut after, 84, 20, version);
+    after
+}
+
 /// The number and rule that check is to give.
 pub fn verdict(bytes: &[u8]) -> (u32, u32) {
     let number = no_store(bytes);
@@ -83,7 +119,7 @@ pub fn verdict(bytes: &[u8]) -> (u32, u32) {
     let Some(store) = rule_1(bytes) else {
         return (4, 1);
     };
-    let rules: [fn(&Store) -> bool; 5] = [rule_2, rule_3, rule_4, rule_5, rule_6];
+    let rules: [fn(&Store) -> bool; 6] = [rule_2, rule_3, rule_4, rule_5, rule_6, rule_7];
     match rules.iter().position(|rule| !rule(&store)) {
         Some(index) => (4, index as u32 + 2),
         None if store.live.iter().any(|(told, live)| told != live) => (4, 8),
@@ -113,7 +149,7 @@ pub fn no_store(bytes: &[u8]) -> u32 {
 
 /// The store, if rule 1 holds.
 fn rule_1(bytes: &[u8]) -> Option<Store> {
-    let (last, slots) = front(bytes)?;
+    let (oldest, last, slots) = front(bytes)?;
     let own = numbers(bytes);
     let count = bytes.len() / own.page;
     let page = |number: usize| page(&bytes[own.page * number..][..own.page], own, last, count);
@@ -130,6 +166,8 @@ fn rule_1(bytes: &[u8]) -> Option<Store> {
     };
     pages.map(|pages| Store {
         live: counts(&pages),
+        oldest,
+        open: bits(bytes, 73, 1) == 1,
         fewest: own.fewest,
         last,
         slots,
@@ -137,15 +175,21 @@ fn rule_1(bytes: &[u8]) -> Option<Store> {
     })
 }
 
-/// The last version and the slots, if rule 1 holds of the header and of them.
-pub fn front(bytes: &[u8]) -> Option<(u64, Vec<(u64, usize)>)> {
+/// The oldest version and the last, and the slots, if rule 1 holds of the header
+/// and of them.
+pub fn front(bytes: &[u8]) -> Option<(u64, u64, Vec<(u64, usize)>)> {
     let own = numbers(bytes);
     let count = bytes.len() / own.page;
     let (current, open) = (bits(bytes, 53, 20), bits(bytes, 73, 1));
     let roots = bits(bytes, 74, own.roots_bits);
     let last = current + open;
     let header = bits(bytes, 40, 13) == count as u64 && last < ALIVE && roots <= own.slots as u64;
-    if !header || !zero(bytes, 74 + own.roots_bits, 8 * own.page) {
+    // In edition 2 the oldest version stands in bits 84 to 103.
+    let (oldest, end) = match own.page {
+        512 => (bits(bytes, 84, 20), 104),
+        _ => (0, 83),
+    };
+    if !header || oldest > current || !zero(bytes, end, 8 * own.page) {
         return None;
     }
     let slot = |index: usize| &bytes[own.page + 4 * index..][..4];
@@ -162,7 +206,7 @@ pub fn front(bytes: &[u8]) -> Option<(u64, Vec<(u64, usize)>)> {
             return None;
         }
     }
-    Some((last, slots))
+    Some((oldest, last, slots))
 }
 
 fn free() -> Page {
@@ -230,13 +274,13 @@ fn entry(bytes: &[u8], before: &[Entry]) -> Option<Entry> {
 }
 
 fn rule_2(store: &Store) -> bool {
-    directory(&store.slots, store.last)
+    directory(&store.slots, store.oldest, store.last)
 }
 
-pub fn directory(slots: &[(u64, usize)], last: u64) -> bool {
+pub fn directory(slots: &[(u64, usize)], oldest: u64, last: u64) -> bool {
     let mut expected_above = None;
     for (index, (version, _)) in slots.iter().enumerate() {
-        if (index == 0) != (*version == 0) || *version > last {
+        if (index == 0) != (*version <= oldest) || *version > last {
             return false;
         }
         if expected_above.is_some_and(|before| *version <= before) {
@@ -254,6 +298,9 @@ fn within(inner: Span, outer: Span) -> bool {
 fn rule_3(store: &Store) -> bool {
     for page in &store.pages {
         for entry in &page.entries {
+            if page.level > 1 && entry.span.1 <= store.oldest {
+                continue;
+            }
             if !within(entry.span, page.span) {
                 return false;
             }
@@ -281,7 +328,7 @@ pub fn alive(page: &Page, version: u64) -> Vec<&Entry> {
 }
 
 fn rule_4(store: &Store) -> bool {
-    (0..=store.last).all(|version| {
+    (store.oldest..=store.last).all(|version| {
         let mut waiting = vec![(root(store, version), 0, 1 << 24)];
         while let Some((number, low, above)) = waiting.pop() {
             let page = &store.pages[number];
@@ -322,7 +369,7 @@ fn reached(store: &Store, version: u64) -> Vec<bool> {
 }
 
 fn rule_5(store: &Store) -> bool {
-    (0..=store.last).all(|version| {
+    (store.oldest..=store.last).all(|version| {
         let reached = reached(store, version);
         let root = root(store, version);
         (5..store.pages.len()).all(|number| {
@@ -338,12 +385,21 @@ fn rule_5(store: &Store) -> bool {
 }
 
 fn rule_6(store: &Store) -> bool {
-    (0..=store.last).all(|version| {
+    (store.oldest..=store.last).all(|version| {
         let reached = reached(store, version);
         (5..store.pages.len()).all(|number| {
             let page = &store.pages[number];
             let in_span = page.span.0 <= version && version < page.span.1;
             reached[number] == (page.level > 0 && in_span)
         })
+    })
+}
+
+fn rule_7(store: &Store) -> bool {
+    let pages = store.pages.iter();
+    let mut active = pages.filter(|page| store.open && page.level > 0 && page.span.0 == store.last);
+    active.all(|page| {
+        let mut entries = page.entries.iter();
+        entries.all(|entry| entry.span == (store.last, ALIVE))
     })
 }

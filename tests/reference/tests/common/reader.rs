@@ -30,14 +30,15 @@ pub fn read(bytes: &[u8], keys: (u32, u32), version: u32, lookup: bool) -> Optio
     if number != 0 {
         return Some((number, Vec::new()));
     }
-    let Some((last, slots)) = front(bytes).filter(|(last, slots)| directory(slots, *last)) else {
+    let front = front(bytes).filter(|(oldest, last, slots)| directory(slots, *oldest, *last));
+    let Some((oldest, last, slots)) = front else {
         return Some((4, Vec::new()));
     };
     let (low, high, version) = (u64::from(keys.0), u64::from(keys.1), u64::from(version));
     if low > high || high >= 1 << 24 {
         return Some((5, Vec::new()));
     }
-    if version > last {
+    if version > last || version < oldest {
         return Some((6, Vec::new()));
     }
     let root = slots.iter().rev().find(|slot| slot.0 <= version)?.1;

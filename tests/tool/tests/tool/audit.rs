@@ -68,6 +68,29 @@ fn side_by_side() {
     assert_eq!(folder.done(&["audit"], ""), "0 calls, 0 left out: equal\n");
 }
 
+/// A prune of either edition, and what is below it then.
+#[test]
+fn prunes() {
+    let folder = Folder::new();
+    let said = "store 8\nopen\ninsert 7 1\nprune 0\ncommit\nopen\ndelete 7\ninsert 7 2\ncommit\nprune 3\nprune 2\nget 7 1\nlife 7\n";
+    let out = folder.done(&["audit", "--edition", "2"], said);
+    let lines: Vec<&str> = out.lines().collect();
+    assert_eq!(lines[3], "4 | prune 0 | refused 8 | refused 8");
+    assert_eq!(
+        lines[9..],
+        [
+            "10 | prune 3 | refused 6 | refused 6",
+            "11 | prune 2 | ok | ok",
+            "12 | get 7 1 | refused 6 | refused 6",
+            "13 | life 7 | count 1: 2 1048575 2 | count 1: 2 1048575 2",
+            "13 calls, 0 left out: equal",
+        ]
+    );
+    let first = folder.done(&["audit"], said);
+    assert!(first
+        .contains("\n11 | prune 2 | refused 3 | refused 3\n12 | get 7 1 | value 1 | value 1\n"));
+}
+
 /// One page for settings: the insert that wants a second is left out, and a return
 /// that does is an abandon.
 #[test]
@@ -105,6 +128,7 @@ fn line(call: Call, pages: usize) -> Option<String> {
         Call::Commit => "commit".into(),
         Call::Abandon => "abandon".into(),
         Call::Return(version) => format!("return {version}"),
+        Call::Prune(version) => format!("prune {version}"),
         Call::Lookup(key, version) => format!("get {key} {version}"),
         Call::Range(low, high, version, _) => format!("range {low} {high} {version}"),
         Call::Difference(old, new, _) => format!("diff {old} {new}"),

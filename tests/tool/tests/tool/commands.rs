@@ -35,7 +35,7 @@ fn info_says_it_in_words() {
     let said = folder.done(&["info", "s"], "");
     assert_eq!(
         said,
-        "edition 1\nversion 2, with 2 settings\nno update is open\n\
+        "edition 1\nversion 2, with 2 settings\nevery version is kept\nno update is open\n\
          64 pages: 5 for header and directory, 1 used, 58 free\n\
          58 free: any one change fits (none takes more than 15)\n\
          1 of 256 roots used: 255 more releases may move the root\n\
@@ -197,7 +197,7 @@ fn every_number_is_explained() {
             "{said}"
         );
     }
-    for number in [64, 65, 66, 69, 74] {
+    for number in [64, 65, 66, 74] {
         folder.done(&["explain", &number.to_string()], "");
     }
     folder.refused(&["explain", "99"], "", 64, "99: no number");

@@ -35,13 +35,39 @@ fn killed_writing(folder: &Folder, words: &[&str], input: &str, after: Duration)
     std::fs::remove_file(beside).is_ok()
 }
 
-/// A store, a release, and the store after it.
-fn release(folder: &Folder) -> (Vec<u8>, Vec<u8>) {
-    folder.done(&["new", "s", "64"], "");
-    folder.done(&["apply", "s"], &changes(0));
-    let before = folder.bytes("s");
-    folder.done(&["apply", "s"], &changes(1));
-    (before, folder.bytes("s"))
+/// A writer: the edition of its store, its words and its input.
+struct Writer {
+    edition: &'static str,
+    words: &'static [&'static str],
+    input: String,
+}
+
+fn writers() -> [Writer; 2] {
+    let writer = |edition, words, input| Writer {
+        edition,
+        words,
+        input,
+    };
+    [
+        writer("1", &["apply", "s"], changes(3)),
+        writer("2", &["prune", "s", "2"], String::new()),
+    ]
+}
+
+impl Writer {
+    /// A store of three releases, and the store behind the writer.
+    fn stores(&self, folder: &Folder) -> (Vec<u8>, Vec<u8>) {
+        let _ = std::fs::remove_file(folder.path("s"));
+        folder.done(&["new", "s", "64", "--edition", self.edition], "");
+        for release in 0..3 {
+            folder.done(&["apply", "s"], &changes(release));
+        }
+        let before = folder.bytes("s");
+        folder.done(self.words, &self.input);
+        let after = folder.bytes("s");
+        assert!(before != after, "{:?}", self.words);
+        (before, after)
+    }
 }
 
 /// Whether the file is the new store; else it is the old one.
@@ -59,41 +85,48 @@ fn is_new(folder: &Folder, before: &[u8], after: &[u8], time: usize) -> bool {
 #[test]
 fn old_or_new() {
     let folder = Folder::new();
-    let (before, after) = release(&folder);
-    folder.put("s", &before);
-    let took = whole(&folder, &["apply", "s"], &changes(1));
-    let mut rng = Rng::new(28);
-    let mut seen = [0, 0];
-    for time in 0..times("RCST_KILLS", 1000) / 2 {
+    for writer in writers() {
+        let (before, after) = writer.stores(&folder);
+        let (words, input) = (writer.words, &writer.input[..]);
         folder.put("s", &before);
-        let part = f64::from(rng.below(1300)) / 1000.0;
-        killed(&folder, &["apply", "s"], &changes(1), took.mul_f64(part));
-        seen[usize::from(is_new(&folder, &before, &after, time))] += 1;
+        let took = whole(&folder, words, input);
+        let mut rng = Rng::new(28);
+        let mut seen = [0, 0];
+        // fewer might all come too early
+        for time in 0..(times("RCST_KILLS", 1000) / 4).max(30) {
+            folder.put("s", &before);
+            let part = f64::from(rng.below(1300)) / 1000.0;
+            killed(&folder, words, input, took.mul_f64(part));
+            seen[usize::from(is_new(&folder, &before, &after, time))] += 1;
+        }
+        println!("{}: old {}, new {}", words[0], seen[0], seen[1]);
+        assert!(seen.iter().all(|count| *count > 0), "{seen:?}");
+        // what a killed program left beside the store is in nobody's way
+        folder.put("s", &before);
+        folder.done(words, input);
+        assert_eq!(folder.bytes("s"), after);
+        assert_eq!(folder.names(), ["s"]);
     }
-    println!("old {}, new {}", seen[0], seen[1]);
-    assert!(seen.iter().all(|count| *count > 0), "{seen:?}");
-    // what a killed program left beside the store is in nobody's way
-    folder.put("s", &before);
-    folder.done(&["apply", "s"], &changes(1));
-    assert_eq!(folder.bytes("s"), after);
-    assert_eq!(folder.names(), ["s"]);
 }
 
 /// From the moment on at which there is something to lose.
 #[test]
 fn old_or_new_while_it_is_written() {
     let folder = Folder::new();
-    let (before, after) = release(&folder);
-    let mut rng = Rng::new(30);
-    let (mut new, mut left) = (0, 0);
-    for time in 0..times("RCST_KILLS", 1000) / 2 {
-        folder.put("s", &before);
-        let pause = Duration::from_micros(u64::from(rng.below(1500)));
-        left += usize::from(killed_writing(&folder, &["apply", "s"], &changes(1), pause));
-        new += usize::from(is_new(&folder, &before, &after, time));
+    for writer in writers() {
+        let (before, after) = writer.stores(&folder);
+        let (words, input) = (writer.words, &writer.input[..]);
+        let mut rng = Rng::new(30);
+        let (mut new, mut left) = (0, 0);
+        for time in 0..times("RCST_KILLS", 1000) / 4 {
+            folder.put("s", &before);
+            let pause = Duration::from_micros(u64::from(rng.below(1500)));
+            left += usize::from(killed_writing(&folder, words, input, pause));
+            new += usize::from(is_new(&folder, &before, &after, time));
+        }
+        println!("{}: new {new}, killed before the rename {left}", words[0]);
+        assert!(left > 0, "{}", words[0]);
     }
-    println!("new {new}, killed before the rename {left}");
-    assert!(left > 0);
 }
 
 #[test]

@@ -8,5 +8,6 @@ mod kills;
 mod names;
 mod pictures;
 mod places;
+mod prunes;
 mod refusals;
 mod second;

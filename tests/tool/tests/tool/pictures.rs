@@ -3,7 +3,8 @@
 use reference::edition::EDITIONS;
 use reference::history::{calls_of, KINDS};
 use reference::image::Image;
-use reference::{calls as plain, store};
+use reference::rng::Rng;
+use reference::{calls as plain, pruned, samples, store};
 use tool::Folder;
 
 /// Whether a text is XML as far as pictures go: one element around all, tags that
@@ -71,41 +72,79 @@ fn the_reader_of_xml_reads() {
     }
 }
 
+/// Stores that histories leave, and pruned ones with what no call leaves in them.
+fn stores() -> Vec<Vec<u8>> {
+    let of = |seed: usize| {
+        let edition = EDITIONS[seed / KINDS.len()];
+        calls_of(edition, seed as u64, KINDS[seed % KINDS.len()], 64, 300).1
+    };
+    let pruned = |seed: u64| {
+        let mut bytes = samples::pruned_store(seed);
+        pruned::unsettle(&mut bytes, &mut Rng::new(seed));
+        bytes
+    };
+    (0..8).map(of).chain((0..16).map(pruned)).collect()
+}
+
 #[test]
 fn every_leaf_is_a_box() {
     let folder = Folder::new();
-    for seed in 0..8 {
-        let kind = KINDS[seed % KINDS.len()];
-        let edition = EDITIONS[seed / KINDS.len()];
-        let (_, bytes) = calls_of(edition, seed as u64, kind, 64, 300);
-        folder.put("s", &bytes);
+    for (place, bytes) in stores().iter().enumerate() {
+        folder.put("s", bytes);
         let svg = folder.done(&["draw", "s"], "");
-        assert_eq!(well_formed(&svg), Ok(()), "seed {seed}");
-        let image = Image::read(&bytes);
+        assert_eq!(well_formed(&svg), Ok(()), "store {place}");
+        let image = Image::read(bytes);
+        let header = store::header(bytes);
         for (number, page) in image.used() {
-            let boxes = svg.matches(&format!("<title>page {number}: ")).count();
-            assert_eq!(
-                boxes,
-                usize::from(!page.is_index()),
-                "seed {seed}, page {number}"
-            );
+            let title = format!("<title>page {number}: ");
+            let boxes: Vec<&str> = svg.split(&title[..]).skip(1).collect();
+            // one that ended by the oldest version need not be reached
+            if page.is_index() || page.span.end <= header.oldest {
+                assert!(boxes.is_empty(), "store {place}, page {number}");
+                continue;
+            }
+            assert_eq!(boxes.len(), 1, "store {place}, page {number}");
+            let corners = corners(boxes[0]);
+            for (key, version) in corners {
+                let (given, way) = visited(bytes, key, version);
+                assert_eq!(
+                    (given, way.last()),
+                    (0, Some(&number)),
+                    "store {place}, key {key}, version {version}"
+                );
+            }
         }
-        let last = store::header(&bytes).last();
-        let tree = folder.done(&["draw", "s", "--tree", &format!("@{last}")], "");
-        assert_eq!(well_formed(&tree), Ok(()), "seed {seed}");
-        let (_, way) = visited(&bytes, last);
-        for number in way {
-            assert!(
-                tree.contains(&format!("<title>page {number}: ")),
-                "seed {seed}, page {number}"
-            );
+        for version in [header.oldest, header.last()] {
+            let tree = folder.done(&["draw", "s", "--tree", &format!("@{version}")], "");
+            assert_eq!(well_formed(&tree), Ok(()), "store {place}");
+            let (_, way) = visited(bytes, 0, version);
+            for number in way {
+                assert!(
+                    tree.contains(&format!("<title>page {number}: ")),
+                    "store {place}, page {number}"
+                );
+            }
         }
     }
 }
 
-fn visited(bytes: &[u8], version: u32) -> (u32, Vec<u32>) {
+/// The first and the last key of a box at its first version and at its last one, by
+/// its words: `keys A to B, versions C to D`.
+fn corners(words: &str) -> [(u32, u32); 4] {
+    let words = words.split('<').next().expect("words");
+    let numbers: Vec<u32> = words
+        .split([' ', ','])
+        .filter_map(|word| word.parse().ok())
+        .collect();
+    let [low, high, first, last] = numbers[..] else {
+        panic!("{words}");
+    };
+    [(low, first), (high, first), (low, last), (high, last)]
+}
+
+fn visited(bytes: &[u8], key: u32, version: u32) -> (u32, Vec<u32>) {
     let mut list = vec![0; 7];
-    let (number, count) = plain::visits(bytes, 0, version, &mut list);
+    let (number, count) = plain::visits(bytes, key, version, &mut list);
     list.truncate(count as usize);
     (number, list)
 }
@@ -125,6 +164,32 @@ fn dots_and_bars_are_the_lives_of_settings() {
     folder.done(&["apply", "s"], &many);
     let svg = folder.done(&["draw", "s"], "");
     assert_eq!(svg.matches("<circle").count(), 65);
+}
+
+/// Of a pruned store versions begin at the oldest: a setting from before has its dot
+/// there, and one that ended before is not there.
+#[test]
+fn a_pruned_picture_begins_at_the_oldest() {
+    let folder = Folder::new();
+    folder.done(&["new", "s", "64", "--edition", "2"], "");
+    folder.done(&["apply", "s"], "set 1 1\nset 2 2\nset 3 3\n");
+    folder.done(&["apply", "s"], "set 1 5\nunset 2\n");
+    folder.done(&["apply", "s"], "set 4 4\nunset 3\n");
+    let svg = folder.done(&["draw", "s"], "");
+    assert_eq!(svg.matches("<circle").count(), 5);
+    assert_eq!(svg.matches("stroke=\"#000\"").count(), 2);
+    assert!(svg.contains("versions 0 to 3</title>"), "{svg}");
+    folder.done(&["prune", "s", "2"], "");
+    let svg = folder.done(&["draw", "s"], "");
+    assert_eq!(well_formed(&svg), Ok(()));
+    // keys 1 and 3 from version 2 on, key 4 at version 3; key 3 ends there
+    assert_eq!(svg.matches("<circle").count(), 3);
+    assert_eq!(svg.matches("stroke=\"#000\"").count(), 1);
+    assert!(svg.contains("versions 2 to 3</title>"), "{svg}");
+    assert!(
+        !svg.contains("font-size=\"11\" fill=\"#345\">0</text>"),
+        "{svg}"
+    );
 }
 
 #[test]

@@ -1,17 +1,39 @@
 //! Where a store is wrong: every kind of damage is placed, under the rule that it
 //! breaks.
 
+use reference::calls;
 use reference::damage;
 use reference::edition::EDITIONS;
 use reference::history::{calls_of, KINDS};
+use reference::image::Image;
 use reference::rng::Rng;
+use reference::{samples, store};
 use tool::{times, Folder};
 
-/// Sound stores of both editions.
+/// A pruned store with an update open in which the root became an index page.
+fn growing() -> Vec<u8> {
+    let mut bytes = vec![0; 64 * 512];
+    assert_eq!(calls::fresh_second(&mut bytes), 0);
+    for release in 0..3u32 {
+        assert_eq!(calls::open(&mut bytes), 0);
+        for key in 20 * release..20 * release + 20 {
+            assert_eq!(calls::insert(&mut bytes, key, release), 0);
+        }
+        if release < 2 {
+            assert_eq!(calls::commit(&mut bytes), 0);
+            assert_eq!(calls::prune(&mut bytes, release + 1), 0);
+        }
+    }
+    bytes
+}
+
+/// Sound stores of both editions, and pruned ones.
 fn stores() -> Vec<Vec<u8>> {
-    let mut stores = Vec::new();
+    let many = times("RCST_DAMAGES", 4);
+    let pruned = (0..3 * many as u64).map(samples::pruned_store);
+    let mut stores: Vec<Vec<u8>> = pruned.chain([growing()]).collect();
     for edition in EDITIONS {
-        for seed in 0..times("RCST_DAMAGES", 4) {
+        for seed in 0..many {
             let shape = KINDS[seed % KINDS.len()];
             stores.push(calls_of(edition, seed as u64, shape, 40, 220).1);
         }
@@ -37,6 +59,10 @@ fn every_damage_has_a_place() {
         }
     }
     assert!(names.len() > 100, "{}", names.len());
+    for rule in 1..=8 {
+        let broken = rules.iter().any(|(broken, _)| *broken == rule);
+        assert!(broken, "rule {rule}");
+    }
     let words: Vec<&str> = ["check", "--csv"]
         .into_iter()
         .chain(names.iter().map(|name| &name[..]))
@@ -56,7 +82,28 @@ fn every_damage_has_a_place() {
             .iter()
             .any(|word| found.starts_with(word));
         assert!(placed, "{name}: {found}");
+        let bytes = folder.bytes(&names[place]);
+        assert!(!is_skipped(&bytes, *rule, found), "{name}: {found}");
     }
+}
+
+/// Whether a place is one of which the rules do not speak: a version before the
+/// oldest, or, by rule 3, a router that ended by it.
+fn is_skipped(bytes: &[u8], rule: u32, place: &str) -> bool {
+    let oldest = store::header(bytes).oldest;
+    let number = |word: &str| -> Option<u32> {
+        let behind = place.split(word).nth(1)?;
+        behind.split([',', ':', ' ']).next()?.parse().ok()
+    };
+    if place.starts_with("version ") {
+        return number("version ").is_some_and(|version| version < oldest);
+    }
+    let (Some(page), Some(entry), 3) = (number("page "), number("entry "), rule) else {
+        return false;
+    };
+    let image = Image::read(bytes);
+    let page = image.page(page);
+    page.is_index() && page.entries[entry as usize].span.end <= oldest
 }
 
 #[test]

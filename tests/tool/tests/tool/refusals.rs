@@ -164,7 +164,6 @@ fn what_is_no_command() {
     );
     folder.refused(&["apply", "s"], "set 1 x\n", 65, "line 1: x: not a number");
     folder.refused(&["load", "t"], "frob\n", 65, "line 1: frob");
-    folder.refused(&["prune", "s", "0"], "", 69, "not in this library");
 }
 
 #[test]

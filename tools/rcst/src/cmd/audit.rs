@@ -17,7 +17,7 @@ pub const COMMAND: Command = Command {
     name: "audit",
     usage: "audit [HISTORY] [--edition 2] [--pages N] [--json | --csv]",
     does: "a history through the tree and the plain engine, the two answers side by side",
-    more: "HISTORY, or standard input, has a call a line: the console's lines (store N, open, insert K V, delete K,\ncommit, abandon, get K V, range LOW HIGH V), and life K, diff A B, return V. An empty line, or one that\nbegins with #, says nothing. A line of the answer: the line's number, the call, what the tree answers, what\nthe plain engine does. A call to which the tree gives 12 or 13 (or 1, before any store) is left out there, and a\nreturn that ends in 12 or 13 is an abandon. --pages N: every store has N pages, and the history needs no\nline 'store'. No store file is read or written. Exit status: 0 if all answers are equal; 1 at the first that\nis not, which ends the audit.",
+    more: "HISTORY, or standard input, has a call a line: the console's lines (store N, open, insert K V, delete K,\ncommit, abandon, get K V, range LOW HIGH V), and life K, diff A B, return V, prune V. An empty line, or one\nthat begins with #, says nothing. A line of the answer: the line's number, the call, what the tree answers, what\nthe plain engine does. A call to which the tree gives 12 or 13 (or 1, before any store) is left out there, and a\nreturn that ends in 12 or 13 is an abandon. --pages N: every store has N pages, and the history needs no\nline 'store'. No store file is read or written. Exit status: 0 if all answers are equal; 1 at the first that\nis not, which ends the audit.",
     run,
 };
 

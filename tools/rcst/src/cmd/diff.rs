@@ -1,18 +1,21 @@
 //! What differs between two versions: the list that is signed.
 
+use rcst::State;
+
 use super::Command;
 use crate::fault::Fault;
 use crate::file;
 use crate::line::{Form, Line};
 use crate::names::Names;
 use crate::rows::{Cell, Rows};
+use crate::state::within;
 use crate::store::{difference, Change};
 
 pub const COMMAND: Command = Command {
     name: "diff",
     usage: "diff FILE A B [--names F] [--json | --csv]",
     does: "what differs from version A to version B: the list that is signed",
-    more: "A line a difference, in key order: 'added KEY VALUE', 'removed KEY VALUE', 'changed KEY OLD NEW'. The\ntext of two committed versions is the same for ever, byte for byte. Exit status: 0 if nothing differs,\n1 if something does, as diff's; a file of wrong length gives 65 here.",
+    more: "A line a difference, in key order: 'added KEY VALUE', 'removed KEY VALUE', 'changed KEY OLD NEW'. The\ntext of two committed versions is the same for as long as they are kept, byte for byte. Exit status: 0 if nothing differs,\n1 if something does, as diff's; a file of wrong length gives 65 here.",
     run,
 };
 
@@ -28,7 +31,10 @@ fn compare(mut line: Line) -> Result<u8, Fault> {
     let names = Names::of(line.names.as_deref())?;
     let bytes = file::read(&path)?;
     let differences = difference(&bytes, old, new);
-    let differences = differences.map_err(|number| Fault::number(path.display(), number))?;
+    let differences = differences.map_err(|number| {
+        let fault = Fault::number(path.display(), number);
+        within(fault, &bytes, &[old, new], State::last)
+    })?;
     show(&differences, line.form, &names)?;
     Ok(u8::from(!differences.is_empty()))
 }

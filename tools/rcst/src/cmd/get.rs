@@ -1,12 +1,14 @@
 //! The value of one setting at a version.
 
+use rcst::State;
+
 use super::Command;
 use crate::fault::Fault;
 use crate::file;
 use crate::line::{number, Line};
 use crate::names::Names;
 use crate::rows::{Cell, Rows};
-use crate::state::current;
+use crate::state::{current, within};
 
 pub const COMMAND: Command = Command {
     name: "get",
@@ -29,7 +31,8 @@ fn run(mut line: Line) -> Result<u8, Fault> {
     let bytes = file::read(&path)?;
     let refused = |number| Fault::number(path.display(), number);
     let version = at.map_or_else(|| current(&bytes), Ok).map_err(refused)?;
-    let value = names.lookup(&bytes, key, version).map_err(refused)?;
+    let value = names.lookup(&bytes, key, version);
+    let value = value.map_err(|number| within(refused(number), &bytes, &[version], State::last))?;
     let shown = value.map_or("absent".into(), |value| names.shown(key, value));
     let cell = value.map_or(Cell::None, |value| names.cell(key, value));
     let mut rows = Rows::new(line.form, &["key", "version", "value"])?;

@@ -8,19 +8,16 @@ use crate::fault::Fault;
 use crate::file;
 use crate::line::Line;
 use crate::rows::{Cell, Rows};
-use crate::state::state;
+use crate::state::{most_roots, state};
 use crate::store;
 
 pub const COMMAND: Command = Command {
     name: "info",
     usage: "info FILE [--json | --csv]",
-    does: "version, open or not, pages, roots, and what still fits",
+    does: "version, the oldest, open or not, pages, roots, and what still fits",
     more: "A store that is not sound is refused with its number; 'rcst check' says where.",
     run,
 };
-
-/// How many roots the directory has room for, in edition 1; edition 2 has twice as many.
-const MOST_ROOTS: u32 = 256;
 
 fn run(mut line: Line) -> Result<u8, Fault> {
     let path = line.file()?;
@@ -46,6 +43,7 @@ fn told(state: &State, settings: usize) -> Vec<(&'static str, u32, String)> {
         edition,
         free,
         open,
+        oldest,
     } = *state;
     let version = format!("version {current}, with {settings} settings");
     let releases = HIGHEST_VERSION - current;
@@ -53,12 +51,20 @@ fn told(state: &State, settings: usize) -> Vec<(&'static str, u32, String)> {
     vec![
         ("edition", edition, format!("edition {edition}")),
         ("version", current, version),
+        ("oldest", oldest, kept(oldest)),
         ("open", open, opened(state)),
         ("pages", pages, shared(pages, free)),
         ("free", free, fits(free)),
-        ("roots", roots, moves(roots, MOST_ROOTS * edition)),
+        ("roots", roots, moves(roots, most_roots(state))),
         ("releases", releases, numbered),
     ]
+}
+
+fn kept(oldest: u32) -> String {
+    match oldest {
+        0 => "every version is kept".into(),
+        _ => format!("versions from {oldest} on are kept, those before were pruned"),
+    }
 }
 
 fn opened(state: &State) -> String {

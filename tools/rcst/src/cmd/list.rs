@@ -1,6 +1,7 @@
 //! The settings of a version, in key order.
 
 use rcst::limits::HIGHEST_KEY;
+use rcst::State;
 
 use super::Command;
 use crate::fault::Fault;
@@ -8,7 +9,7 @@ use crate::file;
 use crate::line::Line;
 use crate::names::Names;
 use crate::rows::Rows;
-use crate::state::current;
+use crate::state::{current, within};
 
 pub const COMMAND: Command = Command {
     name: "list",
@@ -37,7 +38,7 @@ fn run(mut line: Line) -> Result<u8, Fault> {
         Ok(settings) => settings,
         Err(number) => {
             names.unknown(&bytes, low, high, version)?;
-            return Err(refused(number));
+            return Err(within(refused(number), &bytes, &[version], State::last));
         }
     };
     let mut rows = Rows::new(line.form, &["key", "value"])?;

@@ -12,12 +12,12 @@ mod explain;
 mod get;
 pub mod help;
 mod info;
-mod later;
 mod life;
 mod list;
 mod load;
 mod log;
 mod new;
+mod prune;
 mod return_to;
 
 use crate::fault::Fault;
@@ -48,7 +48,7 @@ pub const ALL: [&Command; 18] = [
     &dump::COMMAND,
     &load::COMMAND,
     &draw::COMMAND,
-    &later::PRUNE,
+    &prune::COMMAND,
     &convert::COMMAND,
     &audit::COMMAND,
     &explain::COMMAND,

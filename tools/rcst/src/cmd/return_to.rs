@@ -5,6 +5,7 @@ use crate::fault::Fault;
 use crate::line::{Form, Line};
 use crate::names::Names;
 use crate::release::release;
+use crate::state::within;
 use crate::store::{difference, done};
 
 pub const COMMAND: Command = Command {
@@ -21,7 +22,8 @@ fn run(mut line: Line) -> Result<u8, Fault> {
     line.end()?;
     let names = Names::of(line.names.as_deref())?;
     let made = release(&path, line.dry, |store, version| {
-        done(format!("return to {to}"), rcst::return_to(store, to))?;
+        let returned = done(format!("return to {to}"), rcst::return_to(store, to));
+        returned.map_err(|fault| within(fault, store, &[to], |state| state.current))?;
         let found = difference(store, version - 1, version);
         let found = found.map_err(|number| Fault::number("difference", number))?;
         diff::show(&found, Form::Plain, &names)

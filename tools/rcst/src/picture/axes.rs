@@ -40,25 +40,28 @@ impl Across {
     }
 }
 
-/// Versions from 0 downward, each as high as any other.
+/// Versions from the oldest downward, each as high as any other.
 pub struct Down {
+    pub oldest: u32,
     pub last: u32,
     pub height: f64,
 }
 
 impl Down {
     pub fn step(&self) -> f64 {
-        self.height / (f64::from(self.last) + 1.0)
+        self.height / f64::from(self.last + 1 - self.oldest)
     }
 
-    /// The upper edge of a version; of what is alive, the picture's lower edge.
+    /// The upper edge of a version; of what is alive, the picture's lower edge, and of
+    /// what is older than the oldest version, the upper one.
     pub fn edge(&self, version: u32) -> f64 {
-        TOP + self.step() * f64::from(version.min(self.last + 1))
+        let shown = version.clamp(self.oldest, self.last + 1) - self.oldest;
+        TOP + self.step() * f64::from(shown)
     }
 
     pub fn named(&self, svg: &mut Svg) {
         let every = thinned(self.step(), 16.0);
-        for version in (0..=self.last).step_by(every) {
+        for version in (self.oldest..=self.last).step_by(every) {
             svg.text(
                 LEFT - 8.0,
                 self.edge(version) + 4.0 + self.step().min(13.0) / 2.0,

@@ -2,7 +2,7 @@
 
 use std::collections::BTreeMap;
 
-use crate::plain::page::{pages, LEAF};
+use crate::plain::page::{header, pages, LEAF};
 use crate::plain::Entry;
 
 /// What happens to a key at a version.
@@ -14,10 +14,13 @@ pub enum Event {
 
 /// The events of each key, oldest first. A page that is copied cuts an entry in two,
 /// which is no event: the second starts where the first ends, with the same value.
+/// What ended at or before the oldest version is not there.
 pub fn events(store: &[u8]) -> BTreeMap<u32, Vec<(u32, Event)>> {
+    let oldest = header(store).oldest;
     let mut entries: BTreeMap<u32, Vec<Entry>> = BTreeMap::new();
     for (_, page) in pages(store).iter().filter(|(_, page)| page.level == LEAF) {
-        for entry in &page.entries {
+        let kept = |entry: &&Entry| !entry.span.is_expired(oldest);
+        for entry in page.entries.iter().filter(kept) {
             entries.entry(entry.key).or_default().push(*entry);
         }
     }

@@ -11,8 +11,8 @@ use crate::plain::page::header;
 const WIDTH: f64 = 810.0;
 
 /// High enough that a version is seen, up to a page's height.
-fn height(last: u32) -> f64 {
-    (13.2 * (f64::from(last) + 1.0)).clamp(120.0, 900.0)
+fn height(versions: u32) -> f64 {
+    (13.2 * f64::from(versions)).clamp(120.0, 900.0)
 }
 
 pub fn drawn(store: &[u8]) -> String {
@@ -21,10 +21,11 @@ pub fn drawn(store: &[u8]) -> String {
         keys: events.keys().copied().collect(),
         width: WIDTH,
     };
-    let last = header(store).last();
+    let (oldest, last) = (header(store).oldest, header(store).last());
     let down = Down {
+        oldest,
         last,
-        height: height(last),
+        height: height(last + 1 - oldest),
     };
     let (right, bottom) = (LEFT + WIDTH, TOP + down.height);
     let title = "Leaf pages over keys and versions";
@@ -63,7 +64,7 @@ fn boxed(svg: &mut Svg, region: &Region, across: &Across, down: &Down) {
     let told = format!(
         "page {number}: keys {low} to {}, versions {} to {last}",
         high - 1,
-        span.start
+        span.start.max(down.oldest)
     );
     let size = (right - left, bottom - top);
     svg.rect((left, top), size, colour(number), told);

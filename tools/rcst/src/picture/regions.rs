@@ -4,8 +4,8 @@ use std::collections::BTreeMap;
 
 use rcst::limits::HIGHEST_KEY;
 
-use crate::plain::page::{pages, slots, LEAF};
-use crate::plain::{Page, Span};
+use crate::plain::page::{header, pages, slots, LEAF};
+use crate::plain::{Entry, Page, Span};
 
 /// A leaf page in the picture: its keys from low up to, not including, high.
 pub struct Region {
@@ -17,7 +17,9 @@ pub struct Region {
 
 /// The leaf pages of a sound store. A page keeps its keys for life, so any router to
 /// it tells them: its low key, and the next low key alive with it, or its page's own end.
+/// Routers that ended at or before the oldest version lead to pages that may be gone.
 pub fn regions(store: &[u8]) -> Vec<Region> {
+    let oldest = header(store).oldest;
     let pages: BTreeMap<usize, Page> = pages(store).into_iter().collect();
     let mut keys: BTreeMap<usize, (u32, u32)> = BTreeMap::new();
     let mut waiting: Vec<usize> = Vec::new();
@@ -30,9 +32,10 @@ pub fn regions(store: &[u8]) -> Vec<Region> {
         if page.level == LEAF {
             continue;
         }
-        for router in &page.entries {
+        let kept = |router: &&Entry| !router.span.is_expired(oldest);
+        for router in page.entries.iter().filter(kept) {
             let next = page
-                .alive_at(router.span.start)
+                .alive_at(router.span.start.max(oldest))
                 .find(|next| next.key > router.key);
             let bounds = (router.key, next.map_or(high, |next| next.key));
             if keys.insert(router.value as usize, bounds).is_none() {

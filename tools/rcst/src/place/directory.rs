@@ -24,7 +24,8 @@ pub fn malformed(store: &[u8]) -> Option<String> {
     })
 }
 
-/// Rule 2: versions that begin at 0, rise, and are at most the last one.
+/// Rule 2: one version at or below the oldest, then others above it that rise and
+/// are at most the last one.
 pub fn disordered(store: &[u8]) -> Option<String> {
     let header = header(store);
     let versions: Vec<u32> = (0..header.roots as usize)
@@ -37,10 +38,19 @@ pub fn disordered(store: &[u8]) -> Option<String> {
         let version = versions[place];
         let before = place.checked_sub(1).map(|place| versions[place]);
         match before {
-            None if version != 0 => Some(format!("{}: version {version}, not 0", at(store, place))),
+            None if version > header.oldest => Some(format!(
+                "{}: version {version}, above the oldest, {}",
+                at(store, place),
+                header.oldest
+            )),
             Some(before) if version <= before => Some(format!(
                 "{}: version {version} behind version {before}",
                 at(store, place)
+            )),
+            Some(_) if version <= header.oldest => Some(format!(
+                "{}: version {version}, a second one not above the oldest, {}",
+                at(store, place),
+                header.oldest
             )),
             _ if version > header.last() => Some(format!(
                 "{}: version {version}, above the last, {}",

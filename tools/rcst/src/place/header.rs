@@ -25,6 +25,13 @@ pub fn wrong(store: &[u8]) -> Option<String> {
     if header.roots as usize > shape.slots {
         return Some(format!("page 0: {} roots", header.roots));
     }
-    let bit = first_set(store, 74 + shape.roots_width, 8 * shape.page_bytes)?;
+    if header.oldest > header.current {
+        return Some(format!(
+            "page 0: oldest version {}, above the current one, {}",
+            header.oldest, header.current
+        ));
+    }
+    let behind = 74 + shape.roots_width + shape.oldest_width;
+    let bit = first_set(store, behind, 8 * shape.page_bytes)?;
     Some(format!("page 0: bit {bit} is set (byte {})", bit / 8))
 }

@@ -1,6 +1,7 @@
-//! Rule 3: spans in spans, levels one lower, no slot that leads to a free page.
+//! Rule 3: spans in spans, levels one lower, no slot that leads to a free page. A
+//! router that ended at or before the oldest version is skipped.
 
-use crate::plain::page::{page, pages, slots, FREE, LEAF};
+use crate::plain::page::{header, page, pages, slots, FREE, LEAF};
 use crate::plain::{Entry, Page, Span};
 
 fn told(span: Span) -> String {
@@ -16,8 +17,11 @@ pub fn wrong(store: &[u8]) -> Option<String> {
     if let Some((place, (_, number))) = free {
         return Some(format!("slot {place}: page {number}, which is free"));
     }
+    let oldest = header(store).oldest;
     pages(store).iter().find_map(|(number, page)| {
-        let mut entries = page.entries.iter().enumerate();
+        let skipped = |entry: &Entry| page.level > LEAF && entry.span.is_expired(oldest);
+        let entries = page.entries.iter().enumerate();
+        let mut entries = entries.filter(|(_, entry)| !skipped(entry));
         entries.find_map(|(place, entry)| {
             let words = one(store, page, entry)?;
             Some(format!(

@@ -1,7 +1,7 @@
 //! Rules 4, 5 and 6: what the walk of each version finds.
 //!
-//! Only versions at which something starts or ends are walked; between two of them
-//! nothing changes. Bytes can be made on which even these walks do not end in a
+//! Only the oldest version is walked, and later ones at which something starts or
+//! ends; between two of them nothing changes. Bytes can be made on which even these walks do not end in a
 //! lifetime, so they have a budget, and where it is used up nothing is found.
 
 use std::collections::BTreeSet;
@@ -35,7 +35,8 @@ impl<'a> Walks<'a> {
         let pages: Vec<Page> = (0..page::count(store))
             .map(|number| page::page(store, number))
             .collect();
-        let last = page::header(store).last();
+        let header = page::header(store);
+        let kept = header.oldest..=header.last();
         let mut versions: BTreeSet<u32> = page::slots(store).map(|(version, _)| version).collect();
         for page in &pages[page::FIRST..] {
             let spans = page
@@ -45,7 +46,8 @@ impl<'a> Walks<'a> {
                 .chain([page.span]);
             versions.extend(spans.flat_map(|span| [span.start, span.end]));
         }
-        versions.retain(|version| *version <= last);
+        versions.insert(header.oldest);
+        versions.retain(|version| kept.contains(version));
         Walks {
             store,
             pages,

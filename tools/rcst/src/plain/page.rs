@@ -14,6 +14,8 @@ pub struct Shape {
     pub page_bytes: usize,
     pub slots: usize,
     pub roots_width: usize,
+    /// How wide the oldest version is, in the header.
+    pub oldest_width: usize,
     pub count_width: usize,
     /// How wide the number of entries alive is, in a page's front.
     pub live_width: usize,
@@ -25,6 +27,7 @@ const FIRST_EDITION: Shape = Shape {
     page_bytes: 256,
     slots: 256,
     roots_width: 9,
+    oldest_width: 0,
     count_width: 5,
     live_width: 0,
     most_entries: 20,
@@ -35,6 +38,7 @@ const SECOND_EDITION: Shape = Shape {
     page_bytes: 512,
     slots: 512,
     roots_width: 10,
+    oldest_width: 20,
     count_width: 6,
     live_width: 6,
     most_entries: 40,
@@ -65,6 +69,11 @@ impl Span {
         other.start <= self.start && self.end <= other.end
     }
 
+    /// Whether it ended at or before a store's oldest version.
+    pub fn is_expired(self, oldest: u32) -> bool {
+        self.end <= oldest
+    }
+
     pub fn is_alive(self) -> bool {
         self.end == ALIVE
     }
@@ -76,6 +85,7 @@ pub struct Header {
     pub current: u32,
     pub open: bool,
     pub roots: u32,
+    pub oldest: u32,
 }
 
 impl Header {
@@ -122,11 +132,13 @@ pub fn bytes(store: &[u8], number: usize) -> &[u8] {
 }
 
 pub fn header(store: &[u8]) -> Header {
+    let shape = shape(store);
     Header {
         pages: field(store, 40, 13),
         current: field(store, 53, 20),
         open: field(store, 73, 1) == 1,
-        roots: field(store, 74, shape(store).roots_width),
+        roots: field(store, 74, shape.roots_width),
+        oldest: field(store, 74 + shape.roots_width, shape.oldest_width),
     }
 }
 

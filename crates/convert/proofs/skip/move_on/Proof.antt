@@ -26,7 +26,7 @@ put-header-requires c κs =
     let a = c .before .before .before .before .before .before .args in
     let p = c .before .before .before .before .before .before .pre in
     let f = header-fits (a .l .least) (a .t .now) in
-    (p .0, rw (c .with-flag .ensures, c .before .with-version .ensures, c .before .before .before .header .ensures) (record { pages = f .pages; current = p .2; roots = f .roots }), omega (arith, front (p .0) (a .t .now) (p .1)), few (p .0) (a .t .now) (p .1))
+    (p .0, rw (c .with-flag .ensures, c .before .with-version .ensures, c .before .before .before .header .ensures) (record { pages = f .pages; current = p .2; roots = f .roots; oldest = f .oldest }), omega (arith, front (p .0) (a .t .now) (p .1)), few (p .0) (a .t .now) (p .1))
 
 same-length : tie.Need-same-length
 same-length c = search needs

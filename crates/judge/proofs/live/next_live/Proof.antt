@@ -31,6 +31,7 @@ returns c =
       high = l .inv .1;
       same = l .inv .2;
       live = λ h. pairs-live (a .page .now) (a .v) (l .k) (a .n) h (rw (c .before .before .entry-at .ensures) at (sym (c .before .is-live .ensures)) ∙ c .if1 .taken);
+      alive = λ h. rw (c .before .before .entry-at .ensures) at (sym (c .before .is-live .ensures)) ∙ c .if1 .taken;
     }
 
 add-k : tie.Need-add-k Inv-loop μ-loop
@@ -45,7 +46,7 @@ loop-again c =
     (omega (arith, l .inv .0), omega (arith, c .before .before .before .loop-test .taken), l .inv .2 ∙ pairs-dead (a .page .now) (a .v) (l .k) (a .n) (c .before .before .before .loop-test .taken) (rw (c .before .before .entry-at .ensures) at (sym (c .before .is-live .ensures)) ∙ c .if1 .left))
 
 returns-2 : tie.Need-returns-2 Inv-loop μ-loop
-returns-2 c = let l = c .before .loop in record { low = l .inv .0; high = l .inv .1; same = l .inv .2; live = λ h. absurd (omega (arith, c .loop-test .left)) }
+returns-2 c = let l = c .before .loop in record { low = l .inv .0; high = l .inv .1; same = l .inv .2; live = λ h. absurd (omega (arith, c .loop-test .left)); alive = λ h. absurd (omega (arith, c .loop-test .left)) }
 
 pub next-live-spec : {M : Type 1} → statement M
 next-live-spec =

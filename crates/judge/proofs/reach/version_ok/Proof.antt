@@ -7,13 +7,14 @@ use Rattle.judge.specs.Marked.{fails, passes-six}
 use Rattle.local.specs.Sizes.{part-fits}
 use Rattle.local.specs.Local.{levelAt}
 use Rattle.page.specs.Head.{readHead}
+use Rattle.model.specs.declared.Header.{Header}
 use Rattle.page.specs.declared.Head.{Head}
 use borrow.Author.Needs.{needs}
 use Rattle.judge.proofs.reach.version_ok.Statement.{statement}
 use Rattle.judge.proofs.reach.version_ok.Tie as tie
 
 root-at-requires : tie.Need-root-at-requires
-root-at-requires c κs = search needs
+root-at-requires c κs = let r = c .before .pre in (r .0, r .1, r .3)
 
 part-requires : tie.Need-part-requires
 part-requires c κs = let a = c .before .before .args in (c .before .before .pre .0, part-fits (a .l .least) (c .before .before .pre .0 .four) (a .s .now) (c .root-at .result) (c .root-at .ensures .1 .isPage .1), omega (arith, c .before .before .pre .1 .sized .long))
@@ -37,7 +38,7 @@ add-walk : tie.Need-add-walk
 add-walk c = omega (arith, c .before .before .before .before .before .pre .2)
 
 walk-requires : tie.Need-walk-requires
-walk-requires c κs = (c .before .before .before .before .before .pre .0, c .before .before .before .before .before .pre .1 .linked, c .before .before .before .root-at .ensures .1 .isPage, omega (arith, level (c), c .before .before .before .root-at .ensures .1 .used), omega (arith, level (c), c .before .before .before .root-at .ensures .1 .low), omega arith)
+walk-requires c κs = (c .before .before .before .before .before .pre .0, c .before .before .before .before .before .pre .1 .linked, c .before .before .before .root-at .ensures .1 .isPage, omega (arith, level (c), c .before .before .before .root-at .ensures .1 .used), omega (arith, level (c), c .before .before .before .root-at .ensures .1 .low), omega arith, omega (arith, c .before .before .before .before .before .pre .3, ap (λ (x : Header). x .oldest) (c .before .before .before .before .before .pre .1 .header)))
 
 returns : tie.Need-returns
 returns c =

@@ -36,7 +36,7 @@ abbrev μ-walk : tie.MeasureT-walk
 μ-walk s l root up a b rule marks₀ items₀ top₀ marks items top = weigh items top
 
 walk-holds : tie.Need-walk-holds Inv-loop μ-loop Inv-walk μ-walk
-walk-holds c = let a = c .before .args in start (a .l .least) (c .before .pre .0 .four) (c .before .pre .0 .eight) (a .s .now) (a .root) (a .up) (a .a) (a .b) (a .rule) (c .before .pre .2) (c .before .pre .3) (c .before .pre .5)
+walk-holds c = let a = c .before .args in start (a .l .least) (c .before .pre .0 .four) (c .before .pre .0 .eight) (a .s .now) (a .root) (a .up) (a .a) (a .b) (a .rule) (c .before .pre .2) (c .before .pre .3) (c .before .pre .5) (c .before .pre .6)
 
 sub-top : tie.Need-sub-top Inv-loop μ-loop Inv-walk μ-walk
 sub-top c = omega (arith, c .if1 .left)

@@ -1,76 +1,49 @@
--- `local::first::first_rule` meets its contract: each way out is a law of rule 1, in its order. Assumes nothing.
-use mathlib.Core.Path.{ap, sym, _∙_}
+-- `local::first::first_rule` meets its contract: the oldest version, then all else. Assumes nothing.
+use Prim.Native.Nat.{ℕ, _≤_, _<_}
+use mathlib.Core.Path.{_≡_, ap, sym, _∙_}
 use native.Mathlib.Omega.{arith}
-use borrow.Author.Tests.{not-true, not-false}
-use borrow.Author.Needs.{needs}
+use lib.Dec.{leb}
+use borrow.Author.Tests.{le-leb, lt-leb}
+use Rattle.local.specs.First.{first-old}
+use Rattle.store.specs.Read.{oldest-of, current-of}
+use Rattle.model.specs.Basic.{pick}
+use Rattle.model.specs.Layout.{decode}
 use Rattle.model.specs.declared.Header.{Header}
-use Rattle.model.specs.Store.{lastOf}
-use Rattle.store.specs.Read.{current-lt}
-use Rattle.local.specs.First.{last-is, clean-roots, first-clean, first-last, first-rooted, first-rest}
+use borrow.Author.Needs.{needs}
 use Rattle.local.proofs.first.first_rule.Statement.{statement}
 use Rattle.local.proofs.first.first_rule.Tie as tie
 
 header-requires : tie.Need-header-requires
 header-requires c κs = (c .before .pre .0, omega (arith, c .before .pre .1 .front), omega (arith, c .before .pre .1 .long))
 
-header-right-requires : tie.Need-header-right-requires
-header-right-requires c κs = search needs
+oldest-most-requires : tie.Need-oldest-most-requires
+oldest-most-requires c κs = search needs
+
+-- the two sides of the test, of the store that the bytes hold
+old-is : (c : tie.After-oldest-most) → let a = c .before .before .before .args in c .before .header .result .oldest ≡ decode (a .l .least) (a .s .now) .oldest
+old-is c = let a = c .before .before .before .args in ap (λ (x : Header). x .oldest) (c .before .header .ensures) ∙ sym (oldest-of (a .l .least) (a .s .now))
+
+most-is : (c : tie.After-oldest-most) → let a = c .before .before .before .args in c .oldest-most .result ≡ pick (leb (a .l .least) 4) 0 (decode (a .l .least) (a .s .now) .current)
+most-is c =
+    let a = c .before .before .before .args in
+    c .oldest-most .ensures ∙ ap (λ (n : ℕ). pick (leb (a .l .least) 4) 0 n) (ap (λ (x : Header). x .current) (c .before .header .ensures) ∙ sym (current-of (a .l .least) (a .s .now)))
 
 returns : tie.Need-returns
 returns c =
-    let a = c .before .before .before .before .args in
-    sym (first-clean (a .l .least) (a .s .now) (a .size) (c .before .before .before .before .pre .1) (sym (c .before .header-right .ensures) ∙ not-true (c .before .header-right .result) (c .if1 .taken)))
+    let a = c .before .before .before .before .before .args in
+    sym (first-old (a .l .least) (a .s .now) (a .size) (c .before .before .before .before .before .pre .1)
+    (lt-leb (decode (a .l .least) (a .s .now) .oldest) (pick (leb (a .l .least) 4) 0 (decode (a .l .least) (a .s .now) .current)) (omega (arith, c .if1 .taken, old-is (c .before .before), most-is (c .before .before)))))
 
-last-requires : tie.Need-last-requires
-last-requires c κs = rw (c .before .before .header .ensures) (current-lt (c .before .before .before .before .args .l .least) (c .before .before .before .before .args .s .now))
+first-rest-requires : tie.Need-first-rest-requires
+first-rest-requires c κs =
+    let a = c .before .before .before .before .before .args in (
+      c .before .before .before .before .before .pre .0,
+      c .before .before .before .before .before .pre .1,
+      le-leb (decode (a .l .least) (a .s .now) .oldest) (pick (leb (a .l .least) 4) 0 (decode (a .l .least) (a .s .now) .current)) (omega (arith, c .if1 .left, old-is (c .before .before), most-is (c .before .before))),
+    )
 
 returns-2 : tie.Need-returns-2
-returns-2 c =
-    let a = c .before .before .before .before .before .before .args in
-    let t = c .before .last .ensures ∙ ap (λ (x : Header). lastOf (x .opened) (x .current)) (c .before .before .before .before .header .ensures) ∙ sym (last-is (a .l .least) (a .s .now)) in
-    let f = sym (c .before .before .before .header-right .ensures) ∙ not-false (c .before .before .before .header-right .result) (c .before .before .if1 .left) in
-    sym (first-last (a .l .least) (a .s .now) (a .size) (c .before .before .before .before .before .before .pre .1) f (rw t at (c .if2 .taken)))
-
-wide-requires : tie.Need-wide-requires
-wide-requires c κs = search needs
-
-roots-ok-requires : tie.Need-roots-ok-requires
-roots-ok-requires c κs =
-    let a = c .before .before .before .before .before .before .before .args in
-    let f = sym (c .before .before .before .before .header-right .ensures) ∙ not-false (c .before .before .before .before .header-right .result) (c .before .before .before .if1 .left) in
-    (c .before .before .before .before .before .before .before .pre .0, c .before .before .before .before .before .before .before .pre .1, omega (arith, clean-roots (a .l .least) (a .s .now) f, c .wide .ensures ∙ ap (λ (x : Header). x .roots) (c .before .before .before .before .before .header .ensures)))
-
-returns-3 : tie.Need-returns-3
-returns-3 c =
-    let a = c .before .before .before .before .before .before .before .before .before .args in
-    let t = c .before .before .before .before .last .ensures ∙ ap (λ (x : Header). lastOf (x .opened) (x .current)) (c .before .before .before .before .before .before .before .header .ensures) ∙ sym (last-is (a .l .least) (a .s .now)) in
-    let f = sym (c .before .before .before .before .before .before .header-right .ensures) ∙ not-false (c .before .before .before .before .before .before .header-right .result) (c .before .before .before .before .before .if1 .left) in
-    let n = c .before .before .wide .ensures ∙ ap (λ (x : Header). x .roots) (c .before .before .before .before .before .before .before .header .ensures) in
-    sym (first-rooted (a .l .least) (a .s .now) (a .size) (c .before .before .before .before .before .before .before .before .before .pre .1) f (rw t at (c .before .before .before .if2 .left)) (rw n at (sym (c .before .roots-ok .ensures) ∙ not-true (c .before .roots-ok .result) (c .if3 .taken))))
-
-pages-ok-requires : tie.Need-pages-ok-requires
-pages-ok-requires c κs = search needs
-
-returns-4 : tie.Need-returns-4
-returns-4 c =
-    let a = c .before .before .before .before .before .before .before .before .before .before .args in
-    let t = c .before .before .before .before .before .last .ensures ∙ ap (λ (x : Header). lastOf (x .opened) (x .current)) (c .before .before .before .before .before .before .before .before .header .ensures) ∙ sym (last-is (a .l .least) (a .s .now)) in
-    let f = sym (c .before .before .before .before .before .before .before .header-right .ensures) ∙ not-false (c .before .before .before .before .before .before .before .header-right .result) (c .before .before .before .before .before .before .if1 .left) in
-    let n = c .before .before .before .wide .ensures ∙ ap (λ (x : Header). x .roots) (c .before .before .before .before .before .before .before .before .header .ensures) in
-    rw t at (c .pages-ok .ensures)
-    ∙ sym (first-rest (a .l .least) (a .s .now) (a .size) (c .before .before .before .before .before .before .before .before .before .before .pre .1) f (rw t at (c .before .before .before .before .if2 .left)) (rw n at (sym (c .before .before .roots-ok .ensures) ∙ not-false (c .before .before .roots-ok .result) (c .before .if3 .left))))
+returns-2 c = search needs
 
 pub first-rule-spec : {M : Type 1} → statement M
-first-rule-spec =
-    tie.close
-    (tie.spec
-    header-requires
-    header-right-requires
-    returns
-    last-requires
-    returns-2
-    wide-requires
-    roots-ok-requires
-    returns-3
-    pages-ok-requires
-    returns-4)
+first-rule-spec = tie.close (tie.spec header-requires oldest-most-requires returns first-rest-requires returns-2)

@@ -1,75 +1,49 @@
--- `local::front::front_right` meets its contract: each way out is a law of header and slots. Assumes nothing.
+-- `local::front::front_right` meets its contract: the oldest version, then all else. Assumes nothing.
+use Prim.Native.Nat.{ℕ, _≤_, _<_}
 use mathlib.Core.Path.{_≡_, ap, sym, _∙_}
 use native.Mathlib.Omega.{arith}
-use borrow.Author.Tests.{not-true, not-false}
-use borrow.Author.Needs.{needs}
+use lib.Dec.{leb}
+use borrow.Author.Tests.{le-leb, lt-leb}
+use Rattle.local.specs.Right.{front-old}
+use Rattle.store.specs.Read.{oldest-of, current-of}
+use Rattle.model.specs.Basic.{pick}
+use Rattle.model.specs.Layout.{decode}
 use Rattle.model.specs.declared.Header.{Header}
-use Rattle.model.specs.Store.{lastOf}
-use Rattle.store.specs.Read.{current-lt}
-use Rattle.local.specs.First.{last-is, clean-roots}
-use Rattle.local.specs.Right.{front-clean, front-last, front-none, front-slots}
+use borrow.Author.Needs.{needs}
 use Rattle.local.proofs.front.front_right.Statement.{statement}
 use Rattle.local.proofs.front.front_right.Tie as tie
 
 header-requires : tie.Need-header-requires
 header-requires c κs = (c .before .pre .0, omega (arith, c .before .pre .1 .front), omega (arith, c .before .pre .1 .long))
 
-header-right-requires : tie.Need-header-right-requires
-header-right-requires c κs = search needs
+oldest-most-requires : tie.Need-oldest-most-requires
+oldest-most-requires c κs = search needs
+
+-- the two sides of the test, of the store that the bytes hold
+old-is : (c : tie.After-oldest-most) → let a = c .before .before .before .args in c .before .header .result .oldest ≡ decode (a .l .least) (a .s .now) .oldest
+old-is c = let a = c .before .before .before .args in ap (λ (x : Header). x .oldest) (c .before .header .ensures) ∙ sym (oldest-of (a .l .least) (a .s .now))
+
+most-is : (c : tie.After-oldest-most) → let a = c .before .before .before .args in c .oldest-most .result ≡ pick (leb (a .l .least) 4) 0 (decode (a .l .least) (a .s .now) .current)
+most-is c =
+    let a = c .before .before .before .args in
+    c .oldest-most .ensures ∙ ap (λ (n : ℕ). pick (leb (a .l .least) 4) 0 n) (ap (λ (x : Header). x .current) (c .before .header .ensures) ∙ sym (current-of (a .l .least) (a .s .now)))
 
 returns : tie.Need-returns
 returns c =
-    let a = c .before .before .before .before .args in
-    sym (front-clean (a .l .least) (a .s .now) (a .size) (c .before .before .before .before .pre .1) (sym (c .before .header-right .ensures) ∙ not-true (c .before .header-right .result) (c .if1 .taken)))
+    let a = c .before .before .before .before .before .args in
+    sym (front-old (a .l .least) (a .s .now) (a .size) (c .before .before .before .before .before .pre .1)
+    (lt-leb (decode (a .l .least) (a .s .now) .oldest) (pick (leb (a .l .least) 4) 0 (decode (a .l .least) (a .s .now) .current)) (omega (arith, c .if1 .taken, old-is (c .before .before), most-is (c .before .before)))))
 
-last-requires : tie.Need-last-requires
-last-requires c κs = rw (c .before .before .header .ensures) (current-lt (c .before .before .before .before .args .l .least) (c .before .before .before .before .args .s .now))
+front-rest-requires : tie.Need-front-rest-requires
+front-rest-requires c κs =
+    let a = c .before .before .before .before .before .args in (
+      c .before .before .before .before .before .pre .0,
+      c .before .before .before .before .before .pre .1,
+      le-leb (decode (a .l .least) (a .s .now) .oldest) (pick (leb (a .l .least) 4) 0 (decode (a .l .least) (a .s .now) .current)) (omega (arith, c .if1 .left, old-is (c .before .before), most-is (c .before .before))),
+    )
 
 returns-2 : tie.Need-returns-2
-returns-2 c =
-    let a = c .before .before .before .before .before .before .args in
-    let t = c .before .last .ensures ∙ ap (λ (x : Header). lastOf (x .opened) (x .current)) (c .before .before .before .before .header .ensures) ∙ sym (last-is (a .l .least) (a .s .now)) in
-    let f = sym (c .before .before .before .header-right .ensures) ∙ not-false (c .before .before .before .header-right .result) (c .before .before .if1 .left) in
-    sym (front-last (a .l .least) (a .s .now) (a .size) (c .before .before .before .before .before .before .pre .1) f (rw t at (c .if2 .taken)))
-
-wide-requires : tie.Need-wide-requires
-wide-requires c κs = search needs
-
-returns-3 : tie.Need-returns-3
-returns-3 c =
-    let a = c .before .before .before .before .before .before .before .before .args in
-    let t = c .before .before .before .last .ensures ∙ ap (λ (x : Header). lastOf (x .opened) (x .current)) (c .before .before .before .before .before .before .header .ensures) ∙ sym (last-is (a .l .least) (a .s .now)) in
-    let f = sym (c .before .before .before .before .before .header-right .ensures) ∙ not-false (c .before .before .before .before .before .header-right .result) (c .before .before .before .before .if1 .left) in
-    let n = c .before .wide .ensures ∙ ap (λ (x : Header). x .roots) (c .before .before .before .before .before .before .header .ensures) in
-    sym (front-none (a .l .least) (a .s .now) (a .size) (c .before .before .before .before .before .before .before .before .pre .1) f (rw t at (c .before .before .if2 .left)) (sym n ∙ c .if3 .taken))
-
-slots-right-requires : tie.Need-slots-right-requires
-slots-right-requires c κs =
-    let a = c .before .before .before .before .before .before .before .before .args in
-    let f = sym (c .before .before .before .before .before .header-right .ensures) ∙ not-false (c .before .before .before .before .before .header-right .result) (c .before .before .before .before .if1 .left) in
-    let n = c .before .wide .ensures ∙ ap (λ (x : Header). x .roots) (c .before .before .before .before .before .before .header .ensures) in
-    (c .before .before .before .before .before .before .before .before .pre .0, c .before .before .before .before .before .before .before .before .pre .1, omega (arith, clean-roots (a .l .least) (a .s .now) f, n), c .before .before .if2 .left)
-
-returns-4 : tie.Need-returns-4
-returns-4 c =
-    let a = c .before .before .before .before .before .before .before .before .before .args in
-    let t = c .before .before .before .before .last .ensures ∙ ap (λ (x : Header). lastOf (x .opened) (x .current)) (c .before .before .before .before .before .before .before .header .ensures) ∙ sym (last-is (a .l .least) (a .s .now)) in
-    let f = sym (c .before .before .before .before .before .before .header-right .ensures) ∙ not-false (c .before .before .before .before .before .before .header-right .result) (c .before .before .before .before .before .if1 .left) in
-    let n = c .before .before .wide .ensures ∙ ap (λ (x : Header). x .roots) (c .before .before .before .before .before .before .before .header .ensures) in
-    let some : c .before .before .wide .result ≡ 0 → ⊥ = c .before .if3 .left in
-    c .slots-right .ensures
-    ∙ sym (front-slots (a .l .least) (a .s .now) (a .size) (c .before .before .before .before .before .before .before .before .before .pre .1) f (rw t at (c .before .before .before .if2 .left)) (c .before .before .wide .result) (c .before .before .before .before .last .result) n t (omega arith))
+returns-2 c = search needs
 
 pub front-right-spec : {M : Type 1} → statement M
-front-right-spec =
-    tie.close
-    (tie.spec
-    header-requires
-    header-right-requires
-    returns
-    last-requires
-    returns-2
-    wide-requires
-    returns-3
-    slots-right-requires
-    returns-4)
+front-right-spec = tie.close (tie.spec header-requires oldest-most-requires returns front-rest-requires returns-2)

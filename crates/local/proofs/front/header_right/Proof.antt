@@ -5,7 +5,7 @@ use native.Mathlib.Omega.{arith}
 use borrow.Author.Tests.{not-true, not-false}
 use borrow.Author.Needs.{needs}
 use Rattle.model.specs.declared.Header.{Header}
-use Rattle.page.specs.Editions.{bytes-is, slots-is, rooter-is, rooter-roots}
+use Rattle.page.specs.Editions.{bytes-is, slots-is, rooter-is, rooter-roots, aged-is, aged-few}
 use Rattle.local.specs.Right.{head-pages, head-spare, head-roots, head-rest}
 use Rattle.local.proofs.front.header_right.Statement.{statement}
 use Rattle.local.proofs.front.header_right.Tie as tie
@@ -22,13 +22,13 @@ returns c =
 mul-front : tie.Need-mul-front
 mul-front c = omega (arith, bytes-is (c .before .before .before .before .pre .0), c .before .before .before .before .pre .0 .eight)
 
-add-zero-from : tie.Need-add-zero-from
-add-zero-from c = omega (arith, rooter-roots (c .before .before .before .before .before .pre .0))
+header-bits-requires : tie.Need-header-bits-requires
+header-bits-requires c κs = search needs
 
 zero-from-requires : tie.Need-zero-from-requires
 zero-from-requires c κs =
     let d = c .before .before .before .before .before .pre .0 in
-    (omega (arith, bytes-is d, rooter-roots d, d .four), omega (arith, bytes-is d, c .before .before .before .before .before .pre .1 .front), omega (arith, c .before .before .before .before .before .pre .1 .long))
+    (omega (arith, bytes-is d, c .header-bits .ensures, rooter-is d, rooter-roots d, aged-is d, aged-few d, d .four), omega (arith, bytes-is d, c .before .before .before .before .before .pre .1 .front), omega (arith, c .before .before .before .before .before .pre .1 .long))
 
 returns-2 : tie.Need-returns-2
 returns-2 c =
@@ -36,7 +36,7 @@ returns-2 c =
     let d = c .before .before .before .before .before .before .before .pre .0 in
     let p = sym (ap (λ (x : Header). x .pages) (c .before .before .before .before .before .before .before .pre .2)) ∙ sym (c .before .before .before .before .before .wide .ensures) ∙ c .before .before .before .before .if1 .left in
     let e : 8 * a .l .bytes ≡ 512 * a .l .least = omega (arith, bytes-is d) in
-    sym (head-spare (a .l .least) (a .s .now) (a .size) (c .before .before .before .before .before .before .before .pre .1) p (rw (rooter-is d, e) at (sym (c .before .zero-from .ensures) ∙ not-true (c .before .zero-from .result) (c .if2 .taken))))
+    sym (head-spare (a .l .least) (a .s .now) (a .size) (c .before .before .before .before .before .before .before .pre .1) p (rw (c .before .before .header-bits .ensures, e) at (sym (c .before .zero-from .ensures) ∙ not-true (c .before .zero-from .result) (c .if2 .taken))))
 
 wide-requires-2 : tie.Need-wide-requires-2
 wide-requires-2 c κs = search needs
@@ -47,15 +47,15 @@ returns-3 c =
     let d = c .before .before .before .before .before .before .before .before .before .before .pre .0 in
     let p = sym (ap (λ (x : Header). x .pages) (c .before .before .before .before .before .before .before .before .before .before .pre .2)) ∙ sym (c .before .before .before .before .before .before .before .before .wide .ensures) ∙ c .before .before .before .before .before .before .before .if1 .left in
     let e : 8 * a .l .bytes ≡ 512 * a .l .least = omega (arith, bytes-is d) in
-    let z = rw (rooter-is d, e) at (sym (c .before .before .before .before .zero-from .ensures) ∙ not-false (c .before .before .before .before .zero-from .result) (c .before .before .before .if2 .left)) in
+    let z = rw (c .before .before .before .before .before .header-bits .ensures, e) at (sym (c .before .before .before .before .zero-from .ensures) ∙ not-false (c .before .before .before .before .zero-from .result) (c .before .before .before .if2 .left)) in
     let n = c .before .before .wide2 .ensures ∙ ap (λ (x : Header). x .roots) (c .before .before .before .before .before .before .before .before .before .before .pre .2) in
     sym (head-roots (a .l .least) (a .s .now) (a .size) (c .before .before .before .before .before .before .before .before .before .before .pre .1) p z (rw (n, slots-is d) at (c .if3 .taken)))
 
 mul-zero-from : tie.Need-mul-zero-from
 mul-zero-from c = omega (arith, c .if3 .left, slots-is (c .before .before .before .before .before .before .before .before .before .before .pre .0), c .before .before .before .before .before .before .before .before .before .before .pre .0 .eight)
 
-add-zero-from-2 : tie.Need-add-zero-from-2
-add-zero-from-2 c = omega (arith, c .if3 .left, slots-is (c .before .before .before .before .before .before .before .before .before .before .pre .0), bytes-is (c .before .before .before .before .before .before .before .before .before .before .pre .0), c .before .before .before .before .before .before .before .before .before .before .pre .0 .eight)
+add-zero-from : tie.Need-add-zero-from
+add-zero-from c = omega (arith, c .if3 .left, slots-is (c .before .before .before .before .before .before .before .before .before .before .pre .0), bytes-is (c .before .before .before .before .before .before .before .before .before .before .pre .0), c .before .before .before .before .before .before .before .before .before .before .pre .0 .eight)
 
 mul-zero-from-2 : tie.Need-mul-zero-from-2
 mul-zero-from-2 c = omega (arith, bytes-is (c .before .before .before .before .before .before .before .before .before .before .pre .0), c .before .before .before .before .before .before .before .before .before .before .pre .0 .eight)
@@ -72,7 +72,7 @@ returns-4 c =
     let p = sym (ap (λ (x : Header). x .pages) (c .before .before .before .before .before .before .before .before .before .before .before .pre .2)) ∙ sym (c .before .before .before .before .before .before .before .before .before .wide .ensures) ∙ c .before .before .before .before .before .before .before .before .if1 .left in
     let e : 8 * a .l .bytes ≡ 512 * a .l .least = omega (arith, bytes-is d) in
     let f : 5 * (8 * a .l .bytes) ≡ 2560 * a .l .least = omega (arith, bytes-is d) in
-    let z = rw (rooter-is d, e) at (sym (c .before .before .before .before .before .zero-from .ensures) ∙ not-false (c .before .before .before .before .before .zero-from .result) (c .before .before .before .before .if2 .left)) in
+    let z = rw (c .before .before .before .before .before .before .header-bits .ensures, e) at (sym (c .before .before .before .before .before .zero-from .ensures) ∙ not-false (c .before .before .before .before .before .zero-from .result) (c .before .before .before .before .if2 .left)) in
     let n = c .before .before .before .wide2 .ensures ∙ ap (λ (x : Header). x .roots) (c .before .before .before .before .before .before .before .before .before .before .before .pre .2) in
     rw (n, f, e) at (c .zero-from2 .ensures) ∙ sym (head-rest (a .l .least) (a .s .now) (a .size) (c .before .before .before .before .before .before .before .before .before .before .before .pre .1) p z (rw (n, slots-is d) at (c .before .if3 .left)))
 
@@ -83,13 +83,13 @@ header-right-spec =
     wide-requires
     returns
     mul-front
-    add-zero-from
+    header-bits-requires
     zero-from-requires
     returns-2
     wide-requires-2
     returns-3
     mul-zero-from
-    add-zero-from-2
+    add-zero-from
     mul-zero-from-2
     zero-from-requires-2
     returns-4)

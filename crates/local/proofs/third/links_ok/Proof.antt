@@ -16,10 +16,10 @@ use Rattle.local.proofs.third.links_ok.Statement.{statement}
 use Rattle.local.proofs.third.links_ok.Tie as tie
 
 abbrev Inv-loop : tie.InvT-loop
-Inv-loop s l n p h count i₀ i = (i ≤ count) × (linksOk (decode (l .least) s) (decodePage (l .least) (pageOf (l .least) s n)) ≡ all (linkOk (decode (l .least) s) (decodePage (l .least) (pageOf (l .least) s n))) (readEntries p (128 + 96 * i) (count - i)))
+Inv-loop s l n old p h count i₀ i = (i ≤ count) × (linksOk (decode (l .least) s) (decodePage (l .least) (pageOf (l .least) s n)) ≡ all (linkOk (decode (l .least) s) (decodePage (l .least) (pageOf (l .least) s n))) (readEntries p (128 + 96 * i) (count - i)))
 
 abbrev μ-loop : tie.MeasureT-loop
-μ-loop s l n p h count i₀ i = count - i
+μ-loop s l n old p h count i₀ i = count - i
 
 part-requires : tie.Need-part-requires Inv-loop μ-loop
 part-requires c κs = let a = c .before .args in (c .before .pre .0, part-fits (a .l .least) (c .before .pre .0 .four) (a .s .now) (a .n) (c .before .pre .3 .1), omega (arith, c .before .pre .1))
@@ -45,16 +45,16 @@ loop-holds c =
 entry-at-requires : tie.Need-entry-at-requires Inv-loop μ-loop
 entry-at-requires c κs = (omega (arith, c .loop-test .taken, room ((c .before .before .before .before)), c .before .before .before .before .before .part .ensures .1, c .before .before .before .before .before .before .before .pre .0 .four), omega (arith, c .before .before .before .before .before .part .ensures .1, c .before .before .before .before .before .before .before .pre .0 .eight))
 
-link-ok-requires : tie.Need-link-ok-requires Inv-loop μ-loop
-link-ok-requires c κs =
+link-fine-requires : tie.Need-link-fine-requires Inv-loop μ-loop
+link-fine-requires c κs =
     let a = c .before .before .before .before .before .before .before .before .args in
-    (c .before .before .before .before .before .before .before .before .pre .0, c .before .before .before .before .before .before .before .before .pre .1, own ((c .before .before .before .before .before)), λ d. rw (c .entry-at .ensures, c .before .before .before .before .before .before .part .ensures .0) (c .before .before .before .before .before .before .before .before .pre .2 .child (a .n) (c .before .before .loop .i) (c .before .before .before .before .before .before .before .before .pre .3) (λ q. d (ap (λ (h : Head). h .level) (own ((c .before .before .before .before .before))) ∙ q)) (omega (arith, c .before .loop-test .taken, ap (λ (h : Head). h .count) (own ((c .before .before .before .before .before)))))))
+    (c .before .before .before .before .before .before .before .before .pre .0, c .before .before .before .before .before .before .before .before .pre .1, own ((c .before .before .before .before .before)), λ d. rw (c .entry-at .ensures, c .before .before .before .before .before .before .part .ensures .0) (c .before .before .before .before .before .before .before .before .pre .2 .child (a .n) (c .before .before .loop .i) (c .before .before .before .before .before .before .before .before .pre .3) (λ q. d (ap (λ (h : Head). h .level) (own ((c .before .before .before .before .before))) ∙ q)) (omega (arith, c .before .loop-test .taken, ap (λ (h : Head). h .count) (own ((c .before .before .before .before .before)))))), c .before .before .before .before .before .before .before .before .pre .4)
 
 returns-2 : tie.Need-returns-2 Inv-loop μ-loop
 returns-2 c =
     let a = c .before .before .before .before .before .before .before .before .before .before .args in let k = c .before .before .before .before .loop in
     sym (k .inv .1 ∙ all-entries-step (linkOk (decode (a .l .least) (a .s .now)) (decodePage (a .l .least) (pageOf (a .l .least) (a .s .now) (a .n)))) (c .before .before .before .before .before .before .before .before .part .result .now) (k .i) (c .before .before .before .before .before .before .before .head-of .result .count) (c .before .before .before .loop-test .taken)
-    ∙ rw (← c .before .before .entry-at .ensures, ← c .before .link-ok .ensures, not-true (c .before .link-ok .result) (c .if2 .taken)))
+    ∙ rw (← c .before .before .entry-at .ensures, ← c .before .link-fine .ensures, not-true (c .before .link-fine .result) (c .if2 .taken)))
 
 add-i : tie.Need-add-i Inv-loop μ-loop
 add-i c = omega (arith, c .before .before .before .loop-test .taken, room ((c .before .before .before .before .before .before .before)), c .before .before .before .before .before .before .before .before .before .before .pre .0 .eight)
@@ -67,7 +67,7 @@ loop-again c =
     let a = c .before .before .before .before .before .before .before .before .before .before .args in let k = c .before .before .before .before .loop in (
       omega (arith, c .before .before .before .loop-test .taken),
       k .inv .1 ∙ all-entries-step (linkOk (decode (a .l .least) (a .s .now)) (decodePage (a .l .least) (pageOf (a .l .least) (a .s .now) (a .n)))) (c .before .before .before .before .before .before .before .before .part .result .now) (k .i) (c .before .before .before .before .before .before .before .head-of .result .count) (c .before .before .before .loop-test .taken)
-          ∙ rw (← c .before .before .entry-at .ensures, ← c .before .link-ok .ensures, not-false (c .before .link-ok .result) (c .if2 .left)),
+          ∙ rw (← c .before .before .entry-at .ensures, ← c .before .link-fine .ensures, not-false (c .before .link-fine .result) (c .if2 .left)),
     )
 
 returns-3 : tie.Need-returns-3 Inv-loop μ-loop
@@ -84,7 +84,7 @@ links-ok-spec =
     returns
     loop-holds
     entry-at-requires
-    link-ok-requires
+    link-fine-requires
     returns-2
     add-i
     loop-less

@@ -1,6 +1,7 @@
 -- `local::third::pages_linked` meets its contract: the pages from n on answer as all. Assumes nothing.
 use Prim.Native.Nat.{_≤_, _-_}
-use mathlib.Core.Path.{_≡_, sym, _∙_}
+use mathlib.Core.Path.{_≡_, ap, sym, _∙_}
+use Rattle.model.specs.declared.Header.{Header}
 use native.Mathlib.Omega.{arith}
 use borrow.Author.Tests.{not-true, not-false}
 use Rattle.local.specs.Loops.{all-pages-step, all-pages-end}
@@ -12,10 +13,10 @@ use Rattle.local.proofs.third.pages_linked.Statement.{statement}
 use Rattle.local.proofs.third.pages_linked.Tie as tie
 
 abbrev Inv-loop : tie.InvT-loop
-Inv-loop s l size n₀ n = (5 ≤ n) × (n ≤ size) × (all (linksOk (decode (l .least) s)) (readPages (l .least) s 5 (sizeOf (l .least) s - 5)) ≡ all (linksOk (decode (l .least) s)) (readPages (l .least) s n (size - n)))
+Inv-loop s l h size n₀ n = (5 ≤ n) × (n ≤ size) × (all (linksOk (decode (l .least) s)) (readPages (l .least) s 5 (sizeOf (l .least) s - 5)) ≡ all (linksOk (decode (l .least) s)) (readPages (l .least) s n (size - n)))
 
 abbrev μ-loop : tie.MeasureT-loop
-μ-loop s l size n₀ n = size - n
+μ-loop s l h size n₀ n = size - n
 
 wide-requires : tie.Need-wide-requires Inv-loop μ-loop
 wide-requires c κs = search needs
@@ -24,7 +25,7 @@ loop-holds : tie.Need-loop-holds Inv-loop μ-loop
 loop-holds c = let e : c .wide .result ≡ c .before .before .args .h .pages = c .wide .ensures in (omega arith, omega (arith, c .before .before .pre .1 .sized .low), rw (c .before .before .pre .1 .sized .is, e))
 
 links-ok-requires : tie.Need-links-ok-requires Inv-loop μ-loop
-links-ok-requires c κs = (c .before .before .before .before .pre .0, c .before .before .before .before .pre .1 .sized .long, c .before .before .before .before .pre .1 .ruled, (c .before .loop .inv .0, omega (arith, c .loop-test .taken, c .before .before .wide .ensures, c .before .before .before .before .pre .1 .sized .is)))
+links-ok-requires c κs = (c .before .before .before .before .pre .0, c .before .before .before .before .pre .1 .sized .long, c .before .before .before .before .pre .1 .ruled, (c .before .loop .inv .0, omega (arith, c .loop-test .taken, c .before .before .wide .ensures, c .before .before .before .before .pre .1 .sized .is)), ap (λ (x : Header). x .oldest) (c .before .before .before .before .pre .1 .header))
 
 returns : tie.Need-returns Inv-loop μ-loop
 returns c =

@@ -17,16 +17,16 @@ use Rattle.notes.proofs.both.both_on.Tie as tie
 abbrev Inv-loop : tie.InvT-loop
 Inv-loop notes₀ s l root up a c v₀ notes v =
     (v ≤ c) × Kept (l .least) (decode (l .least) s .pages) v notes
-    × (bothOn (l .least) up (decode (l .least) s .pages) root a c ≡ bothOn (l .least) up (decode (l .least) s .pages) root v c)
+    × (a ≤ v) × (bothOn (l .least) up (decode (l .least) s .pages) root a c ≡ bothOn (l .least) up (decode (l .least) s .pages) root v c)
 
 abbrev μ-loop : tie.MeasureT-loop
 μ-loop notes₀ s l root up a c v₀ notes v = c - v
 
 loop-holds : tie.Need-loop-holds Inv-loop μ-loop
-loop-holds c = let r = c .before .before .pre in (r .4, r .6, refl)
+loop-holds c = let r = c .before .before .pre in (r .4, r .6, omega arith, refl)
 
 visit-requires : tie.Need-visit-requires Inv-loop μ-loop
-visit-requires c κs = let at-loop = c .before .before in let r = at-loop .before .before .before .pre in (r .0, r .1, r .2, r .3, at-loop .loop .inv .1)
+visit-requires c κs = let at-loop = c .before .before in let r = at-loop .before .before .before .pre in (r .0, r .1, r .2, r .3, at-loop .loop .inv .1, omega (arith, r .7, at-loop .loop .inv .2))
 
 both-by-requires : tie.Need-both-by-requires Inv-loop μ-loop
 both-by-requires c κs = search needs
@@ -42,7 +42,7 @@ returns c =
     let a = at-loop .before .before .before .args in
     let ps = decode (a .l .least) (a .s .now) .pages in
     let fails = sym (c .before .both-by .ensures) ∙ not-true (c .before .both-by .result) (c .if1 .taken) in (
-      sym (at-loop .loop .inv .2 ∙ both-fails (a .l .least) (a .up) ps (a .root) (at-loop .loop .v) (a .c) (at-visit .visit .result) (at-visit .visit .ensures .0) (at-test .loop-test .taken) fails),
+      sym (at-loop .loop .inv .3 ∙ both-fails (a .l .least) (a .up) ps (a .root) (at-loop .loop .v) (a .c) (at-visit .visit .result) (at-visit .visit .ensures .0) (at-test .loop-test .taken) fails),
       kept-later (a .l .least) ps (at-loop .loop .v) (a .c) _ (at-loop .loop .inv .0) (at-visit .visit .ensures .1),
     )
 
@@ -78,7 +78,8 @@ loop-again c =
     let holds : c .smaller .result ≤ at-visit .visit .result .until = omega (arith, c .smaller .ensures) in (
       high,
       kept-later (a .l .least) ps (at-loop .loop .v) (c .smaller .result) _ (omega (arith, later c)) (at-visit .visit .ensures .1),
-      at-loop .loop .inv .2 ∙ both-next (a .l .least) (a .up) ps (a .root) (at-loop .loop .v) (a .c) (at-visit .visit .result) (at-visit .visit .ensures .0) (c .smaller .result) (later c) high holds (fine c),
+      omega (arith, later c, at-loop .loop .inv .2),
+      at-loop .loop .inv .3 ∙ both-next (a .l .least) (a .up) ps (a .root) (at-loop .loop .v) (a .c) (at-visit .visit .result) (at-visit .visit .ensures .0) (c .smaller .result) (later c) high holds (fine c),
     )
 
 same-length-2 : tie.Need-same-length-2 Inv-loop μ-loop
@@ -89,7 +90,7 @@ returns-2 c =
     let at-loop = c .before in
     let a = at-loop .before .before .before .args in
     let ps = decode (a .l .least) (a .s .now) .pages in (
-      sym (at-loop .loop .inv .2 ∙ both-ends (a .l .least) (a .up) ps (a .root) (at-loop .loop .v) (a .c) (c .loop-test .left)),
+      sym (at-loop .loop .inv .3 ∙ both-ends (a .l .least) (a .up) ps (a .root) (at-loop .loop .v) (a .c) (c .loop-test .left)),
       kept-later (a .l .least) ps (at-loop .loop .v) (a .c) _ (at-loop .loop .inv .0) (at-loop .loop .inv .1),
     )
 

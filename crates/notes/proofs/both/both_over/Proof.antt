@@ -4,6 +4,7 @@ use mathlib.Core.Path.{_≡_, ap, sym, _∙_}
 use mathlib.Core.Bool.{Bool, _&&_}
 use native.Mathlib.Omega.{arith}
 use borrow.Author.Tests.{not-true, not-false}
+use Rattle.model.specs.declared.Header.{Header}
 use Rattle.model.specs.Layout.{decode}
 use Rattle.model.specs.Sound.{rule4, rule5}
 use Rattle.store.specs.Read.{current-lt}
@@ -15,7 +16,7 @@ use Rattle.notes.proofs.both.both_over.Tie as tie
 
 abbrev Inv-loop : tie.InvT-loop
 Inv-loop notes₀ s l h end v₀ notes v =
-    (v ≤ end) × Kept (l .least) ((decode (l .least) s) .pages) v notes × ((rule4 (decode (l .least) s) && rule5 (l .least) (decode (l .least) s)) ≡ bothAt (l .least) (decode (l .least) s) v end)
+    (v ≤ end) × (h .oldest ≤ v) × Kept (l .least) ((decode (l .least) s) .pages) v notes × ((rule4 (decode (l .least) s) && rule5 (l .least) (decode (l .least) s)) ≡ bothAt (l .least) (decode (l .least) s) v end)
 
 abbrev μ-loop : tie.MeasureT-loop
 μ-loop notes₀ s l h end v₀ notes v = end - v
@@ -31,13 +32,13 @@ loop-holds c =
     let e = c .before .before .before in
     let a = e .args in
     let n = c .last .result in
-    (omega arith, e .pre .2, sym (both-rules (a .l .least) (decode (a .l .least) (a .s .now)) (n + 1) (versions-upto (a .l .least) (a .s .now) (a .h) n (e .pre .1 .header) (c .last .ensures))))
+    (omega (arith, e .pre .1 .old, c .last .ensures), omega arith, e .pre .2, sym (both-rules (a .l .least) (decode (a .l .least) (a .s .now)) (a .h .oldest) (n + 1) (versions-upto (a .l .least) (a .s .now) (a .h) n (e .pre .1 .header) (c .last .ensures))))
 
 slot-change-requires : tie.Need-slot-change-requires Inv-loop μ-loop
 slot-change-requires c κs = let r = c .before .before .before .before .before .pre in (r .0, r .1, c .loop-test .taken)
 
 root-at-requires : tie.Need-root-at-requires Inv-loop μ-loop
-root-at-requires c κs = let r = c .before .before .before .before .before .before .pre in (r .0, r .1)
+root-at-requires c κs = let r = c .before .before .before .before .before .before .pre in (r .0, r .1, c .before .before .loop .inv .1)
 
 height-requires : tie.Need-height-requires Inv-loop μ-loop
 height-requires c κs = let r = c .before .before .before .before .before .before .before .pre in (r .0, r .1 .linked, c .root-at .ensures .1)
@@ -49,7 +50,7 @@ both-on-requires c κs =
     let at-loop = at-change .before .before in
     let r = at-loop .before .before .before .before .pre in
     let q = at-change .slot-change .ensures .0 in
-    (r .0, r .1 .linked, at-root .root-at .ensures .1 .isPage, c .before .height .ensures, omega (arith, q .above), omega (arith, q .below, at-loop .before .last .ensures, r .1 .last), at-loop .loop .inv .1)
+    (r .0, r .1 .linked, at-root .root-at .ensures .1 .isPage, c .before .height .ensures, omega (arith, q .above), omega (arith, q .below, at-loop .before .last .ensures, r .1 .last), at-loop .loop .inv .2, omega (arith, at-loop .loop .inv .1, ap (λ (x : Header). x .oldest) (r .1 .header)))
 
 -- from v on: the versions up to the next slot, which have one root, and those behind them
 slot : (c : tie.After-both-on Inv-loop μ-loop) → let at-change = c .before .before .before .before in let at-loop = at-change .before .before in let a = at-loop .before .before .before .before .args in
@@ -82,7 +83,7 @@ returns c =
     let at-loop = at-change .before .before in
     let a = at-loop .before .before .before .before .args in
     sym
-    (at-loop .loop .inv .2 ∙ slot at-on
+    (at-loop .loop .inv .3 ∙ slot at-on
     ∙ ap (λ (b : Bool). b && bothAt (a .l .least) (decode (a .l .least) (a .s .now)) (at-change .slot-change .result) (at-loop .before .last .result + 1)) (not-true (at-on .both-on .result) (c .if1 .taken)))
 
 loop-less : tie.Need-loop-less Inv-loop μ-loop
@@ -95,19 +96,20 @@ loop-again c =
     let at-loop = at-change .before .before in
     let a = at-loop .before .before .before .before .args in (
       at-change .slot-change .ensures .0 .below,
+      omega (arith, at-change .slot-change .ensures .0 .above, at-loop .loop .inv .1),
       at-on .both-on .ensures .1,
-      at-loop .loop .inv .2 ∙ slot at-on
+      at-loop .loop .inv .3 ∙ slot at-on
           ∙ ap (λ (b : Bool). b && bothAt (a .l .least) (decode (a .l .least) (a .s .now)) (at-change .slot-change .result) (at-loop .before .last .result + 1)) (not-false (at-on .both-on .result) (c .if1 .left)),
     )
 
 same-length-2 : tie.Need-same-length-2 Inv-loop μ-loop
-same-length-2 c = let at-loop = c .before in at-loop .loop .inv .1 .long ∙ sym (at-loop .before .before .before .before .pre .2 .long)
+same-length-2 c = let at-loop = c .before in at-loop .loop .inv .2 .long ∙ sym (at-loop .before .before .before .before .pre .2 .long)
 
 returns-2 : tie.Need-returns-2 Inv-loop μ-loop
 returns-2 c =
     let at-loop = c .before in
     let a = at-loop .before .before .before .before .args in
-    sym (at-loop .loop .inv .2 ∙ both-done (a .l .least) (decode (a .l .least) (a .s .now)) (at-loop .loop .v) (at-loop .before .last .result + 1) (c .loop-test .left))
+    sym (at-loop .loop .inv .3 ∙ both-done (a .l .least) (decode (a .l .least) (a .s .now)) (at-loop .loop .v) (at-loop .before .last .result + 1) (c .loop-test .left))
 
 pub both-over-spec : {M : Type 1} → statement M
 both-over-spec =

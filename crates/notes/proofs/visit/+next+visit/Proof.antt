@@ -108,7 +108,7 @@ next-wide-requires : (t : ℕ) → next-lts.Need-wide-requires (next-claims t) (
 next-wide-requires t c κs = search needs
 
 next-note-at-requires : (t : ℕ) → next-lts.Need-note-at-requires (next-claims t) (next-at t) next.Post
-next-note-at-requires t c κs = let a = c .before .before .before .before .before .before .before .args in let r = c .before .before .before .before .before .before .before .pre .1 in let (x, y) = leads-on (a .l .least) (a .s .now) (a .up) (c .before .wide .result) (a .e) (r .2) (c .before .wide .ensures) (c .before .before .before .before .if1 .left) in (omega (arith, x .1, r .1 .most), r .3 .long)
+next-note-at-requires t c κs = let a = c .before .before .before .before .before .before .before .args in let r = c .before .before .before .before .before .before .before .pre .1 in let (x, y) = leads-on (a .l .least) (a .s .now) (a .v) (a .up) (c .before .wide .result) (a .e) (r .2) (c .before .wide .ensures) (c .before .before .before .before .if1 .left) (sym (c .before .before .before .is-live .ensures) ∙ not-false (c .before .before .before .is-live .result) (c .before .before .if2 .left)) in (omega (arith, x .1, r .1 .most), r .3 .long)
 
 next-step-requires-3 : (t : ℕ) → next-lts.Need-step-requires-3 (next-claims t) (next-at t) next.Post
 next-step-requires-3 t c κs = let a = c .before .before .before .before .before .before .before .before .before .before .args in let r = c .before .before .before .before .before .before .before .before .before .before .pre .1 in (r .4, r .5)
@@ -117,13 +117,13 @@ next-same-length : (t : ℕ) → next-lts.Need-same-length (next-claims t) (next
 next-same-length t c = search needs
 
 next-returns-3 : (t : ℕ) → next-lts.Need-returns-3 (next-claims t) (next-at t) next.Post
-next-returns-3 t c = let a = c .before .before .before .before .before .before .before .before .before .before .before .args in let r = c .before .before .before .before .before .before .before .before .before .before .before .pre .1 in let (x, y) = leads-on (a .l .least) (a .s .now) (a .up) (c .before .before .before .before .before .wide .result) (a .e) (r .2) (c .before .before .before .before .before .wide .ensures) (c .before .before .before .before .before .before .before .before .if1 .left) in (step-kid (a .l .least) (a .up) (a .v) (decode (a .l .least) (a .s .now) .pages) (a .x) (c .step3 .result) (c .before .before .before .note-at .result) (a .e) (known-is (a .l .least) (a .up - 1) (decode (a .l .least) (a .s .now) .pages) (a .v) (c .before .before .before .before .before .wide .result) (a .notes .now) (c .before .before .before .note-at .result) (r .3) (omega (arith, x .1, r .1 .most)) (height-here (a .l .least) (a .s .now) (c .before .before .before .before .before .wide .result) x (a .up - 1) y) (c .before .before .before .note-at .ensures) (c .before .if3 .taken) ∙ sym (below-live (a .l .least) (a .up) (decode (a .l .least) (a .s .now) .pages) (a .v) (a .e) (c .before .before .before .before .before .wide .result) (sym (c .before .before .before .before .before .before .before .is-live .ensures) ∙ not-false (c .before .before .before .before .before .before .before .is-live .result) (c .before .before .before .before .before .before .if2 .left)) (c .before .before .before .before .before .before .before .before .if1 .left) (c .before .before .before .before .before .wide .ensures))) (c .step3 .ensures), r .3)
+next-returns-3 t c = let a = c .before .before .before .before .before .before .before .before .before .before .before .args in let r = c .before .before .before .before .before .before .before .before .before .before .before .pre .1 in let (x, y) = leads-on (a .l .least) (a .s .now) (a .v) (a .up) (c .before .before .before .before .before .wide .result) (a .e) (r .2) (c .before .before .before .before .before .wide .ensures) (c .before .before .before .before .before .before .before .before .if1 .left) (sym (c .before .before .before .before .before .before .before .is-live .ensures) ∙ not-false (c .before .before .before .before .before .before .before .is-live .result) (c .before .before .before .before .before .before .if2 .left)) in (step-kid (a .l .least) (a .up) (a .v) (decode (a .l .least) (a .s .now) .pages) (a .x) (c .step3 .result) (c .before .before .before .note-at .result) (a .e) (known-is (a .l .least) (a .up - 1) (decode (a .l .least) (a .s .now) .pages) (a .v) (c .before .before .before .before .before .wide .result) (a .notes .now) (c .before .before .before .note-at .result) (r .3) (omega (arith, x .1, r .1 .most)) (height-here (a .l .least) (a .s .now) (c .before .before .before .before .before .wide .result) x (a .up - 1) y) (c .before .before .before .note-at .ensures) (c .before .if3 .taken) ∙ sym (below-live (a .l .least) (a .up) (decode (a .l .least) (a .s .now) .pages) (a .v) (a .e) (c .before .before .before .before .before .wide .result) (sym (c .before .before .before .before .before .before .before .is-live .ensures) ∙ not-false (c .before .before .before .before .before .before .before .is-live .result) (c .before .before .before .before .before .before .if2 .left)) (c .before .before .before .before .before .before .before .before .if1 .left) (c .before .before .before .before .before .wide .ensures))) (c .step3 .ensures), r .3)
 
 next-sub-visit : (t : ℕ) → next-lts.Need-sub-visit (next-claims t) (next-at t) next.Post
 next-sub-visit t c = search needs
 
 next-visit-requires : (t : ℕ) → next-lts.Need-visit-requires (next-claims t) (next-at t) next.Post
-next-visit-requires t c κs = let a = c .before .before .before .before .before .before .before .before .before .before .before .args in let r = c .before .before .before .before .before .before .before .before .before .before .before .pre .1 in let (x, y) = leads-on (a .l .least) (a .s .now) (a .up) (c .before .before .before .before .before .wide .result) (a .e) (r .2) (c .before .before .before .before .before .wide .ensures) (c .before .before .before .before .before .before .before .before .if1 .left) in (omega (arith, c .before .before .before .before .before .before .before .before .if1 .left, c .before .before .before .before .before .before .before .before .before .before .before .pre .0), (r .0, r .1, x, y, r .3))
+next-visit-requires t c κs = let a = c .before .before .before .before .before .before .before .before .before .before .before .args in let r = c .before .before .before .before .before .before .before .before .before .before .before .pre .1 in let (x, y) = leads-on (a .l .least) (a .s .now) (a .v) (a .up) (c .before .before .before .before .before .wide .result) (a .e) (r .2) (c .before .before .before .before .before .wide .ensures) (c .before .before .before .before .before .before .before .before .if1 .left) (sym (c .before .before .before .before .before .before .before .is-live .ensures) ∙ not-false (c .before .before .before .before .before .before .before .is-live .result) (c .before .before .before .before .before .before .if2 .left)) in (omega (arith, c .before .before .before .before .before .before .before .before .if1 .left, c .before .before .before .before .before .before .before .before .before .before .before .pre .0), (r .0, r .1, x, y, r .3, r .6))
 
 next-step-requires-4 : (t : ℕ) → next-lts.Need-step-requires-4 (next-claims t) (next-at t) next.Post
 next-step-requires-4 t c κs = let a = c .before .before .before .before .before .before .before .before .before .before .before .before .before .before .args in let r = c .before .before .before .before .before .before .before .before .before .before .before .before .before .before .pre .1 in (r .4, r .5)
@@ -174,10 +174,11 @@ visit-next-requires t c κs = let a = c .before .before .before .before .before 
   (
     r .0,
     r .1,
-    leads-here (r .0) (a .s .now) (r .1) (a .n) (r .2) (c .before .before .before .before .before .before .part .result .now) (c .before .before .before .before .before .before .part .ensures) (c .before .before .before .before .before .head-of .result) (c .before .before .before .before .before .head-of .ensures) (c .before .before .before .loop .i) (a .up) (c .before .entry-at .result) (r .3) (c .before .before .loop-test .taken) (c .before .entry-at .ensures),
+    leads-here (r .0) (a .s .now) (r .1) (a .n) (r .2) (c .before .before .before .before .before .before .part .result .now) (c .before .before .before .before .before .before .part .ensures) (c .before .before .before .before .before .head-of .result) (c .before .before .before .before .before .head-of .ensures) (c .before .before .before .loop .i) (a .v) (a .up) (c .before .entry-at .result) (r .5) (r .3) (c .before .before .loop-test .taken) (c .before .entry-at .ensures),
     c .before .before .before .loop .inv .3,
     omega (arith, c .before .before .before .loop .inv .2, c .before .before .loop-test .taken, few (r .0) (a .s .now) (r .1) (a .n) (r .2) (c .before .before .before .before .before .before .part .result .now) (c .before .before .before .before .before .before .part .ensures) (c .before .before .before .before .before .head-of .result) (c .before .before .before .before .before .head-of .ensures)),
     z .key,
+    r .5,
   ),
 )
 

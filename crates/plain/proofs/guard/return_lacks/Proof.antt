@@ -15,16 +15,19 @@ use borrow.Author.Needs.{needs}
 use Rattle.plain.proofs.guard.return_lacks.Statement.{statement}
 use Rattle.plain.proofs.guard.return_lacks.Tie as tie
 
+uncommitted-requires : tie.Need-uncommitted-requires
+uncommitted-requires c κs = search needs
+
 returns : tie.Need-returns
 returns c =
     let a = c .before .before .before .args in
-    return-lacks-six (a .items .now) (a .s .count + ownInserts (plainOf (a .s) (a .items .now)) (a .v)) (a .s .current) (a .s .opened) (a .v) (c .if1 .taken)
+    return-lacks-six (a .items .now) (a .s .count + ownInserts (plainOf (a .s) (a .items .now)) (a .v)) (a .s .oldest) (a .s .current) (a .s .opened) (a .v) (sym (c .before .uncommitted .ensures) ∙ c .if1 .taken)
 
 returns-2 : tie.Need-returns-2
 returns-2 c =
     let a = c .before .before .before .before .before .args in
-    return-lacks-seven (a .items .now) (a .s .count + ownInserts (plainOf (a .s) (a .items .now)) (a .v)) (a .s .current) (a .s .opened) (a .v)
-    (omega (arith, c .before .before .if1 .left)) (not-true (a .s .opened) (c .if2 .taken))
+    return-lacks-seven (a .items .now) (a .s .count + ownInserts (plainOf (a .s) (a .items .now)) (a .v)) (a .s .oldest) (a .s .current) (a .s .opened) (a .v)
+    (sym (c .before .before .before .uncommitted .ensures) ∙ c .before .before .if1 .left) (not-true (a .s .opened) (c .if2 .taken))
 
 add-comings : tie.Need-add-comings
 add-comings c = omega (arith, c .before .before .before .before .before .before .pre .version)
@@ -44,8 +47,8 @@ returns-3 c =
     let is : a .s .current + 1 ≡ suc (a .s .current) = omega arith in
     let n = c .before .comings .ensures .0 ∙ ap (λ (w : ℕ). length (those comes (differs w (a .v) (from (a .items .now) 0 (a .s .count))))) is in
     ap (λ (m : ℕ). ltb (length (a .items .now)) (4 * (a .s .count + m))) n
-    ∙ return-lacks-room (a .items .now) (a .s .count + ownInserts (plainOf (a .s) (a .items .now)) (a .v)) (a .s .current) (a .s .opened) (a .v)
-    (omega (arith, c .before .before .before .before .before .if1 .left)) (not-false (a .s .opened) (c .before .before .before .if2 .left))
+    ∙ return-lacks-room (a .items .now) (a .s .count + ownInserts (plainOf (a .s) (a .items .now)) (a .v)) (a .s .oldest) (a .s .current) (a .s .opened) (a .v)
+    (sym (c .before .before .before .before .before .before .uncommitted .ensures) ∙ c .before .before .before .before .before .if1 .left) (not-false (a .s .opened) (c .before .before .before .if2 .left))
 
 pub return-lacks-spec : {M : Type 1} → statement M
-return-lacks-spec = tie.close (tie.spec returns returns-2 add-comings comings-requires add-result mul-result returns-3)
+return-lacks-spec = tie.close (tie.spec uncommitted-requires returns returns-2 add-comings comings-requires add-result mul-result returns-3)

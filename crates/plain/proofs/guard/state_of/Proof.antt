@@ -20,10 +20,17 @@ element-copy-out-wide c = search needs
 wide-requires : tie.Need-wide-requires
 wide-requires c κs = search needs
 
+element-copy-out-t15 : tie.Need-element-copy-out-t15
+element-copy-out-t15 c = search needs
+
+element-copy-out-t18 : tie.Need-element-copy-out-t18
+element-copy-out-t18 c = search needs
+
 returns : tie.Need-returns
 returns c =
-    let ms = c .before .before .before .before .args .state .now in
-    (ap {B = State} (λ (n : ℕ). record { current = getD ms 0 0; opened = eqb (getD ms 1 0) 1; count = n }) (c .wide .ensures .0), c .wide .ensures .1)
+    let ms = c .before .before .before .before .before .before .args .state .now in
+    let w = c .before .before .wide .ensures in
+    (ap {B = State} (λ (n : ℕ). record { current = getD ms 0 0; opened = eqb (getD ms 1 0) 1; count = n; oldest = getD ms 3 0; edition = getD ms 4 0 }) (w .0), w .1)
 
 pub state-of-spec : {M : Type 1} → statement M
-state-of-spec = tie.close (tie.spec element-copy-out-t4 element-copy-out-t7 element-copy-out-wide wide-requires returns)
+state-of-spec = tie.close (tie.spec element-copy-out-t4 element-copy-out-t7 element-copy-out-wide wide-requires element-copy-out-t15 element-copy-out-t18 returns)

@@ -14,16 +14,16 @@ use Rattle.plain.proofs.life.tell_life.Statement.{statement}
 use Rattle.plain.proofs.life.tell_life.Tie as tie
 
 abbrev Inv-loop : tie.InvT-loop
-Inv-loop items n key c list₀ write found₀ v₀ list found v =
-    (v ≤ suc c) × Gathering stretches write list₀ list 0 found (lifeOf c (λ (w : ℕ). valueAt key w (from items 0 n))) (rest c (λ (w : ℕ). valueAt key w (from items 0 n)) v)
+Inv-loop items n key old c list₀ write found₀ v₀ list found v =
+    Gathering stretches write list₀ list 0 found (lifeOf old c (λ (w : ℕ). valueAt key w (from items 0 n))) (rest c (λ (w : ℕ). valueAt key w (from items 0 n)) v)
 
 abbrev μ-loop : tie.MeasureT-loop
-μ-loop items n key c list₀ write found₀ v₀ list found v = suc c - v
+μ-loop items n key old c list₀ write found₀ v₀ list found v = suc c - v
 
 loop-holds : tie.Need-loop-holds Inv-loop μ-loop
 loop-holds c =
     let a = c .before .before .args in
-    (omega arith, gather-same stretches (sym (rest-start (a .c) (λ (w : ℕ). valueAt (a .key) w (from (a .items .now) 0 (a .n))))) (gather-start stretches (c .before .before .pre .2)))
+    gather-same stretches (sym (rest-start (a .c) (λ (w : ℕ). valueAt (a .key) w (from (a .items .now) 0 (a .n))) (a .old))) (gather-start stretches (c .before .before .pre .2))
 
 value-at-requires : tie.Need-value-at-requires Inv-loop μ-loop
 value-at-requires c κs = c .before .before .before .before .pre .0
@@ -42,7 +42,7 @@ tell-stretch-requires c κs =
     let x = c .before .before .before .value-at in
     let r = c .before .before .change-after in
     let e = rest-told (a .c) f (l .v) (r .result) (c .shown-end .result) (x .result) (r .ensures) (x .ensures) (c .shown-end .ensures) in
-    space-front stretches (shown (l .v) (c .shown-end .result) (x .result)) (rest (a .c) f (r .result)) (gather-same stretches e (l .inv .1) .space)
+    space-front stretches (shown (l .v) (c .shown-end .result) (x .result)) (rest (a .c) f (r .result)) (gather-same stretches e (l .inv) .space)
 
 loop-less : tie.Need-loop-less Inv-loop μ-loop
 loop-less c = omega (arith, c .before .before .before .before .before .change-after .ensures .above, c .before .before .before .before .before .before .before .loop-test .taken)
@@ -56,16 +56,16 @@ loop-again c =
     let r = c .before .before .before .before .before .change-after in
     let z = c .before .before .before .shown-end in
     let e = rest-told (a .c) f (l .v) (r .result) (z .result) (x .result) (r .ensures) (x .ensures) (z .ensures) in
-    (r .ensures .below, gather-step stretches (shown (l .v) (z .result) (x .result)) (rest (a .c) f (r .result)) (gather-same stretches e (l .inv .1)) _ _ (c .before .before .tell-stretch .ensures))
+    gather-step stretches (shown (l .v) (z .result) (x .result)) (rest (a .c) f (r .result)) (gather-same stretches e (l .inv)) _ _ (c .before .before .tell-stretch .ensures)
 
 same-length : tie.Need-same-length Inv-loop μ-loop
-same-length c = c .before .loop .inv .1 .same
+same-length c = c .before .loop .inv .same
 
 returns : tie.Need-returns Inv-loop μ-loop
 returns c =
     let a = c .before .before .before .before .args in
     let l = c .before .loop in
-    gather-end stretches (gather-same stretches (rest-end (a .c) (λ (w : ℕ). valueAt (a .key) w (from (a .items .now) 0 (a .n))) (l .v) (omega (arith, c .loop-test .left))) (l .inv .1))
+    gather-end stretches (gather-same stretches (rest-end (a .c) (λ (w : ℕ). valueAt (a .key) w (from (a .items .now) 0 (a .n))) (l .v) (omega (arith, c .loop-test .left))) (l .inv))
 
 pub tell-life-spec : {M : Type 1} → statement M
 tell-life-spec =

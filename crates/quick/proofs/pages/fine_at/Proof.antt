@@ -18,7 +18,7 @@ head-of-requires c κs = let a = c .before .before .args in let r = c .before .b
 returns : tie.Need-returns
 returns c =
     let a = c .before .before .before .before .before .args in let r = c .before .before .before .before .before .pre in
-    settled (a .left) (a .left) (omega arith) (atLevel (a .k) (a .l .least) (decode (a .l .least) (a .s .now) .pages) (decodePage (a .l .least) (pageOf (a .l .least) (a .s .now) (a .n)))) true (λ lt. sym (at-other (r .0) (a .s .now) (r .1) (a .n) (r .2) (c .before .before .before .part .result .now) (c .before .before .before .part .ensures) (c .before .before .head-of .result) (c .before .before .head-of .ensures) (a .k) (c .if1 .taken)))
+    settled (a .left) (a .left) (omega arith) (atLevel (a .k) (a .l .least) (a .old) (decode (a .l .least) (a .s .now) .pages) (decodePage (a .l .least) (pageOf (a .l .least) (a .s .now) (a .n)))) true (λ lt. sym (at-other (r .0) (a .s .now) (r .1) (a .n) (r .2) (c .before .before .before .part .result .now) (c .before .before .before .part .ensures) (c .before .before .head-of .result) (c .before .before .head-of .ensures) (a .old) (a .k) (c .if1 .taken)))
 
 page-fine-requires : tie.Need-page-fine-requires
 page-fine-requires c κs = search needs
@@ -26,7 +26,7 @@ page-fine-requires c κs = search needs
 returns-2 : tie.Need-returns-2
 returns-2 c =
     let a = c .before .before .before .before .before .before .args in let r = c .before .before .before .before .before .before .pre in
-    handed (a .left) (a .left) (omega arith) (atLevel (a .k) (a .l .least) (decode (a .l .least) (a .s .now) .pages) (decodePage (a .l .least) (pageOf (a .l .least) (a .s .now) (a .n)))) (ownFine (a .l .least) (decode (a .l .least) (a .s .now) .pages) (decodePage (a .l .least) (pageOf (a .l .least) (a .s .now) (a .n)))) (c .page-fine .result) (λ lt. sym (at-same (r .0) (a .s .now) (r .1) (a .n) (r .2) (c .before .before .before .before .part .result .now) (c .before .before .before .before .part .ensures) (c .before .before .before .head-of .result) (c .before .before .before .head-of .ensures) (a .k) (c .before .if1 .left))) (c .page-fine .ensures)
+    handed (a .left) (a .left) (omega arith) (atLevel (a .k) (a .l .least) (a .old) (decode (a .l .least) (a .s .now) .pages) (decodePage (a .l .least) (pageOf (a .l .least) (a .s .now) (a .n)))) (ownFine (a .l .least) (a .old) (decode (a .l .least) (a .s .now) .pages) (decodePage (a .l .least) (pageOf (a .l .least) (a .s .now) (a .n)))) (c .page-fine .result) (λ lt. sym (at-same (r .0) (a .s .now) (r .1) (a .n) (r .2) (c .before .before .before .before .part .result .now) (c .before .before .before .before .part .ensures) (c .before .before .before .head-of .result) (c .before .before .before .head-of .ensures) (a .old) (a .k) (c .before .if1 .left))) (c .page-fine .ensures)
 
 pub fine-at-spec : {M : Type 1} → statement M
 fine-at-spec = tie.close (tie.spec part-requires head-of-requires returns page-fine-requires returns-2)

@@ -13,10 +13,10 @@ use Rattle.quick.proofs.pages.level_fine.Statement.{statement}
 use Rattle.quick.proofs.pages.level_fine.Tie as tie
 
 abbrev Inv-loop : tie.InvT-loop
-Inv-loop s l k left size rest₀ n₀ rest n = (5 ≤ n) × (rest ≤ left) × (0 < rest → all (atLevel k (l .least) (decode (l .least) s .pages)) (readPages (l .least) s 5 (sizeOf (l .least) s - 5)) ≡ all (atLevel k (l .least) (decode (l .least) s .pages)) (readPages (l .least) s n (size - n)))
+Inv-loop s l k old left size rest₀ n₀ rest n = (5 ≤ n) × (rest ≤ left) × (0 < rest → all (atLevel k (l .least) old (decode (l .least) s .pages)) (readPages (l .least) s 5 (sizeOf (l .least) s - 5)) ≡ all (atLevel k (l .least) old (decode (l .least) s .pages)) (readPages (l .least) s n (size - n)))
 
 abbrev μ-loop : tie.MeasureT-loop
-μ-loop s l k left size rest₀ n₀ rest n = size - n
+μ-loop s l k old left size rest₀ n₀ rest n = size - n
 
 size-requires : tie.Need-size-requires Inv-loop μ-loop
 size-requires c κs = c .before .pre .0
@@ -25,11 +25,11 @@ loop-holds : tie.Need-loop-holds Inv-loop μ-loop
 loop-holds c = (omega arith, omega arith, λ lt. rw (c .size .ensures))
 
 fine-at-requires : tie.Need-fine-at-requires Inv-loop μ-loop
-fine-at-requires c κs = (c .before .before .before .before .pre .0, c .before .before .before .before .pre .1, (c .before .loop .inv .0, omega (arith, c .loop-test .taken, c .before .before .size .ensures)))
+fine-at-requires c κs = (c .before .before .before .before .pre .0, c .before .before .before .before .pre .1, (c .before .loop .inv .0, omega (arith, c .loop-test .taken, c .before .before .size .ensures)), c .before .before .before .before .pre .2)
 
 returns : tie.Need-returns Inv-loop μ-loop
 returns c =
-    let a = c .before .before .before .before .before .before .before .args in let j = c .before .before .before .before .loop in let f = atLevel (a .k) (a .l .least) (decode (a .l .least) (a .s .now) .pages) in
+    let a = c .before .before .before .before .before .before .before .args in let j = c .before .before .before .before .loop in let f = atLevel (a .k) (a .l .least) (a .old) (decode (a .l .least) (a .s .now) .pages) in
     let x = all f (readPages (a .l .least) (a .s .now) 5 (sizeOf (a .l .least) (a .s .now) - 5)) in
     let y = f (decodePage (a .l .least) (pageOf (a .l .least) (a .s .now) (j .n))) in
     let z = all f (readPages (a .l .least) (a .s .now) (j .n + 1) (c .before .before .before .before .before .size .result - (j .n + 1))) in
@@ -44,7 +44,7 @@ loop-less c = omega (arith, c .before .before .before .loop-test .taken)
 
 loop-again : tie.Need-loop-again Inv-loop μ-loop
 loop-again c =
-    let a = c .before .before .before .before .before .before .before .args in let j = c .before .before .before .before .loop in let f = atLevel (a .k) (a .l .least) (decode (a .l .least) (a .s .now) .pages) in
+    let a = c .before .before .before .before .before .before .before .args in let j = c .before .before .before .before .loop in let f = atLevel (a .k) (a .l .least) (a .old) (decode (a .l .least) (a .s .now) .pages) in
     let x = all f (readPages (a .l .least) (a .s .now) 5 (sizeOf (a .l .least) (a .s .now) - 5)) in
     let y = f (decodePage (a .l .least) (pageOf (a .l .least) (a .s .now) (j .n))) in
     let z = all f (readPages (a .l .least) (a .s .now) (j .n + 1) (c .before .before .before .before .before .size .result - (j .n + 1))) in
@@ -54,7 +54,7 @@ loop-again c =
 
 returns-2 : tie.Need-returns-2 Inv-loop μ-loop
 returns-2 c =
-    let a = c .before .before .before .before .args in let j = c .before .loop in let f = atLevel (a .k) (a .l .least) (decode (a .l .least) (a .s .now) .pages) in
+    let a = c .before .before .before .before .args in let j = c .before .loop in let f = atLevel (a .k) (a .l .least) (a .old) (decode (a .l .least) (a .s .now) .pages) in
     settled (a .left) (j .rest) (j .inv .1) (all f (readPages (a .l .least) (a .s .now) 5 (sizeOf (a .l .least) (a .s .now) - 5))) true (λ lt. j .inv .2 lt ∙ all-pages-end (a .l .least) (a .s .now) f (j .n) (c .before .before .size .result) (c .loop-test .left))
 
 pub level-fine-spec : {M : Type 1} → statement M

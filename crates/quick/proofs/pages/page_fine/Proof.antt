@@ -5,7 +5,7 @@ use native.Mathlib.Omega.{arith}
 use borrow.Author.Needs.{needs}
 use borrow.Author.Tests.{not-true, not-false}
 use Rattle.model.specs.Basic.{inOrder}
-use Rattle.model.specs.Quick.{apart, childrenFine, routersFine}
+use Rattle.model.specs.Quick.{kept, apart, childrenFine, routersFine}
 use Rattle.model.specs.Layout.{decode, decodePage, pageOf, readEntries}
 use Rattle.quick.specs.Pages.{ownFine, own-none, own-some, children-leaf, children-index}
 use Rattle.quick.specs.Routers.{entriesAt}
@@ -24,7 +24,7 @@ head-of-requires c κs = let a = c .before .before .args in let r = c .before .b
 returns : tie.Need-returns
 returns c =
     let a = c .before .before .before .before .before .args in let r = c .before .before .before .before .before .pre in
-    settled (a .left) (a .left) (omega arith) (ownFine (a .l .least) (decode (a .l .least) (a .s .now) .pages) (decodePage (a .l .least) (pageOf (a .l .least) (a .s .now) (a .n)))) true (λ lt. own-none (r .0) (a .s .now) (r .1) (a .n) (r .2) (c .before .before .before .part .result .now) (c .before .before .before .part .ensures) (c .before .before .head-of .result) (c .before .before .head-of .ensures) (c .if1 .taken))
+    settled (a .left) (a .left) (omega arith) (ownFine (a .l .least) (a .old) (decode (a .l .least) (a .s .now) .pages) (decodePage (a .l .least) (pageOf (a .l .least) (a .s .now) (a .n)))) true (λ lt. own-none (r .0) (a .s .now) (r .1) (a .n) (r .2) (c .before .before .before .part .result .now) (c .before .before .before .part .ensures) (c .before .before .head-of .result) (c .before .before .head-of .ensures) (a .old) (c .if1 .taken))
 
 all-apart-requires : tie.Need-all-apart-requires
 all-apart-requires c κs =
@@ -33,21 +33,21 @@ all-apart-requires c κs =
 
 -- a used page
 some : (c : tie.Else1) → let b = c .before .before .before .before .before in let ps = decode (b .args .l .least) (b .args .s .now) .pages in
-    ownFine (b .args .l .least) ps (decodePage (b .args .l .least) (pageOf (b .args .l .least) (b .args .s .now) (b .args .n)))
-    ≡ (inOrder apart (readEntries (c .before .before .before .part .result .now) 128 (c .before .before .head-of .result .count)) && childrenFine (b .args .l .least) ps (c .before .before .head-of .result .level) (entriesAt (b .args .l .least) (b .args .s .now) (b .args .n)))
+    ownFine (b .args .l .least) (b .args .old) ps (decodePage (b .args .l .least) (pageOf (b .args .l .least) (b .args .s .now) (b .args .n)))
+    ≡ (inOrder apart (kept (b .args .old) (readEntries (c .before .before .before .part .result .now) 128 (c .before .before .head-of .result .count))) && childrenFine (b .args .l .least) (b .args .old) ps (c .before .before .head-of .result .level) (kept (b .args .old) (entriesAt (b .args .l .least) (b .args .s .now) (b .args .n))))
 some c =
     let b = c .before .before .before .before .before in let a = b .args in let r = b .pre in
-    own-some (r .0) (a .s .now) (r .1) (a .n) (r .2) (c .before .before .before .part .result .now) (c .before .before .before .part .ensures) (c .before .before .head-of .result) (c .before .before .head-of .ensures) (c .if1 .left)
+    own-some (r .0) (a .s .now) (r .1) (a .n) (r .2) (c .before .before .before .part .result .now) (c .before .before .before .part .ensures) (c .before .before .head-of .result) (c .before .before .head-of .ensures) (a .old) (c .if1 .left)
 
 returns-2 : tie.Need-returns-2
 returns-2 c =
     let a = c .before .before .before .before .before .before .before .args in
-    settled (a .left) (a .left) (omega arith) (ownFine (a .l .least) (decode (a .l .least) (a .s .now) .pages) (decodePage (a .l .least) (pageOf (a .l .least) (a .s .now) (a .n)))) false (λ lt. some (c .before .before) ∙ rw (← c .before .all-apart .ensures, not-true (c .before .all-apart .result) (c .if2 .taken)))
+    settled (a .left) (a .left) (omega arith) (ownFine (a .l .least) (a .old) (decode (a .l .least) (a .s .now) .pages) (decodePage (a .l .least) (pageOf (a .l .least) (a .s .now) (a .n)))) false (λ lt. some (c .before .before) ∙ rw (← c .before .all-apart .ensures, not-true (c .before .all-apart .result) (c .if2 .taken)))
 
 returns-3 : tie.Need-returns-3
 returns-3 c =
     let a = c .before .before .before .before .before .before .before .before .before .args in
-    settled (a .left) (a .left) (omega arith) (ownFine (a .l .least) (decode (a .l .least) (a .s .now) .pages) (decodePage (a .l .least) (pageOf (a .l .least) (a .s .now) (a .n)))) true (λ lt. some (c .before .before .before .before) ∙ rw (← c .before .before .before .all-apart .ensures, not-false (c .before .before .before .all-apart .result) (c .before .before .if2 .left)) (children-leaf (a .l .least) (decode (a .l .least) (a .s .now) .pages) (entriesAt (a .l .least) (a .s .now) (a .n)) (c .before .before .before .before .before .before .head-of .result .level) (c .if3 .taken)))
+    settled (a .left) (a .left) (omega arith) (ownFine (a .l .least) (a .old) (decode (a .l .least) (a .s .now) .pages) (decodePage (a .l .least) (pageOf (a .l .least) (a .s .now) (a .n)))) true (λ lt. some (c .before .before .before .before) ∙ rw (← c .before .before .before .all-apart .ensures, not-false (c .before .before .before .all-apart .result) (c .before .before .if2 .left)) (children-leaf (a .l .least) (a .old) (decode (a .l .least) (a .s .now) .pages) (kept (a .old) (entriesAt (a .l .least) (a .s .now) (a .n))) (c .before .before .before .before .before .before .head-of .result .level) (c .if3 .taken)))
 
 sub-wide : tie.Need-sub-wide
 sub-wide c = omega (arith, c .before .before .before .before .before .if1 .left, c .before .if3 .left)
@@ -58,13 +58,13 @@ wide-requires c κs = search needs
 routers-fine-requires : tie.Need-routers-fine-requires
 routers-fine-requires c κs =
     let a = c .before .before .before .before .before .before .before .before .before .before .before .args in let r = c .before .before .before .before .before .before .before .before .before .before .before .pre in
-    (r .0, r .1, r .2, omega (arith, c .wide .ensures, c .before .before .before .before .before .before .if1 .left, c .before .before .if3 .left, level-is (r .0) (a .s .now) (r .1 .linked) (a .n) (r .2) (c .before .before .before .before .before .before .before .before .before .part .result .now) (c .before .before .before .before .before .before .before .before .before .part .ensures) (c .before .before .before .before .before .before .before .before .head-of .result) (c .before .before .before .before .before .before .before .before .head-of .ensures)))
+    (r .0, r .1, r .2, omega (arith, c .wide .ensures, c .before .before .before .before .before .before .if1 .left, c .before .before .if3 .left, level-is (r .0) (a .s .now) (r .1 .linked) (a .n) (r .2) (c .before .before .before .before .before .before .before .before .before .part .result .now) (c .before .before .before .before .before .before .before .before .before .part .ensures) (c .before .before .before .before .before .before .before .before .head-of .result) (c .before .before .before .before .before .before .before .before .head-of .ensures)), r .3)
 
 returns-4 : tie.Need-returns-4
 returns-4 c =
-    let a = c .before .before .before .before .before .before .before .before .before .before .before .before .args in let ps = decode (a .l .least) (a .s .now) .pages in let es = entriesAt (a .l .least) (a .s .now) (a .n) in
+    let a = c .before .before .before .before .before .before .before .before .before .before .before .before .args in let ps = decode (a .l .least) (a .s .now) .pages in let es = kept (a .old) (entriesAt (a .l .least) (a .s .now) (a .n)) in
     let q : c .before .before .before .before .before .before .before .before .before .head-of .result .level ≡ c .before .wide .result + 2 = omega (arith, c .before .wide .ensures, c .before .before .before .before .before .before .before .if1 .left, c .before .before .before .if3 .left) in
-    handed (a .left) (a .left) (omega arith) (ownFine (a .l .least) (decode (a .l .least) (a .s .now) .pages) (decodePage (a .l .least) (pageOf (a .l .least) (a .s .now) (a .n)))) (routersFine (a .l .least) (c .before .wide .result) ps es) (c .routers-fine .result) (λ lt. some (c .before .before .before .before .before .before .before) ∙ rw (← c .before .before .before .before .before .before .all-apart .ensures, not-false (c .before .before .before .before .before .before .all-apart .result) (c .before .before .before .before .before .if2 .left)) (children-index (a .l .least) ps es (c .before .before .before .before .before .before .before .before .before .head-of .result .level) (c .before .wide .result) q)) (c .routers-fine .ensures)
+    handed (a .left) (a .left) (omega arith) (ownFine (a .l .least) (a .old) (decode (a .l .least) (a .s .now) .pages) (decodePage (a .l .least) (pageOf (a .l .least) (a .s .now) (a .n)))) (routersFine (a .l .least) (a .old) (c .before .wide .result) ps es) (c .routers-fine .result) (λ lt. some (c .before .before .before .before .before .before .before) ∙ rw (← c .before .before .before .before .before .before .all-apart .ensures, not-false (c .before .before .before .before .before .before .all-apart .result) (c .before .before .before .before .before .if2 .left)) (children-index (a .l .least) (a .old) ps es (c .before .before .before .before .before .before .before .before .before .head-of .result .level) (c .before .wide .result) q)) (c .routers-fine .ensures)
 
 pub page-fine-spec : {M : Type 1} → statement M
 page-fine-spec = tie.close (tie.spec part-requires head-of-requires returns all-apart-requires returns-2 returns-3 sub-wide wide-requires routers-fine-requires returns-4)

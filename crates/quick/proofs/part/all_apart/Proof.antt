@@ -1,65 +1,74 @@
+-- `quick::part::all_apart` meets its contract: the entries from i on, behind the last one kept, answer as all. Assumes nothing.
 use Prim.Native.Nat.{_≤_, _-_, _+_, _*_}
-use mathlib.Core.Path.{_≡_, refl, sym, _∙_}
+use mathlib.Core.Bool.{true}
+use mathlib.Core.Path.{_≡_, refl, sym, subst, _∙_}
 use native.Mathlib.Omega.{arith}
 use native.Mathlib.Nat.{sub-zero}
 use borrow.Author.Tests.{not-true, not-false}
-use Rattle.model.specs.Basic.{inOrder}
-use Rattle.model.specs.Layout.{readEntries}
-use Rattle.model.specs.Quick.{apart}
-use Rattle.model.proofs.Rising.{rising}
-use Rattle.model.proofs.QuickLaws.{apart-neighbours}
-use Rattle.quick.specs.Part.{rising-step, rising-end}
 use borrow.Author.Needs.{needs}
+use Rattle.model.specs.Basic.{inOrder}
+use Rattle.model.specs.Entry.{before}
+use Rattle.model.specs.Layout.{readEntries}
+use Rattle.model.specs.Quick.{kept, apart}
+use Rattle.quick.specs.Part.{behind, behind-start, apart-step, apart-end, order-step}
 use Rattle.quick.proofs.part.all_apart.Statement.{statement}
 use Rattle.quick.proofs.part.all_apart.Tie as tie
-use Rattle.quick.proofs.part.all_apart.Reads as reads
-use Rattle.quick.proofs.part.all_apart.Lts as lts
-use Rattle.quick.proofs.part.apart_next.Reads as apart-next-reads
 
 abbrev Inv-loop : tie.InvT-loop
-Inv-loop page n i₀ i = (i ≤ n) × (inOrder apart (readEntries page 128 n) ≡ rising apart (readEntries page (128 + 96 * i) (n - i)))
+Inv-loop page n old d₀ i₀ d i =
+    (i ≤ n) × (inOrder before (readEntries page (128 + 96 * i) (n - i)) ≡ true)
+    × (inOrder apart (kept old (readEntries page 128 n)) ≡ behind old d (readEntries page (128 + 96 * i) (n - i)))
 
 abbrev μ-loop : tie.MeasureT-loop
-μ-loop page n i₀ i = n - i
+μ-loop page n old d₀ i₀ d i = n - i
 
--- src/part.rt:186:5
+nobody-requires : tie.Need-nobody-requires Inv-loop μ-loop
+nobody-requires c κs = search needs
+
 loop-holds : tie.Need-loop-holds Inv-loop μ-loop
-loop-holds c = let a = c .before .args in (omega arith, apart-neighbours (readEntries (a .page .now) 128 (a .n)) (c .before .pre .1) ∙ rw sub-zero refl)
+loop-holds c =
+    let b = c .before .before in
+    let a = b .args in
+    (omega arith, rw sub-zero (b .pre .1), behind-start (a .old) (c .nobody .result) (a .page .now) (a .n) (c .nobody .ensures) ∙ rw sub-zero refl)
 
--- src/part.rt:187:13
-apart-next-requires : tie.Need-apart-next-requires Inv-loop μ-loop
-apart-next-requires c κs = (c .before .before .before .pre .0, omega (arith, c .loop-test .taken))
+entry-at-requires : tie.Need-entry-at-requires Inv-loop μ-loop
+entry-at-requires c κs = let b = c .before .before .before .before in (omega (arith, b .pre .0 .room, c .loop-test .taken), b .pre .0 .long)
 
--- src/part.rt:188:13
+apart-kept-requires : tie.Need-apart-kept-requires Inv-loop μ-loop
+apart-kept-requires c κs = search needs
+
 returns : tie.Need-returns Inv-loop μ-loop
-returns c = let a = c .before .before .before .before .before .args in let k = c .before .before .before .loop in sym (k .inv .1 ∙ rising-step (a .page .now) (k .i) (a .n) (c .before .before .loop-test .taken) ∙ rw (← c .before .apart-next .ensures, not-true (c .before .apart-next .result) (c .if1 .taken)))
+returns c =
+    let k = c .before .before .before .before .loop in
+    let a = c .before .before .before .before .before .before .before .args in
+    sym (k .inv .2 ∙ apart-step (a .page .now) (k .i) (a .n) (a .old) (k .d) (c .before .before .before .loop-test .taken) (k .inv .1)
+    ∙ rw (← c .before .before .entry-at .ensures, ← c .before .apart-kept .ensures, not-true (c .before .apart-kept .result) (c .if1 .taken)))
 
--- src/part.rt:190:9
+last-kept-requires : tie.Need-last-kept-requires Inv-loop μ-loop
+last-kept-requires c κs = search needs
+
 add-i : tie.Need-add-i Inv-loop μ-loop
-add-i c = omega (arith, c .before .before .loop-test .taken, c .before .before .before .before .before .pre .0 .room, c .before .before .before .before .before .pre .0 .long)
+add-i c = let b = c .before .before .before .before .before .before .before .before in omega (arith, c .before .before .before .before .loop-test .taken, b .pre .0 .room, b .pre .0 .long)
 
--- src/part.rt:186:5
 loop-less : tie.Need-loop-less Inv-loop μ-loop
-loop-less c = omega (arith, c .before .before .loop-test .taken)
+loop-less c = omega (arith, c .before .before .before .before .loop-test .taken)
 
--- src/part.rt:186:5
 loop-again : tie.Need-loop-again Inv-loop μ-loop
-loop-again c = let a = c .before .before .before .before .before .args in let k = c .before .before .before .loop in (omega (arith, c .before .before .loop-test .taken), k .inv .1 ∙ rising-step (a .page .now) (k .i) (a .n) (c .before .before .loop-test .taken) ∙ rw (← c .before .apart-next .ensures, not-false (c .before .apart-next .result) (c .if1 .left)))
+loop-again c =
+    let k = c .before .before .before .before .before .loop in
+    let a = c .before .before .before .before .before .before .before .before .args in
+    let t = c .before .before .before .before .loop-test .taken in (
+      omega (arith, t),
+      order-step (a .page .now) (k .i) (a .n) t (k .inv .1),
+      k .inv .2 ∙ apart-step (a .page .now) (k .i) (a .n) (a .old) (k .d) t (k .inv .1)
+          ∙ rw (← c .before .before .before .entry-at .ensures, ← c .before .before .apart-kept .ensures, not-false (c .before .before .apart-kept .result) (c .before .if1 .left), ← c .last-kept .ensures),
+    )
 
--- src/part.rt:181:1
 returns-2 : tie.Need-returns-2 Inv-loop μ-loop
-returns-2 c = let a = c .before .before .before .args in let k = c .before .loop in sym (k .inv .1 ∙ rising-end (a .page .now) (k .i) (a .n) (c .loop-test .left))
+returns-2 c =
+    let k = c .before .loop in
+    let a = c .before .before .before .before .args in
+    sym (k .inv .2 ∙ apart-end (a .page .now) (k .i) (a .n) (a .old) (k .d) (c .loop-test .left))
 
 pub all-apart-spec : {M : Type 1} → statement M
-all-apart-spec =
-    tie.close
-    (tie.spec
-    Inv-loop
-    μ-loop
-    loop-holds
-    apart-next-requires
-    returns
-    add-i
-    loop-less
-    loop-again
-    returns-2)
+all-apart-spec = tie.close (tie.spec Inv-loop μ-loop nobody-requires loop-holds entry-at-requires apart-kept-requires returns last-kept-requires add-i loop-less loop-again returns-2)

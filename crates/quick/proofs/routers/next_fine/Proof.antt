@@ -1,3 +1,4 @@
+use native.Mathlib.Omega.{arith}
 use borrow.Author.Needs.{needs}
 use lib.Dec.{ltb}
 use Rattle.model.specs.Layout.{decode}
@@ -13,7 +14,9 @@ smaller-requires : tie.Need-smaller-requires
 smaller-requires c κs = search needs
 
 under-requires : tie.Need-under-requires
-under-requires c κs = search needs
+under-requires c κs =
+    let r = c .before .before .before .pre in
+    (r .0, r .1, λ lt. (omega (arith, r .4, c .before .larger .ensures), r .2, r .3))
 
 returns : tie.Need-returns
 returns c =

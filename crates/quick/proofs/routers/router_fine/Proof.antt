@@ -1,57 +1,56 @@
-use Prim.Native.Nat.{_-_, _+_, _*_}
-use mathlib.Core.Bool.{false}
-use mathlib.Core.Path.{_≡_, _∙_}
+-- `quick::routers::router_fine` meets its contract: a router that ended by then, or any other from the oldest version on. Assumes nothing.
+use Prim.Native.Nat.{ℕ, _-_, _+_, _*_, _<_, max}
+use mathlib.Core.Bool.{Bool, true, false, _||_}
+use mathlib.Core.Path.{_≡_, ap, sym, subst, _∙_}
+use lib.Dec.{leb}
 use native.Mathlib.Omega.{arith}
 use borrow.Author.Needs.{needs}
-use borrow.Author.Tests.{not-true, not-false}
+use borrow.Author.Tests.{le-leb, lt-leb}
+use Rattle.model.specs.declared.Entry.{Entry}
 use Rattle.model.specs.Layout.{readEntry, readEntries, decode}
-use Rattle.model.specs.Quick.{nexts}
-use Rattle.local.specs.Local.{IsPage, levelAt}
-use Rattle.notes.specs.Here.{part-asks, room-here}
-use Rattle.quick.specs.Here.{order-part}
-use Rattle.quick.specs.Routers.{routerFine, leads-to, router-by}
-use Rattle.quick.specs.Under.{underPage}
+use Rattle.quick.specs.Routers.{routerFrom, routerFine}
 use Rattle.quick.specs.Within.{settled, handed}
 use Rattle.quick.proofs.routers.router_fine.Statement.{statement}
 use Rattle.quick.proofs.routers.router_fine.Tie as tie
 
 entry-at-requires : tie.Need-entry-at-requires
-entry-at-requires c κs = (omega (arith, c .before .before .pre .2 .room, c .before .before .pre .3), c .before .before .pre .2 .long)
+entry-at-requires c κs = let b = c .before .before in (omega (arith, b .pre .2 .room, b .pre .3), b .pre .2 .long)
 
-wide-requires : tie.Need-wide-requires
-wide-requires c κs = search needs
-
--- the page below
-child : (c : tie.After-wide) → let a = c .before .before .before .before .args in IsPage (a .l .least) (a .s .now) (c .wide .result) × (levelAt (a .l .least) (a .s .now) (c .wide .result) ≡ a .up + 1)
-child c =
-    let b = c .before .before .before .before in let a = b .args in
-    leads-to (a .l .least) (a .s .now) (readEntry (a .p .now) (128 + 96 * a .i)) (c .before .entry-at .result) (c .wide .result) (c .before .entry-at .ensures) (c .wide .ensures) (a .up + 1) (b .pre .4) (b .pre .5)
-
-part-requires : tie.Need-part-requires
-part-requires c κs = let a = c .before .before .before .before .args in let r = c .before .before .before .before .pre in let k = part-asks (r .0) (a .s .now) (r .1 .linked) (c .wide .result) (child (c) .0) in (r .0, k .0, k .1)
-
-fine-over-requires : tie.Need-fine-over-requires
-fine-over-requires c κs = let a = c .before .before .before .before .before .args in let r = c .before .before .before .before .before .pre in (r .0, c .part .ensures .1, room-here (r .0) (a .s .now) (r .1 .linked) (c .before .wide .result) (child (c .before) .0) (c .part .result .now) (c .part .ensures), order-part (r .0) (a .s .now) (r .1) (c .before .wide .result) (child (c .before) .0) (c .part .result .now) (c .part .ensures))
+-- the router as it is read
+abbrev read : (c : tie.After-entry-at) → Entry
+read c = let a = c .before .before .before .args in readEntry (a .p .now) (128 + 96 * a .i)
 
 returns : tie.Need-returns
 returns c =
-    let a = c .before .before .before .before .before .before .before .args in let ps = decode (a .l .least) (a .s .now) .pages in let d = c .before .before .before .before .entry-at .result in
-    let e = readEntry (a .p .now) (128 + 96 * a .i) in let es = readEntries (a .p .now) (128 + 96 * (a .i + 1)) (a .n - (a .i + 1)) in
-    let q = router-by (a .l .least) (a .s .now) e d (c .before .before .before .wide .result) (c .before .before .before .before .entry-at .ensures) (c .before .before .before .wide .ensures) (a .up) es (c .before .before .part .result .now) (child (c .before .before .before) .0) (c .before .before .part .ensures .0) in
-    settled (a .left) (a .left) (omega arith) (routerFine (a .l .least) (a .up) ps e es) false (λ lt. q ∙ rw (← c .before .fine-over .ensures, not-true (c .before .fine-over .result) (c .if1 .taken)))
+    let at-entry = c .before .before in
+    let a = at-entry .before .before .before .args in
+    let es = readEntries (a .p .now) (128 + 96 * (a .i + 1)) (a .n - (a .i + 1)) in
+    let ended : leb (read at-entry .end) (a .old) ≡ true = subst (λ (x : Entry). leb (x .end) (a .old) ≡ true) (at-entry .entry-at .ensures) (le-leb (at-entry .entry-at .result .end) (a .old) (c .if1 .taken)) in
+    settled (a .left) (a .left) (omega arith) (routerFine (a .l .least) (a .old) (a .up) (decode (a .l .least) (a .s .now) .pages) (read at-entry) es) true
+    (λ lt. ap (λ (b : Bool). b || routerFrom (a .l .least) (a .up) (decode (a .l .least) (a .s .now) .pages) (max (a .old) (read at-entry .start)) (read at-entry) es) ended)
 
-add-nexts-fine : tie.Need-add-nexts-fine
-add-nexts-fine c = omega (arith, c .before .before .before .before .before .before .before .pre .3, c .before .before .before .before .before .before .before .pre .2 .room, c .before .before .before .before .before .before .before .pre .2 .long)
+larger-requires : tie.Need-larger-requires
+larger-requires c κs = search needs
 
-nexts-fine-requires : tie.Need-nexts-fine-requires
-nexts-fine-requires c κs = let r = c .before .before .before .before .before .before .before .pre in (r .0, r .1, child (c .before .before .before) .0, child (c .before .before .before) .1, r .2, r .3)
+router-from-requires : tie.Need-router-from-requires
+router-from-requires c κs =
+    let at-entry = c .before .before .before in
+    let b = at-entry .before .before .before in
+    let late : b .args .old < read at-entry .end = subst (λ (x : Entry). b .args .old < x .end) (at-entry .entry-at .ensures) (omega (arith, c .before .if1 .left)) in
+    let (x, y) = b .pre .4 late in
+    (b .pre .0, b .pre .1, b .pre .2, b .pre .3, x, y, omega (arith, b .pre .5, c .larger .ensures))
 
 returns-2 : tie.Need-returns-2
 returns-2 c =
-    let a = c .before .before .before .before .before .before .before .before .args in let ps = decode (a .l .least) (a .s .now) .pages in let d = c .before .before .before .before .before .entry-at .result in
-    let e = readEntry (a .p .now) (128 + 96 * a .i) in let es = readEntries (a .p .now) (128 + 96 * (a .i + 1)) (a .n - (a .i + 1)) in
-    let q = router-by (a .l .least) (a .s .now) e d (c .before .before .before .before .wide .result) (c .before .before .before .before .before .entry-at .ensures) (c .before .before .before .before .wide .ensures) (a .up) es (c .before .before .before .part .result .now) (child (c .before .before .before .before) .0) (c .before .before .before .part .ensures .0) in
-    handed (a .left) (a .left) (omega arith) (routerFine (a .l .least) (a .up) ps e es) (nexts (underPage (a .up) ps (c .before .before .before .before .wide .result)) (d .start) (d .end) es) (c .nexts-fine .result) (λ lt. q ∙ rw (← c .before .before .fine-over .ensures, not-false (c .before .before .fine-over .result) (c .before .if1 .left))) (c .nexts-fine .ensures)
+    let at-entry = c .before .before .before .before in
+    let a = at-entry .before .before .before .args in
+    let es = readEntries (a .p .now) (128 + 96 * (a .i + 1)) (a .n - (a .i + 1)) in
+    let ps = decode (a .l .least) (a .s .now) .pages in
+    let e = read at-entry in
+    let late : leb (e .end) (a .old) ≡ false = subst (λ (x : Entry). leb (x .end) (a .old) ≡ false) (at-entry .entry-at .ensures) (lt-leb (at-entry .entry-at .result .end) (a .old) (omega (arith, c .before .before .if1 .left))) in
+    let start : c .before .larger .result ≡ max (a .old) (e .start) = c .before .larger .ensures ∙ ap (λ (x : Entry). max (a .old) (x .start)) (at-entry .entry-at .ensures) in
+    handed (a .left) (a .left) (omega arith) (routerFine (a .l .least) (a .old) (a .up) ps e es) (routerFrom (a .l .least) (a .up) ps (c .before .larger .result) e es) (c .router-from .result)
+    (λ lt. ap (λ (b : Bool). b || routerFrom (a .l .least) (a .up) ps (max (a .old) (e .start)) e es) late ∙ ap (λ (n : ℕ). routerFrom (a .l .least) (a .up) ps n e es) (sym start)) (c .router-from .ensures)
 
 pub router-fine-spec : {M : Type 1} → statement M
-router-fine-spec = tie.close (tie.spec entry-at-requires wide-requires part-requires fine-over-requires returns add-nexts-fine nexts-fine-requires returns-2)
+router-fine-spec = tie.close (tie.spec entry-at-requires returns larger-requires router-from-requires returns-2)

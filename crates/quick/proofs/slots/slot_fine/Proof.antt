@@ -39,26 +39,26 @@ root-is c = c .wide .ensures ∙ ap (λ (x : Slot). x .root) (c .before .before 
 rooted : (c : tie.After-wide) → let a = c .before .before .before .before .args in IsPage (a .l .least) (a .s .now) (c .wide .result)
 rooted c = let r = c .before .before .before .before .pre in rw (root-is c) (r .2 .root (c .before .before .before .before .args .i) (omega (arith, r .3, r .4)))
 
--- src/slots.rt:62:15
+larger-requires : tie.Need-larger-requires
+larger-requires c κs = search needs
+
 part-requires : tie.Need-part-requires
-part-requires c κs = let k = part-asks (c .before .before .before .before .pre .0) (c .before .before .before .before .args .s .now) (c .before .before .before .before .pre .1 .linked) (c .wide .result) (rooted ((c))) in (c .before .before .before .before .pre .0, k .0, k .1)
+part-requires c κs = let b = c .before .before .before .before .before in let k = part-asks (b .pre .0) (b .args .s .now) (b .pre .1 .linked) (c .before .wide .result) (rooted (c .before)) in (b .pre .0, k .0, k .1)
 
--- src/slots.rt:62:5
 root-fine-requires : tie.Need-root-fine-requires
-root-fine-requires c κs = (c .before .before .before .before .before .pre .0, c .part .ensures .1, room-here (c .before .before .before .before .before .pre .0) (c .before .before .before .before .before .args .s .now) (c .before .before .before .before .before .pre .1 .linked) (c .before .wide .result) (rooted ((c .before))) (c .part .result .now) (c .part .ensures), order-part (c .before .before .before .before .before .pre .0) (c .before .before .before .before .before .args .s .now) (c .before .before .before .before .before .pre .1) (c .before .wide .result) (rooted ((c .before))) (c .part .result .now) (c .part .ensures))
+root-fine-requires c κs =
+    let b = c .before .before .before .before .before .before in
+    let n = c .before .before .wide .result in
+    let k = rooted (c .before .before) in
+    (b .pre .0, c .part .ensures .1, room-here (b .pre .0) (b .args .s .now) (b .pre .1 .linked) n k (c .part .result .now) (c .part .ensures), order-part (b .pre .0) (b .args .s .now) (b .pre .1) n k (c .part .result .now) (c .part .ensures))
 
--- src/slots.rt:55:1
 returns : tie.Need-returns
-returns c = let a = c .before .before .before .before .before .before .args in let k = c .before .before .before .before .before .before .pre .2 .root (a .i) (omega (arith, c .before .before .before .before .before .before .pre .3, c .before .before .before .before .before .before .pre .4)) in c .root-fine .ensures ∙ rw (c .before .part .ensures .0, root-is ((c .before .before)), c .before .before .before .before .slot .ensures, c .before .before .before .upto-at .ensures, page-at (a .l .least) (a .s .now) (slotAt (a .l .least) (a .s .now) (a .i) .root) (k .0) (k .1))
+returns c =
+    let b = c .before .before .before .before .before .before .before in
+    let a = b .args in
+    let k = b .pre .2 .root (a .i) (omega (arith, b .pre .3, b .pre .4)) in
+    c .root-fine .ensures
+    ∙ rw (c .before .part .ensures .0, root-is (c .before .before .before), c .before .before .larger .ensures, c .before .before .before .before .before .slot .ensures, c .before .before .before .before .upto-at .ensures, page-at (a .l .least) (a .s .now) (slotAt (a .l .least) (a .s .now) (a .i) .root) (k .0) (k .1))
 
 pub slot-fine-spec : {M : Type 1} → statement M
-slot-fine-spec =
-    tie.close
-    (tie.spec
-    slot-requires
-    add-upto-at
-    upto-at-requires
-    wide-requires
-    part-requires
-    root-fine-requires
-    returns)
+slot-fine-spec = tie.close (tie.spec slot-requires add-upto-at upto-at-requires wide-requires larger-requires part-requires root-fine-requires returns)

@@ -3,8 +3,11 @@ use Rattle.model.specs.Quick.{slotsFine}
 use Rattle.model.specs.Layout.{decode, readHeader, readSlots}
 use Rattle.model.specs.declared.Header.{Header}
 use borrow.Author.Tests.{not-true, not-false}
-use Prim.Native.Nat.{_+_, _*_, _-_, _≤_}
-use mathlib.Core.Path.{_≡_, ap, sym, _∙_}
+use Prim.Native.Nat.{ℕ, _+_, _*_, _-_, _≤_}
+use mathlib.Core.List.{List}
+use Rattle.model.specs.declared.Slot.{Slot}
+use Rattle.store.specs.Read.{oldest-of}
+use mathlib.Core.Path.{_≡_, ap, ap₂, sym, _∙_}
 use native.Mathlib.Omega.{arith}
 use borrow.Author.Needs.{needs}
 use Rattle.quick.proofs.slots.slots_fine.Statement.{statement}
@@ -16,10 +19,10 @@ use Rattle.quick.proofs.wide.Reads as wide-reads
 use Rattle.store.proofs.header.Reads as header-reads
 
 abbrev Inv-loop : tie.InvT-loop
-Inv-loop s l roots i₀ i = (i ≤ roots) × (roots ≡ readHeader (l .least) s .roots) × (slotsFine (l .least) (decode (l .least) s .pages) (decode (l .least) s .slots) ≡ slotsFine (l .least) (decode (l .least) s .pages) (readSlots s (512 * l .least + 32 * i) (roots - i)))
+Inv-loop s l h roots i₀ i = (i ≤ roots) × (roots ≡ readHeader (l .least) s .roots) × (slotsFine (l .least) (decode (l .least) s .oldest) (decode (l .least) s .pages) (decode (l .least) s .slots) ≡ slotsFine (l .least) (h .oldest) (decode (l .least) s .pages) (readSlots s (512 * l .least + 32 * i) (roots - i)))
 
 abbrev μ-loop : tie.MeasureT-loop
-μ-loop s l roots i₀ i = roots - i
+μ-loop s l h roots i₀ i = roots - i
 
 -- src/slots.rt:70:9
 header-requires : tie.Need-header-requires Inv-loop μ-loop
@@ -32,8 +35,10 @@ wide-requires c κs = search needs
 -- src/slots.rt:73:5
 loop-holds : tie.Need-loop-holds Inv-loop μ-loop
 loop-holds c =
+    let a = c .before .before .before .args in
     let e = c .wide .ensures ∙ ap (λ (x : Header). x .roots) (c .before .header .ensures) in
-    (omega arith, e, ap (slotsFine (c .before .before .before .args .l .least) (decode (c .before .before .before .args .l .least) (c .before .before .before .args .s .now) .pages)) (slots-start (c .before .before .before .args .l .least) (c .before .before .before .args .s .now) (c .wide .result) e))
+    let o : decode (a .l .least) (a .s .now) .oldest ≡ c .before .header .result .oldest = oldest-of (a .l .least) (a .s .now) ∙ ap (λ (x : Header). x .oldest) (sym (c .before .header .ensures)) in
+    (omega arith, e, ap₂ (λ (n : ℕ) (xs : List Slot). slotsFine (a .l .least) n (decode (a .l .least) (a .s .now) .pages) xs) o (slots-start (a .l .least) (a .s .now) (c .wide .result) e))
 
 -- src/slots.rt:74:13
 slot-fine-requires : tie.Need-slot-fine-requires Inv-loop μ-loop
@@ -43,7 +48,7 @@ slot-fine-requires c κs = (c .before .before .before .before .before .pre .0, c
 returns : tie.Need-returns Inv-loop μ-loop
 returns c =
     let a = c .before .before .before .before .before .before .before .args in let k = c .before .before .before .loop in
-    sym (k .inv .2 ∙ slots-fine-step (a .s .now) (512 * a .l .least) (k .i) (c .before .before .before .before .wide .result) (a .l .least) (decode (a .l .least) (a .s .now) .pages) (c .before .before .loop-test .taken) ∙ rw (← c .before .slot-fine .ensures, not-true (c .before .slot-fine .result) (c .if1 .taken)))
+    sym (k .inv .2 ∙ slots-fine-step (a .s .now) (512 * a .l .least) (k .i) (c .before .before .before .before .wide .result) (a .l .least) (c .before .before .before .before .before .header .result .oldest) (decode (a .l .least) (a .s .now) .pages) (c .before .before .loop-test .taken) ∙ rw (← c .before .slot-fine .ensures, not-true (c .before .slot-fine .result) (c .if1 .taken)))
 
 -- src/slots.rt:77:9
 add-i : tie.Need-add-i Inv-loop μ-loop
@@ -59,12 +64,12 @@ loop-again c =
     let a = c .before .before .before .before .before .before .before .args in let k = c .before .before .before .loop in (
       omega (arith, c .before .before .loop-test .taken),
       k .inv .1,
-      k .inv .2 ∙ slots-fine-step (a .s .now) (512 * a .l .least) (k .i) (c .before .before .before .before .wide .result) (a .l .least) (decode (a .l .least) (a .s .now) .pages) (c .before .before .loop-test .taken) ∙ rw (← c .before .slot-fine .ensures, not-false (c .before .slot-fine .result) (c .if1 .left)),
+      k .inv .2 ∙ slots-fine-step (a .s .now) (512 * a .l .least) (k .i) (c .before .before .before .before .wide .result) (a .l .least) (c .before .before .before .before .before .header .result .oldest) (decode (a .l .least) (a .s .now) .pages) (c .before .before .loop-test .taken) ∙ rw (← c .before .slot-fine .ensures, not-false (c .before .slot-fine .result) (c .if1 .left)),
     )
 
 -- src/slots.rt:66:1
 returns-2 : tie.Need-returns-2 Inv-loop μ-loop
-returns-2 c = let a = c .before .before .before .before .before .args in let k = c .before .loop in sym (k .inv .2 ∙ slots-fine-end (a .s .now) (512 * a .l .least) (k .i) (c .before .before .wide .result) (a .l .least) (decode (a .l .least) (a .s .now) .pages) (c .loop-test .left))
+returns-2 c = let a = c .before .before .before .before .before .args in let k = c .before .loop in sym (k .inv .2 ∙ slots-fine-end (a .s .now) (512 * a .l .least) (k .i) (c .before .before .wide .result) (a .l .least) (c .before .before .before .header .result .oldest) (decode (a .l .least) (a .s .now) .pages) (c .loop-test .left))
 
 pub slots-fine-spec : {M : Type 1} → statement M
 slots-fine-spec =

@@ -2,7 +2,7 @@ use Rattle.quick.specs.Sums.{Sums, addTo, addEntries, add-entries-step, 
 use Rattle.page.specs.Read.{read-sized}
 use Rattle.model.specs.Layout.{readEntry, readEntries}
 use Rattle.model.specs.declared.Entry.{Entry}
-use Prim.Native.Nat.{_+_, _*_, _-_, _≤_, _<_}
+use Prim.Native.Nat.{_+_, _*_, _-_, _≤_, _<_, max}
 use mathlib.Core.Path.{_≡_, ap, sym, _∙_}
 use native.Mathlib.Nat.{sub-zero}
 use native.Mathlib.Omega.{arith}
@@ -12,15 +12,15 @@ use Rattle.quick.proofs.sums.add_entries.Tie as tie
 use Rattle.quick.proofs.sums.add_entries.Reads as reads
 use Rattle.quick.proofs.sums.add_entries.Lts as lts
 use Rattle.page.proofs.entry_at.Reads as entry-at-reads
-use Rattle.quick.proofs.entry.span.Reads as span-reads
+use Rattle.quick.proofs.entry.span_from.Reads as span-from-reads
 use Rattle.quick.proofs.sums.add.Reads as add-reads
 use Rattle.quick.proofs.wide.Reads as wide-reads
 
 abbrev Inv-loop : tie.InvT-loop
-Inv-loop sums₀ page n i₀ sums i = (i ≤ n) × Sums (200000 + i) sums × (addEntries sums₀ (readEntries page 128 n) ≡ addEntries sums (readEntries page (128 + 96 * i) (n - i)))
+Inv-loop sums₀ page n old i₀ sums i = (i ≤ n) × Sums (200000 + i) sums × (addEntries old sums₀ (readEntries page 128 n) ≡ addEntries old sums (readEntries page (128 + 96 * i) (n - i)))
 
 abbrev μ-loop : tie.MeasureT-loop
-μ-loop sums₀ page n i₀ sums i = n - i
+μ-loop sums₀ page n old i₀ sums i = n - i
 
 -- src/sums.rt:46:5
 loop-holds : tie.Need-loop-holds Inv-loop μ-loop
@@ -35,8 +35,8 @@ wide-requires : tie.Need-wide-requires Inv-loop μ-loop
 wide-requires c κs = search needs
 
 -- src/sums.rt:49:13
-span-requires : tie.Need-span-requires Inv-loop μ-loop
-span-requires c κs = search needs
+span-from-requires : tie.Need-span-from-requires Inv-loop μ-loop
+span-from-requires c κs = search needs
 
 -- src/sums.rt:50:9
 add-requires : tie.Need-add-requires Inv-loop μ-loop
@@ -58,10 +58,10 @@ loop-again : tie.Need-loop-again Inv-loop μ-loop
 loop-again c =
     let a = c .before .before .before .before .before .before .before .before .before .before .before .args in let k = c .before .before .before .before .before .before .before .before .loop in
     let e : Entry = readEntry (a .page .now) (128 + 96 * k .i) in
-    let q : c .before .before .add .last .0 ≡ addTo (k .sums) (e .value) (e .end - e .start) = c .before .before .add .ensures ∙ rw (c .before .before .before .before .span .ensures, c .before .before .before .before .before .wide .ensures, c .before .before .before .before .before .before .entry-at .ensures) in (
+    let q : c .before .before .add .last .0 ≡ addTo (k .sums) (e .value) (e .end - max (a .old) (e .start)) = c .before .before .add .ensures ∙ rw (c .before .before .before .before .span-from .ensures, c .before .before .before .before .before .wide .ensures, c .before .before .before .before .before .before .entry-at .ensures) in (
       omega (arith, c .before .before .before .before .before .before .before .loop-test .taken),
-      rw q (fewer (addTo (k .sums) (e .value) (e .end - e .start)) (one-more (k .sums) (e .value) (e .end - e .start) (k .inv .1) (omega (arith, read-sized (a .page .now) (128 + 96 * k .i) .end))) (omega arith)),
-      k .inv .2 ∙ add-entries-step (k .sums) (a .page .now) (k .i) (a .n) (c .before .before .before .before .before .before .before .loop-test .taken) ∙ rw q,
+      rw q (fewer (addTo (k .sums) (e .value) (e .end - max (a .old) (e .start))) (one-more (k .sums) (e .value) (e .end - max (a .old) (e .start)) (k .inv .1) (omega (arith, read-sized (a .page .now) (128 + 96 * k .i) .end))) (omega arith)),
+      k .inv .2 ∙ add-entries-step (a .old) (k .sums) (a .page .now) (k .i) (a .n) (c .before .before .before .before .before .before .before .loop-test .taken) ∙ rw q,
     )
 
 -- src/sums.rt:41:1
@@ -70,7 +70,7 @@ same-length c = c .before .loop .inv .1 .all ∙ sym (c .before .before .before 
 
 -- src/sums.rt:41:1
 returns : tie.Need-returns Inv-loop μ-loop
-returns c = sym (c .before .loop .inv .2 ∙ add-entries-end (c .before .loop .sums) (c .before .before .before .before .args .page .now) (c .before .loop .i) (c .before .before .before .before .args .n) (c .loop-test .left))
+returns c = sym (c .before .loop .inv .2 ∙ add-entries-end (c .before .before .before .before .args .old) (c .before .loop .sums) (c .before .before .before .before .args .page .now) (c .before .loop .i) (c .before .before .before .before .args .n) (c .loop-test .left))
 
 pub add-entries-spec : {M : Type 1} → statement M
 add-entries-spec =
@@ -81,7 +81,7 @@ add-entries-spec =
     loop-holds
     entry-at-requires
     wide-requires
-    span-requires
+    span-from-requires
     add-requires
     add-i
     loop-less

@@ -1,6 +1,6 @@
 use Rattle.local.specs.Local.{levelAt}
 use Rattle.quick.specs.Sums.{page-by}
-use Rattle.notes.specs.Here.{part-asks, head-asks, front-is, level-is, few, stands-here, child-here}
+use Rattle.notes.specs.Here.{part-asks, head-asks, front-is, level-is, few, stands-here, page-here}
 use Rattle.model.specs.Layout.{pageOf, readEntry}
 use borrow.Author.Tests.{le-leb, lt-leb}
 use Prim.Native.Nat.{_+_, _*_, _≤_}
@@ -27,7 +27,7 @@ head-of-requires c κs = let k = head-asks (c .before .before .before .pre .0) (
 returns : tie.Need-returns
 returns c =
     let a = c .before .before .before .before .before .before .args in
-    sym (page-by (a .l .least) (pageOf (a .l .least) (a .s .now) (a .n)) (c .before .before .head-of .result) (front-is (c .before .before .before .before .before .before .pre .0) (a .s .now) (c .before .before .before .before .before .before .pre .1 .linked) (a .n) (c .before .before .before .before .before .before .pre .2) (c .before .before .before .part .result .now) (c .before .before .before .part .ensures) (c .before .before .head-of .result) (c .before .before .head-of .ensures)) (a .sums .now)
+    sym (page-by (a .l .least) (a .old) (pageOf (a .l .least) (a .s .now) (a .n)) (c .before .before .head-of .result) (front-is (c .before .before .before .before .before .before .pre .0) (a .s .now) (c .before .before .before .before .before .before .pre .1 .linked) (a .n) (c .before .before .before .before .before .before .pre .2) (c .before .before .before .part .result .now) (c .before .before .before .part .ensures) (c .before .before .head-of .result) (c .before .before .head-of .ensures)) (a .sums .now)
     ∙ rw (le-leb (c .before .before .head-of .result .level) 1 (c .if1 .taken)))
 
 -- src/sums.rt:65:5
@@ -38,7 +38,7 @@ add-entries-requires c κs =
       stands-here (r .0) (a .s .now) (r .1 .linked) (a .n) (r .2) p (c .before .before .before .before .part .ensures) h (c .before .before .before .head-of .ensures),
       few (r .0) (a .s .now) (r .1 .linked) (a .n) (r .2) p (c .before .before .before .before .part .ensures) h (c .before .before .before .head-of .ensures),
       r .3,
-      λ i lt. omega (arith, r .1 .linked .most, child-here (r .0) (a .s .now) (r .1 .linked) (a .n) (r .2) p (c .before .before .before .before .part .ensures) h (c .before .before .before .head-of .ensures) i (readEntry p (128 + 96 * i) .value) u lt refl .0 .1),
+      λ i lt. omega (arith, r .1 .linked .most, page-here (r .0) (a .s .now) (r .1 .linked) (a .n) (r .2) p (c .before .before .before .before .part .ensures) h (c .before .before .before .head-of .ensures) i (readEntry p (128 + 96 * i) .value) u lt refl .1),
     )
 
 -- src/sums.rt:56:1
@@ -49,7 +49,7 @@ same-length c = search needs
 returns-2 : tie.Need-returns-2
 returns-2 c =
     let a = c .before .before .before .before .before .before .before .before .before .before .args in
-    c .before .before .add-entries .ensures ∙ sym (page-by (a .l .least) (pageOf (a .l .least) (a .s .now) (a .n)) (c .before .before .before .before .before .before .head-of .result) (front-is (c .before .before .before .before .before .before .before .before .before .before .pre .0) (a .s .now) (c .before .before .before .before .before .before .before .before .before .before .pre .1 .linked) (a .n) (c .before .before .before .before .before .before .before .before .before .before .pre .2) (c .before .before .before .before .before .before .before .part .result .now) (c .before .before .before .before .before .before .before .part .ensures) (c .before .before .before .before .before .before .head-of .result) (c .before .before .before .before .before .before .head-of .ensures)) (a .sums .now)
+    c .before .before .add-entries .ensures ∙ sym (page-by (a .l .least) (a .old) (pageOf (a .l .least) (a .s .now) (a .n)) (c .before .before .before .before .before .before .head-of .result) (front-is (c .before .before .before .before .before .before .before .before .before .before .pre .0) (a .s .now) (c .before .before .before .before .before .before .before .before .before .before .pre .1 .linked) (a .n) (c .before .before .before .before .before .before .before .before .before .before .pre .2) (c .before .before .before .before .before .before .before .part .result .now) (c .before .before .before .before .before .before .before .part .ensures) (c .before .before .before .before .before .before .head-of .result) (c .before .before .before .before .before .before .head-of .ensures)) (a .sums .now)
     ∙ rw (lt-leb (c .before .before .before .before .before .before .head-of .result .level) 1 (c .before .before .before .before .if1 .left), ← c .before .before .before .before .before .before .before .part .ensures .0))
 
 pub add-page-spec : {M : Type 1} → statement M

@@ -14,12 +14,12 @@ use Rattle.quick.proofs.sums.add_page.Reads as add-page-reads
 use Rattle.store.proofs.size.Reads as size-reads
 
 abbrev Inv-loop : tie.InvT-loop
-Inv-loop sums₀ s l size n₀ sums n =
+Inv-loop sums₀ s l old size n₀ sums n =
     (5 ≤ n) × (size ≡ sizeOf (l .least) s) × Sums (512 + 40 * n) sums
-    × (addPages sums₀ (drop 5 (decode (l .least) s .pages)) ≡ addPages sums (readPages (l .least) s n (size - n)))
+    × (addPages old sums₀ (drop 5 (decode (l .least) s .pages)) ≡ addPages old sums (readPages (l .least) s n (size - n)))
 
 abbrev μ-loop : tie.MeasureT-loop
-μ-loop sums₀ s l size n₀ sums n = size - n
+μ-loop sums₀ s l old size n₀ sums n = size - n
 
 -- src/sums.rt:72:9
 size-requires : tie.Need-size-requires Inv-loop μ-loop
@@ -27,7 +27,7 @@ size-requires c κs = c .before .before .pre .0
 
 -- src/sums.rt:74:5
 loop-holds : tie.Need-loop-holds Inv-loop μ-loop
-loop-holds c = (omega arith, c .size .ensures, fewer (c .before .before .before .args .sums .now) (c .before .before .before .pre .2) (omega arith), ap (addPages (c .before .before .before .args .sums .now)) (behind (c .before .before .before .args .l .least) (c .before .before .before .args .s .now)) ∙ rw (c .size .ensures))
+loop-holds c = (omega arith, c .size .ensures, fewer (c .before .before .before .args .sums .now) (c .before .before .before .pre .2) (omega arith), ap (addPages (c .before .before .before .args .old) (c .before .before .before .args .sums .now)) (behind (c .before .before .before .args .l .least) (c .before .before .before .args .s .now)) ∙ rw (c .size .ensures))
 
 -- src/sums.rt:75:9
 add-page-requires : tie.Need-add-page-requires Inv-loop μ-loop
@@ -49,8 +49,8 @@ loop-again c =
     let f : readHead (a .l .least) p .count ≤ 40 = omega (arith, c .before .before .before .before .before .before .before .before .before .pre .1 .linked .room (k .n) (k .inv .0, omega (arith, c .before .before .before .before .loop-test .taken, k .inv .1)), c .before .before .before .before .before .before .before .before .before .pre .0 .eight) in (
       omega (arith, k .inv .0),
       k .inv .1,
-      rw (c .before .before .add-page .ensures) (fewer (addPage (k .sums) (decodePage (a .l .least) p)) (page-more (k .sums) (a .l .least) p f (k .inv .2)) (omega arith)),
-      k .inv .3 ∙ add-pages-step (k .sums) (a .l .least) (a .s .now) (k .n) (c .before .before .before .before .before .before .size .result) (c .before .before .before .before .loop-test .taken) ∙ rw (c .before .before .add-page .ensures),
+      rw (c .before .before .add-page .ensures) (fewer (addPage (a .old) (k .sums) (decodePage (a .l .least) p)) (page-more (a .old) (k .sums) (a .l .least) p f (k .inv .2)) (omega arith)),
+      k .inv .3 ∙ add-pages-step (a .old) (k .sums) (a .l .least) (a .s .now) (k .n) (c .before .before .before .before .before .before .size .result) (c .before .before .before .before .loop-test .taken) ∙ rw (c .before .before .add-page .ensures),
     )
 
 -- src/sums.rt:68:1
@@ -59,7 +59,7 @@ same-length c = c .before .loop .inv .2 .all ∙ sym (c .before .before .before 
 
 -- src/sums.rt:68:1
 returns : tie.Need-returns Inv-loop μ-loop
-returns c = sym (c .before .loop .inv .3 ∙ add-pages-end (c .before .loop .sums) (c .before .before .before .before .before .args .l .least) (c .before .before .before .before .before .args .s .now) (c .before .loop .n) (c .before .before .size .result) (c .loop-test .left))
+returns c = sym (c .before .loop .inv .3 ∙ add-pages-end (c .before .before .before .before .before .args .old) (c .before .loop .sums) (c .before .before .before .before .before .args .l .least) (c .before .before .before .before .before .args .s .now) (c .before .loop .n) (c .before .before .size .result) (c .loop-test .left))
 
 pub add-pages-spec : {M : Type 1} → statement M
 add-pages-spec =

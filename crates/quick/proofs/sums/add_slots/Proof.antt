@@ -5,7 +5,7 @@ use Rattle.model.specs.Quick.{upto}
 use Rattle.model.specs.Layout.{readHeader, readSlots, decode}
 use Rattle.model.specs.declared.Header.{Header}
 use Rattle.model.specs.declared.Slot.{Slot}
-use Prim.Native.Nat.{_+_, _*_, _-_, _≤_, _<_}
+use Prim.Native.Nat.{_+_, _*_, _-_, _≤_, _<_, max}
 use mathlib.Core.List.{List}
 use mathlib.Core.Path.{_≡_, ap, sym, _∙_}
 use native.Mathlib.Omega.{arith}
@@ -14,7 +14,7 @@ use Rattle.quick.proofs.sums.add_slots.Statement.{statement}
 use Rattle.quick.proofs.sums.add_slots.Tie as tie
 use Rattle.quick.proofs.sums.add_slots.Reads as reads
 use Rattle.quick.proofs.sums.add_slots.Lts as lts
-use Rattle.quick.proofs.entry.span.Reads as span-reads
+use Rattle.quick.proofs.entry.span_from.Reads as span-from-reads
 use Rattle.quick.proofs.slots.upto_at.Reads as upto-at-reads
 use Rattle.quick.proofs.sums.add.Reads as add-reads
 use Rattle.quick.proofs.wide.Reads as wide-reads
@@ -22,12 +22,12 @@ use Rattle.store.proofs.header.Reads as header-reads
 use Rattle.store.proofs.slot.Reads as slot-reads
 
 abbrev Inv-loop : tie.InvT-loop
-Inv-loop sums₀ s l roots i₀ sums i =
+Inv-loop sums₀ s l old roots i₀ sums i =
     (i ≤ roots) × (roots ≡ readHeader (l .least) s .roots) × Sums i sums
-    × (addSlots sums₀ (decode (l .least) s .slots) ≡ addSlots sums (readSlots s (512 * l .least + 32 * i) (roots - i)))
+    × (addSlots old sums₀ (decode (l .least) s .slots) ≡ addSlots old sums (readSlots s (512 * l .least + 32 * i) (roots - i)))
 
 abbrev μ-loop : tie.MeasureT-loop
-μ-loop sums₀ s l roots i₀ sums i = roots - i
+μ-loop sums₀ s l old roots i₀ sums i = roots - i
 
 -- src/sums.rt:27:9
 header-requires : tie.Need-header-requires Inv-loop μ-loop
@@ -41,7 +41,7 @@ wide-requires c κs = search needs
 loop-holds : tie.Need-loop-holds Inv-loop μ-loop
 loop-holds c =
     let e = c .wide .ensures ∙ ap (λ (x : Header). x .roots) (c .before .header .ensures) in
-    (omega arith, e, c .before .before .before .before .pre .3, ap (addSlots (c .before .before .before .before .args .sums .now)) (slots-start (c .before .before .before .before .args .l .least) (c .before .before .before .before .args .s .now) (c .wide .result) e))
+    (omega arith, e, c .before .before .before .before .pre .3, ap (addSlots (c .before .before .before .before .args .old) (c .before .before .before .before .args .sums .now)) (slots-start (c .before .before .before .before .args .l .least) (c .before .before .before .before .args .s .now) (c .wide .result) e))
 
 -- src/sums.rt:31:13
 slot-requires : tie.Need-slot-requires Inv-loop μ-loop
@@ -60,8 +60,8 @@ wide-requires-2 : tie.Need-wide-requires-2 Inv-loop μ-loop
 wide-requires-2 c κs = search needs
 
 -- src/sums.rt:34:13
-span-requires : tie.Need-span-requires Inv-loop μ-loop
-span-requires c κs = search needs
+span-from-requires : tie.Need-span-from-requires Inv-loop μ-loop
+span-from-requires c κs = search needs
 
 -- src/sums.rt:35:9
 add-requires : tie.Need-add-requires Inv-loop μ-loop
@@ -84,11 +84,11 @@ loop-again c =
     let a = c .before .before .before .before .before .before .before .before .before .before .before .before .before .before .args in let k = c .before .before .before .before .before .before .before .before .before .loop in
     let x : Slot = slotAt (a .l .least) (a .s .now) (k .i) in
     let rest : List Slot = readSlots (a .s .now) (512 * a .l .least + 32 * (k .i + 1)) (c .before .before .before .before .before .before .before .before .before .before .wide .result - (k .i + 1)) in
-    let q : c .before .before .add .last .0 ≡ addTo (k .sums) (x .root) (upto rest - x .version) = c .before .before .add .ensures ∙ rw (c .before .before .before .before .span .ensures, c .before .before .before .before .before .wide2 .ensures, c .before .before .before .before .before .before .upto-at .ensures, c .before .before .before .before .before .before .before .slot .ensures) in (
+    let q : c .before .before .add .last .0 ≡ addTo (k .sums) (x .root) (upto rest - max (a .old) (x .version)) = c .before .before .add .ensures ∙ rw (c .before .before .before .before .span-from .ensures, c .before .before .before .before .before .wide2 .ensures, c .before .before .before .before .before .before .upto-at .ensures, c .before .before .before .before .before .before .before .slot .ensures) in (
       omega (arith, c .before .before .before .before .before .before .before .before .loop-test .taken),
       k .inv .1,
-      rw q (one-more (k .sums) (x .root) (upto rest - x .version) (k .inv .2) (omega (arith, upto-most (a .s .now) (512 * a .l .least + 32 * (k .i + 1)) (c .before .before .before .before .before .before .before .before .before .before .wide .result - (k .i + 1))))),
-      k .inv .3 ∙ add-slots-step (k .sums) (a .s .now) (512 * a .l .least) (k .i) (c .before .before .before .before .before .before .before .before .before .before .wide .result) (c .before .before .before .before .before .before .before .before .loop-test .taken) ∙ rw q,
+      rw q (one-more (k .sums) (x .root) (upto rest - max (a .old) (x .version)) (k .inv .2) (omega (arith, upto-most (a .s .now) (512 * a .l .least + 32 * (k .i + 1)) (c .before .before .before .before .before .before .before .before .before .before .wide .result - (k .i + 1))))),
+      k .inv .3 ∙ add-slots-step (a .old) (k .sums) (a .s .now) (512 * a .l .least) (k .i) (c .before .before .before .before .before .before .before .before .before .before .wide .result) (c .before .before .before .before .before .before .before .before .loop-test .taken) ∙ rw q,
     )
 
 -- src/sums.rt:23:1
@@ -97,7 +97,7 @@ same-length c = c .before .loop .inv .2 .all ∙ sym (c .before .before .before 
 
 -- src/sums.rt:23:1
 returns : tie.Need-returns Inv-loop μ-loop
-returns c = sym (c .before .loop .inv .3 ∙ add-slots-end (c .before .loop .sums) (c .before .before .before .before .before .before .args .s .now) (512 * c .before .before .before .before .before .before .args .l .least) (c .before .loop .i) (c .before .before .wide .result) (c .loop-test .left))
+returns c = sym (c .before .loop .inv .3 ∙ add-slots-end (c .before .before .before .before .before .before .args .old) (c .before .loop .sums) (c .before .before .before .before .before .before .args .s .now) (512 * c .before .before .before .before .before .before .args .l .least) (c .before .loop .i) (c .before .before .wide .result) (c .loop-test .left))
 
 pub add-slots-spec : {M : Type 1} → statement M
 add-slots-spec =
@@ -112,7 +112,7 @@ add-slots-spec =
     add-upto-at
     upto-at-requires
     wide-requires-2
-    span-requires
+    span-from-requires
     add-requires
     add-i
     loop-less

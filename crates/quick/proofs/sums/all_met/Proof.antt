@@ -14,10 +14,10 @@ use Rattle.quick.proofs.sums.page_met.Reads as page-met-reads
 use Rattle.store.proofs.size.Reads as size-reads
 
 abbrev Inv-loop : tie.InvT-loop
-Inv-loop sums s l size n₀ n = (5 ≤ n) × (size ≡ sizeOf (l .least) s) × (allMet sums 5 (drop 5 (decode (l .least) s .pages)) ≡ allMet sums n (readPages (l .least) s n (size - n)))
+Inv-loop sums s l old size n₀ n = (5 ≤ n) × (size ≡ sizeOf (l .least) s) × (allMet old sums 5 (drop 5 (decode (l .least) s .pages)) ≡ allMet old sums n (readPages (l .least) s n (size - n)))
 
 abbrev μ-loop : tie.MeasureT-loop
-μ-loop sums s l size n₀ n = size - n
+μ-loop sums s l old size n₀ n = size - n
 
 -- src/sums.rt:96:9
 size-requires : tie.Need-size-requires Inv-loop μ-loop
@@ -25,7 +25,7 @@ size-requires c κs = c .before .before .pre .0
 
 -- src/sums.rt:98:5
 loop-holds : tie.Need-loop-holds Inv-loop μ-loop
-loop-holds c = (omega arith, c .size .ensures, ap (allMet (c .before .before .before .args .sums .now) 5) (behind (c .before .before .before .args .l .least) (c .before .before .before .args .s .now)) ∙ rw (c .size .ensures))
+loop-holds c = (omega arith, c .size .ensures, ap (allMet (c .before .before .before .args .old) (c .before .before .before .args .sums .now) 5) (behind (c .before .before .before .args .l .least) (c .before .before .before .args .s .now)) ∙ rw (c .size .ensures))
 
 -- src/sums.rt:99:31
 mul-page-met : tie.Need-mul-page-met Inv-loop μ-loop
@@ -43,7 +43,7 @@ page-met-requires c κs = (c .before .before .before .before .before .before .pr
 returns : tie.Need-returns Inv-loop μ-loop
 returns c =
     let a = c .before .before .before .before .before .before .before .before .args in let k = c .before .before .before .before .loop in
-    sym (k .inv .2 ∙ met-step (a .sums .now) (a .l .least) (a .s .now) (k .n) (c .before .before .before .before .before .size .result) (c .before .before .before .loop-test .taken) ∙ rw (← c .before .page-met .ensures, not-true (c .before .page-met .result) (c .if1 .taken)))
+    sym (k .inv .2 ∙ met-step (a .old) (a .sums .now) (a .l .least) (a .s .now) (k .n) (c .before .before .before .before .before .size .result) (c .before .before .before .loop-test .taken) ∙ rw (← c .before .page-met .ensures, not-true (c .before .page-met .result) (c .if1 .taken)))
 
 -- src/sums.rt:102:9
 add-n : tie.Need-add-n Inv-loop μ-loop
@@ -59,12 +59,12 @@ loop-again c =
     let a = c .before .before .before .before .before .before .before .before .args in let k = c .before .before .before .before .loop in (
       omega (arith, k .inv .0),
       k .inv .1,
-      k .inv .2 ∙ met-step (a .sums .now) (a .l .least) (a .s .now) (k .n) (c .before .before .before .before .before .size .result) (c .before .before .before .loop-test .taken) ∙ rw (← c .before .page-met .ensures, not-false (c .before .page-met .result) (c .if1 .left)),
+      k .inv .2 ∙ met-step (a .old) (a .sums .now) (a .l .least) (a .s .now) (k .n) (c .before .before .before .before .before .size .result) (c .before .before .before .loop-test .taken) ∙ rw (← c .before .page-met .ensures, not-false (c .before .page-met .result) (c .if1 .left)),
     )
 
 -- src/sums.rt:92:1
 returns-2 : tie.Need-returns-2 Inv-loop μ-loop
-returns-2 c = let a = c .before .before .before .before .before .args in let k = c .before .loop in sym (k .inv .2 ∙ met-end (a .sums .now) (a .l .least) (a .s .now) (k .n) (c .before .before .size .result) (c .loop-test .left))
+returns-2 c = let a = c .before .before .before .before .before .args in let k = c .before .loop in sym (k .inv .2 ∙ met-end (a .old) (a .sums .now) (a .l .least) (a .s .now) (k .n) (c .before .before .size .result) (c .loop-test .left))
 
 pub all-met-spec : {M : Type 1} → statement M
 all-met-spec =

@@ -9,7 +9,7 @@ use Rattle.quick.proofs.sums.page_met.Tie as tie
 use Rattle.quick.proofs.sums.page_met.Reads as reads
 use Rattle.quick.proofs.sums.page_met.Lts as lts
 use Rattle.page.proofs.head_of.Reads as head-of-reads
-use Rattle.quick.proofs.entry.span.Reads as span-reads
+use Rattle.quick.proofs.entry.span_from.Reads as span-from-reads
 use Rattle.store.proofs.part.Reads as part-reads
 
 -- src/sums.rt:85:27
@@ -24,12 +24,12 @@ head-of-requires c κs = let k = head-asks (c .before .before .pre .0) (c .befor
 returns : tie.Need-returns
 returns c =
     let a = c .before .before .before .before .before .args in
-    sym (met-by (a .l .least) (pageOf (a .l .least) (a .s .now) (a .n)) (c .before .before .head-of .result) (front-is (c .before .before .before .before .before .pre .0) (a .s .now) (c .before .before .before .before .before .pre .1 .linked) (a .n) (c .before .before .before .before .before .pre .2) (c .before .before .before .part .result .now) (c .before .before .before .part .ensures) (c .before .before .head-of .result) (c .before .before .head-of .ensures)) (a .sum)
+    sym (met-by (a .l .least) (a .old) (pageOf (a .l .least) (a .s .now) (a .n)) (c .before .before .head-of .result) (front-is (c .before .before .before .before .before .pre .0) (a .s .now) (c .before .before .before .before .before .pre .1 .linked) (a .n) (c .before .before .before .before .before .pre .2) (c .before .before .before .part .result .now) (c .before .before .before .part .ensures) (c .before .before .head-of .result) (c .before .before .head-of .ensures)) (a .sum)
     ∙ rw (eq-eqb (c .before .before .head-of .result .level) 0 (c .if1 .taken)))
 
 -- src/sums.rt:89:12
-span-requires : tie.Need-span-requires
-span-requires c κs = search needs
+span-from-requires : tie.Need-span-from-requires
+span-from-requires c κs = search needs
 
 -- src/sums.rt:89:12
 cast-result : tie.Need-cast-result
@@ -39,9 +39,9 @@ cast-result c = search needs
 returns-2 : tie.Need-returns-2
 returns-2 c =
     let a = c .before .before .before .before .before .before .args in
-    sym (met-by (a .l .least) (pageOf (a .l .least) (a .s .now) (a .n)) (c .before .before .before .head-of .result) (front-is (c .before .before .before .before .before .before .pre .0) (a .s .now) (c .before .before .before .before .before .before .pre .1 .linked) (a .n) (c .before .before .before .before .before .before .pre .2) (c .before .before .before .before .part .result .now) (c .before .before .before .before .part .ensures) (c .before .before .before .head-of .result) (c .before .before .before .head-of .ensures)) (a .sum)
-    ∙ rw (ne-eqb (c .before .before .before .head-of .result .level) 0 (c .before .if1 .left), ← c .span .ensures))
+    sym (met-by (a .l .least) (a .old) (pageOf (a .l .least) (a .s .now) (a .n)) (c .before .before .before .head-of .result) (front-is (c .before .before .before .before .before .before .pre .0) (a .s .now) (c .before .before .before .before .before .before .pre .1 .linked) (a .n) (c .before .before .before .before .before .before .pre .2) (c .before .before .before .before .part .result .now) (c .before .before .before .before .part .ensures) (c .before .before .before .head-of .result) (c .before .before .before .head-of .ensures)) (a .sum)
+    ∙ rw (ne-eqb (c .before .before .before .head-of .result .level) 0 (c .before .if1 .left), ← c .span-from .ensures))
 
 pub page-met-spec : {M : Type 1} → statement M
 page-met-spec =
-    tie.close (tie.spec part-requires head-of-requires returns span-requires cast-result returns-2)
+    tie.close (tie.spec part-requires head-of-requires returns span-from-requires cast-result returns-2)

@@ -1,52 +1,61 @@
-use Rattle.quick.specs.Sums.{none}
-use Rattle.quick.specs.Led.{slots-in, sums-long, met-all}
-use mathlib.Core.Path.{_∙_}
+-- `quick::sums::spans_met` meets its contract: from nothing the slots' stretches, then the routers' spans. Assumes nothing.
+use mathlib.Core.Path.{_≡_, ap, sym, _∙_}
 use native.Mathlib.Omega.{arith}
 use borrow.Author.Needs.{needs}
+use Rattle.model.specs.declared.Header.{Header}
+use Rattle.model.specs.Layout.{decode}
+use Rattle.store.specs.Read.{oldest-of}
+use Rattle.quick.specs.Sums.{none}
+use Rattle.quick.specs.Led.{slots-in, sums-long, met-all}
 use Rattle.quick.proofs.sums.spans_met.Statement.{statement}
 use Rattle.quick.proofs.sums.spans_met.Tie as tie
-use Rattle.quick.proofs.sums.spans_met.Reads as reads
-use Rattle.quick.proofs.sums.spans_met.Lts as lts
-use Rattle.quick.proofs.sums.add_pages.Reads as add-pages-reads
-use Rattle.quick.proofs.sums.add_slots.Reads as add-slots-reads
-use Rattle.quick.proofs.sums.all_met.Reads as all-met-reads
 
--- src/sums.rt:113:15
+header-requires : tie.Need-header-requires
+header-requires c κs = let r = c .before .pre in (r .0, omega (arith, r .2 .front), omega (arith, r .1 .linked .long))
+
 slice-aggregate-add-slots : tie.Need-slice-aggregate-add-slots
 slice-aggregate-add-slots c = search needs
 
--- src/sums.rt:113:5
 add-slots-requires : tie.Need-add-slots-requires
-add-slots-requires c κs = (c .before .before .pre .0, c .before .before .pre .1, c .before .before .pre .2, none)
+add-slots-requires c κs = let r = c .before .before .before .pre in (r .0, r .1, r .2, none)
 
--- src/sums.rt:114:15
 slice-aggregate-add-pages : tie.Need-slice-aggregate-add-pages
 slice-aggregate-add-pages c = search needs
 
--- src/sums.rt:114:5
-add-pages-requires : tie.Need-add-pages-requires
-add-pages-requires c κs = (c .before .before .before .before .before .pre .0, c .before .before .before .before .before .pre .1, slots-in (c .before .before .before .before .before .args .l .least) (c .before .before .before .before .before .args .s .now) (c .before .before .add-slots .last .0) (c .before .before .add-slots .ensures) (omega (arith, c .before .before .before .before .before .pre .2 .roots, c .before .before .before .before .before .pre .0 .eight)))
+-- the oldest version, as it was read
+old-is : (c : tie.After-header) → let a = c .before .before .args in c .header .result .oldest ≡ decode (a .l .least) (a .s .now) .oldest
+old-is c = let a = c .before .before .args in ap (λ (x : Header). x .oldest) (c .header .ensures) ∙ sym (oldest-of (a .l .least) (a .s .now))
 
--- src/sums.rt:115:13
+add-pages-requires : tie.Need-add-pages-requires
+add-pages-requires c κs =
+    let at-header = c .before .before .before .before in
+    let b = at-header .before .before in
+    let a = b .args in
+    let added = c .before .before in
+    (b .pre .0, b .pre .1, slots-in (a .l .least) (a .s .now) (at-header .header .result .oldest) (old-is at-header) (added .add-slots .last .0) (added .add-slots .ensures) (omega (arith, b .pre .2 .roots, b .pre .0 .eight)))
+
 slice-aggregate-all-met : tie.Need-slice-aggregate-all-met
 slice-aggregate-all-met c = search needs
 
--- src/sums.rt:115:5
 all-met-requires : tie.Need-all-met-requires
-all-met-requires c κs = (c .before .before .before .before .before .before .before .before .pre .0, c .before .before .before .before .before .before .before .before .pre .1, sums-long (c .before .before .before .before .before .before .before .before .args .l .least) (c .before .before .before .before .before .before .before .before .args .s .now) (c .before .before .before .before .before .add-slots .last .0) (c .before .before .before .before .before .add-slots .ensures) (c .before .before .add-pages .last .0) (c .before .before .add-pages .ensures))
+all-met-requires c κs =
+    let paged = c .before .before in
+    let added = paged .before .before .before in
+    let at-header = added .before .before in
+    let b = at-header .before .before in
+    let a = b .args in
+    (b .pre .0, b .pre .1, sums-long (a .l .least) (a .s .now) (at-header .header .result .oldest) (old-is at-header) (added .add-slots .last .0) (added .add-slots .ensures) (paged .add-pages .last .0) (paged .add-pages .ensures))
 
--- src/sums.rt:108:1
 returns : tie.Need-returns
-returns c = c .all-met .ensures ∙ met-all (c .before .before .before .before .before .before .before .before .before .args .l .least) (c .before .before .before .before .before .before .before .before .before .args .s .now) (c .before .before .before .before .before .before .add-slots .last .0) (c .before .before .before .before .before .before .add-slots .ensures) (c .before .before .before .add-pages .last .0) (c .before .before .before .add-pages .ensures) (c .before .before .before .before .before .before .before .before .before .pre .1 .linked .most)
+returns c =
+    let paged = c .before .before .before in
+    let added = paged .before .before .before in
+    let at-header = added .before .before in
+    let b = at-header .before .before in
+    let a = b .args in
+    c .all-met .ensures
+    ∙ met-all (a .l .least) (a .s .now) (at-header .header .result .oldest) (old-is at-header) (added .add-slots .last .0) (added .add-slots .ensures) (paged .add-pages .last .0) (paged .add-pages .ensures) (b .pre .1 .linked .most)
 
 pub spans-met-spec : {M : Type 1} → statement M
 spans-met-spec =
-    tie.close
-    (tie.spec
-    slice-aggregate-add-slots
-    add-slots-requires
-    slice-aggregate-add-pages
-    add-pages-requires
-    slice-aggregate-all-met
-    all-met-requires
-    returns)
+    tie.close (tie.spec header-requires slice-aggregate-add-slots add-slots-requires slice-aggregate-add-pages add-pages-requires slice-aggregate-all-met all-met-requires returns)

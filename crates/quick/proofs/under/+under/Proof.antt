@@ -14,7 +14,7 @@ use Rattle.model.specs.Quick.{under as underOf, lasts}
 use Rattle.quick.specs.Part.{highOver}
 use Rattle.notes.specs.Here.{part-asks, head-asks, stands-here, few, entries-are, entries-start, child-here}
 use Rattle.quick.specs.Here.{order-here}
-use Rattle.quick.specs.Under.{under-empty, under-leaf, under-start, lasts-step, lasts-end, way-page}
+use Rattle.quick.specs.Under.{under-empty, under-leaf, under-start, lasts-step, lasts-end, way-page, way-late}
 use Rattle.quick.specs.Within.{spent, unspent, taken, given-up, settled, ends, goes-on}
 use Rattle.quick.proofs.under.under.Reads as under
 use Rattle.quick.proofs.under.under.Kinds as under-kinds
@@ -71,33 +71,33 @@ under-returns-2 t c =
     given-up (a .left - pick (ltb (a .a) (a .b)) 1 0) x
 
 under-part-requires : (t : ℕ) → under-lts.Need-part-requires (claims t) (under-at t) under.Post under-Inv-loop under-μ-loop
-under-part-requires t c κs = let a = c .before .before .before .args in let r = c .before .before .before .pre .1 in let k = part-asks (r .0) (a .s .now) (r .1 .linked) (a .n) (r .2) in (r .0, k .0, k .1)
+under-part-requires t c κs = let a = c .before .before .before .args in let r = c .before .before .before .pre .1 in let k′ = r .2 (omega (arith, c .before .if1 .left)) in let k = part-asks (r .0) (a .s .now) (r .1 .linked) (a .n) (k′ .1) in (r .0, k .0, k .1)
 
 under-head-of-requires : (t : ℕ) → under-lts.Need-head-of-requires (claims t) (under-at t) under.Post under-Inv-loop under-μ-loop
-under-head-of-requires t c κs = let a = c .before .before .before .before .args in let r = c .before .before .before .before .pre .1 in let k = head-asks (r .0) (a .s .now) (r .1 .linked) (a .n) (r .2) (c .part .result .now) (c .part .ensures) in (r .0, k .0, k .1)
+under-head-of-requires t c κs = let a = c .before .before .before .before .args in let r = c .before .before .before .before .pre .1 in let k′ = r .2 (omega (arith, c .before .before .if1 .left)) in let k = head-asks (r .0) (a .s .now) (r .1 .linked) (a .n) (k′ .1) (c .part .result .now) (c .part .ensures) in (r .0, k .0, k .1)
 
 under-high-over-requires : (t : ℕ) → under-lts.Need-high-over-requires (claims t) (under-at t) under.Post under-Inv-loop under-μ-loop
-under-high-over-requires t c κs = let a = c .before .before .before .before .before .before .args in let r = c .before .before .before .before .before .before .pre .1 in (stands-here (r .0) (a .s .now) (r .1 .linked) (a .n) (r .2) (c .before .before .part .result .now) (c .before .before .part .ensures) (c .before .head-of .result) (c .before .head-of .ensures), order-here (r .0) (a .s .now) (r .1) (a .n) (r .2) (c .before .before .part .result .now) (c .before .before .part .ensures) (c .before .head-of .result) (c .before .head-of .ensures))
+under-high-over-requires t c κs = let a = c .before .before .before .before .before .before .args in let r = c .before .before .before .before .before .before .pre .1 in let k′ = r .2 (omega (arith, c .before .before .before .before .if1 .left)) in (stands-here (r .0) (a .s .now) (r .1 .linked) (a .n) (k′ .1) (c .before .before .part .result .now) (c .before .before .part .ensures) (c .before .head-of .result) (c .before .head-of .ensures), order-here (r .0) (a .s .now) (r .1) (a .n) (k′ .1) (c .before .before .part .result .now) (c .before .before .part .ensures) (c .before .head-of .result) (c .before .head-of .ensures))
 
 under-sub-t19 : (t : ℕ) → under-lts.Need-sub-t19 (claims t) (under-at t) under.Post under-Inv-loop under-μ-loop
 under-sub-t19 t c = omega (arith, c .before .before .before .before .if2 .left)
 
 under-returns-3 : (t : ℕ) → under-lts.Need-returns-3 (claims t) (under-at t) under.Post under-Inv-loop under-μ-loop
 under-returns-3 t c =
-    let a = c .before .before .before .before .before .before .before .args in let r = c .before .before .before .before .before .before .before .pre .1 in let ps = decode (a .l .least) (a .s .now) .pages in let x = underOf (a .up) ps (a .h) (a .a) (a .b) (a .n) in
+    let a = c .before .before .before .before .before .before .before .args in let r = c .before .before .before .before .before .before .before .pre .1 in let k′ = r .2 (omega (arith, c .before .before .before .before .before .if1 .left)) in let ps = decode (a .l .least) (a .s .now) .pages in let x = underOf (a .up) ps (a .h) (a .a) (a .b) (a .n) in
     settled (a .left - pick (ltb (a .a) (a .b)) 1 0) (a .left - 1) (spent (a .left) (a .a) (a .b) (omega (arith, c .before .before .before .before .before .if1 .left))) x (c .high-over .result)
-    (λ lt. under-leaf (a .l .least) (a .s .now) (a .n) (r .2) (a .up) (a .h) (a .a) (a .b) (c .before .if3 .taken) ∙ ap (highOver (a .h) (a .a) (a .b)) (entries-are (r .0) (a .s .now) (r .1 .linked) (a .n) (r .2) (c .before .before .before .part .result .now) (c .before .before .before .part .ensures) (c .before .before .head-of .result) (c .before .before .head-of .ensures)) ∙ sym (c .high-over .ensures))
+    (λ lt. under-leaf (a .l .least) (a .s .now) (a .n) (k′ .1) (a .up) (a .h) (a .a) (a .b) (c .before .if3 .taken) ∙ ap (highOver (a .h) (a .a) (a .b)) (entries-are (r .0) (a .s .now) (r .1 .linked) (a .n) (k′ .1) (c .before .before .before .part .result .now) (c .before .before .before .part .ensures) (c .before .before .head-of .result) (c .before .before .head-of .ensures)) ∙ sym (c .high-over .ensures))
 
 under-sub-rest : (t : ℕ) → under-lts.Need-sub-rest (claims t) (under-at t) under.Post under-Inv-loop under-μ-loop
 under-sub-rest t c = omega (arith, c .before .before .before .if2 .left)
 
 under-loop-holds : (t : ℕ) → under-lts.Need-loop-holds (claims t) (under-at t) under.Post under-Inv-loop under-μ-loop
 under-loop-holds t c =
-    let a = c .before .before .before .before .before .before .args in let r = c .before .before .before .before .before .before .pre .1 in let ps = decode (a .l .least) (a .s .now) .pages in let x = underOf (a .up) ps (a .h) (a .a) (a .b) (a .n) in
-    (omega arith, omega arith, λ lt. under-start (a .l .least) (a .s .now) (a .n) (r .2) (a .up) (a .h) (a .a) (a .b) (c .if3 .left) ∙ ap (lasts (underOf (a .up - 1) ps (a .h)) (a .h) (a .a) (a .b)) (entries-start (r .0) (a .s .now) (r .1 .linked) (a .n) (r .2) (c .before .before .part .result .now) (c .before .before .part .ensures) (c .before .head-of .result) (c .before .head-of .ensures)))
+    let a = c .before .before .before .before .before .before .args in let r = c .before .before .before .before .before .before .pre .1 in let k′ = r .2 (omega (arith, c .before .before .before .before .if1 .left)) in let ps = decode (a .l .least) (a .s .now) .pages in let x = underOf (a .up) ps (a .h) (a .a) (a .b) (a .n) in
+    (omega arith, omega arith, λ lt. under-start (a .l .least) (a .s .now) (a .n) (k′ .1) (a .up) (a .h) (a .a) (a .b) (c .if3 .left) ∙ ap (lasts (underOf (a .up - 1) ps (a .h)) (a .h) (a .a) (a .b)) (entries-start (r .0) (a .s .now) (r .1 .linked) (a .n) (k′ .1) (c .before .before .part .result .now) (c .before .before .part .ensures) (c .before .head-of .result) (c .before .head-of .ensures)))
 
 under-way-at-requires : (t : ℕ) → under-lts.Need-way-at-requires (claims t) (under-at t) under.Post under-Inv-loop under-μ-loop
-under-way-at-requires t c κs = let a = c .before .before .before .before .before .before .before .before .args in let r = c .before .before .before .before .before .before .before .before .pre .1 in (stands-here (r .0) (a .s .now) (r .1 .linked) (a .n) (r .2) (c .before .before .before .before .part .result .now) (c .before .before .before .before .part .ensures) (c .before .before .before .head-of .result) (c .before .before .before .head-of .ensures), omega (arith, c .loop-test .taken))
+under-way-at-requires t c κs = let a = c .before .before .before .before .before .before .before .before .args in let r = c .before .before .before .before .before .before .before .before .pre .1 in let k′ = r .2 (omega (arith, c .before .before .before .before .before .before .if1 .left)) in (stands-here (r .0) (a .s .now) (r .1 .linked) (a .n) (k′ .1) (c .before .before .before .before .part .result .now) (c .before .before .before .before .part .ensures) (c .before .before .before .head-of .result) (c .before .before .before .head-of .ensures), omega (arith, c .loop-test .taken))
 
 under-returns-4 : (t : ℕ) → under-lts.Need-returns-4 (claims t) (under-at t) under.Post under-Inv-loop under-μ-loop
 under-returns-4 t c =
@@ -114,10 +114,13 @@ under-sub-under t c = omega (arith, c .before .before .before .before .before .b
 
 under-under-requires : (t : ℕ) → under-lts.Need-under-requires (claims t) (under-at t) under.Post under-Inv-loop under-μ-loop
 under-under-requires t c κs =
-    let a = c .before .before .before .before .before .before .before .before .before .before .before .before .args in let r = c .before .before .before .before .before .before .before .before .before .before .before .before .pre .1 in let p = c .before .before .before .before .before .before .before .before .part .result .now in let n = c .before .before .before .before .before .before .before .head-of .result .count in let i = c .before .before .before .before .before .loop .i in
+    let a = c .before .before .before .before .before .before .before .before .before .before .before .before .args in let r = c .before .before .before .before .before .before .before .before .before .before .before .before .pre .1 in let k′ = r .2 (omega (arith, c .before .before .before .before .before .before .before .before .before .before .if1 .left)) in let p = c .before .before .before .before .before .before .before .before .part .result .now in let n = c .before .before .before .before .before .before .before .head-of .result .count in let i = c .before .before .before .before .before .loop .i in
     let w = way-page (a .h) (a .a) (a .b) (readEntry p (128 + 96 * i)) (readEntries p (128 + 96 * (i + 1)) (n - (i + 1))) (c .before .before .before .way-at .result) (c .before .before .before .way-at .ensures) in
-    let (x, y) = child-here (r .0) (a .s .now) (r .1 .linked) (a .n) (r .2) (c .before .before .before .before .before .before .before .before .part .result .now) (c .before .before .before .before .before .before .before .before .part .ensures) (c .before .before .before .before .before .before .before .head-of .result) (c .before .before .before .before .before .before .before .head-of .ensures) i (c .wide .result) (omega (arith, r .3, c .before .before .before .before .before .before .if3 .left)) (c .before .before .before .before .loop-test .taken) (c .wide .ensures ∙ w) in
-    (omega (arith, c .before .before .before .before .before .before .before .before .before .if2 .left, c .before .before .before .before .before .loop .inv .1, c .before .before .before .before .before .before .before .before .before .before .before .before .pre .0), (r .0, r .1, x, omega (arith, y, r .3, c .before .before .before .before .before .before .if3 .left)))
+    let late = way-late (a .h) (a .a) (a .b) (readEntry p (128 + 96 * i)) (readEntries p (128 + 96 * (i + 1)) (n - (i + 1))) (c .before .before .before .way-at .result) (c .before .before .before .way-at .ensures) in
+    let child = child-here (r .0) (a .s .now) (r .1 .linked) (a .n) (k′ .1) (c .before .before .before .before .before .before .before .before .part .result .now) (c .before .before .before .before .before .before .before .before .part .ensures) (c .before .before .before .before .before .before .before .head-of .result) (c .before .before .before .before .before .before .before .head-of .ensures) i (c .wide .result) (omega (arith, k′ .2, c .before .before .before .before .before .before .if3 .left)) (c .before .before .before .before .loop-test .taken) (c .wide .ensures ∙ w) in (
+      omega (arith, c .before .before .before .before .before .before .before .before .before .if2 .left, c .before .before .before .before .before .loop .inv .1, c .before .before .before .before .before .before .before .before .before .before .before .before .pre .0),
+      (r .0, r .1, λ lt. let (x, y) = child (omega (arith, late lt .0, late lt .1, k′ .0)) in (omega (arith, late lt .0, k′ .0), x, omega (arith, y, k′ .2, c .before .before .before .before .before .before .if3 .left))),
+    )
 
 under-returns-5 : (t : ℕ) → under-lts.Need-returns-5 (claims t) (under-at t) under.Post under-Inv-loop under-μ-loop
 under-returns-5 t c =
@@ -130,7 +133,7 @@ under-returns-5 t c =
     ends (a .left - pick (ltb (a .a) (a .b)) 1 0) (j .rest) (omega (arith, j .inv .1, spent (a .left) (a .a) (a .b) (omega (arith, c .before .before .before .before .before .before .before .before .before .before .before .before .before .if1 .left)))) x y z (c .before .before .under .result) q k (not-true (c .before .before .under .result .fine) (c .if5 .taken))
 
 under-add-i : (t : ℕ) → under-lts.Need-add-i (claims t) (under-at t) under.Post under-Inv-loop under-μ-loop
-under-add-i t c = let a = c .before .before .before .before .before .before .before .before .before .before .before .before .before .before .before .args in let r = c .before .before .before .before .before .before .before .before .before .before .before .before .before .before .before .pre .1 in omega (arith, c .before .before .before .before .before .before .before .loop-test .taken, few (r .0) (a .s .now) (r .1 .linked) (a .n) (r .2) (c .before .before .before .before .before .before .before .before .before .before .before .part .result .now) (c .before .before .before .before .before .before .before .before .before .before .before .part .ensures) (c .before .before .before .before .before .before .before .before .before .before .head-of .result) (c .before .before .before .before .before .before .before .before .before .before .head-of .ensures))
+under-add-i t c = let a = c .before .before .before .before .before .before .before .before .before .before .before .before .before .before .before .args in let r = c .before .before .before .before .before .before .before .before .before .before .before .before .before .before .before .pre .1 in let k′ = r .2 (omega (arith, c .before .before .before .before .before .before .before .before .before .before .before .before .before .if1 .left)) in omega (arith, c .before .before .before .before .before .before .before .loop-test .taken, few (r .0) (a .s .now) (r .1 .linked) (a .n) (k′ .1) (c .before .before .before .before .before .before .before .before .before .before .before .part .result .now) (c .before .before .before .before .before .before .before .before .before .before .before .part .ensures) (c .before .before .before .before .before .before .before .before .before .before .head-of .result) (c .before .before .before .before .before .before .before .before .before .before .head-of .ensures))
 
 under-loop-less : (t : ℕ) → under-lts.Need-loop-less (claims t) (under-at t) under.Post under-Inv-loop under-μ-loop
 under-loop-less t c = omega (arith, c .before .before .before .before .before .before .before .loop-test .taken)

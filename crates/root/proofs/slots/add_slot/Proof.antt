@@ -44,7 +44,7 @@ put-header-requires c κs =
     let f = header-fits (c .before .before .before .before .before .before .before .before .before .before .before .before .args .l .least) (c .before .before .before .before .before .before .before .before .before .before .before .before .args .s .now) in
     let n = c .before .before .before .before .before .put-slot .kept .0 in (
       k .edition,
-      rw (c .with-roots .ensures, c .before .before .before .before .before .before .before .before .before .header .ensures) (record { pages = f .pages; current = f .current; roots = omega (arith, roots-are k, c .before .before .before .before .before .before .before .before .before .before .before .before .pre .4, root-bits (c .before .before .before .before .before .before .before .before .before .before .before .before .args .l .least) (k .edition .eight)) }),
+      rw (c .with-roots .ensures, c .before .before .before .before .before .before .before .before .before .header .ensures) (record { pages = f .pages; current = f .current; roots = omega (arith, roots-are k, c .before .before .before .before .before .before .before .before .before .before .before .before .pre .4, root-bits (c .before .before .before .before .before .before .before .before .before .before .before .before .args .l .least) (k .edition .eight)); oldest = f .oldest }),
       omega (arith, n, front k),
       omega (arith, n, short k),
     )

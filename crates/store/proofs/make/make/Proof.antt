@@ -3,7 +3,7 @@ use Rattle.store.specs.Fresh.{rootHead, rootSlot, freshHeader, made}
 use Rattle.store.specs.Tested.{whole-least, whole-most}
 use Rattle.store.specs.Header.{namedBy, nameParts, putHeader}
 use Rattle.store.specs.Slots.{slotParts}
-use Rattle.page.specs.Editions.{root-bits}
+use Rattle.page.specs.Editions.{root-bits, oldest-bits}
 use Rattle.page.specs.Head.{putHead}
 use Rattle.model.specs.Layout.{pageOf, withPage, sizeOf}
 use Rattle.model.specs.Field.{lay, zeros}
@@ -35,7 +35,7 @@ put-header-requires : tie.Need-put-header-requires
 put-header-requires c κs =
     let a = c .before .before .before .before .before .before .before .before .before .before .before .before .args in let d = c .before .before .before .before .before .before .before .before .before .before .before .before .pre .0 in (
       d,
-      record { pages = omega (arith, c .before .before .before .before .before .before .before .before .before .size .ensures, c .before .before .before .before .before .before .before .before .before .before .before .before .pre .2 .most); current = omega arith; roots = omega (arith, root-bits (a .l .least) (d .eight), d .four) },
+      record { pages = omega (arith, c .before .before .before .before .before .before .before .before .before .size .ensures, c .before .before .before .before .before .before .before .before .before .before .before .before .pre .2 .most); current = omega arith; roots = omega (arith, root-bits (a .l .least) (d .eight), d .four); oldest = omega (arith, oldest-bits (a .l .least)) },
       omega (arith, c .before .before .before .put-name .kept .0, c .before .before .before .before .before .before .before .clear .kept .0, whole-least (a .l .least) (a .s .now) (c .before .before .before .before .before .before .before .before .before .before .before .before .pre .2)),
       omega (arith, c .before .before .before .put-name .kept .0, c .before .before .before .before .before .before .before .clear .kept .0, whole-most (a .l .least) (a .s .now) (c .before .before .before .before .before .before .before .before .before .before .before .before .pre .2), d .eight),
     )

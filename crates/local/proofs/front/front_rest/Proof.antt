@@ -1,0 +1,90 @@
+-- `local::front::front_rest` meets its contract: each way out is a law of header and slots. Assumes nothing.
+use mathlib.Core.Path.{_≡_, ap, sym, _∙_}
+use native.Mathlib.Omega.{arith}
+use Prim.Native.Nat.{_≤_}
+use lib.Dec.{leb}
+use borrow.Author.Tests.{not-true, not-false, leb-true}
+use Rattle.model.specs.Basic.{pick}
+use Rattle.model.specs.Layout.{decode}
+use Rattle.model.proofs.Given.{old-last}
+use borrow.Author.Needs.{needs}
+use Rattle.model.specs.declared.Header.{Header}
+use Rattle.model.specs.Store.{lastOf}
+use Rattle.store.specs.Read.{current-lt, oldest-of}
+use Rattle.local.specs.First.{last-is, clean-roots}
+use Rattle.local.specs.Right.{front-clean, front-last, front-none, front-slots}
+use Rattle.local.proofs.front.front_rest.Statement.{statement}
+use Rattle.local.proofs.front.front_rest.Tie as tie
+
+header-requires : tie.Need-header-requires
+header-requires c κs = (c .before .pre .0, omega (arith, c .before .pre .1 .front), omega (arith, c .before .pre .1 .long))
+
+header-right-requires : tie.Need-header-right-requires
+header-right-requires c κs = search needs
+
+returns : tie.Need-returns
+returns c =
+    let a = c .before .before .before .before .args in
+    sym (front-clean (a .l .least) (a .s .now) (a .size) (c .before .before .before .before .pre .1) (sym (c .before .header-right .ensures) ∙ not-true (c .before .header-right .result) (c .if1 .taken)))
+
+last-requires : tie.Need-last-requires
+last-requires c κs = rw (c .before .before .header .ensures) (current-lt (c .before .before .before .before .args .l .least) (c .before .before .before .before .args .s .now))
+
+returns-2 : tie.Need-returns-2
+returns-2 c =
+    let a = c .before .before .before .before .before .before .args in
+    let t = c .before .last .ensures ∙ ap (λ (x : Header). lastOf (x .opened) (x .current)) (c .before .before .before .before .header .ensures) ∙ sym (last-is (a .l .least) (a .s .now)) in
+    let f = sym (c .before .before .before .header-right .ensures) ∙ not-false (c .before .before .before .header-right .result) (c .before .before .if1 .left) in
+    sym (front-last (a .l .least) (a .s .now) (a .size) (c .before .before .before .before .before .before .pre .1) f (rw t at (c .if2 .taken)))
+
+wide-requires : tie.Need-wide-requires
+wide-requires c κs = search needs
+
+returns-3 : tie.Need-returns-3
+returns-3 c =
+    let a = c .before .before .before .before .before .before .before .before .args in
+    let t = c .before .before .before .last .ensures ∙ ap (λ (x : Header). lastOf (x .opened) (x .current)) (c .before .before .before .before .before .before .header .ensures) ∙ sym (last-is (a .l .least) (a .s .now)) in
+    let f = sym (c .before .before .before .before .before .header-right .ensures) ∙ not-false (c .before .before .before .before .before .header-right .result) (c .before .before .before .before .if1 .left) in
+    let n = c .before .wide .ensures ∙ ap (λ (x : Header). x .roots) (c .before .before .before .before .before .before .header .ensures) in
+    sym (front-none (a .l .least) (a .s .now) (a .size) (c .before .before .before .before .before .before .before .before .pre .1) f (rw t at (c .before .before .if2 .left)) (c .before .before .before .before .before .before .before .before .pre .2) (sym n ∙ c .if3 .taken))
+
+-- the oldest version is at most the last
+old-few : (c : tie.Else3) → c .before .before .before .before .before .before .header .result .oldest ≤ 1048574
+old-few c =
+    let b = c .before .before .before .before .before .before .before .before in
+    let a = b .args in
+    let s = decode (a .l .least) (a .s .now) in
+    let t = c .before .before .before .last .ensures ∙ ap (λ (x : Header). lastOf (x .opened) (x .current)) (c .before .before .before .before .before .before .header .ensures) ∙ sym (last-is (a .l .least) (a .s .now)) in
+    omega (arith, old-last (a .l .least) s (leb-true (s .oldest) (pick (leb (a .l .least) 4) 0 (s .current)) (b .pre .2)), oldest-of (a .l .least) (a .s .now), ap (λ (x : Header). x .oldest) (c .before .before .before .before .before .before .header .ensures), t, c .before .before .if2 .left)
+
+slots-right-requires : tie.Need-slots-right-requires
+slots-right-requires c κs =
+    let a = c .before .before .before .before .before .before .before .before .args in
+    let f = sym (c .before .before .before .before .before .header-right .ensures) ∙ not-false (c .before .before .before .before .before .header-right .result) (c .before .before .before .before .if1 .left) in
+    let n = c .before .wide .ensures ∙ ap (λ (x : Header). x .roots) (c .before .before .before .before .before .before .header .ensures) in
+    (c .before .before .before .before .before .before .before .before .pre .0, c .before .before .before .before .before .before .before .before .pre .1, omega (arith, clean-roots (a .l .least) (a .s .now) f, n), c .before .before .if2 .left, old-few c)
+
+returns-4 : tie.Need-returns-4
+returns-4 c =
+    let a = c .before .before .before .before .before .before .before .before .before .args in
+    let t = c .before .before .before .before .last .ensures ∙ ap (λ (x : Header). lastOf (x .opened) (x .current)) (c .before .before .before .before .before .before .before .header .ensures) ∙ sym (last-is (a .l .least) (a .s .now)) in
+    let f = sym (c .before .before .before .before .before .before .header-right .ensures) ∙ not-false (c .before .before .before .before .before .before .header-right .result) (c .before .before .before .before .before .if1 .left) in
+    let n = c .before .before .wide .ensures ∙ ap (λ (x : Header). x .roots) (c .before .before .before .before .before .before .before .header .ensures) in
+    let some : c .before .before .wide .result ≡ 0 → ⊥ = c .before .if3 .left in
+    c .slots-right .ensures
+    ∙ sym (front-slots (a .l .least) (a .s .now) (a .size) (c .before .before .before .before .before .before .before .before .before .pre .1) f (rw t at (c .before .before .before .if2 .left)) (c .before .before .before .before .before .before .before .before .before .pre .2) (c .before .before .wide .result) (c .before .before .before .before .before .before .before .header .result .oldest) (c .before .before .before .before .last .result) n
+    (ap (λ (x : Header). x .oldest) (c .before .before .before .before .before .before .before .header .ensures)) t (omega arith))
+
+pub front-rest-spec : {M : Type 1} → statement M
+front-rest-spec =
+    tie.close
+    (tie.spec
+    header-requires
+    header-right-requires
+    returns
+    last-requires
+    returns-2
+    wide-requires
+    returns-3
+    slots-right-requires
+    returns-4)

@@ -1,0 +1,17 @@
+-- `local::front::header_bits` meets its contract: by the edition's limits. Assumes nothing.
+use native.Mathlib.Omega.{arith}
+use Rattle.page.specs.Editions.{rooter-is, rooter-roots, aged-is, aged-few}
+use Rattle.local.proofs.front.header_bits.Statement.{statement}
+use Rattle.local.proofs.front.header_bits.Tie as tie
+
+add-result : tie.Need-add-result
+add-result c = omega (arith, rooter-roots (c .before .pre))
+
+add-result-2 : tie.Need-add-result-2
+add-result-2 c = omega (arith, rooter-roots (c .before .before .pre), aged-few (c .before .before .pre))
+
+returns : tie.Need-returns
+returns c = rw (rooter-is (c .before .before .pre), aged-is (c .before .before .pre))
+
+pub header-bits-spec : {M : Type 1} → statement M
+header-bits-spec = tie.close (tie.spec add-result add-result-2 returns)

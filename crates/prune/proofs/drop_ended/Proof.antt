@@ -1,0 +1,40 @@
+-- `drop_ended` meets its contract. Assumes nothing.
+use native.Mathlib.Omega.{arith}
+use mathlib.Core.Path.{ap, sym, _∙_}
+use borrow.Author.Needs.{needs}
+use Rattle.model.specs.Layout.{encodePage, decodePage}
+use Rattle.model.specs.Field.{zeros}
+use Rattle.page.specs.declared.Head.{Head}
+use Rattle.page.specs.Exact.{free-zeros}
+use Rattle.page.specs.Read.{end-of}
+use Rattle.prune.specs.Pages.{pruned-yes, pruned-no}
+use Rattle.prune.proofs.drop_ended.Statement.{statement}
+use Rattle.prune.proofs.drop_ended.Tie as tie
+
+head-of-requires : tie.Need-head-of-requires
+head-of-requires c κs = (c .before .before .pre .0, omega (arith, c .before .before .pre .0 .four, c .before .before .pre .1 .size), omega (arith, c .before .before .pre .0 .eight, c .before .before .pre .1 .size))
+
+clear-requires : tie.Need-clear-requires
+clear-requires c κs = search needs
+
+same-length : tie.Need-same-length
+same-length c = search needs
+
+returns : tie.Need-returns
+returns c =
+    let a = c .before .before .before .before .before .before .before .before .before .args in
+    let d = c .before .before .before .before .before .before .before .before .before .pre .0 in
+    let e = end-of (a .l .least) (a .page .now) ∙ sym (ap (λ (h : Head). h .end) (c .before .before .before .before .before .before .head-of .ensures)) in
+    c .before .before .clear .ensures ∙ ap zeros (c .before .before .before .before .before .before .before .before .before .pre .1 .size) ∙ sym (free-zeros (a .l .least) (d .four) (d .eight)) ∙ sym (ap (encodePage (a .l .least)) (pruned-yes (a .v) (decodePage (a .l .least) (a .page .now)) (omega (arith, e, c .before .before .before .before .if1 .taken))))
+
+same-length-2 : tie.Need-same-length-2
+same-length-2 c = search needs
+
+returns-2 : tie.Need-returns-2
+returns-2 c =
+    let a = c .before .before .before .before .before .args in
+    let e = end-of (a .l .least) (a .page .now) ∙ sym (ap (λ (h : Head). h .end) (c .before .before .head-of .ensures)) in
+    sym (c .before .before .before .before .before .pre .1 .same) ∙ sym (ap (encodePage (a .l .least)) (pruned-no (a .v) (decodePage (a .l .least) (a .page .now)) (omega (arith, e, c .if1 .left))))
+
+pub drop-ended-spec : {M : Type 1} → statement M
+drop-ended-spec = tie.close (tie.spec head-of-requires clear-requires same-length returns same-length-2 returns-2)

@@ -1,0 +1,124 @@
+-- `prune` meets its contract. Assumes nothing.
+use Prim.Native.Nat.{_+_, _-_}
+use native.Mathlib.Omega.{arith}
+use mathlib.Core.Path.{_≡_, ap, sym, _∙_}
+use borrow.Author.Needs.{needs}
+use Rattle.model.specs.declared.Header.{Header}
+use Rattle.model.specs.Layout.{decode}
+use Rattle.store.specs.Sure.{few, front}
+use Rattle.turn.specs.Turned.{kept}
+use Rattle.prune.specs.Whole.{roots-are, some-roots, header-right, pages-kept, pages-roots, first-in, pruned-bytes}
+use Rattle.prune.proofs.prune.Statement.{statement}
+use Rattle.prune.proofs.prune.Tie as tie
+
+header-requires : tie.Need-header-requires
+header-requires c κs =
+    let a = c .before .before .args in
+    let p = c .before .before .pre in
+    (p .0, omega (arith, front (p .0) (a .s .now) (p .2)), few (p .0) (a .s .now) (p .2))
+
+first-needed-requires : tie.Need-first-needed-requires
+first-needed-requires c κs =
+    let a = c .before .before .before .before .args in
+    let d = c .before .before .before .before .pre .0 in
+    let two = c .before .before .before .before .pre .1 in
+    let q = c .before .before .before .before .pre .2 in
+    let up = c .before .before .before .before .pre .3 in
+    let k = kept d (a .s .now) q (λ i. c .before .before .before .slice-known .given i .fits) in
+    let e = c .before .header .ensures in
+    let r = ap (λ (h : Header). h .roots) e in
+    (d, k, r ∙ roots-are d two (a .s .now) q k (a .v) up, omega (arith, r, some-roots d two (a .s .now) q k (a .v) up))
+
+wide-requires : tie.Need-wide-requires
+wide-requires c κs = search needs
+
+prune-pages-requires : tie.Need-prune-pages-requires
+prune-pages-requires c κs =
+    let a = c .before .before .before .before .before .before .before .args in
+    let d = c .before .before .before .before .before .before .before .pre .0 in
+    let two = c .before .before .before .before .before .before .before .pre .1 in
+    let q = c .before .before .before .before .before .before .before .pre .2 in
+    let up = c .before .before .before .before .before .before .before .pre .3 in
+    let k = kept d (a .s .now) q (λ i. c .before .before .before .before .before .before .slice-known .given i .fits) in
+    let e = c .before .before .before .before .header .ensures in
+    (d, k, c .wide .ensures ∙ ap (λ (h : Header). h .pages) (e ∙ sym (k .header)))
+
+shift-slots-requires : tie.Need-shift-slots-requires
+shift-slots-requires c κs =
+    let a = c .before .before .before .before .before .before .before .before .before .before .before .args in
+    let d = c .before .before .before .before .before .before .before .before .before .before .before .pre .0 in
+    let two = c .before .before .before .before .before .before .before .before .before .before .before .pre .1 in
+    let q = c .before .before .before .before .before .before .before .before .before .before .before .pre .2 in
+    let up = c .before .before .before .before .before .before .before .before .before .before .before .pre .3 in
+    let k = kept d (a .s .now) q (λ i. c .before .before .before .before .before .before .before .before .before .before .slice-known .given i .fits) in
+    let e = c .before .before .before .before .before .before .before .before .header .ensures in
+    let r = ap (λ (h : Header). h .roots) e in
+    let b = c .before .before .before .prune-pages .ensures in
+    let n = c .before .before .before .before .before .before .first-needed .ensures in
+    (d, pages-kept d two (a .s .now) q k (a .v) up _ b, r ∙ pages-roots d two (a .s .now) q k (a .v) up _ b, omega (arith, r, n .inside, roots-are d two (a .s .now) q k (a .v) up))
+
+sub-with-roots : tie.Need-sub-with-roots
+sub-with-roots c =
+    let a = c .before .before .before .before .before .before .before .before .before .before .before .before .before .before .before .before .args in
+    let d = c .before .before .before .before .before .before .before .before .before .before .before .before .before .before .before .before .pre .0 in
+    let two = c .before .before .before .before .before .before .before .before .before .before .before .before .before .before .before .before .pre .1 in
+    let q = c .before .before .before .before .before .before .before .before .before .before .before .before .before .before .before .before .pre .2 in
+    let up = c .before .before .before .before .before .before .before .before .before .before .before .before .before .before .before .before .pre .3 in
+    let k = kept d (a .s .now) q (λ i. c .before .before .before .before .before .before .before .before .before .before .before .before .before .before .before .slice-known .given i .fits) in
+    let e = c .before .before .before .before .before .before .before .before .before .before .before .before .before .header .ensures in
+    let r = ap (λ (h : Header). h .roots) e in
+    let n = c .before .before .before .before .before .before .before .before .before .before .before .first-needed .ensures in
+    omega (arith, r, n .inside, roots-are d two (a .s .now) q k (a .v) up)
+
+with-roots-requires : tie.Need-with-roots-requires
+with-roots-requires c κs = search needs
+
+with-oldest-requires : tie.Need-with-oldest-requires
+with-oldest-requires c κs = search needs
+
+put-header-requires : tie.Need-put-header-requires
+put-header-requires c κs =
+    let a = c .before .before .before .before .before .before .before .before .before .before .before .before .before .before .before .before .before .before .args in
+    let d = c .before .before .before .before .before .before .before .before .before .before .before .before .before .before .before .before .before .before .pre .0 in
+    let two = c .before .before .before .before .before .before .before .before .before .before .before .before .before .before .before .before .before .before .pre .1 in
+    let q = c .before .before .before .before .before .before .before .before .before .before .before .before .before .before .before .before .before .before .pre .2 in
+    let up = c .before .before .before .before .before .before .before .before .before .before .before .before .before .before .before .before .before .before .pre .3 in
+    let k = kept d (a .s .now) q (λ i. c .before .before .before .before .before .before .before .before .before .before .before .before .before .before .before .before .before .slice-known .given i .fits) in
+    let e = c .before .before .before .before .before .before .before .before .before .before .before .before .before .before .before .header .ensures in
+    let n = c .before .before .before .before .before .before .shift-slots .kept .0 ∙ c .before .before .before .before .before .before .before .before .before .before .prune-pages .kept .0 in (
+      d,
+      rw (c .with-oldest .ensures, c .before .with-roots .ensures, e) (header-right d two (a .s .now) q k (a .v) up _ (omega arith)),
+      omega (arith, n, front d (a .s .now) q),
+      omega (arith, n, few d (a .s .now) q),
+    )
+
+same-length : tie.Need-same-length
+same-length c = search needs
+
+returns : tie.Need-returns
+returns c =
+    let a = c .before .before .before .before .before .before .before .before .before .before .before .before .before .before .before .before .before .before .before .before .before .args in
+    let d = c .before .before .before .before .before .before .before .before .before .before .before .before .before .before .before .before .before .before .before .before .before .pre .0 in
+    let two = c .before .before .before .before .before .before .before .before .before .before .before .before .before .before .before .before .before .before .before .before .before .pre .1 in
+    let q = c .before .before .before .before .before .before .before .before .before .before .before .before .before .before .before .before .before .before .before .before .before .pre .2 in
+    let up = c .before .before .before .before .before .before .before .before .before .before .before .before .before .before .before .before .before .before .before .before .before .pre .3 in
+    let k = kept d (a .s .now) q (λ i. c .before .before .before .before .before .before .before .before .before .before .before .before .before .before .before .before .before .before .before .before .slice-known .given i .fits) in
+    let e = c .before .before .before .before .before .before .before .before .before .before .before .before .before .before .before .before .before .before .header .ensures in
+    rw (c .before .before .before .with-oldest .ensures, c .before .before .before .before .with-roots .ensures, e) at (c .before .before .put-header .ensures)
+    ∙ pruned-bytes d two (a .s .now) q k (a .v) up _ (c .before .before .before .before .before .before .before .before .before .before .before .before .before .prune-pages .ensures) _ (c .before .before .before .before .before .before .before .before .before .before .before .before .before .before .before .before .first-needed .ensures) _ (c .before .before .before .before .before .before .before .before .before .shift-slots .ensures)
+
+pub prune-spec : {M : Type 1} → statement M
+prune-spec =
+    tie.close
+    (tie.spec
+    header-requires
+    first-needed-requires
+    wide-requires
+    prune-pages-requires
+    shift-slots-requires
+    sub-with-roots
+    with-roots-requires
+    with-oldest-requires
+    put-header-requires
+    same-length
+    returns)

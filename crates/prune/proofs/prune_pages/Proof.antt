@@ -1,0 +1,78 @@
+-- `prune_pages` meets its contract. Assumes nothing.
+use Prim.Native.Nat.{_-_, _≤_, _<_}
+use native.Mathlib.Omega.{arith}
+use mathlib.Core.Path.{_≡_, refl, sym, _∙_}
+use lib.ListN.{length}
+use borrow.Author.Needs.{needs}
+use Rattle.model.specs.Layout.{decode}
+use Rattle.prune.specs.Pruned.{Pruned, pruned-start, pruned-short, pruned-end, pruned-part, pruned-exact, pruned-step}
+use Rattle.prune.proofs.prune_pages.Statement.{statement}
+use Rattle.prune.proofs.prune_pages.Tie as tie
+
+abbrev Inv-loop : tie.InvT-loop
+Inv-loop s₀ l size v n₀ s n = (5 ≤ n) × (n ≤ size) × (length s ≡ length s₀) × Pruned (l .least) (decode (l .least) s₀) v n s
+
+abbrev μ-loop : tie.MeasureT-loop
+μ-loop s₀ l size v n₀ s n = size - n
+
+loop-holds : tie.Need-loop-holds Inv-loop μ-loop
+loop-holds c =
+    let a = c .before .args in
+    let k = c .before .pre .1 in
+    (omega arith, omega (arith, k .holds .five, c .before .pre .2), refl, pruned-start (a .l .least) (c .before .pre .0 .four) (c .before .pre .0 .eight) (decode (a .l .least) (a .s .now)) (a .v) (a .s .now) (sym (k .same)) (k .holds))
+
+prune-page-requires : tie.Need-prune-page-requires Inv-loop μ-loop
+prune-page-requires c κs =
+    let a = c .before .before .before .before .args in
+    let l = c .before .before .loop in
+    let d = c .before .before .before .before .pre .0 in
+    let st = decode (a .l .least) (a .s .now) in
+    let low : l .n < length (st .pages) = omega (arith, c .before .loop-test .taken, c .before .before .before .before .pre .2) in (
+      d,
+      pruned-part (a .l .least) (d .four) (d .eight) st (a .v) (l .n) (l .s) (l .inv .3) (l .inv .0) low,
+      pruned-short (a .l .least) (d .four) (d .eight) st (a .v) (l .n) (l .s) (l .inv .3),
+      pruned-exact (a .l .least) (d .four) (d .eight) st (a .v) (l .n) (l .s) (l .inv .3) (l .inv .0) low,
+    )
+
+add-n : tie.Need-add-n Inv-loop μ-loop
+add-n c = search needs
+
+loop-less : tie.Need-loop-less Inv-loop μ-loop
+loop-less c = search needs
+
+loop-again : tie.Need-loop-again Inv-loop μ-loop
+loop-again c =
+    let a = c .before .before .before .before .before .before .before .args in
+    let l = c .before .before .before .before .before .loop in
+    let d = c .before .before .before .before .before .before .before .pre .0 in
+    let st = decode (a .l .least) (a .s .now) in
+    let low : l .n < length (st .pages) = omega (arith, c .before .before .before .before .loop-test .taken, c .before .before .before .before .before .before .before .pre .2) in (
+      omega (arith, l .inv .0),
+      omega (arith, c .before .before .before .before .loop-test .taken),
+      c .before .before .prune-page .kept .0 ∙ l .inv .2,
+      pruned-step (a .l .least) (d .four) (d .eight) st (a .v) (l .n) (l .s) (l .inv .3) (l .inv .0) low _ (c .before .before .prune-page .ensures),
+    )
+
+same-length : tie.Need-same-length Inv-loop μ-loop
+same-length c = c .before .loop .inv .2
+
+returns : tie.Need-returns Inv-loop μ-loop
+returns c =
+    let a = c .before .before .before .args in
+    let l = c .before .loop in
+    let d = c .before .before .before .pre .0 in
+    pruned-end (a .l .least) (d .four) (d .eight) (decode (a .l .least) (a .s .now)) (a .v) (l .n) (l .s) (l .inv .3) (omega (arith, c .loop-test .left, c .before .before .before .pre .2))
+
+pub prune-pages-spec : {M : Type 1} → statement M
+prune-pages-spec =
+    tie.close
+    (tie.spec
+    Inv-loop
+    μ-loop
+    loop-holds
+    prune-page-requires
+    add-n
+    loop-less
+    loop-again
+    same-length
+    returns)
