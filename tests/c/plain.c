@@ -20,7 +20,7 @@ static void expect(int holds, const char *what) {
 
 static uint8_t store[8 * RCST_PAGE_BYTES];
 static uint32_t items[4 * 16];
-static struct rcst_plain_state state = {.edition = 1};
+static struct rcst_plain_state state = {0, 0, 0, 0, 1};
 
 static const size_t bytes = sizeof store, room = sizeof items / sizeof items[0];
 
