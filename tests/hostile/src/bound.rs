@@ -112,7 +112,7 @@ impl Bound {
         }
         let levels = Levels::of(&image);
         let pages = image.used().count() as u64;
-        let once = 8 * changes + 2 * pages + slots;
+        let once = 7 * changes + 2 * pages + slots;
         Bound {
             pages,
             slots,
@@ -152,11 +152,12 @@ pub fn most(edition: &Edition, pages: u64) -> (u64, u64) {
     let changes = 2.0 * entries;
     let back = |levels: RangeInclusive<u32>, pairs: f64| {
         let levels = levels.count() as f64;
-        let by_routers = (2.0 * entries * pairs * levels * 5.0 / 49.0).sqrt() * pages.powf(1.5);
+        let by_routers =
+            (2.0 * entries * pairs * levels * 5.0 / 49.0).sqrt() * pages * pages.sqrt();
         let by_slots = (2.0 * slots * pairs * levels * 3.0 / 7.0).sqrt() * pages;
         by_routers + by_slots
     };
-    let once = (8.0 * changes + 2.0) * pages + slots;
+    let once = (7.0 * changes + 2.0) * pages + slots;
     let judging = once + back(2..=6, changes);
     let check = once + entries * changes * pages + back(3..=6, entries * entries + changes);
     (judging as u64, check as u64)

@@ -5,6 +5,7 @@ use reference::edition::SECOND;
 
 use crate::stores::crowd::{crowd, crowd_of, Crowd};
 use crate::stores::pool::{pool, Pool};
+use crate::stores::relay::{relay, Relay};
 use crate::stores::shared::{cut_roots, in_turn, Shape};
 use crate::stores::sketch::Sketch;
 use crate::stores::storm::{self, Storm};
@@ -44,7 +45,7 @@ fn stormed(store: Vec<u8>, storm: u32) -> Option<Vec<u8>> {
 }
 
 /// Every family, with a short name.
-pub const FAMILIES: [Family; 11] = [
+pub const FAMILIES: [Family; 12] = [
     Family {
         name: "storm",
         numbers: &[
@@ -206,6 +207,27 @@ pub const FAMILIES: [Family; 11] = [
         },
     },
     Family {
+        name: "relay",
+        numbers: &[
+            ("groups", 1, 8),
+            ("trees", 1, 100),
+            ("wide", 4, 20),
+            ("leaves", 4, 20),
+            ("lives", 1, 16),
+            STORM,
+        ],
+        make: |n| {
+            let numbers = Relay {
+                groups: n[0],
+                trees: n[1],
+                wide: n[2],
+                leaves: n[3],
+                lives: n[4],
+            };
+            stormed(relay(Sketch::new(), numbers)?, n[5])
+        },
+    },
+    Family {
         name: "web",
         numbers: &[
             ("seed", 0, 1_000_000),
@@ -263,7 +285,7 @@ const fn row(
     }
 }
 
-pub const ROWS: [Row; 16] = [
+pub const ROWS: [Row; 18] = [
     row(
         "storm",
         "storm",
@@ -316,6 +338,18 @@ pub const ROWS: [Row; 16] = [
         "turns",
         &[2, 20, 3, 12, 20, 0, 0],
         &[6, 200, 8, 20, 20, 0, 0],
+    ),
+    row(
+        "pool, shared up to level 3",
+        "pool",
+        &[2, 20, 20, 3, 2, 10, 6, 2, 6],
+        &[3, 400, 400, 3, 2, 20, 20, 3, 7],
+    ),
+    row(
+        "relay, a storm behind it",
+        "relay",
+        &[1, 4, 5, 4, 6, 1],
+        &[2, 24, 20, 20, 16, 1],
     ),
     row(
         "moving, a storm behind it",

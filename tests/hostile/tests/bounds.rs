@@ -49,8 +49,8 @@ fn within_the_most(store: &[u8], bound: Bound) {
 /// The millions that docs/CHECK-COST.md says.
 #[test]
 fn the_most_of_any_bytes() {
-    assert_eq!(most(&FIRST, 4091), (9_650_696, 29_310_442));
-    assert_eq!(most(&SECOND, 4091), (19_293_211, 84_029_543));
+    assert_eq!(most(&FIRST, 4091), (9_487_056, 29_146_802));
+    assert_eq!(most(&SECOND, 4091), (18_965_931, 83_702_263));
 }
 
 #[test]
