@@ -22,7 +22,7 @@ pub struct Bound {
     pub judging: u64,
     pub check: u64,
     /// Most entries of a page.
-    entries: u64,
+    pub entries: u64,
 }
 
 /// What the argument counts, level by level.

@@ -76,6 +76,21 @@ fn turning_trees_break_rule_5() {
     }
 }
 
+/// These tests can fail: what bounds pages that are reached all the while is too little
+/// for trees that take turns.
+#[test]
+fn a_bound_that_is_too_small() {
+    for name in ["turns", "pool, shared up to level 3"] {
+        let row = ROWS.iter().find(|row| row.name == name).expect(name);
+        let store = family(row.family).store(row.large).expect(name);
+        let bound = Bound::of(&store);
+        let (_, work) = notes::broken(&store);
+        assert!(bound.holds_check(work), "{name}: {work:?}");
+        let check = bound.where_reached();
+        assert!(!Bound { check, ..bound }.holds_check(work), "{name}");
+    }
+}
+
 #[test]
 fn edition_2() {
     for (name, store) in second() {
