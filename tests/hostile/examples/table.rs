@@ -13,9 +13,10 @@ use std::time::Duration;
 use hostile::bound::Bound;
 use hostile::judge::{check, judged};
 use hostile::measure::{in_turn, once, told};
+use hostile::notes::{self, Work};
 use hostile::quick::{budget, read::Loads};
-use hostile::recipe::{family, ROWS};
-use reference::layout::PAGE_BYTES;
+use hostile::recipe::{family, second, ROWS};
+use reference::edition::{Edition, FIRST};
 
 /// Seconds of processor time after which a program is ended.
 const PATIENCE: u64 = 10;
@@ -30,26 +31,44 @@ fn main() {
     programs.extend(arguments.get(1).cloned());
     let columns = |word: &str| format!(" {word} |").repeat(programs.len());
     println!(
-        "| | pages | broken rule | judging: `under`, notes, looks | check: notes, looks | 7 C + 2 P + S |{}{}",
+        "| store | pages | broken rule | `under` reads, judging | notes, judging | notes, check | looks, check | at most, check |{}{}",
         columns("judging"),
         columns("check")
     );
-    println!("|---|---|---|---|---|---|{}", columns("---").repeat(2));
+    println!(
+        "|---|---|---|---|---|---|---|---|{}",
+        columns("---").repeat(2)
+    );
     for row in &ROWS {
         for numbers in [row.small, row.large] {
             let store = family(row.family).store(numbers).expect(row.name);
             line(row.name, &store, &programs);
         }
     }
+    for (name, store) in second() {
+        line(&format!("edition 2: {name}"), &store, &programs);
+    }
+}
+
+/// What the port says: the rule, what judging read and noted, and what check noted. Of
+/// edition 2 it has the notes alone.
+fn counted(store: &[u8], pages: usize) -> (u32, Option<(u32, Work)>, Work) {
+    if *Edition::of(store) != FIRST {
+        let (rule, work) = notes::broken(store);
+        return (rule, None, work);
+    }
+    let (_, rule, taken) = check(store, budget(pages));
+    let (_, judging) = judged::<Loads>(store, budget(pages));
+    assert!(taken.under <= budget(pages) && judging.under <= budget(pages));
+    (rule, Some((judging.under, judging.judging)), taken.naming)
 }
 
 fn line(name: &str, store: &[u8], programs: &[String]) {
-    let pages = store.len() / PAGE_BYTES;
-    let (number, rule, taken) = check(store, budget(pages));
-    let (_, judging) = judged::<Loads>(store, budget(pages));
+    let pages = store.len() / Edition::of(store).page_bytes;
+    let (rule, judging, naming) = counted(store, pages);
+    let number = if rule == 0 { 0 } else { 4 };
     let bound = Bound::of(store);
-    assert!(taken.under <= budget(pages) && judging.under <= budget(pages));
-    assert!(bound.holds(judging.judging) && bound.holds(taken.naming));
+    assert!(bound.holds_check(naming));
     let file = std::env::temp_dir().join(format!("hostile-{}.store", std::process::id()));
     std::fs::write(&file, store).expect("a file for the store");
     let times: String = ["commit", "check"]
@@ -58,20 +77,20 @@ fn line(name: &str, store: &[u8], programs: &[String]) {
         .map(|(call, program)| format!(" {} |", asked(program, call, &file, (number, rule))))
         .collect();
     std::fs::remove_file(&file).expect("the file for the store");
-    let (notes, naming) = (judging.judging, taken.naming);
+    let broken = match rule {
+        0 => "none".to_string(),
+        rule => rule.to_string(),
+    };
+    let judging = match judging {
+        Some((under, work)) => {
+            assert!(bound.holds_judging(work));
+            format!("{under} | {}", work.notes)
+        }
+        None => "- | -".to_string(),
+    };
     println!(
-        "| {name} | {pages} | {} | {}, {}, {} | {}, {} | {} |{times}",
-        if rule == 0 {
-            "none".to_string()
-        } else {
-            rule.to_string()
-        },
-        judging.under,
-        notes.notes,
-        notes.looks,
-        naming.notes,
-        naming.looks,
-        bound.where_reached()
+        "| {name} | {pages} | {broken} | {judging} | {} | {} | {} |{times}",
+        naming.notes, naming.looks, bound.check
     );
 }
 

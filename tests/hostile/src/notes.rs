@@ -1,11 +1,9 @@
 //! Rules 4 and 5, the way the crate `notes` finds them: one pass through time from
 //! change to change, with a note for each page of what stands at and below it, and
-//! up to which version it stays.
+//! up to which version it stays. Of either edition, with the oldest version 0.
 
-use reference::layout::{ABOVE_ALL_KEYS, ALIVE, FEWEST_LIVE, LEAF, MOST_PAGES};
-
-use crate::quick::part;
-use crate::quick::read::{header, slot, Entry, Loads, Reading};
+use reference::image::Image;
+use reference::layout::{Entry, ABOVE_ALL_KEYS, ALIVE, FIRST_PAGE, LEAF, MOST_PAGES};
 
 /// What stands at and below a page up to, not including, `until`.
 #[derive(Clone, Copy)]
@@ -39,8 +37,8 @@ pub struct Work {
     pub looks: u64,
 }
 
-struct Walk<'a> {
-    store: &'a [u8],
+struct Walk {
+    image: Image,
     notes: Vec<Note>,
     work: Work,
     /// Whether it ends where rule 5 is broken too, and does not go on to name rule 4.
@@ -61,7 +59,7 @@ pub fn both_hold(store: &[u8]) -> (bool, Work) {
 fn over(store: &[u8], either: bool) -> (u32, Work) {
     let until = 0;
     let mut walk = Walk {
-        store,
+        image: Image::read(store),
         notes: vec![Note { until, ..NOTHING }; MOST_PAGES],
         work: Work::default(),
         either,
@@ -70,16 +68,14 @@ fn over(store: &[u8], either: bool) -> (u32, Work) {
     (rule, walk.work)
 }
 
-impl Walk<'_> {
+impl Walk {
     fn over_slots(&mut self) -> u32 {
-        let header = header(self.store);
         let mut full = true;
-        for place in 0..header.roots {
-            let own = slot(self.store, place);
-            let end = match place + 1 {
-                next if next < header.roots => slot(self.store, next).version,
-                _ => header.last + 1,
-            };
+        for place in 0..self.image.slots.len() {
+            let own = self.image.slots[place];
+            let behind = self.image.header.last() + 1;
+            let next = self.image.slots.get(place + 1);
+            let end = next.map_or(behind, |next| next.version);
             match self.stretch(own.root, own.version, end) {
                 None => return 4,
                 Some(own) => full &= own,
@@ -94,8 +90,8 @@ impl Walk<'_> {
 
     /// The versions from one up to, not including, another, which have one root:
     /// whether rule 5 holds; none where rule 4 does not.
-    fn stretch(&mut self, root: usize, from: u32, end: u32) -> Option<bool> {
-        let level = Loads::head(part(self.store, root)).level;
+    fn stretch(&mut self, root: u32, from: u32, end: u32) -> Option<bool> {
+        let level = self.image.page(root).level;
         let fewest = if level == LEAF { 0 } else { 2 };
         let mut full = true;
         let mut version = from;
@@ -115,48 +111,48 @@ impl Walk<'_> {
     }
 
     /// The note of a page, made anew; none where rule 4 is broken at or below it.
-    fn visit(&mut self, number: usize, level: u32, version: u32) -> Option<Note> {
+    fn visit(&mut self, number: u32, level: u32, version: u32) -> Option<Note> {
         self.work.notes += 1;
-        let page = part(self.store, number);
+        let own = (number - FIRST_PAGE) as usize;
         let mut note = NOTHING;
-        for place in 0..Loads::head(page).count {
-            let entry = Loads::entry(page, place);
+        for place in 0..self.image.pages[own].entries.len() {
+            let entry = self.image.pages[own].entries[place];
             note = self.next(note, level, version, entry)?;
         }
-        self.notes[number] = note;
+        self.notes[number as usize] = note;
         Some(note)
     }
 
     /// One more entry. The page under a live one is visited where its note has ended.
     fn next(&mut self, note: Note, level: u32, version: u32, entry: Entry) -> Option<Note> {
-        if version < entry.start {
-            let until = note.until.min(entry.start);
+        if version < entry.span.start {
+            let until = note.until.min(entry.span.start);
             return Some(Note { until, ..note });
         }
-        if entry.end <= version {
+        if entry.span.end <= version {
             return Some(note);
         }
+        let fewest = self.image.edition().fewest_live as u32;
         if level == LEAF {
-            return joined(level, note, entry, NOTHING);
+            return joined(level, fewest, note, entry, NOTHING);
         }
-        let number = entry.value as usize;
-        let known = self.notes[number];
+        let known = self.notes[entry.value as usize];
         if version < known.until {
             self.work.looks += 1;
-            return joined(level, note, entry, known);
+            return joined(level, fewest, note, entry, known);
         }
-        let made = self.visit(number, level - 1, version)?;
-        joined(level, note, entry, made)
+        let made = self.visit(entry.value, level - 1, version)?;
+        joined(level, fewest, note, entry, made)
     }
 }
 
 /// One more live entry, with the note of its page.
-fn joined(level: u32, note: Note, entry: Entry, below: Note) -> Option<Note> {
+fn joined(level: u32, fewest: u32, note: Note, entry: Entry, below: Note) -> Option<Note> {
     let leaf = level == LEAF;
     let fits = note.high <= entry.key && (leaf || low_fine(level - 1, entry.key, below));
-    let filled = leaf || below.full && FEWEST_LIVE as u32 <= below.live;
+    let filled = leaf || below.full && fewest <= below.live;
     fits.then(|| Note {
-        until: note.until.min(entry.end).min(below.until),
+        until: note.until.min(entry.span.end).min(below.until),
         live: note.live + 1,
         first: if note.live == 0 {
             entry.key

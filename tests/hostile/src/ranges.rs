@@ -3,7 +3,7 @@
 //! Wants a store whose header, slots and pages hold rule 1.
 
 use reference::image::Image;
-use reference::layout::{Entry, Page, FIRST_PAGE, LEAF, MOST_ENTRIES};
+use reference::layout::{Entry, Page, FIRST_PAGE, LEAF};
 
 #[derive(Clone, Copy)]
 pub struct Asked {
@@ -169,14 +169,14 @@ impl Walk<'_> {
         self.count(own, level - 1, at) + rest.sum::<u64>()
     }
 
-    fn place(number: u32, place: usize) -> usize {
-        number as usize * (MOST_ENTRIES + 1) + place
+    fn place(&self, number: u32, place: usize) -> usize {
+        number as usize * (self.image.edition().most_entries + 1) + place
     }
 
     /// From the lowest level up, and in each page from its last router on.
     fn fill(&mut self, top: u32) {
         let numbers = FIRST_PAGE..FIRST_PAGE + self.image.pages.len() as u32;
-        self.table = vec![0; Self::place(numbers.end, 0)];
+        self.table = vec![0; self.place(numbers.end, 0)];
         for level in LEAF + 1..=top {
             for number in numbers.clone() {
                 let Some(page) = self.page(number, level) else {
@@ -184,12 +184,14 @@ impl Walk<'_> {
                 };
                 let entries = page.entries.clone();
                 let mut rest = 1;
-                self.table[Self::place(number, entries.len())] = rest;
+                let behind = self.place(number, entries.len());
+                self.table[behind] = rest;
                 for (place, router) in entries.iter().enumerate().rev() {
                     if self.follows(router) {
                         rest = joined(rest, self.down(router.value, level - 1, router.key));
                     }
-                    self.table[Self::place(number, place)] = rest;
+                    let own = self.place(number, place);
+                    self.table[own] = rest;
                 }
             }
         }
@@ -206,7 +208,7 @@ impl Walk<'_> {
             let Some((own, behind)) = self.own(page, at) else {
                 return 0;
             };
-            sum = joined(sum, self.table[Self::place(number, behind)]);
+            sum = joined(sum, self.table[self.place(number, behind)]);
             number = own;
         }
         self.work.gone += 1;
@@ -230,8 +232,8 @@ impl Walk<'_> {
         self.write(own, level - 1, at);
         for place in behind..entries.len() {
             let some = self.table.is_empty()
-                || self.table[Self::place(number, place)]
-                    != self.table[Self::place(number, place + 1)];
+                || self.table[self.place(number, place)]
+                    != self.table[self.place(number, place + 1)];
             if some && self.follows(&entries[place]) {
                 self.write(entries[place].value, level - 1, entries[place].key);
             }

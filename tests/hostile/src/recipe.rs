@@ -1,8 +1,13 @@
 //! The families of hostile stores, each with numbers as its only input, so that a
 //! search can vary them. Every store holds rules 1 to 3.
 
-use crate::stores::crowd::{crowd, Crowd};
+use reference::edition::SECOND;
+
+use crate::stores::crowd::{crowd, crowd_of, Crowd};
+use crate::stores::pool::{pool, Pool};
+use crate::stores::relay::{relay, Relay};
 use crate::stores::shared::{cut_roots, in_turn, Shape};
+use crate::stores::sketch::Sketch;
 use crate::stores::storm::{self, Storm};
 use crate::stores::tower::{tower, Tower};
 use crate::stores::turns::{turns, Turns};
@@ -40,7 +45,7 @@ fn stormed(store: Vec<u8>, storm: u32) -> Option<Vec<u8>> {
 }
 
 /// Every family, with a short name.
-pub const FAMILIES: [Family; 10] = [
+pub const FAMILIES: [Family; 12] = [
     Family {
         name: "storm",
         numbers: &[
@@ -53,7 +58,7 @@ pub const FAMILIES: [Family; 10] = [
             ("width", 1, 4000),
         ],
         make: |n| {
-            storm::alone(Storm {
+            let numbers = Storm {
                 groups: n[0],
                 units: n[1],
                 pairs: n[2],
@@ -61,7 +66,8 @@ pub const FAMILIES: [Family; 10] = [
                 depth: n[4],
                 stagger: n[5],
                 width: n[6],
-            })
+            };
+            storm::alone(Sketch::new(), numbers)
         },
     },
     Family {
@@ -169,7 +175,56 @@ pub const FAMILIES: [Family; 10] = [
                 lives: n[4],
                 extra: n[5],
             };
-            turns(numbers, n[6] == 1)
+            turns(Sketch::new(), numbers, n[6] == 1)
+        },
+    },
+    Family {
+        name: "pool",
+        numbers: &[
+            ("trees", 1, 400),
+            ("wide", 1, 400),
+            ("columns", 1, 800),
+            ("shared", 2, 4),
+            ("fan", 1, 20),
+            ("leaves", 1, 20),
+            ("lives", 1, 20),
+            ("every", 1, 400),
+            ("turning", 4, 7),
+        ],
+        make: |n| {
+            let numbers = Pool {
+                trees: n[0],
+                wide: n[1],
+                columns: n[2],
+                shared: n[3],
+                fan: n[4],
+                leaves: n[5],
+                lives: n[6],
+                every: n[7],
+                turning: n[8],
+            };
+            pool(Sketch::new(), numbers)
+        },
+    },
+    Family {
+        name: "relay",
+        numbers: &[
+            ("groups", 1, 8),
+            ("trees", 1, 100),
+            ("wide", 4, 20),
+            ("leaves", 4, 20),
+            ("lives", 1, 16),
+            STORM,
+        ],
+        make: |n| {
+            let numbers = Relay {
+                groups: n[0],
+                trees: n[1],
+                wide: n[2],
+                leaves: n[3],
+                lives: n[4],
+            };
+            stormed(relay(Sketch::new(), numbers)?, n[5])
         },
     },
     Family {
@@ -230,7 +285,7 @@ const fn row(
     }
 }
 
-pub const ROWS: [Row; 16] = [
+pub const ROWS: [Row; 18] = [
     row(
         "storm",
         "storm",
@@ -285,6 +340,18 @@ pub const ROWS: [Row; 16] = [
         &[6, 200, 8, 20, 20, 0, 0],
     ),
     row(
+        "pool, shared up to level 3",
+        "pool",
+        &[2, 20, 20, 3, 2, 10, 6, 2, 6],
+        &[3, 400, 400, 3, 2, 20, 20, 3, 7],
+    ),
+    row(
+        "relay, a storm behind it",
+        "relay",
+        &[1, 4, 5, 4, 6, 1],
+        &[2, 24, 20, 20, 16, 1],
+    ),
+    row(
         "moving, a storm behind it",
         "moving",
         &[43, 0, 1],
@@ -303,3 +370,41 @@ pub const ROWS: [Row; 16] = [
         &[6, 190, 8, 20, 20, 20, 1],
     ),
 ];
+
+/// Stores of edition 2, at some 256 pages and at as many as there may be.
+pub fn second() -> Vec<(&'static str, Vec<u8>)> {
+    let storm = |groups| Storm {
+        groups,
+        units: 31,
+        pairs: 32,
+        fan: 40,
+        depth: 5,
+        stagger: 1,
+        width: 2000,
+    };
+    let crowding = |crowd, shared| Crowd {
+        crowd,
+        shared,
+        lives: 18,
+    };
+    let turning = |trees, wide, fan, leaves, lives| Turns {
+        trees,
+        wide,
+        fan,
+        leaves,
+        lives,
+        extra: 0,
+    };
+    let sketch = || Sketch::of(&SECOND);
+    let stores = [
+        ("storm", storm::alone(sketch(), storm(6))),
+        ("storm", storm::alone(sketch(), storm(104))),
+        ("crowd", crowd_of(&SECOND, crowding(70, 2))),
+        ("crowd", crowd_of(&SECOND, crowding(2000, 20))),
+        ("turns", turns(sketch(), turning(2, 20, 3, 12, 20), false)),
+        ("turns", turns(sketch(), turning(6, 200, 4, 40, 40), false)),
+    ];
+    let made = stores.into_iter();
+    made.map(|(name, store)| (name, store.expect(name)))
+        .collect()
+}

@@ -1,9 +1,12 @@
 //! Whatever store is tried, judging and check read no more pages than is said.
 
-use hostile::bound::Bound;
+use hostile::bound::{most, Bound};
+use hostile::notes;
 use hostile::quick::budget;
-use hostile::recipe::{family, FAMILIES, ROWS};
+use hostile::recipe::{family, second, FAMILIES, ROWS};
 use hostile::search::{climb, tried, Tried};
+use reference::calls;
+use reference::edition::{Edition, FIRST, SECOND};
 use reference::layout::PAGE_BYTES;
 
 /// The most notes for a page of the store that any store was found to take.
@@ -17,18 +20,37 @@ fn bounded(tried: &Tried, name: &str) {
         assert!(taken.under <= budget(pages), "{name} {numbers:?}");
         assert!(taken.reached <= bound.pages, "{name} {numbers:?}");
     }
-    for work in [tried.judging.judging, tried.check.naming] {
-        assert!(bound.holds(work), "{name} {numbers:?}: {work:?}");
+    let (judging, check) = (tried.judging.judging, tried.check.naming);
+    assert!(
+        bound.holds_judging(judging),
+        "{name} {numbers:?}: {judging:?}"
+    );
+    assert!(bound.holds_check(check), "{name} {numbers:?}: {check:?}");
+    within_the_most(&tried.store, bound);
+    for work in [judging, check] {
         assert!(
             work.notes <= NOTES_A_PAGE * pages as u64,
             "{name} {numbers:?}"
         );
         // trees that take turns are not reached all the while, a web may be anything
-        if !["turns", "web"].contains(&name) {
+        if !["turns", "pool", "web"].contains(&name) {
             let reached = bound.where_reached();
             assert!(work.notes <= reached, "{name} {numbers:?}: {work:?}");
         }
     }
+}
+
+/// What bounds a store is no more than what bounds all stores of so many pages.
+fn within_the_most(store: &[u8], bound: Bound) {
+    let (judging, check) = most(Edition::of(store), bound.pages);
+    assert!(bound.judging <= judging && bound.check <= check);
+}
+
+/// The millions that docs/CHECK-COST.md says.
+#[test]
+fn the_most_of_any_bytes() {
+    assert_eq!(most(&FIRST, 4091), (9_487_056, 29_146_802));
+    assert_eq!(most(&SECOND, 4091), (18_965_931, 83_702_263));
 }
 
 #[test]
@@ -39,6 +61,49 @@ fn the_rows_of_the_table() {
         bounded(&tried, row.family);
         let verdict = (tried.number, tried.rule);
         assert_eq!(host::check(&tried.store), verdict, "{}", row.name);
+    }
+}
+
+/// Trees that take turns break rule 5, and none but 5.
+#[test]
+fn turning_trees_break_rule_5() {
+    for name in ["turns", "pool"] {
+        climb(family(name), 3, 60, 200, &mut |tried| {
+            let storm = name == "turns" && tried.numbers[6] == 1;
+            let rule = if storm { 4 } else { 5 };
+            assert_eq!((tried.number, tried.rule), (4, rule), "{:?}", tried.numbers);
+        });
+    }
+}
+
+/// These tests can fail: what bounds pages that are reached all the while is too little
+/// for trees that take turns.
+#[test]
+fn a_bound_that_is_too_small() {
+    for name in ["turns", "pool, shared up to level 3"] {
+        let row = ROWS.iter().find(|row| row.name == name).expect(name);
+        let store = family(row.family).store(row.large).expect(name);
+        let bound = Bound::of(&store);
+        let (_, work) = notes::broken(&store);
+        assert!(bound.holds_check(work), "{name}: {work:?}");
+        let check = bound.where_reached();
+        assert!(!Bound { check, ..bound }.holds_check(work), "{name}");
+    }
+}
+
+#[test]
+fn edition_2() {
+    for (name, store) in second() {
+        let bound = Bound::of(&store);
+        let (rule, work) = notes::broken(&store);
+        let (_, judging) = notes::both_hold(&store);
+        assert!(bound.holds_check(work), "{name}: {work:?}");
+        assert!(bound.holds_judging(judging), "{name}: {judging:?}");
+        within_the_most(&store, bound);
+        assert_eq!(host::check(&store), (4, rule), "{name}");
+        if store.len() < 1 << 18 {
+            assert_eq!(calls::check(&store), (4, rule), "{name}");
+        }
     }
 }
 

@@ -4,7 +4,7 @@
 use hostile::ranges::{most_gone, most_written, range, Asked, Work};
 use hostile::stores::grown;
 use hostile::stores::spread::{spread, Keys, Spread, HIGH, PLAIN};
-use reference::layout::PAGE_BYTES;
+use reference::edition::{Edition, EDITIONS};
 use reference::rng::Rng;
 
 const WHOLE: Asked = Asked {
@@ -15,7 +15,7 @@ const WHOLE: Asked = Asked {
 
 /// The port's work. Its answer is the library's with no room at all and with some.
 fn held(store: &[u8], asked: Asked, name: &str) -> Work {
-    let pages = (store.len() / PAGE_BYTES) as u64;
+    let pages = (store.len() / Edition::of(store).page_bytes) as u64;
     let mut most = Work::default();
     for room in [0, 10_000] {
         let (answer, work) = range(store, asked, room);
@@ -72,11 +72,13 @@ fn a_count_of_its_own_size() {
 fn mixtures() {
     let mut rng = Rng::new(4);
     for seed in 0..200 {
+        let edition = EDITIONS[seed as usize % 2];
         let numbers = Spread {
+            edition,
             seed,
             depth: rng.between(2, 7),
             wide: rng.between(1, 40),
-            fan: rng.between(1, 20),
+            fan: rng.between(1, edition.most_entries as u32),
             settings: rng.between(0, 3),
             bare: rng.below(60),
             keys: [Keys::Behind, Keys::Same, Keys::Any][rng.below(3) as usize],

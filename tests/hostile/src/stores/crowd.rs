@@ -3,8 +3,9 @@
 //! itself, and the spans add up, since at all other versions nothing leads
 //! there. What is wrong shows in the pages above, which come last.
 
+use reference::edition::{Edition, FIRST};
 use reference::layout::{
-    Page, Span, ALIVE, FIRST_PAGE, HIGHEST_LEVEL, HIGHEST_VERSION, LEAF, MOST_ENTRIES, MOST_PAGES,
+    Page, Span, ALIVE, FIRST_PAGE, HIGHEST_LEVEL, HIGHEST_VERSION, LEAF, MOST_PAGES,
 };
 
 use super::entry;
@@ -16,8 +17,9 @@ pub struct Crowd {
     pub crowd: u32,
     /// The pages to which they lead.
     pub shared: u32,
-    /// Lives of a last router, beside three that stay: in each of these lives
-    /// another page comes last, with as many lives of its own last router.
+    /// Lives of a last router, beside one fewer that stay than a page must have: in
+    /// each of these lives another page comes last, with as many lives of its own last
+    /// router.
     pub lives: u32,
 }
 
@@ -31,11 +33,16 @@ const ALL: Span = Span {
 
 /// None if that is more than 4,096 pages.
 pub fn crowd(numbers: Crowd) -> Option<Vec<u8>> {
+    crowd_of(&FIRST, numbers)
+}
+
+pub fn crowd_of(edition: &'static Edition, numbers: Crowd) -> Option<Vec<u8>> {
     let before = Span {
         start: 0,
         end: ALL.start,
     };
     let mut built = Built {
+        edition,
         pages: vec![Page::new(LEAF, before, Vec::new())],
         next_key: 0,
     };
@@ -49,7 +56,7 @@ pub fn crowd(numbers: Crowd) -> Option<Vec<u8>> {
         if pages.len() == 1 {
             break;
         }
-        let groups = pages.chunks(MOST_ENTRIES);
+        let groups = pages.chunks(edition.most_entries);
         let above = groups.map(|group| {
             let routers: Vec<(u32, u32)> = (0..).zip(group.iter().copied()).collect();
             index_page(&mut built, level, &routers)
@@ -75,7 +82,7 @@ fn index_page(built: &mut Built, level: u32, routers: &[(u32, u32)]) -> u32 {
 /// A leaf with as many settings as fit: its low key and number.
 fn leaf(built: &mut Built) -> (u32, u32) {
     let low = built.next_key;
-    built.next_key += MOST_ENTRIES as u32;
+    built.next_key += built.edition.most_entries as u32;
     let entries = (low..built.next_key).map(|key| entry(key, ALL, 7));
     (low, built.push(Page::new(LEAF, ALL, entries.collect())))
 }
@@ -91,23 +98,24 @@ fn lives(span: Span, lives: u32) -> impl Iterator<Item = Span> {
     })
 }
 
-/// A page of level 3 to which the crowd leads: three pages below it stay, and
-/// then one follows another. Its span is as long as those of all that lead to
+/// A page of level 3 to which the crowd leads: pages below it stay, one fewer than it
+/// must have, and then one follows another. Its span is as long as those of all that lead to
 /// it together.
 fn shared_page(built: &mut Built, numbers: Crowd) -> (u32, u32) {
     let low = built.next_key;
+    let fewest = built.edition.fewest_live;
     let mut routers = Vec::new();
-    for _ in 0..3 {
-        let leaves: Vec<(u32, u32)> = (0..4).map(|_| leaf(built)).collect();
+    for _ in 1..fewest {
+        let leaves: Vec<(u32, u32)> = (0..fewest).map(|_| leaf(built)).collect();
         let page = index_page(built, 2, &leaves);
         routers.push(entry(leaves[0].0, ALL, page));
     }
-    let leaves: Vec<(u32, u32)> = (0..4).map(|_| leaf(built)).collect();
+    let leaves: Vec<(u32, u32)> = (0..fewest).map(|_| leaf(built)).collect();
     for span in lives(ALL, numbers.lives) {
-        let staying = leaves[..3]
+        let staying = leaves[..fewest - 1]
             .iter()
             .map(|&(key, page)| entry(key, span, page));
-        let (key, page) = leaves[3];
+        let (key, page) = leaves[fewest - 1];
         let last = lives(span, numbers.lives).map(|life| entry(key, life, page));
         let page = built.push(Page::new(2, span, staying.chain(last).collect()));
         routers.push(entry(leaves[0].0, span, page));

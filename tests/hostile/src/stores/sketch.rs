@@ -1,19 +1,24 @@
 //! A store as it is drawn: pages with their entries, and roots. What a page's span
 //! is to be follows from what leads to it, at the end.
 
-use reference::edition::FIRST;
+use reference::edition::{Edition, FIRST};
 use reference::image::Image;
 use reference::layout::{
-    Entry, Header, Page, Slot, Span, ALIVE, FIRST_PAGE, HIGHEST_VERSION, LEAF, MOST_ENTRIES,
-    MOST_PAGES, SLOTS,
+    Entry, Header, Page, Slot, Span, ALIVE, FIRST_PAGE, HIGHEST_VERSION, LEAF, MOST_PAGES,
 };
 
 use super::entry;
 
-#[derive(Default)]
 pub struct Sketch {
+    edition: &'static Edition,
     pages: Vec<(u32, Vec<Entry>)>,
     roots: Vec<Slot>,
+}
+
+impl Default for Sketch {
+    fn default() -> Sketch {
+        Sketch::of(&FIRST)
+    }
 }
 
 impl Sketch {
@@ -21,9 +26,26 @@ impl Sketch {
         Sketch::default()
     }
 
+    pub fn of(edition: &'static Edition) -> Sketch {
+        Sketch {
+            edition,
+            pages: Vec::new(),
+            roots: Vec::new(),
+        }
+    }
+
+    /// The most entries of a page, and the fewest live ones.
+    pub fn most(&self) -> u32 {
+        self.edition.most_entries as u32
+    }
+
+    pub fn fewest(&self) -> u32 {
+        self.edition.fewest_live as u32
+    }
+
     /// A page's number.
     pub fn page(&mut self, level: u32, entries: Vec<Entry>) -> u32 {
-        assert!(entries.len() <= MOST_ENTRIES);
+        assert!(entries.len() <= self.edition.most_entries);
         self.pages.push((level, entries));
         FIRST_PAGE + self.pages.len() as u32 - 1
     }
@@ -95,7 +117,7 @@ impl Sketch {
     pub fn store(mut self, current: u32) -> Option<Vec<u8>> {
         self.roots.sort_by_key(|slot| slot.version);
         let fits = self.len() <= MOST_PAGES
-            && self.roots.len() <= SLOTS as usize
+            && self.roots.len() <= self.edition.slots as usize
             && current <= HIGHEST_VERSION;
         if !fits {
             return None;
@@ -109,7 +131,7 @@ impl Sketch {
                 entries.sort_by_key(Entry::order);
                 Page::new(level, span, entries)
             });
-        let header = Header::uncounted(&FIRST, current, false);
+        let header = Header::uncounted(self.edition, current, false);
         let mut pages: Vec<Page> = pages.collect();
         // the fewest pages that a store has
         if pages.is_empty() {

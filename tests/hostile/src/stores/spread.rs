@@ -1,10 +1,11 @@
 //! Few pages a level, and each of their routers to some page of the next: the ways
 //! down multiply, and a range has to answer as if it had gone each of them.
 
-use reference::layout::{Entry, Page, Span, FIRST_PAGE, LEAF, MOST_PAGES};
+use reference::edition::{Edition, FIRST, SECOND};
+use reference::layout::{Entry, Page, Slot, Span, FIRST_PAGE, LEAF, MOST_PAGES};
 use reference::rng::Rng;
 
-use super::{empty_root, entry, with_root};
+use super::{empty_root, entry, written};
 
 /// A range from 0 to this key follows every router and finds every setting.
 pub const HIGH: u32 = 8_000_000;
@@ -12,6 +13,7 @@ const SETTINGS: u32 = 7_000_000;
 
 #[derive(Clone, Copy)]
 pub struct Spread {
+    pub edition: &'static Edition,
     pub seed: u32,
     /// The root's level, and the pages of each level below it.
     pub depth: u32,
@@ -28,6 +30,7 @@ pub struct Spread {
 
 /// One page a level, twenty routers each to the next.
 pub const PLAIN: Spread = Spread {
+    edition: &FIRST,
     seed: 1,
     depth: 7,
     wide: 1,
@@ -36,6 +39,14 @@ pub const PLAIN: Spread = Spread {
     bare: 0,
     keys: Keys::Behind,
     crowd: 0,
+};
+
+/// The same of edition 2, forty routers each.
+pub const WIDER: Spread = Spread {
+    edition: &SECOND,
+    fan: 40,
+    settings: 40,
+    ..PLAIN
 };
 
 /// The stores of the table, with what they are.
@@ -71,6 +82,23 @@ pub fn rows() -> Vec<(&'static str, Spread)> {
                 ..PLAIN
             },
         ),
+        ("edition 2, one page a level", WIDER),
+        (
+            "edition 2, 681 pages a level, any keys",
+            Spread {
+                wide,
+                keys,
+                ..WIDER
+            },
+        ),
+        (
+            "edition 2, 4,083 more of level 7, the same keys",
+            Spread {
+                crowd,
+                keys: same,
+                ..WIDER
+            },
+        ),
     ]
 }
 
@@ -104,7 +132,9 @@ pub fn spread(numbers: Spread) -> Option<Vec<u8>> {
     for place in 0..=numbers.crowd {
         pages.push(page(numbers, &mut rng, numbers.depth, place));
     }
-    Some(with_root(pages, 1, root))
+    let slot = |version, root| Slot { version, root };
+    let slots = vec![slot(0, FIRST_PAGE), slot(1, root)];
+    Some(written(numbers.edition, pages, 1, slots))
 }
 
 fn page(numbers: Spread, rng: &mut Rng, level: u32, place: u32) -> Page {

@@ -2,7 +2,7 @@
 //! last for a while and none is passed over, and all of a page to one page below:
 //! as many ways down as a power of them.
 
-use reference::layout::{Entry, Span, ALIVE, FEWEST_LIVE, LEAF};
+use reference::layout::{Entry, Span, ALIVE, LEAF};
 
 use super::entry;
 use super::sketch::Sketch;
@@ -13,7 +13,7 @@ pub struct Storm {
     pub groups: u32,
     /// Pages under a root, beside one another.
     pub units: u32,
-    /// Routers of a unit, beside four that stay, and of a page under it.
+    /// Routers of a unit, beside as few as may be that stay, and of a page under it.
     pub pairs: u32,
     pub fan: u32,
     /// Levels under the units.
@@ -62,7 +62,7 @@ fn one_group(sketch: &mut Sketch, storm: Storm, span: Span) {
             start: span.start + late,
             ..span
         };
-        let staying = (0..FEWEST_LIVE as u32).map(|key| entry(low + key, alive, empty));
+        let staying = (0..sketch.fewest()).map(|key| entry(low + key, alive, empty));
         let more = routers(storm, storm.pairs, low + 8, first, span.end, top);
         let page = sketch.page(levels, staying.chain(more).collect());
         sketch.router(root, entry(low, alive, page));
@@ -91,8 +91,7 @@ fn routers(
 }
 
 /// The storm alone.
-pub fn alone(numbers: Storm) -> Option<Vec<u8>> {
-    let mut sketch = Sketch::new();
+pub fn alone(mut sketch: Sketch, numbers: Storm) -> Option<Vec<u8>> {
     let behind = storm(&mut sketch, numbers, 0);
     sketch.nothing_from(behind);
     sketch.store(ALIVE - 1)

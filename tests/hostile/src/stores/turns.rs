@@ -2,7 +2,7 @@
 //! be led to by any number of routers, and what will start in it ends the notes of
 //! all pages above, in each of the trees. It starts while none is reached.
 
-use reference::layout::{Entry, Span, ALIVE, LEAF, MOST_ENTRIES};
+use reference::layout::{Entry, Span, ALIVE, LEAF};
 
 use super::entry;
 use super::sketch::Sketch;
@@ -24,7 +24,6 @@ pub struct Turns {
     pub extra: u32,
 }
 
-const MANY: u32 = MOST_ENTRIES as u32;
 /// The low keys of two pages of level 2 lie this far apart.
 const APART: u32 = 64;
 
@@ -51,19 +50,23 @@ impl Turns {
         from + self.early() * self.trees + self.long()
     }
 
-    /// The pages, and a few more.
-    fn pages(self) -> u32 {
-        let tree = self.wide + self.wide.div_ceil(MANY) + 2;
-        let turning = (self.rounds() * self.trees).div_ceil(MANY);
-        self.fan * (self.leaves + self.wide) + self.trees * tree + turning + turning / 19 + 4
+    /// The pages of at most so many entries, and a few more.
+    fn pages(self, many: u32) -> u32 {
+        let tree = self.wide + self.wide.div_ceil(many) + 2;
+        let turning = (self.rounds() * self.trees).div_ceil(many);
+        self.fan * (self.leaves + self.wide)
+            + self.trees * tree
+            + turning
+            + turning / (many - 1)
+            + 4
     }
 }
 
 /// The turns, and a storm behind them or nothing.
-pub fn turns(numbers: Turns, stormy: bool) -> Option<Vec<u8>> {
-    let behind = numbers.behind(1);
-    let mut sketch = Sketch::new();
-    if behind >= ALIVE / 2 || numbers.wide > 400 || !sketch.has_room(numbers.pages()) {
+pub fn turns(mut sketch: Sketch, numbers: Turns, stormy: bool) -> Option<Vec<u8>> {
+    let (behind, many) = (numbers.behind(1), sketch.most());
+    let room = numbers.wide <= many * many && sketch.has_room(numbers.pages(many));
+    if behind >= ALIVE / 2 || !room {
         return None;
     }
     let end = match stormy {
@@ -115,7 +118,7 @@ fn trees(sketch: &mut Sketch, numbers: Turns, begin: u32) -> Vec<u32> {
             row.push(over(sketch, LEAF + 2, own, all));
         }
         for level in LEAF + 3..=LEAF + 4 {
-            let parts = row.chunks(MANY as usize);
+            let parts = row.chunks(sketch.most() as usize);
             row = parts.map(|own| over(sketch, level, own, all)).collect();
         }
         tops.push(row[0].1);
@@ -143,7 +146,7 @@ fn reached(sketch: &mut Sketch, numbers: Turns, tops: &[u32]) -> Vec<(Span, u32)
         let turns = (first..).zip(tops);
         routers.extend(turns.map(|(version, top)| entry(0, versions(version, 1), *top)));
     }
-    for own in routers.chunks(MANY as usize) {
+    for own in routers.chunks(sketch.most() as usize) {
         let end = own[own.len() - 1].span.end;
         pages.push((Span { start, end }, sketch.page(LEAF + 5, own.to_vec())));
         start = end;
@@ -154,7 +157,7 @@ fn reached(sketch: &mut Sketch, numbers: Turns, tops: &[u32]) -> Vec<(Span, u32)
 /// A root has two live routers at every version.
 fn under_roots(sketch: &mut Sketch, pages: &[(Span, u32)]) {
     let beside = sketch.page(LEAF + 5, Vec::new());
-    for own in pages.chunks(MANY as usize - 1) {
+    for own in pages.chunks(sketch.most() as usize - 1) {
         let (start, end) = (own[0].0.start, own[own.len() - 1].0.end);
         let routers = own.iter().map(|(span, page)| entry(0, *span, *page));
         let last = entry(1 << 23, Span { start, end }, beside);
