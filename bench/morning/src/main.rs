@@ -43,10 +43,12 @@ fn counted(programs: &Programs, files: &[PathBuf]) -> Option<Vec<[f64; 2]>> {
     files.iter().map(both).collect()
 }
 
-/// A line of each of the two tables.
-struct Row {
-    ratios: String,
-    times: String,
+/// A mix, its files of lines, and what was taken on them.
+struct Taken {
+    name: &'static str,
+    versions: usize,
+    files: Vec<PathBuf>,
+    times: Times,
 }
 
 /// The mix with its updates alone, and with the lookups of each spread behind them.
@@ -60,21 +62,17 @@ fn files(name: &str, mix: &mut Mix) -> Vec<PathBuf> {
     files
 }
 
-fn row(programs: &Programs, name: &str, kind: Kind) -> Row {
+fn taken(programs: &Programs, name: &'static str, kind: Kind) -> Taken {
     let mut mix = Mix::new(kind, 1);
     let files = files(name, &mut mix);
     for file in &files {
         assert!(programs.equal(file), "{name}: equal answers");
     }
-    let taken = programs.timed(&files);
-    let counts = counted(programs, &files).map_or(" | |".into(), |counts| fewer(&counts));
-    for file in files {
-        std::fs::remove_file(file).expect("the file of lines");
-    }
-    let versions = mix.versions.len();
-    Row {
-        ratios: format!("| {name} | {versions} | {} | {counts} |", longer(&taken)),
-        times: format!("| {name} | {} |", each(&taken)),
+    Taken {
+        name,
+        versions: mix.versions.len(),
+        times: programs.timed(&files),
+        files,
     }
 }
 
@@ -127,11 +125,25 @@ fn main() {
         .expect("the path of the console program");
     let own = std::env::current_exe().expect("the path of this program");
     let programs = Programs(vec![console.into(), own.with_file_name("lists")]);
-    let rows = KINDS.map(|(name, kind)| row(&programs, name, kind));
-    println!("| mix | versions | lookups, runs of 400 | lookups, any version | updates | both, runs | both, any version | instructions: lookups | updates | both |");
-    println!("|---|---|---|---|---|---|---|---|---|---|");
-    rows.iter().for_each(|row| println!("{}", row.ratios));
+    let mixes = KINDS.map(|(name, kind)| taken(&programs, name, kind));
+    println!("| mix | versions | lookups, runs of 400 | lookups, any version | updates | both, runs | both, any version |");
+    println!("|---|---|---|---|---|---|---|");
+    for mix in &mixes {
+        let longer = longer(&mix.times);
+        println!("| {} | {} | {longer} |", mix.name, mix.versions);
+    }
     println!("\n| mix | a lookup, runs of 400: console | lists | any version: console | lists | an update: console | lists |");
     println!("|---|---|---|---|---|---|---|");
-    rows.iter().for_each(|row| println!("{}", row.times));
+    for mix in &mixes {
+        println!("| {} | {} |", mix.name, each(&mix.times));
+    }
+    println!("\n| mix | instructions: lookups | updates | both |\n|---|---|---|---|");
+    for mix in &mixes {
+        if let Some(counts) = counted(&programs, &mix.files) {
+            println!("| {} | {} |", mix.name, fewer(&counts));
+        }
+    }
+    for file in mixes.iter().flat_map(|mix| &mix.files) {
+        std::fs::remove_file(file).expect("the file of lines");
+    }
 }

@@ -16,7 +16,7 @@ use reference::rng::Rng;
 
 const LOOKUPS: usize = 100_000;
 /// So often the programs take turns for some seconds.
-const SITTINGS: usize = 3;
+const SITTINGS: usize = 2;
 
 /// What is timed: the file with more lines, and the one under it; and how many there are of them.
 type Timed = (usize, usize, usize);
@@ -102,18 +102,27 @@ fn removed(files: Vec<PathBuf>) {
     }
 }
 
-/// The mix with the console beside the quick ones, and beside the host's calls, which take too long to be among them.
-fn mix(name: &str, kind: Kind, quick: &[Program], host: &[Program]) {
+/// The programs on a mix, the console first.
+fn mix(name: &str, kind: Kind, programs: &[Program], sittings: usize) {
     let mut mix = Mix::new(kind, 1);
     let files = files(name, &mut mix);
-    let mut rows = cells(quick.len(), &sat(quick, &files, SITTINGS), &OF_A_MIX);
-    rows.extend(cells(host.len(), &sat(host, &files, 1), &OF_A_MIX).split_off(1));
+    let rows = cells(programs.len(), &sat(programs, &files, sittings), &OF_A_MIX);
     let lists = mix.versions.iter().map(|keys| 24 + 8 * keys.len()).sum();
-    for (program, row) in quick.iter().chain(&host[1..]).zip(rows) {
+    for (program, row) in programs.iter().zip(rows) {
         let kept = bytes(program, lists, &files[1]);
         println!("| {name} | {} | {row} | {kept} |", program.name);
     }
     removed(files);
+}
+
+/// A table of all mixes.
+fn mixes(programs: &[Program], sittings: usize) {
+    println!("| mix | | an update | a lookup, runs of 400 | a lookup, any version | times the console: updates | lookups, runs | lookups, any version | bytes kept |");
+    println!("|---|---|---|---|---|---|---|---|---|");
+    for (name, kind) in KINDS {
+        mix(name, kind, programs, sittings);
+    }
+    println!();
 }
 
 /// The first line; the history behind it; and lookups of settings that are alive, each at a version of its own.
@@ -173,20 +182,14 @@ fn main() {
             false => println!("{name} is left out: {package} is not installed.\n"),
         }
     }
-    let host = [
-        console(),
-        program("the host's calls", own.with_file_name("host")),
-    ];
     println!("## SQLite and LMDB beside it\n");
-    println!("| mix | | an update | a lookup, runs of 400 | a lookup, any version | times the console: updates | lookups, runs | lookups, any version | bytes kept |");
-    println!("|---|---|---|---|---|---|---|---|---|");
-    for (name, kind) in KINDS {
-        mix(name, kind, &quick, &host);
-    }
-    println!("\n| settings | | a release | a lookup, any version | times the lists: releases | lookups | bytes kept |");
+    mixes(&quick, SITTINGS);
+    println!("| settings | | a release | a lookup, any version | times the lists: releases | lookups | bytes kept |");
     println!("|---|---|---|---|---|---|---|");
     for settings in [50, 500] {
         many(settings, &quick[1..]);
     }
-    println!();
+    println!("\nThe host's calls, which judge, take too long to be among them:\n");
+    let host = program("the host's calls", own.with_file_name("host"));
+    mixes(&[console(), host], 1);
 }
