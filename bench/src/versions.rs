@@ -20,7 +20,7 @@ const PAGES: usize = 4096;
 const POINTS: [usize; 6] = [1, 10, 100, 1_000, 10_000, 32_000];
 /// So many releases, each taken back, and lookups as offered, are timed in one go; and on a judged store, at each of some versions.
 const RELEASES: usize = 8;
-const LOOKUPS: usize = 1024;
+const LOOKUPS: usize = 65_536;
 const ON_JUDGED: u32 = 50_000;
 const STEP: u32 = 7_368_787;
 
