@@ -150,7 +150,7 @@ impl Chart {
     pub fn svg(&self) -> String {
         let height = match self.one_legend() {
             true => HEIGHT,
-            false => HEIGHT + ROW * self.rows() as f64,
+            false => HEIGHT + ROW * self.rows() as f64 + 12.0,
         };
         let mut svg = format!(
             "<svg xmlns=\"http://www.w3.org/2000/svg\" viewBox=\"0 0 {WIDTH} {height}\" width=\"{WIDTH}\" height=\"{height}\" font-family=\"sans-serif\" fill=\"{INK}\">\n<title>{}</title>\n<rect width=\"{WIDTH}\" height=\"{height}\" fill=\"#ffffff\"/>\n",
