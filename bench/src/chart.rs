@@ -1,5 +1,5 @@
 //! A chart as plain SVG: panels side by side, both axes of each logarithmic,
-//! times from bottom to top.
+//! times or bytes from bottom to top.
 
 use hostile::measure::told;
 
@@ -14,23 +14,51 @@ pub struct Panel {
     pub title: String,
     /// What stands along the bottom.
     pub axis: String,
+    pub measure: Measure,
     pub series: Vec<Series>,
+}
+
+/// What goes from bottom to top.
+#[derive(Clone, Copy, PartialEq)]
+pub enum Measure {
+    Time,
+    Bytes,
+}
+
+impl Measure {
+    fn words(self) -> &'static str {
+        match self {
+            Measure::Time => "processor time",
+            Measure::Bytes => "bytes",
+        }
+    }
+
+    /// A power of ten on the axis.
+    fn told(self, number: f64) -> String {
+        match self {
+            Measure::Time => told(number).replace(".00", ""),
+            Measure::Bytes if number >= 1e6 => format!("{} MB", number / 1e6),
+            Measure::Bytes if number >= 1e3 => format!("{} kB", number / 1e3),
+            Measure::Bytes => format!("{number} B"),
+        }
+    }
 }
 
 pub struct Series {
     pub name: &'static str,
     pub colour: &'static str,
+    pub dashed: bool,
     pub points: Vec<Point>,
 }
 
-/// A place along the bottom, and a time in seconds: the quartiles.
+/// A place along the bottom, and a time in seconds, or bytes: the quartiles.
 pub struct Point {
     pub place: usize,
     pub quartiles: [f64; 3],
 }
 
 impl Point {
-    /// On a logarithmic axis only a time above zero has a place.
+    /// On a logarithmic axis only what is above zero has a place.
     fn shown(&self) -> bool {
         self.quartiles[0] > 0.0
     }
@@ -42,19 +70,22 @@ const HEIGHT: f64 = 470.0;
 const ACROSS: f64 = 380.0;
 const TOP: f64 = 92.0;
 const BOTTOM: f64 = 400.0;
+/// From one row of a legend to the next.
+const ROW: f64 = 20.0;
 const INK: &str = "#222222";
 const LINES: &str = "#dddddd";
 
-/// Powers of ten from the first to the last, as seconds.
-struct Times {
+/// Powers of ten from the first to the last, as seconds or bytes.
+struct Scale {
     first: i32,
     last: i32,
 }
 
-impl Times {
-    /// Enough for all points of the chart.
-    fn of(panels: &[Panel]) -> Times {
-        let series = panels.iter().flat_map(|panel| &panel.series);
+impl Scale {
+    /// Enough for all points of the chart that have this measure.
+    fn of(panels: &[Panel], measure: Measure) -> Scale {
+        let panels = panels.iter().filter(|panel| panel.measure == measure);
+        let series = panels.flat_map(|panel| &panel.series);
         let points = series.flat_map(|series| &series.points);
         let shown = points.filter(|point| point.shown());
         let powers: Vec<f64> = shown
@@ -62,14 +93,14 @@ impl Times {
             .collect();
         let lowest = powers.iter().copied().fold(f64::MAX, f64::min);
         let highest = powers.iter().copied().fold(f64::MIN, f64::max);
-        Times {
+        Scale {
             first: lowest.floor() as i32,
             last: highest.ceil() as i32,
         }
     }
 
-    fn height(&self, seconds: f64) -> f64 {
-        let part = (seconds.log10() - f64::from(self.first)) / f64::from(self.last - self.first);
+    fn height(&self, number: f64) -> f64 {
+        let part = (number.log10() - f64::from(self.first)) / f64::from(self.last - self.first);
         BOTTOM - part * (BOTTOM - TOP)
     }
 }
@@ -86,9 +117,18 @@ fn line(from: (f64, f64), to: (f64, f64), colour: &str, width: f64) -> String {
     )
 }
 
+/// As long as it goes, or in dashes.
+fn joined(from: (f64, f64), to: (f64, f64), series: &Series) -> String {
+    let plain = line(from, to, series.colour, 2.0);
+    match series.dashed {
+        true => plain.replace("/>", " stroke-dasharray=\"6 4\"/>"),
+        false => plain,
+    }
+}
+
 /// The mark of a series, so that they differ by more than colour.
 fn mark(index: usize, x: f64, y: f64, colour: &str) -> String {
-    match index {
+    match index % 3 {
         0 => format!("<circle cx=\"{x:.1}\" cy=\"{y:.1}\" r=\"4\" fill=\"{colour}\"/>\n"),
         1 => format!(
             "<rect x=\"{:.1}\" y=\"{:.1}\" width=\"8\" height=\"8\" fill=\"{colour}\"/>\n",
@@ -108,38 +148,64 @@ fn mark(index: usize, x: f64, y: f64, colour: &str) -> String {
 
 impl Chart {
     pub fn svg(&self) -> String {
+        let height = match self.one_legend() {
+            true => HEIGHT,
+            false => HEIGHT + ROW * self.rows() as f64 + 12.0,
+        };
         let mut svg = format!(
-            "<svg xmlns=\"http://www.w3.org/2000/svg\" viewBox=\"0 0 {WIDTH} {HEIGHT}\" width=\"{WIDTH}\" height=\"{HEIGHT}\" font-family=\"sans-serif\" fill=\"{INK}\">\n<title>{}</title>\n<rect width=\"{WIDTH}\" height=\"{HEIGHT}\" fill=\"#ffffff\"/>\n",
+            "<svg xmlns=\"http://www.w3.org/2000/svg\" viewBox=\"0 0 {WIDTH} {height}\" width=\"{WIDTH}\" height=\"{height}\" font-family=\"sans-serif\" fill=\"{INK}\">\n<title>{}</title>\n<rect width=\"{WIDTH}\" height=\"{height}\" fill=\"#ffffff\"/>\n",
             self.title
         );
         svg += &text(WIDTH / 2.0, 26.0, "middle", 17, &self.title);
-        svg += &text(WIDTH / 2.0, HEIGHT - 8.0, "middle", 11, &self.note);
-        svg += &self.legend();
-        let times = Times::of(&self.panels);
+        svg += &text(WIDTH / 2.0, height - 8.0, "middle", 11, &self.note);
+        if self.one_legend() {
+            svg += &self.panels[0].legend((80.0, 48.0), 300.0, usize::MAX);
+        }
         for (panel, left) in self.panels.iter().zip([80.0, 80.0 + ACROSS + 110.0]) {
-            svg += &panel.svg(left, &times);
+            svg += &panel.svg(left, &Scale::of(&self.panels, panel.measure));
+            if !self.one_legend() {
+                svg += &panel.legend((left, BOTTOM + 66.0), 0.0, 1);
+            }
         }
         svg + "</svg>\n"
     }
 
-    fn legend(&self) -> String {
-        let mut svg = String::new();
-        for (index, series) in self.panels[0].series.iter().enumerate() {
-            let x = 80.0 + 300.0 * index as f64;
-            svg += &line((x - 14.0, 48.0), (x + 14.0, 48.0), series.colour, 2.0);
-            svg += &mark(index, x, 48.0, series.colour);
-            svg += &text(x + 22.0, 52.5, "start", 13, series.name);
-        }
-        svg
+    /// Whether all panels have the same series: then they are told once, above.
+    fn one_legend(&self) -> bool {
+        let names = |panel: &Panel| -> Vec<&str> {
+            let series = panel.series.iter();
+            series.map(|series| series.name).collect()
+        };
+        let first = names(&self.panels[0]);
+        self.panels.iter().all(|panel| names(panel) == first)
+    }
+
+    /// The most series of a panel.
+    fn rows(&self) -> usize {
+        let counts = self.panels.iter().map(|panel| panel.series.len());
+        counts.max().unwrap_or(0)
     }
 }
 
 impl Panel {
-    fn svg(&self, left: f64, times: &Times) -> String {
-        let mut svg = text(left + ACROSS / 2.0, TOP - 12.0, "middle", 14, &self.title);
-        svg += &self.axes(left, times);
+    /// What each series is, so many in a row.
+    fn legend(&self, (left, top): (f64, f64), apart: f64, in_row: usize) -> String {
+        let mut svg = String::new();
         for (index, series) in self.series.iter().enumerate() {
-            svg += &self.curve(index, series, left, times);
+            let x = left + apart * (index % in_row) as f64;
+            let y = top + ROW * (index / in_row) as f64;
+            svg += &joined((x - 14.0, y), (x + 14.0, y), series);
+            svg += &mark(index, x, y, series.colour);
+            svg += &text(x + 22.0, y + 4.5, "start", 13, series.name);
+        }
+        svg
+    }
+
+    fn svg(&self, left: f64, scale: &Scale) -> String {
+        let mut svg = text(left + ACROSS / 2.0, TOP - 12.0, "middle", 14, &self.title);
+        svg += &self.axes(left, scale);
+        for (index, series) in self.series.iter().enumerate() {
+            svg += &self.curve(index, series, left, scale);
         }
         svg
     }
@@ -157,19 +223,13 @@ impl Panel {
         left + ACROSS * (log(place) - first) / (last - first)
     }
 
-    fn axes(&self, left: f64, times: &Times) -> String {
+    fn axes(&self, left: f64, scale: &Scale) -> String {
         let mut svg = String::new();
-        for power in times.first..=times.last {
-            let seconds = 10f64.powi(power);
-            let y = times.height(seconds);
+        for power in scale.first..=scale.last {
+            let number = 10f64.powi(power);
+            let y = scale.height(number);
             svg += &line((left, y), (left + ACROSS, y), LINES, 1.0);
-            svg += &text(
-                left - 8.0,
-                y + 4.0,
-                "end",
-                12,
-                &told(seconds).replace(".00", ""),
-            );
+            svg += &text(left - 8.0, y + 4.0, "end", 12, &self.measure.told(number));
         }
         for place in self.places() {
             let x = self.x(left, place);
@@ -181,13 +241,14 @@ impl Panel {
         svg += &text(left + ACROSS / 2.0, BOTTOM + 42.0, "middle", 13, &self.axis);
         let middle = (TOP + BOTTOM) / 2.0;
         svg + &format!(
-            "<text transform=\"translate({:.1} {middle:.1}) rotate(-90)\" text-anchor=\"middle\" font-size=\"13\">processor time</text>\n",
-            left - 62.0
+            "<text transform=\"translate({:.1} {middle:.1}) rotate(-90)\" text-anchor=\"middle\" font-size=\"13\">{}</text>\n",
+            left - 62.0,
+            self.measure.words()
         )
     }
 
     /// The medians, joined, each with its quartiles as an upright line.
-    fn curve(&self, index: usize, series: &Series, left: f64, times: &Times) -> String {
+    fn curve(&self, index: usize, series: &Series, left: f64, scale: &Scale) -> String {
         let mut svg = String::new();
         let mut before: Option<(f64, f64)> = None;
         for point in &series.points {
@@ -196,9 +257,9 @@ impl Panel {
                 continue;
             }
             let x = self.x(left, point.place);
-            let [low, middle, high] = point.quartiles.map(|seconds| times.height(seconds));
+            let [low, middle, high] = point.quartiles.map(|number| scale.height(number));
             if let Some(before) = before {
-                svg += &line(before, (x, middle), series.colour, 2.0);
+                svg += &joined(before, (x, middle), series);
             }
             svg += &line((x, low), (x, high), series.colour, 1.0);
             svg += &mark(index, x, middle, series.colour);

@@ -16,6 +16,7 @@ mod proved;
 mod prunes;
 mod returns;
 mod updates;
+mod versions;
 mod worst;
 
 use std::hint::black_box;
@@ -30,7 +31,7 @@ use reference::{calls, store};
 
 /// All tables, or the one that the first argument names.
 fn main() {
-    let tables: [(&str, fn()); 15] = [
+    let tables: [(&str, fn()); 16] = [
         ("bytes", byte_layer),
         ("quick", judging::judging),
         ("check", check_of_histories),
@@ -45,6 +46,7 @@ fn main() {
         ("updates", updates::updates),
         ("program", program::program),
         ("prunes", prunes::prunes),
+        ("versions", versions::versions),
         ("plot", plot::plot),
     ];
     let wanted = std::env::args().nth(1);

@@ -6,7 +6,7 @@ use std::hint::black_box;
 use hostile::stores;
 use reference::number;
 
-use crate::chart::{Chart, Panel, Point, Series};
+use crate::chart::{Chart, Measure, Panel, Point, Series};
 use crate::{proved, updates};
 use hostile::measure::in_turn;
 
@@ -32,11 +32,13 @@ pub fn plot() {
             Panel {
                 title: format!("with pages ({VERSIONS} versions)"),
                 axis: "pages of the store".to_string(),
+                measure: Measure::Time,
                 series: series(by_pages.map(|pages| (pages, pages, VERSIONS))),
             },
             Panel {
                 title: format!("with versions ({PAGES} pages)"),
                 axis: "committed versions".to_string(),
+                measure: Measure::Time,
                 series: series(by_versions.map(|versions| (versions, PAGES, versions))),
             },
         ],
@@ -56,6 +58,7 @@ fn series(stores: impl Iterator<Item = (usize, usize, usize)>) -> Vec<Series> {
     .map(|(name, colour)| Series {
         name,
         colour,
+        dashed: false,
         points: Vec::new(),
     });
     for (place, pages, versions) in stores {

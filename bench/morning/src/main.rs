@@ -9,37 +9,14 @@
 //! Instructions are counted by valgrind, where it is installed: they do not
 //! depend on what else the machine does.
 
-use std::fs::File;
 use std::path::{Path, PathBuf};
-use std::process::{Command, Output, Stdio};
+use std::process::Stdio;
 
-use hostile::measure::{in_turn_outside, times, told, Times};
-use morning::mix::{Kind, Mix, Spread, KINDS};
+use hostile::measure::{times, told, Times};
+use morning::mix::{Kind, Mix, Spread, KINDS, UPDATES};
+use morning::turns::{start, written, Programs};
 
 const LOOKUPS: usize = 100_000;
-const SPREADS: [(&str, Spread); 2] = [
-    ("runs of 400 at one version", Spread::Runs),
-    ("each at a version of its own", Spread::Random),
-];
-
-/// The console and the lists.
-struct Programs([PathBuf; 2]);
-
-fn start(program: &[&Path], lines: &Path, output: Stdio) -> Output {
-    let input = File::open(lines).expect("the lines");
-    let mut command = Command::new(program[0]);
-    command.args(&program[1..]).stdin(input).stdout(output);
-    let ended = command.output().expect("the program starts");
-    assert!(ended.status.success(), "{program:?}");
-    ended
-}
-
-fn written(name: &str, lines: &[u8]) -> PathBuf {
-    let name = format!("rcst-morning-{}-{name}", std::process::id());
-    let path = std::env::temp_dir().join(name);
-    std::fs::write(&path, lines).expect("a file for the lines");
-    path
-}
 
 /// Instructions of a whole program, or none where valgrind is not installed.
 fn instructions(program: &Path, lines: &Path) -> Option<f64> {
@@ -57,84 +34,88 @@ fn instructions(program: &Path, lines: &Path) -> Option<f64> {
     counted.and_then(|number| number.trim().parse().ok())
 }
 
-impl Programs {
-    fn equal(&self, lines: &Path) -> bool {
-        let [one, other] = [0, 1].map(|way| {
-            let program: &Path = &self.0[way];
-            start(&[program], lines, Stdio::piped()).stdout
-        });
-        one == other
-    }
+/// Both programs' instructions on each file.
+fn counted(programs: &Programs, files: &[PathBuf]) -> Option<Vec<[f64; 2]>> {
+    let both = |file: &PathBuf| {
+        let [one, other] = [0, 1].map(|way| instructions(&programs.0[way], file));
+        Some([one?, other?])
+    };
+    files.iter().map(both).collect()
+}
 
-    /// Ways 0 and 1: the two on the first file; 2 and 3: on the second; and so on.
-    fn timed(&self, files: &[PathBuf]) -> Times {
-        let way = |program: &Path, file: &Path| start(&[program], file, Stdio::null()).stderr.len();
-        let pairs = files
-            .iter()
-            .flat_map(|file| self.0.iter().map(move |program| (program, file)));
-        let mut ways: Vec<_> = pairs
-            .map(|(program, file)| move || way(program, file) as u64)
-            .collect();
-        let mut ways: Vec<&mut dyn FnMut() -> u64> =
-            ways.iter_mut().map(|way| way as &mut _).collect();
-        in_turn_outside(&mut ways)
-    }
+/// A mix, its files of lines, and what was taken on them.
+struct Taken {
+    name: &'static str,
+    versions: usize,
+    files: Vec<PathBuf>,
+    times: Times,
+}
 
-    /// Both programs' instructions on each file.
-    fn counted(&self, files: &[PathBuf]) -> Option<Vec<[f64; 2]>> {
-        let both = |file: &PathBuf| {
-            let [one, other] = [0, 1].map(|way| instructions(&self.0[way], file));
-            Some([one?, other?])
-        };
-        files.iter().map(both).collect()
+/// The mix with its updates alone, and with the lookups of each spread behind them.
+fn files(name: &str, mix: &mut Mix) -> Vec<PathBuf> {
+    let mut files = vec![written(name, &mix.lines)];
+    for (place, spread) in [Spread::Runs, Spread::Random].into_iter().enumerate() {
+        let mut lines = mix.lines.clone();
+        lines.extend(mix.lookups(LOOKUPS, spread));
+        files.push(written(&format!("{name}-{place}"), &lines));
     }
+    files
+}
 
-    fn row(&self, name: &str, kind: Kind) {
-        let mut mix = Mix::new(kind, 1);
-        let mut files = vec![written(name, &mix.lines)];
-        for (place, (_, spread)) in SPREADS.iter().enumerate() {
-            let mut lines = mix.lines.clone();
-            lines.extend(mix.lookups(LOOKUPS, *spread));
-            files.push(written(&format!("{name}-{place}"), &lines));
-        }
-        for file in &files {
-            assert!(self.equal(file), "{name}: equal answers");
-        }
-        let (roots, _) = mix.shape();
-        println!(
-            "\n**{name}**: {} versions, {roots} roots\n",
-            mix.versions.len()
-        );
-        println!("| | ratio | console | lists | instructions, ratio |\n|---|---|---|---|---|");
-        table(&self.timed(&files), self.counted(&files).as_deref());
-        for file in files {
-            std::fs::remove_file(file).expect("the file of lines");
-        }
+fn taken(programs: &Programs, name: &'static str, kind: Kind) -> Taken {
+    let mut mix = Mix::new(kind, 1);
+    let files = files(name, &mut mix);
+    for file in &files {
+        assert!(programs.equal(file), "{name}: equal answers");
+    }
+    Taken {
+        name,
+        versions: mix.versions.len(),
+        times: programs.timed(&files),
+        files,
     }
 }
 
-/// The updates, and for each spread the lookups alone and both together.
-fn table(taken: &Times, counted: Option<&[[f64; 2]]>) {
-    let count = |of: &dyn Fn(&[[f64; 2]]) -> f64| counted.map_or(String::new(), |c| times(of(c)));
-    let line = |what: &str, ratio: f64, [console, lists]: [f64; 2], instructions: String| {
-        let (ratio, console, lists) = (times(ratio), told(console), told(lists));
-        println!("| {what} | {ratio} | {console} | {lists} | {instructions} |");
-    };
-    let whole = |what: &str, at: usize| {
-        let way = 2 * at;
-        let each = [way, way + 1].map(|way| taken.of(way));
-        let fewer = count(&|c| c[at][0] / c[at][1]);
-        line(what, taken.ratio(way, way + 1), each, fewer);
-    };
-    whole("10,000 updates", 0);
-    for (place, (spread, _)) in SPREADS.iter().enumerate() {
-        let (at, way) = (place + 1, 2 * (place + 1));
-        let alone = [0, 1].map(|program| taken.more(way + program, program)[1]);
-        let ratio = taken.ratio_of_more([way, 0], [way + 1, 1]);
-        let fewer = count(&|c| (c[at][0] - c[0][0]) / (c[at][1] - c[0][1]));
-        line(&format!("100,000 lookups, {spread}"), ratio, alone, fewer);
-        whole("both", at);
-    }
+/// How many times as long the console takes: lookups in runs, at any version; updates; both, in runs, at any version.
+fn longer(taken: &Times) -> String {
+    let alone = |at: usize| times(taken.ratio_of_more([2 * at, 0], [2 * at + 1, 1]));
+    let whole = |at: usize| times(taken.ratio(2 * at, 2 * at + 1));
+    [
+        format!("**{}**", alone(1)),
+        format!("**{}**", alone(2)),
+        whole(0),
+        whole(1),
+        whole(2),
+    ]
+    .join(" | ")
+}
+
+/// How many times as many instructions it takes: lookups, updates, both; of the two spreads the larger.
+fn fewer(counts: &[[f64; 2]]) -> String {
+    let [updates, runs, any] = [0, 1, 2].map(|at| counts[at]);
+    let alone = |both: [f64; 2]| (both[0] - updates[0]) / (both[1] - updates[1]);
+    let whole = |both: [f64; 2]| both[0] / both[1];
+    [
+        alone(runs).max(alone(any)),
+        whole(updates),
+        whole(runs).max(whole(any)),
+    ]
+    .map(times)
+    .join(" | ")
+}
+
+/// What one of them takes the console and the lists: a lookup in runs, one at any version, an update.
+fn each(taken: &Times) -> String {
+    let lookup =
+        |at: usize, program: usize| told(taken.more(2 * at + program, program)[1] / LOOKUPS as f64);
+    let update = |program: usize| told(taken.of(program) / UPDATES as f64);
+    let both = |of: &dyn Fn(usize) -> String| format!("{} | {}", of(0), of(1));
+    [
+        both(&|program| lookup(1, program)),
+        both(&|program| lookup(2, program)),
+        both(&update),
+    ]
+    .join(" | ")
 }
 
 /// `morning CONSOLE`
@@ -143,8 +124,26 @@ fn main() {
         .nth(1)
         .expect("the path of the console program");
     let own = std::env::current_exe().expect("the path of this program");
-    let programs = Programs([console.into(), own.with_file_name("lists")]);
-    for (name, kind) in KINDS {
-        programs.row(name, kind);
+    let programs = Programs(vec![console.into(), own.with_file_name("lists")]);
+    let mixes = KINDS.map(|(name, kind)| taken(&programs, name, kind));
+    println!("| mix | versions | lookups, runs of 400 | lookups, any version | updates | both, runs | both, any version |");
+    println!("|---|---|---|---|---|---|---|");
+    for mix in &mixes {
+        let longer = longer(&mix.times);
+        println!("| {} | {} | {longer} |", mix.name, mix.versions);
+    }
+    println!("\n| mix | a lookup, runs of 400: console | lists | any version: console | lists | an update: console | lists |");
+    println!("|---|---|---|---|---|---|---|");
+    for mix in &mixes {
+        println!("| {} | {} |", mix.name, each(&mix.times));
+    }
+    println!("\n| mix | instructions: lookups | updates | both |\n|---|---|---|---|");
+    for mix in &mixes {
+        if let Some(counts) = counted(&programs, &mix.files) {
+            println!("| {} | {} |", mix.name, fewer(&counts));
+        }
+    }
+    for file in mixes.iter().flat_map(|mix| &mix.files) {
+        std::fs::remove_file(file).expect("the file of lines");
     }
 }
