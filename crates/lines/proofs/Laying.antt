@@ -14,6 +14,7 @@ use Rattle.lines.specs.declared.Answer.{Answer}
 use Rattle.lines.specs.declared.Answer.the-variants.{Done, Refused, Value, Absent, Count, Setting, BadLine}
 use Rattle.lines.specs.Console.{ascii}
 use Rattle.lines.specs.Answers.{decimalBy, decimalWithin, decimal, named, textOf, laid, Put}
+use Rattle.lines.specs.Digits.{pair, four}
 
 -- ---- laid over a buffer
 
@@ -82,8 +83,58 @@ pub decimal-more : (n : ℕ) → 10 ≤ n → n < 4294967296 → decimal n ≡ d
 unfolding decimalWithin
 decimal-more n h g = rw (le-ltb n 10 h) (ap (λ (l : List ℕ). l ++ ((48 + n % 10) ∷ [])) (sym (more-room 8 (n / 10) (omega arith))))
 
-pub length-more : (n : ℕ) → 10 ≤ n → n < 4294967296 → length (decimal n) ≡ length (decimal (n / 10)) + 1
-length-more n h g = ap length (decimal-more n h g) ∙ length-append (decimal (n / 10)) ((48 + n % 10) ∷ [])
+-- two digits more, and four
+
+digits-pair : (n : ℕ) → ((48 + n / 10 % 10) ∷ []) ++ ((48 + n % 10) ∷ []) ≡ pair (n % 100)
+digits-pair n =
+    let a : n / 10 % 10 ≡ n % 100 / 10 = omega arith in
+    let b : n % 10 ≡ n % 100 % 10 = omega arith in
+    rw (a, b)
+
+pub decimal-pair : (n : ℕ) → 10 ≤ n → n < 100 → decimal n ≡ pair n
+decimal-pair n h g =
+    let low : n / 10 < 10 = omega arith in
+    decimal-more n h (omega arith) ∙ rw (decimal-small (n / 10) low)
+
+pub decimal-pairs : (n : ℕ) → 100 ≤ n → n < 4294967296 → decimal n ≡ decimal (n / 100) ++ pair (n % 100)
+decimal-pairs n h g =
+    let tenth : 10 ≤ n / 10 = omega arith in
+    let below : n / 10 < 4294967296 = omega arith in
+    let hundredth : n / 10 / 10 ≡ n / 100 = omega arith in
+    decimal-more n (omega arith) g
+    ∙ ap (λ (l : List ℕ). l ++ ((48 + n % 10) ∷ [])) (decimal-more (n / 10) tenth below)
+    ∙ append-assoc (decimal (n / 10 / 10)) ((48 + n / 10 % 10) ∷ []) ((48 + n % 10) ∷ [])
+    ∙ rw (hundredth, digits-pair n)
+
+pub decimal-three : (n : ℕ) → 100 ≤ n → n < 1000 → decimal n ≡ ((48 + n / 100) ∷ []) ++ pair (n % 100)
+decimal-three n h g =
+    let low : n / 100 < 10 = omega arith in
+    decimal-pairs n h (omega arith) ∙ rw (decimal-small (n / 100) low)
+
+pub decimal-four : (n : ℕ) → 1000 ≤ n → n < 10000 → decimal n ≡ four n
+decimal-four n h g =
+    let some : 10 ≤ n / 100 = omega arith in
+    let low : n / 100 < 100 = omega arith in
+    decimal-pairs n (omega arith) (omega arith) ∙ rw (decimal-pair (n / 100) some low)
+
+digits-four : (n : ℕ) → pair (n / 100 % 100) ++ pair (n % 100) ≡ four (n % 10000)
+digits-four n =
+    let a : n / 100 % 100 ≡ n % 10000 / 100 = omega arith in
+    let b : n % 100 ≡ n % 10000 % 100 = omega arith in
+    rw (a, b)
+
+pub decimal-fours : (n : ℕ) → 10000 ≤ n → n < 4294967296 → decimal n ≡ decimal (n / 10000) ++ four (n % 10000)
+decimal-fours n h g =
+    let some : 100 ≤ n / 100 = omega arith in
+    let below : n / 100 < 4294967296 = omega arith in
+    let hundredth : n / 100 / 100 ≡ n / 10000 = omega arith in
+    decimal-pairs n (omega arith) g
+    ∙ ap (λ (l : List ℕ). l ++ pair (n % 100)) (decimal-pairs (n / 100) some below)
+    ∙ append-assoc (decimal (n / 100 / 100)) (pair (n / 100 % 100)) (pair (n % 100))
+    ∙ rw (hundredth, digits-four n)
+
+pub length-fours : (n : ℕ) → 10000 ≤ n → n < 4294967296 → length (decimal n) ≡ length (decimal (n / 10000)) + 4
+length-fours n h g = ap length (decimal-fours n h g) ∙ length-append (decimal (n / 10000)) (four (n % 10000))
 
 pub length-named : (w : List ℕ) (n : ℕ) → length (named w n) ≡ length w + (length (decimal n) + 1)
 length-named w n = length-append w (decimal n ++ ascii "\n") ∙ rw (length-append (decimal n) (ascii "\n"))

@@ -14,9 +14,11 @@ use borrow.Author.Tests.{eqb-true}
 use Rattle.lines.specs.declared.Held.{Held}
 use Rattle.lines.specs.declared.Taken.{Taken}
 use Rattle.lines.specs.Words.{until, untilBy}
-use Rattle.lines.specs.Reading.{Reading, kept, pushBy, readOn, told, heardLines, Step, stepOf, reading, shown, Hears}
+use Rattle.lines.specs.declared.Heard.the-variants.{Whole}
+use Rattle.lines.specs.Console.{commandOf}
+use Rattle.lines.specs.Reading.{Reading, kept, next, lineOf, pushBy, readOn, told, heardLines, Step, stepOf, reading, shown, Hears}
 use Rattle.lines.proofs.Keeping.{take-again, step-whole, step-part}
-use Rattle.lines.proofs.Streams.{told-append, readOn-append}
+use Rattle.lines.proofs.Streams.{enough, told-append, readOn-append}
 
 -- ---- the bytes before a mark, and the mark
 
@@ -69,6 +71,14 @@ read-quiet r [] h = sym (kept-none r h)
 read-quiet r (b ∷ bs) h = read-by r b bs h (eqb b 10) refl (read-quiet (kept r (b ∷ [])) bs (kept-room r (b ∷ [])))
 
 -- ---- the step
+
+-- nothing is held of a line that is whole in the piece: its text there tells what the bytes kept of it would tell
+pub step-standing : (r : Reading) (c : List ℕ) (e : ℕ) → r .text ≡ [] → e ≡ until 10 c → e < length c
+    → record { after = next r; used = e + 1; heard = Whole (lineOf (record { text = take e c; before = r .before })) } ≡ stepOf r c
+step-standing r c e none found h =
+    let same : commandOf (take 81 (r .text ++ take e c)) ≡ commandOf (take e c) = rw none (enough (take e c)) in
+    (λ i. record { after = next r; used = e + 1; heard = Whole (record { number = r .before + 1; command = sym same i }) })
+    ∙ step-whole r c e found h
 
 module _ (r : Reading) (c : List ℕ) (room : length (r .text) ≤ 81) where
   -- the bytes up to the newline, and the rest

@@ -2,5 +2,6 @@ pub mod Console
 pub mod Words
 pub mod Reading
 pub mod Answers
+pub mod Digits
 pub mod Session
 pub mod Examples

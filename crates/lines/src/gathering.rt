@@ -50,6 +50,16 @@ fn keep(held: Held, text: &[u8]) -> Held
     }
 }
 
+// The line of a text, where it stands.
+fn stands(before: u64, text: &[u8]) -> Line
+    requires { ⌜ before + 1 < 2 ^ 64 ⌝ }
+    ensures { λ r. ⌜ r ≡ lineOf (record { text = now (text .entry); before = before }) ⌝ }
+{
+    let command = parse(text);
+    let number = before + 1;
+    Line { number, command }
+}
+
 // The line that ends here.
 fn line(held: Held) -> Line
     requires { ⌜ held .len ≤ 81 ⌝ }
@@ -58,9 +68,7 @@ fn line(held: Held) -> Line
 {
     let bytes = held.bytes;
     let len = held.len;
-    let command = parse(&bytes[..len]);
-    let number = held.before + 1;
-    Line { number, command }
+    stands(held.before, &bytes[..len])
 }
 
 // The line behind it.
@@ -75,12 +83,24 @@ fn next(mut held: Held) -> Held
 }
 
 // Up to the first newline of a piece of the input, or to its end. A caller goes on behind the bytes used, until the piece is used up.
+// A line that is whole in the piece is read where it stands; what is kept are bytes of a line that a piece's end cuts.
 pub fn hear(held: Held, piece: &[u8]) -> Taken
     requires { ⌜ held .len ≤ 81 ⌝ }
     requires { ⌜ held .before + 1 < 2 ^ 64 ⌝ }
     ensures { λ r. ⌜ Hears held (now (piece .entry)) r ⌝ }
 {
     let e = find(piece, b'\n');
+    if held.len < 1 {
+        if e < piece.len() {
+            let heard = Heard::Whole(stands(held.before, &piece[..e]));
+            let behind = next(held);
+            return Taken {
+                held: behind,
+                used: e + 1,
+                heard,
+            };
+        }
+    }
     let more = keep(held, &piece[..e]);
     if e < piece.len() {
         let heard = Heard::Whole(line(more));

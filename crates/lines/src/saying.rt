@@ -3,6 +3,7 @@ ghost use mathlib.Core.List.{[], _∷_};
 ghost use Prim.Native.Nat.{_+_, _<_, _≤_};
 ghost use lib.ListN.{length};
 ghost use Rattle.lines.specs.Answers.{decimal, named, textOf, Put};
+ghost use Rattle.lines.specs.Digits.{pair, four};
 use crate::Answer;
 
 fn put(text: &[u8], out: &mut [u8], at: usize) -> usize
@@ -26,15 +27,65 @@ fn put_digit(d: u32, out: &mut [u8], at: usize) -> usize
     at + 1
 }
 
-fn put_number(n: u32, out: &mut [u8], at: usize) -> usize
+fn put_pair(n: u32, out: &mut [u8], at: usize) -> usize
+    requires { ⌜ n < 100 ⌝ }
+    requires { ⌜ at + 2 ≤ length (now out) ⌝ }
+    ensures { λ r. ⌜ Put (now (out .entry)) at (pair n) (now (out .exit)) r ⌝ }
+{
+    let e = put_digit(n / 10, out, at);
+    put_digit(n % 10, out, e)
+}
+
+fn put_four(n: u32, out: &mut [u8], at: usize) -> usize
+    requires { ⌜ n < 10000 ⌝ }
+    requires { ⌜ at + 4 ≤ length (now out) ⌝ }
+    ensures { λ r. ⌜ Put (now (out .entry)) at (four n) (now (out .exit)) r ⌝ }
+{
+    let e = put_pair(n / 100, out, at);
+    put_pair(n % 100, out, e)
+}
+
+// One to four digits.
+fn put_few(n: u32, out: &mut [u8], at: usize) -> usize
+    requires { ⌜ n < 10000 ⌝ }
     requires { ⌜ at + length (decimal n) ≤ length (now out) ⌝ }
     ensures { λ r. ⌜ Put (now (out .entry)) at (decimal n) (now (out .exit)) r ⌝ }
 {
     if n < 10 {
         return put_digit(n, out, at);
     }
-    let e = put_number(n / 10, out, at);
-    put_digit(n % 10, out, e)
+    if n < 100 {
+        return put_pair(n, out, at);
+    }
+    if n < 1000 {
+        let e = put_digit(n / 100, out, at);
+        return put_pair(n % 100, out, e);
+    }
+    put_four(n, out, at)
+}
+
+// One to eight digits.
+fn put_some(n: u32, out: &mut [u8], at: usize) -> usize
+    requires { ⌜ n < 100000000 ⌝ }
+    requires { ⌜ at + length (decimal n) ≤ length (now out) ⌝ }
+    ensures { λ r. ⌜ Put (now (out .entry)) at (decimal n) (now (out .exit)) r ⌝ }
+{
+    if n < 10000 {
+        return put_few(n, out, at);
+    }
+    let e = put_few(n / 10000, out, at);
+    put_four(n % 10000, out, e)
+}
+
+fn put_number(n: u32, out: &mut [u8], at: usize) -> usize
+    requires { ⌜ at + length (decimal n) ≤ length (now out) ⌝ }
+    ensures { λ r. ⌜ Put (now (out .entry)) at (decimal n) (now (out .exit)) r ⌝ }
+{
+    if n < 10000 {
+        return put_few(n, out, at);
+    }
+    let e = put_some(n / 10000, out, at);
+    put_four(n % 10000, out, e)
 }
 
 // A word, a number, the line's end.

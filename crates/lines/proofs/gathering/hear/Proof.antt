@@ -1,7 +1,7 @@
--- What is kept, and the line that ends at a newline, are those of the step. Assumes nothing.
+-- The line that ends at a newline, where it stands or of what is kept, and what is kept then, are those of the step. Assumes nothing.
 use Prim.Native.Nat.{ℕ, _+_}
 use mathlib.Core.Path.{_≡_, ap, sym, _∙_}
-use mathlib.Core.List.{List}
+use mathlib.Core.List.{List, []}
 use native.Mathlib.Omega.{arith}
 use lib.ListN.{take}
 use lib.Seq.{length-take-le}
@@ -10,16 +10,49 @@ use Rattle.lines.specs.declared.Heard.the-variants.{Whole, Nothing}
 use Rattle.lines.specs.Reading.{Reading, reading, kept, next, lineOf}
 use Rattle.lines.proofs.Cutting.{until-le}
 use Rattle.lines.proofs.Keeping.{step-whole, step-part}
+use Rattle.lines.proofs.Steps.{step-standing}
 use Rattle.lines.proofs.gathering.hear.Statement.{statement}
 use Rattle.lines.proofs.gathering.hear.Tie as tie
 
 find-requires : tie.Need-find-requires
 find-requires c κs = search needs
 
+slice-aggregate-stands : tie.Need-slice-aggregate-stands
+slice-aggregate-stands c =
+    let p : List ℕ = c .before .before .before .before .before .before .args .piece .now in
+    sym (length-take-le (c .before .before .before .before .find .result) p (omega (arith, until-le 10 p, c .before .before .before .before .find .ensures)))
+
+stands-requires : tie.Need-stands-requires
+stands-requires c κs = search needs
+
+next-requires : tie.Need-next-requires
+next-requires c κs = search needs
+
+add-t15 : tie.Need-add-t15
+add-t15 c = search needs
+
+returns : tie.Need-returns
+returns c =
+    let s = c .before .before .before .before .before .before .before .before in
+    let p : List ℕ = s .args .piece .now in
+    let h : Reading = reading (s .args .held) in
+    let e : ℕ = c .before .before .before .before .before .before .find .result in
+    let empty : s .args .held .len ≡ 0 = omega arith in
+    let none : h .text ≡ [] = ap (λ (n : ℕ). take n (s .args .held .bytes)) empty in
+    let after : reading (c .next .result) ≡ next h = c .next .ensures .0 in
+    let line : c .before .stands .result ≡ lineOf (record { text = take e p; before = h .before }) = c .before .stands .ensures in
+    record {
+      step = (λ i. record { after = after i; used = e + 1; heard = Whole (line i) }) ∙ step-standing h p e none (c .before .before .before .before .before .before .find .ensures) (omega arith);
+      room = c .next .ensures .1;
+      moves = λ _. omega arith;
+      within = omega arith;
+      few = omega (arith, ap (λ (r : Reading). r .before) after);
+    }
+
 slice-aggregate-keep : tie.Need-slice-aggregate-keep
 slice-aggregate-keep c =
-    let p : List ℕ = c .before .before .before .args .piece .now in
-    sym (length-take-le (c .before .find .result) p (omega (arith, until-le 10 p, c .before .find .ensures)))
+    let p : List ℕ = c .before .before .before .before .before .args .piece .now in
+    sym (length-take-le (c .before .before .before .find .result) p (omega (arith, until-le 10 p, c .before .before .before .find .ensures)))
 
 keep-requires : tie.Need-keep-requires
 keep-requires c κs = search needs
@@ -27,41 +60,41 @@ keep-requires c κs = search needs
 line-requires : tie.Need-line-requires
 line-requires c κs = (c .before .keep .ensures .1, omega (arith, ap (λ (r : Reading). r .before) (c .before .keep .ensures .0)))
 
-next-requires : tie.Need-next-requires
-next-requires c κs = omega (arith, ap (λ (r : Reading). r .before) (c .before .before .keep .ensures .0))
+next-requires-2 : tie.Need-next-requires-2
+next-requires-2 c κs = omega (arith, ap (λ (r : Reading). r .before) (c .before .before .keep .ensures .0))
 
-add-t12 : tie.Need-add-t12
-add-t12 c = search needs
+add-t20 : tie.Need-add-t20
+add-t20 c = search needs
 
-returns : tie.Need-returns
-returns c =
-    let s = c .before .before .before .before .before .before .before in
+returns-2 : tie.Need-returns-2
+returns-2 c =
+    let s = c .before .before .before .before .before .before .before .before .before in
     let p : List ℕ = s .args .piece .now in
     let h : Reading = reading (s .args .held) in
-    let e : ℕ = c .before .before .before .before .before .find .result in
+    let e : ℕ = c .before .before .before .before .before .before .before .find .result in
     let more = c .before .before .before .keep .ensures .0 in
-    let after : reading (c .next .result) ≡ next (kept h (take e p)) = c .next .ensures .0 ∙ ap next more in
+    let after : reading (c .next2 .result) ≡ next (kept h (take e p)) = c .next2 .ensures .0 ∙ ap next more in
     let line : c .before .line .result ≡ lineOf (kept h (take e p)) = c .before .line .ensures ∙ ap lineOf more in
     record {
-      step = (λ i. record { after = after i; used = e + 1; heard = Whole (line i) }) ∙ step-whole h p e (c .before .before .before .before .before .find .ensures) (omega arith);
-      room = c .next .ensures .1;
+      step = (λ i. record { after = after i; used = e + 1; heard = Whole (line i) }) ∙ step-whole h p e (c .before .before .before .before .before .before .before .find .ensures) (omega arith);
+      room = c .next2 .ensures .1;
       moves = λ _. omega arith;
       within = omega arith;
       few = omega (arith, ap (λ (r : Reading). r .before) after);
     }
 
-returns-2 : tie.Need-returns-2
-returns-2 c =
-    let s = c .before .before .before .before .before in
+returns-3 : tie.Need-returns-3
+returns-3 c =
+    let s = c .before .before .before .before .before .before .before in
     let p : List ℕ = s .args .piece .now in
     let h : Reading = reading (s .args .held) in
-    let e : ℕ = c .before .before .before .find .result in
+    let e : ℕ = c .before .before .before .before .before .find .result in
     let after : reading (c .before .keep .result) ≡ kept h (take e p) = c .before .keep .ensures .0 in
     record {
-      step = (λ i. record { after = after i; used = e; heard = Nothing }) ∙ step-part h p e (c .before .before .before .find .ensures) (omega arith);
+      step = (λ i. record { after = after i; used = e; heard = Nothing }) ∙ step-part h p e (c .before .before .before .before .before .find .ensures) (omega arith);
       room = c .before .keep .ensures .1;
       moves = λ some. omega arith;
-      within = omega (arith, until-le 10 p, c .before .before .before .find .ensures);
+      within = omega (arith, until-le 10 p, c .before .before .before .before .before .find .ensures);
       few = omega (arith, ap (λ (r : Reading). r .before) after);
     }
 
@@ -70,10 +103,15 @@ hear-spec =
     tie.close
     (tie.spec
     find-requires
+    slice-aggregate-stands
+    stands-requires
+    next-requires
+    add-t15
+    returns
     slice-aggregate-keep
     keep-requires
     line-requires
-    next-requires
-    add-t12
-    returns
-    returns-2)
+    next-requires-2
+    add-t20
+    returns-2
+    returns-3)
