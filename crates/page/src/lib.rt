@@ -7,7 +7,7 @@ ghost use lib.ListN.{length};
 ghost use Rattle.model.specs.Limits.{Edition, liveShown};
 ghost use Rattle.model.specs.Field.{lay, zeros};
 ghost use Rattle.model.specs.Layout.{entryParts, readEntry, countOf, liveOf, encodePage, decodePage};
-ghost use Rattle.page.specs.Head.{readHead, putHead, putLive, HeadFits};
+ghost use Rattle.page.specs.Head.{readHead, putHead, putLive, HeadFits, frontBy, putFront, FrontFits};
 ghost use Rattle.page.specs.Read.{Sized};
 ghost use Rattle.page.specs.Exact.{Exact, encodeWith};
 ghost use Rattle.page.specs.Stage.{blanked};
@@ -30,18 +30,28 @@ fn wide(x: u32) -> usize
     x as usize
 }
 
-// The front of a page.
-pub fn head_of(page: &[u8], l: Limits) -> Head
-    requires { ⌜ Edition l × (16 ≤ length (now page)) × (length (now page) ≤ 2 ^ 40) ⌝ }
-    ensures { λ r. ⌜ r ≡ readHead (l .least) (now (page .entry)) ⌝ }
+// The front of a page whose entry count has w bits.
+fn front(page: &[u8], w: usize) -> Head
+    requires { ⌜ (w ≤ 6) × (16 ≤ length (now page)) × (length (now page) ≤ 2 ^ 40) ⌝ }
+    ensures { λ r. ⌜ r ≡ frontBy w (now (page .entry)) ⌝ }
 {
-    let w = l.counter;
     Head {
         level: bits::field(page, 0, 4),
         count: wide(bits::field(page, 4, w)),
         start: bits::field(page, 4 + w, 20),
         end: bits::field(page, 24 + w, 20),
     }
+}
+
+// The front of a page. The widths are said as numbers, so that a field is one load whatever limits come in.
+pub fn head_of(page: &[u8], l: Limits) -> Head
+    requires { ⌜ Edition l × (16 ≤ length (now page)) × (length (now page) ≤ 2 ^ 40) ⌝ }
+    ensures { λ r. ⌜ r ≡ readHead (l .least) (now (page .entry)) ⌝ }
+{
+    if l.least <= 4 {
+        return front(page, 5);
+    }
+    front(page, 6)
 }
 
 // The live count of a page: where the edition has no bits for it, 0.
@@ -91,16 +101,27 @@ pub fn clear(page: &mut [u8])
     }
 }
 
+// Writes the front of a page whose entry count has w bits.
+fn put_front(page: &mut [u8], w: usize, h: Head)
+    requires { ⌜ (w ≤ 6) × FrontFits w h × (16 ≤ length (now page)) × (length (now page) ≤ 2 ^ 40) ⌝ }
+    ensures { λ _. ⌜ now (page .exit) ≡ putFront w (now (page .entry)) h ⌝ }
+{
+    bits::put_field(page, 0, 4, h.level as u64);
+    bits::put_field(page, 4, w, h.count as u64);
+    bits::put_field(page, 4 + w, 20, h.start as u64);
+    bits::put_field(page, 24 + w, 20, h.end as u64);
+}
+
 // Writes the front of a page: its live count is for `put_live`.
 pub fn put_head(page: &mut [u8], l: Limits, h: Head)
     requires { ⌜ Edition l × HeadFits (l .least) h × (16 ≤ length (now page)) × (length (now page) ≤ 2 ^ 40) ⌝ }
     ensures { λ _. ⌜ now (page .exit) ≡ putHead (l .least) (now (page .entry)) h ⌝ }
 {
-    let w = l.counter;
-    bits::put_field(page, 0, 4, h.level as u64);
-    bits::put_field(page, 4, w, h.count as u64);
-    bits::put_field(page, 4 + w, 20, h.start as u64);
-    bits::put_field(page, 24 + w, 20, h.end as u64);
+    if l.least <= 4 {
+        put_front(page, 5, h);
+        return;
+    }
+    put_front(page, 6, h);
 }
 
 // Writes the live count of a page, where the edition has bits for it.
