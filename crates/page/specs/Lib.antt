@@ -1,6 +1,7 @@
 pub mod Editions
 pub mod Head
 pub mod Read
+pub mod Words
 pub mod Entries
 pub mod Front
 pub mod Exact

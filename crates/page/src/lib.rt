@@ -2,12 +2,12 @@
 use model::Entry;
 use model::Limits;
 ghost use mathlib.Core.Path.{_≡_};
-ghost use Prim.Native.Nat.{_+_, _*_, _-_, _^_, _≤_, _<_};
+ghost use Prim.Native.Nat.{_+_, _*_, _-_, _/_, _%_, _^_, _≤_, _<_};
 ghost use lib.ListN.{length};
 ghost use Rattle.model.specs.Limits.{Edition, liveShown};
 ghost use Rattle.model.specs.Field.{lay, zeros};
 ghost use Rattle.model.specs.Layout.{entryParts, readEntry, countOf, liveOf, encodePage, decodePage};
-ghost use Rattle.page.specs.Head.{readHead, putHead, putLive, HeadFits};
+ghost use Rattle.page.specs.Head.{readHead, putHead, putLive, HeadFits, frontBy, putFront, FrontFits};
 ghost use Rattle.page.specs.Read.{Sized};
 ghost use Rattle.page.specs.Exact.{Exact, encodeWith};
 ghost use Rattle.page.specs.Stage.{blanked};
@@ -30,18 +30,28 @@ fn wide(x: u32) -> usize
     x as usize
 }
 
-// The front of a page.
-pub fn head_of(page: &[u8], l: Limits) -> Head
-    requires { ⌜ Edition l × (16 ≤ length (now page)) × (length (now page) ≤ 2 ^ 40) ⌝ }
-    ensures { λ r. ⌜ r ≡ readHead (l .least) (now (page .entry)) ⌝ }
+// The front of a page whose entry count has w bits.
+fn front(page: &[u8], w: usize) -> Head
+    requires { ⌜ (w ≤ 6) × (16 ≤ length (now page)) × (length (now page) ≤ 2 ^ 40) ⌝ }
+    ensures { λ r. ⌜ r ≡ frontBy w (now (page .entry)) ⌝ }
 {
-    let w = l.counter;
     Head {
         level: bits::field(page, 0, 4),
         count: wide(bits::field(page, 4, w)),
         start: bits::field(page, 4 + w, 20),
         end: bits::field(page, 24 + w, 20),
     }
+}
+
+// The front of a page. The widths are said as numbers, so that a field is one load whatever limits come in.
+pub fn head_of(page: &[u8], l: Limits) -> Head
+    requires { ⌜ Edition l × (16 ≤ length (now page)) × (length (now page) ≤ 2 ^ 40) ⌝ }
+    ensures { λ r. ⌜ r ≡ readHead (l .least) (now (page .entry)) ⌝ }
+{
+    if l.least <= 4 {
+        return front(page, 5);
+    }
+    front(page, 6)
 }
 
 // The live count of a page: where the edition has no bits for it, 0.
@@ -65,16 +75,25 @@ pub fn live_one(e: Entry) -> usize
     0
 }
 
-// Entry i of a page.
+// The start of an entry: 8 bits that end its first word, and 12 that begin its second.
+fn start_of(a: u32, b: u32) -> u32
+    ensures { λ r. ⌜ r ≡ a % 256 * 4096 + b / 1048576 ⌝ }
+{
+    a % 256 * 4096 + b / 1048576
+}
+
+// Entry i of a page, by three words: its key, start and end are two of them.
 pub fn entry_at(page: &[u8], i: usize) -> Entry
     requires { ⌜ (16 + 12 * i + 12 ≤ length (now page)) × (length (now page) ≤ 2 ^ 40) ⌝ }
     ensures { λ r. ⌜ r ≡ readEntry (now (page .entry)) (128 + 96 * i) ⌝ }
 {
     let o = 128 + 96 * i;
+    let a = bits::field(page, o, 32);
+    let b = bits::field(page, o + 32, 32);
     Entry {
-        key: bits::field(page, o, 24),
-        start: bits::field(page, o + 24, 20),
-        end: bits::field(page, o + 44, 20),
+        key: a / 256,
+        start: start_of(a, b),
+        end: b % 1048576,
         value: bits::field(page, o + 64, 32),
     }
 }
@@ -91,16 +110,27 @@ pub fn clear(page: &mut [u8])
     }
 }
 
+// Writes the front of a page whose entry count has w bits.
+fn put_front(page: &mut [u8], w: usize, h: Head)
+    requires { ⌜ (w ≤ 6) × FrontFits w h × (16 ≤ length (now page)) × (length (now page) ≤ 2 ^ 40) ⌝ }
+    ensures { λ _. ⌜ now (page .exit) ≡ putFront w (now (page .entry)) h ⌝ }
+{
+    bits::put_field(page, 0, 4, h.level as u64);
+    bits::put_field(page, 4, w, h.count as u64);
+    bits::put_field(page, 4 + w, 20, h.start as u64);
+    bits::put_field(page, 24 + w, 20, h.end as u64);
+}
+
 // Writes the front of a page: its live count is for `put_live`.
 pub fn put_head(page: &mut [u8], l: Limits, h: Head)
     requires { ⌜ Edition l × HeadFits (l .least) h × (16 ≤ length (now page)) × (length (now page) ≤ 2 ^ 40) ⌝ }
     ensures { λ _. ⌜ now (page .exit) ≡ putHead (l .least) (now (page .entry)) h ⌝ }
 {
-    let w = l.counter;
-    bits::put_field(page, 0, 4, h.level as u64);
-    bits::put_field(page, 4, w, h.count as u64);
-    bits::put_field(page, 4 + w, 20, h.start as u64);
-    bits::put_field(page, 24 + w, 20, h.end as u64);
+    if l.least <= 4 {
+        put_front(page, 5, h);
+        return;
+    }
+    put_front(page, 6, h);
 }
 
 // Writes the live count of a page, where the edition has bits for it.
@@ -114,15 +144,38 @@ pub fn put_live(page: &mut [u8], l: Limits, n: usize)
     bits::put_field(page, 44 + l.counter, 6, n as u64);
 }
 
-// Writes entry i of a page.
+fn long(x: u32) -> u64
+    ensures { λ r. ⌜ r ≡ x ⌝ }
+{
+    x as u64
+}
+
+// The first word of an entry: its key, and 8 bits of its start.
+fn first_of(key: u64, start: u64) -> u64
+    requires { ⌜ (key < 2 ^ 24) × (start < 2 ^ 20) ⌝ }
+    ensures { λ r. ⌜ (r ≡ key * 256 + start / 4096) × (r < 2 ^ 32) ⌝ }
+{
+    key * 256 + start / 4096
+}
+
+// The second: the other 12, and its end.
+fn second_of(start: u64, end: u64) -> u64
+    requires { ⌜ (start < 2 ^ 20) × (end < 2 ^ 20) ⌝ }
+    ensures { λ r. ⌜ (r ≡ start % 4096 * 1048576 + end) × (r < 2 ^ 32) ⌝ }
+{
+    start % 4096 * 1048576 + end
+}
+
+// Writes entry i of a page, by the same words.
 pub fn put_entry(page: &mut [u8], i: usize, e: Entry)
     requires { ⌜ (16 + 12 * i + 12 ≤ length (now page)) × (length (now page) ≤ 2 ^ 40) × Sized e ⌝ }
     ensures { λ _. ⌜ now (page .exit) ≡ lay (now (page .entry)) (128 + 96 * i) (entryParts e) ⌝ }
 {
     let o = 128 + 96 * i;
-    bits::put_field(page, o, 24, e.key as u64);
-    bits::put_field(page, o + 24, 20, e.start as u64);
-    bits::put_field(page, o + 44, 20, e.end as u64);
+    let a = first_of(long(e.key), long(e.start));
+    let b = second_of(long(e.start), long(e.end));
+    bits::put_field(page, o, 32, a);
+    bits::put_field(page, o + 32, 32, b);
     bits::put_field(page, o + 64, 32, e.value as u64);
 }
 

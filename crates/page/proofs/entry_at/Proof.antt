@@ -1,5 +1,6 @@
--- `page::entry_at` meets its contract: the four fields of the entry are read. Assumes nothing.
-use Rattle.model.specs.Layout.{readEntry}
+-- `page::entry_at` meets its contract: the words of the entry are read. Assumes nothing.
+use Prim.Native.Nat.{_+_, _*_}
+use Rattle.page.specs.Words.{words-entry}
 use borrow.Author.Needs.{needs}
 use Rattle.page.proofs.entry_at.Statement.{statement}
 use Rattle.page.proofs.entry_at.Tie as tie
@@ -19,21 +20,19 @@ add-field c = search needs
 field-requires-2 : tie.Need-field-requires-2
 field-requires-2 c κs = search needs
 
+start-of-requires : tie.Need-start-of-requires
+start-of-requires c κs = search needs
+
 add-field-2 : tie.Need-add-field-2
 add-field-2 c = search needs
 
 field-requires-3 : tie.Need-field-requires-3
 field-requires-3 c κs = search needs
 
-add-field-3 : tie.Need-add-field-3
-add-field-3 c = search needs
-
-field-requires-4 : tie.Need-field-requires-4
-field-requires-4 c κs = search needs
-
 returns : tie.Need-returns
-unfolding readEntry
-returns c = cc
+returns c =
+    let a = c .before .before .before .before .before .args in
+    words-entry (a .page .now) (128 + 96 * a .i) (c .before .before .before .field .result) (c .before .before .field2 .result) (c .before .start-of .result) (c .field3 .result) (c .before .before .before .field .ensures) (c .before .before .field2 .ensures) (c .before .start-of .ensures) (c .field3 .ensures)
 
 pub entry-at-spec : {M : Type 1} → statement M
 entry-at-spec =
@@ -44,8 +43,7 @@ entry-at-spec =
     field-requires
     add-field
     field-requires-2
+    start-of-requires
     add-field-2
     field-requires-3
-    add-field-3
-    field-requires-4
     returns)

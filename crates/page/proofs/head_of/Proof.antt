@@ -1,46 +1,29 @@
--- `page::head_of` meets its contract: the four fields are read at the widths of the limits. Assumes nothing.
-use Rattle.page.specs.Editions.{counter-is, counter-counts}
-use Rattle.page.specs.Head.{readHead}
-use Rattle.model.specs.Layout.{countOf}
-use native.Mathlib.Omega.{arith}
+-- `page::head_of` meets its contract: the front is read at the width that the limits have. Assumes nothing.
+use mathlib.Core.Path.{_∙_}
 use borrow.Author.Needs.{needs}
+use Rattle.page.specs.declared.Head.{Head}
+use Rattle.page.specs.Head.{front-five, front-six}
 use Rattle.page.proofs.head_of.Statement.{statement}
 use Rattle.page.proofs.head_of.Tie as tie
 
-field-requires : tie.Need-field-requires
-field-requires c κs = search needs
+nil : Head
+nil = record { level = 0; count = 0; start = 0; end = 0 }
 
-field-requires-2 : tie.Need-field-requires-2
-field-requires-2 c κs = omega (arith, counter-counts (c .before .before .pre .0))
-
-wide-requires : tie.Need-wide-requires
-wide-requires c κs = search needs
-
-add-field : tie.Need-add-field
-add-field c = omega (arith, counter-counts (c .before .before .before .before .pre .0))
-
-field-requires-3 : tie.Need-field-requires-3
-field-requires-3 c κs = omega (arith, counter-counts (c .before .before .before .before .pre .0))
-
-add-field-2 : tie.Need-add-field-2
-add-field-2 c = omega (arith, counter-counts (c .before .before .before .before .before .pre .0))
-
-field-requires-4 : tie.Need-field-requires-4
-field-requires-4 c κs = omega (arith, counter-counts (c .before .before .before .before .before .pre .0))
+front-requires : tie.Need-front-requires
+front-requires c κs = search needs
 
 returns : tie.Need-returns
-unfolding readHead countOf
-returns c = rw (← counter-is (c .before .before .before .before .before .before .pre .0)) cc
+returns c =
+    let a = c .before .before .before .before .args in
+    c .front .ensures ∙ front-five (a .l .least) (a .page .now) nil (c .before .if1 .taken)
+
+front-requires-2 : tie.Need-front-requires-2
+front-requires-2 c κs = search needs
+
+returns-2 : tie.Need-returns-2
+returns-2 c =
+    let a = c .before .before .before .before .args in
+    c .front2 .ensures ∙ front-six (a .l .least) (a .page .now) nil (c .before .if1 .left)
 
 pub head-of-spec : {M : Type 1} → statement M
-head-of-spec =
-    tie.close
-    (tie.spec
-    field-requires
-    field-requires-2
-    wide-requires
-    add-field
-    field-requires-3
-    add-field-2
-    field-requires-4
-    returns)
+head-of-spec = tie.close (tie.spec front-requires returns front-requires-2 returns-2)

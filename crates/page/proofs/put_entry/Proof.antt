@@ -1,8 +1,7 @@
--- `page::put_entry` meets its contract: the four fields are laid one after the other. Assumes nothing.
-use Rattle.model.specs.Field.{lay}
-use native.Mathlib.Omega.{arith}
-use mathlib.Core.Path.{_≡_}
-use Prim.Native.Nat.{_+_, _*_}
+-- `page::put_entry` meets its contract: the words of the entry are laid one after the other. Assumes nothing.
+use Prim.Native.Nat.{ℕ, _+_, _*_, _/_, _%_}
+use mathlib.Core.Path.{ap₂, _∙_}
+use Rattle.page.specs.Words.{words-lay}
 use borrow.Author.Needs.{needs}
 use Rattle.page.proofs.put_entry.Statement.{statement}
 use Rattle.page.proofs.put_entry.Tie as tie
@@ -13,8 +12,23 @@ mul-o c = search needs
 add-o : tie.Need-add-o
 add-o c = search needs
 
-cast-put-field : tie.Need-cast-put-field
-cast-put-field c = search needs
+long-requires : tie.Need-long-requires
+long-requires c κs = search needs
+
+long-requires-2 : tie.Need-long-requires-2
+long-requires-2 c κs = search needs
+
+first-of-requires : tie.Need-first-of-requires
+first-of-requires c κs = search needs
+
+long-requires-3 : tie.Need-long-requires-3
+long-requires-3 c κs = search needs
+
+long-requires-4 : tie.Need-long-requires-4
+long-requires-4 c κs = search needs
+
+second-of-requires : tie.Need-second-of-requires
+second-of-requires c κs = search needs
 
 put-field-requires : tie.Need-put-field-requires
 put-field-requires c κs = search needs
@@ -22,40 +36,28 @@ put-field-requires c κs = search needs
 add-put-field : tie.Need-add-put-field
 add-put-field c = search needs
 
-cast-put-field-2 : tie.Need-cast-put-field-2
-cast-put-field-2 c = search needs
-
 put-field-requires-2 : tie.Need-put-field-requires-2
 put-field-requires-2 c κs = search needs
 
 add-put-field-2 : tie.Need-add-put-field-2
 add-put-field-2 c = search needs
 
-cast-put-field-3 : tie.Need-cast-put-field-3
-cast-put-field-3 c = search needs
+cast-put-field : tie.Need-cast-put-field
+cast-put-field c = search needs
 
 put-field-requires-3 : tie.Need-put-field-requires-3
 put-field-requires-3 c κs = search needs
-
-add-put-field-3 : tie.Need-add-put-field-3
-add-put-field-3 c = search needs
-
-cast-put-field-4 : tie.Need-cast-put-field-4
-cast-put-field-4 c = search needs
-
-put-field-requires-4 : tie.Need-put-field-requires-4
-put-field-requires-4 c κs = search needs
 
 same-length : tie.Need-same-length
 same-length c = search needs
 
 returns : tie.Need-returns
-unfolding lay
 returns c =
-    let i = c .before .before .before .before .before .before .before .before .before .before .before .before .before .before .before .before .before .before .before .before .before .args .i in
-    let a : 128 + 96 * i + 24 + 20 ≡ 128 + 96 * i + 44 = omega arith in
-    let b : 128 + 96 * i + 44 + 20 ≡ 128 + 96 * i + 64 = omega arith in
-    rw (a, b) cc
+    let a = c .before .before .before .before .before .before .before .before .before .before .before .before .before .before .before .before .before .before .before .before .args in
+    let one = c .before .before .before .before .before .before .before .before .before .before .before .before .before .before .before .before .first-of .ensures .0 ∙ ap₂ (λ (x y : ℕ). x * 256 + y / 4096) (c .before .before .before .before .before .before .before .before .before .before .before .before .before .before .before .before .before .before .long .ensures) (c .before .before .before .before .before .before .before .before .before .before .before .before .before .before .before .before .before .long2 .ensures) in
+    let two = c .before .before .before .before .before .before .before .before .before .before .before .before .before .second-of .ensures .0 ∙ ap₂ (λ (x y : ℕ). x % 4096 * 1048576 + y) (c .before .before .before .before .before .before .before .before .before .before .before .before .before .before .before .long3 .ensures) (c .before .before .before .before .before .before .before .before .before .before .before .before .before .before .long4 .ensures) in
+    c .before .before .put-field3 .ensures
+    ∙ rw (c .before .before .before .before .before .before .before .put-field2 .ensures, c .before .before .before .before .before .before .before .before .before .before .before .put-field .ensures) (words-lay (a .page .now) (128 + 96 * a .i) (a .e) (c .before .before .before .before .before .before .before .before .before .before .before .before .before .before .before .before .before .before .before .before .pre .2) (c .before .before .before .before .before .before .before .before .before .before .before .before .before .before .before .before .first-of .result) (c .before .before .before .before .before .before .before .before .before .before .before .before .before .second-of .result) one two)
 
 pub put-entry-spec : {M : Type 1} → statement M
 put-entry-spec =
@@ -63,16 +65,17 @@ put-entry-spec =
     (tie.spec
     mul-o
     add-o
-    cast-put-field
+    long-requires
+    long-requires-2
+    first-of-requires
+    long-requires-3
+    long-requires-4
+    second-of-requires
     put-field-requires
     add-put-field
-    cast-put-field-2
     put-field-requires-2
     add-put-field-2
-    cast-put-field-3
+    cast-put-field
     put-field-requires-3
-    add-put-field-3
-    cast-put-field-4
-    put-field-requires-4
     same-length
     returns)

@@ -1,63 +1,38 @@
--- `page::put_head` meets its contract: the four fields are laid one after the other. Assumes nothing.
-use Rattle.page.specs.Editions.{counter-is, counter-counts}
-use Rattle.page.specs.Head.{putHead}
-use Rattle.model.specs.Field.{lay}
+-- `page::put_head` meets its contract: the front is written at the width that the limits have. Assumes nothing.
+use mathlib.Core.Path.{_∙_}
 use native.Mathlib.Omega.{arith}
-use mathlib.Core.Path.{_≡_}
-use Prim.Native.Nat.{_+_}
 use borrow.Author.Needs.{needs}
+use Rattle.page.specs.Head.{fits-five, put-five, fits-six, put-six}
 use Rattle.page.proofs.put_head.Statement.{statement}
 use Rattle.page.proofs.put_head.Tie as tie
 
-cast-put-field : tie.Need-cast-put-field
-cast-put-field c = search needs
-
-put-field-requires : tie.Need-put-field-requires
-put-field-requires c κs = search needs
-
-put-field-requires-2 : tie.Need-put-field-requires-2
-put-field-requires-2 c κs = (omega (arith, counter-counts (c .before .before .before .before .before .before .before .pre .0)), rw (counter-is (c .before .before .before .before .before .before .before .pre .0)) (c .before .before .before .before .before .before .before .pre .1 .count), omega (arith, counter-counts (c .before .before .before .before .before .before .before .pre .0)), omega arith)
-
-add-put-field : tie.Need-add-put-field
-add-put-field c = omega (arith, counter-counts (c .before .before .before .before .before .before .before .before .before .before .before .pre .0))
-
-cast-put-field-2 : tie.Need-cast-put-field-2
-cast-put-field-2 c = search needs
-
-put-field-requires-3 : tie.Need-put-field-requires-3
-put-field-requires-3 c κs = omega (arith, counter-counts (c .before .before .before .before .before .before .before .before .before .before .before .before .pre .0))
-
-add-put-field-2 : tie.Need-add-put-field-2
-add-put-field-2 c = omega (arith, counter-counts (c .before .before .before .before .before .before .before .before .before .before .before .before .before .before .before .before .pre .0))
-
-cast-put-field-3 : tie.Need-cast-put-field-3
-cast-put-field-3 c = search needs
-
-put-field-requires-4 : tie.Need-put-field-requires-4
-put-field-requires-4 c κs = omega (arith, counter-counts (c .before .before .before .before .before .before .before .before .before .before .before .before .before .before .before .before .before .pre .0))
+put-front-requires : tie.Need-put-front-requires
+put-front-requires c κs =
+    let a = c .before .before .before .before .args in
+    let p = c .before .before .before .before .pre in
+    (omega arith, fits-five (a .l .least) (a .page .now) (a .h) (c .before .if1 .taken) (p .1), p .2, p .3)
 
 same-length : tie.Need-same-length
 same-length c = search needs
 
 returns : tie.Need-returns
-unfolding putHead lay
 returns c =
-    let w = c .before .before .before .before .before .before .before .before .before .before .before .before .before .before .before .before .before .before .before .before .args .l .counter in
-    let a : 4 + w + 20 ≡ 24 + w = omega arith in
-    rw (← counter-is (c .before .before .before .before .before .before .before .before .before .before .before .before .before .before .before .before .before .before .before .before .pre .0), a) cc
+    let a = c .before .before .before .before .before .before .before .args in
+    c .before .before .put-front .ensures ∙ put-five (a .l .least) (a .page .now) (a .h) (c .before .before .before .before .if1 .taken)
+
+put-front-requires-2 : tie.Need-put-front-requires-2
+put-front-requires-2 c κs =
+    let a = c .before .before .before .before .args in
+    let p = c .before .before .before .before .pre in
+    (omega arith, fits-six (a .l .least) (a .page .now) (a .h) (c .before .if1 .left) (p .1), p .2, p .3)
+
+same-length-2 : tie.Need-same-length-2
+same-length-2 c = search needs
+
+returns-2 : tie.Need-returns-2
+returns-2 c =
+    let a = c .before .before .before .before .before .before .before .args in
+    c .before .before .put-front2 .ensures ∙ put-six (a .l .least) (a .page .now) (a .h) (c .before .before .before .before .if1 .left)
 
 pub put-head-spec : {M : Type 1} → statement M
-put-head-spec =
-    tie.close
-    (tie.spec
-    cast-put-field
-    put-field-requires
-    put-field-requires-2
-    add-put-field
-    cast-put-field-2
-    put-field-requires-3
-    add-put-field-2
-    cast-put-field-3
-    put-field-requires-4
-    same-length
-    returns)
+put-head-spec = tie.close (tie.spec put-front-requires same-length returns put-front-requires-2 same-length-2 returns-2)
