@@ -113,7 +113,7 @@ impl Both {
         match (call, answer.number) {
             (Call::Fresh, _) => self.plain = Plain::fresh(1),
             (Call::FreshSecond, _) => self.plain = Plain::fresh(2),
-            (Call::Check | Call::Visits(..), _) => {}
+            (Call::Check | Call::State | Call::Visits(..), _) => {}
             (Call::Return(_), 12 | 13) => assert_eq!(self.plain.number(Call::Abandon), DONE),
             (_, 12 | 13) => {}
             (_, number) => {
