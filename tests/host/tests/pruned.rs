@@ -11,7 +11,7 @@ use beside::{may_write, rounds};
 use host::Proved;
 use reference::edition::SECOND;
 use reference::engine::{Answer, Call, Engine};
-use reference::history::{History, KINDS};
+use reference::history::{History, Kind};
 use reference::layout::HIGHEST_KEY;
 use reference::model::Model;
 use reference::number::{DONE, LIST_TOO_SHORT, NO_FREE_PAGE, NO_FREE_SLOT};
@@ -147,14 +147,14 @@ fn every_version_answers(bytes: &[u8], model: &Model) {
 #[test]
 fn thousands_of_histories() {
     let mut met = Met::default();
-    let histories = rounds(2400);
+    let histories = rounds(2000);
     for seed in 0..histories {
-        let pages = 8 + (seed as usize * 7) % 40;
+        let pages = 8 + (seed as usize * 7) % 20;
         // The seeds of histories that prune.
         let named = seed / 8 * 16 + 8 + seed % 8;
-        let mut history = History::of(&SECOND, named, KINDS[seed as usize % 4], pages);
+        let mut history = History::of(&SECOND, named, Kind::HotPage, pages);
         let mut bytes = vec![0xEE; 512 * pages];
-        for _ in 0..150 {
+        for _ in 0..300 {
             let call = history.next_call();
             let answer = met.call(call, &mut bytes, history.model());
             history.observe(call, &answer);
@@ -164,8 +164,8 @@ fn thousands_of_histories() {
         met.before = None;
     }
     println!("{histories} histories: {met:?}");
-    assert!(met.prunes > histories && met.freed > histories, "{met:?}");
-    assert!(met.used_again > histories / 4, "{met:?}");
-    assert!(met.abandoned_in_freed > histories / 40, "{met:?}");
+    assert!(met.prunes > histories && met.freed > 200, "{met:?}");
+    assert!(met.used_again > 80, "{met:?}");
+    assert!(met.abandoned_in_freed > 5, "{met:?}");
     assert!(met.lacking > 0, "{met:?}");
 }

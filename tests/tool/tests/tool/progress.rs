@@ -22,7 +22,7 @@ fn large() -> Folder {
     let folder = Folder::new();
     folder.done(&["new", "s", "4096"], "");
     let mut changes = String::new();
-    for key in 0..3000 {
+    for key in 0..1500 {
         writeln!(changes, "set {} {key}", 7 * key).expect("a text");
     }
     folder.put("changes", &changes);
@@ -47,7 +47,7 @@ fn releases_and_dumps() {
         return;
     };
     shows(&said, "lines");
-    assert!(said.contains(" of 3000"), "{said:?}");
+    assert!(said.contains(" of 1500"), "{said:?}");
     assert!(said.ends_with("version 1\r\n"), "{said:?}");
     assert_eq!(folder.bytes("s"), folder.bytes("t"));
     let dump = folder.done(&["dump", "s"], "");
@@ -65,13 +65,13 @@ fn a_check_of_many_files() {
     let folder = large();
     let changes = String::from_utf8(folder.bytes("changes")).expect("text");
     folder.done(&["apply", "s"], &changes);
-    let many = vec!["s"; 1500];
+    let many = vec!["s"; 700];
     let words: Vec<&str> = ["check"].into_iter().chain(many).collect();
     let in_a_pipe = folder.done(&words, "");
-    assert_eq!(in_a_pipe, "s: sound\n".repeat(1500));
+    assert_eq!(in_a_pipe, "s: sound\n".repeat(700));
     if let Some(said) = on_a_terminal(&folder, &format!("rcst {} > out", words.join(" "))) {
         shows(&said, "checked");
-        assert!(said.contains(" of 1500"), "{said:?}");
+        assert!(said.contains(" of 700"), "{said:?}");
         assert_eq!(folder.bytes("out"), in_a_pipe.as_bytes());
     }
 }
