@@ -27,6 +27,13 @@ impl Engine for Proved {
                     ..Answer::of(number)
                 }
             }
+            Call::State => {
+                let (number, told) = state(store);
+                Answer {
+                    state: as_reference(told),
+                    ..Answer::of(number)
+                }
+            }
             Call::Lookup(key, version) => {
                 let (number, found, value) = lookup(store, key, version);
                 Answer {
@@ -56,5 +63,26 @@ impl Engine for Proved {
 
     fn convert(&mut self, source: &[u8], target: &mut [u8]) -> u32 {
         convert(source, target)
+    }
+}
+
+fn as_reference(told: State) -> reference::state::State {
+    let State {
+        pages,
+        current,
+        open,
+        roots,
+        edition,
+        free,
+        oldest,
+    } = told;
+    reference::state::State {
+        pages,
+        current,
+        open,
+        roots,
+        edition,
+        free,
+        oldest,
     }
 }

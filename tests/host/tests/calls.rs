@@ -27,7 +27,8 @@ fn edge_calls(last: u32, found: usize) -> Vec<Call> {
     let near = [0, last.saturating_sub(1), last, last + 1];
     let far = [HIGHEST_VERSION - 1, HIGHEST_VERSION, HIGHEST_VERSION + 1];
     let versions = near.into_iter().chain(far).chain([u32::MAX]);
-    let mut calls = vec![Call::Check, Call::Open, Call::Commit, Call::Abandon];
+    let mut calls = vec![Call::Check, Call::State, Call::Open, Call::Commit];
+    calls.push(Call::Abandon);
     calls.extend(keys.map(|key| Call::Insert(key, u32::MAX - key)));
     calls.extend(bench.map(|key| Call::Insert(key, 0)));
     calls.extend(bench.map(Call::Delete));

@@ -4,7 +4,9 @@
 
 mod common;
 
-use common::plainly::{Both, Plain};
+use std::panic::{catch_unwind, AssertUnwindSafe};
+
+use common::plainly::{Both, Fault, Plain};
 use common::rounds;
 use host::plain::{Engine, State};
 use reference::edition::{Edition, FIRST, SECOND};
@@ -113,6 +115,67 @@ fn histories_of_edition_1() {
 #[test]
 fn histories_of_edition_2() {
     histories(&SECOND, 16, 400);
+}
+
+/// Whether histories of edition 2 show that the plain engine is wrong so.
+fn is_caught(fault: Fault) -> bool {
+    (0..16).any(|seed| {
+        let mut history = History::of(&SECOND, seed, KINDS[seed as usize % 4], 30);
+        let mut both = Both::lent(vec![0xEE; 30 * SECOND.page_bytes]);
+        both.fault = fault;
+        let whole = AssertUnwindSafe(|| run(&mut both, &mut history, seed, 200));
+        catch_unwind(whole).is_err()
+    })
+}
+
+/// Each call that changes, made wrong in the plain engine alone.
+const FAULTS: [(&str, Fault); 7] = [
+    ("an insert of another value", |call, _, left| {
+        if let Call::Insert(..) = call {
+            left.items[4 * left.state.count as usize - 1] ^= 1;
+        }
+    }),
+    ("an item alive at its end", |call, lent, left| {
+        let items = 4 * left.state.count as usize;
+        for item in left.items[..items].chunks_exact_mut(4) {
+            let ended = matches!(call, Call::Delete(_)) && item[2] == lent.state.current + 1;
+            item[2] += u32::from(ended);
+        }
+    }),
+    ("a return that changes nothing", |call, lent, left| {
+        if let Call::Return(_) = call {
+            *left = lent.clone();
+        }
+    }),
+    ("an abandon that leaves the items", |call, lent, left| {
+        if call == Call::Abandon {
+            left.items.clone_from(&lent.items);
+            left.state.count = lent.state.count;
+        }
+    }),
+    ("a commit that raises no version", |call, lent, left| {
+        if call == Call::Commit {
+            left.state.current = lent.state.current;
+        }
+    }),
+    ("a prune that raises no version", |call, lent, left| {
+        if let Call::Prune(_) = call {
+            left.state.oldest = lent.state.oldest;
+        }
+    }),
+    ("a prune that drops the last item too", |call, _, left| {
+        if let (Call::Prune(_), Some(fewer)) = (call, left.state.count.checked_sub(1)) {
+            left.state.count = fewer;
+        }
+    }),
+];
+
+#[test]
+fn a_fault_in_one_shows() {
+    assert!(!is_caught(|_, _, _| {}));
+    for (name, fault) in FAULTS {
+        assert!(is_caught(fault), "{name}");
+    }
 }
 
 /// One version, in which five of sixteen settings change, so that the root moves.

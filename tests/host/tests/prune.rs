@@ -136,6 +136,24 @@ fn every_call_on_pruned_and_damaged_stores() {
     }
 }
 
+/// Every call at those borders on each kind of damage that a pruned store bears,
+/// the ten around its oldest version among them.
+#[test]
+fn every_call_on_each_kind_of_damage() {
+    let mut tally = BTreeMap::new();
+    for kind in kinds() {
+        let damaged = (0..200).find_map(|seed| {
+            let mut bytes = pruned_store(seed);
+            let made = kind.make(&mut bytes, &mut Rng::new(seed));
+            made.then_some(bytes)
+        });
+        let bytes = damaged.unwrap_or_else(|| panic!("{}: no place in 200 stores", kind.name));
+        all_alike(&bytes, &mut Rng::new(u64::from(kind.rule)), &mut tally);
+    }
+    println!("numbers given, times: {tally:?}");
+    assert!(tally[&4] > 1000, "{tally:?}");
+}
+
 /// Check on pruned stores: each kind of damage by the lowest rule that it breaks,
 /// what breaks none, and stores that are nearly sound.
 #[test]

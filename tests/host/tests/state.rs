@@ -1,11 +1,19 @@
-//! What a store tells of itself, beside what the independent program reads in
-//! its bytes and what its plain settings machine has.
+//! What a store tells of itself: the cases of `tests/reference` by both programs;
+//! beside what the independent program reads in its bytes and what its plain
+//! settings machine has.
 
 #[path = "common/mod.rs"]
 mod beside;
 
+#[path = "../../reference/tests/common/mod.rs"]
+mod common;
+
+#[path = "../../reference/tests/cases/state.rs"]
+mod state;
+
 use std::collections::BTreeMap;
 
+use beside::calls;
 use beside::rounds;
 use beside::stores::stores_of;
 use host::{Proved, State};

@@ -8,6 +8,7 @@
 
 use crate::edition::{Edition, FIRST, SECOND};
 use crate::layout::HIGHEST_KEY;
+use crate::state::{self, State};
 use crate::{check as judging, convert as converter, number, reading, store, unjudged};
 
 /// Makes a fresh store of edition 1 over any bytes of a fitting length.
@@ -53,6 +54,15 @@ pub fn convert(source: &[u8], target: &mut [u8]) -> u32 {
 /// The number and, with 4, the lowest number of a broken rule.
 pub fn check(bytes: &[u8]) -> (u32, u32) {
     judging::judge(bytes)
+}
+
+/// The number, and what the store tells of itself: 0 throughout where it is
+/// refused.
+pub fn state(bytes: &[u8]) -> (u32, State) {
+    match judged(bytes) {
+        Some(refusal) => (refusal, State::default()),
+        None => (number::DONE, state::state(bytes)),
+    }
 }
 
 pub fn open(bytes: &mut [u8]) -> u32 {

@@ -1,6 +1,7 @@
 //! A call, its answer, and the shape of a program that answers calls.
 
 use crate::calls;
+use crate::state::State;
 
 /// A call with its arguments. The store, and the list where one is written,
 /// are lent beside it.
@@ -11,6 +12,7 @@ pub enum Call {
     /// Making fresh, of edition 2.
     FreshSecond,
     Check,
+    State,
     Open,
     /// Key and value.
     Insert(u32, u32),
@@ -79,6 +81,8 @@ pub struct Answer {
     /// Range: the count of settings found. Visits: of pages. Difference: of
     /// differences. Life: of stretches.
     pub count: u64,
+    /// State: what the store tells of itself.
+    pub state: State,
 }
 
 impl Answer {
@@ -136,6 +140,13 @@ pub fn apply(call: Call, store: &mut [u8], list: &mut [u32]) -> Answer {
             let (number, rule) = calls::check(store);
             Answer {
                 rule,
+                ..Answer::of(number)
+            }
+        }
+        Call::State => {
+            let (number, state) = calls::state(store);
+            Answer {
+                state,
                 ..Answer::of(number)
             }
         }

@@ -62,6 +62,8 @@ pub struct History {
     /// Refusals for lack of a page or slot since the last fresh store.
     stuck: u32,
     begun: bool,
+    /// Whether it asked for the state when it last asked how the store is.
+    told: bool,
 }
 
 impl History {
@@ -119,6 +121,7 @@ impl History {
             },
             stuck: 0,
             begun: true,
+            told: false,
             model,
             rng,
         }
@@ -142,8 +145,17 @@ impl History {
         match self.rng.below(24) {
             0 => self.bad_call(),
             1 | 2 => self.read(),
-            3 => Call::Check,
+            3 => self.judged(),
             _ => self.update(),
+        }
+    }
+
+    /// Check and state, by turns.
+    fn judged(&mut self) -> Call {
+        self.told = !self.told;
+        match self.told {
+            true => Call::State,
+            false => Call::Check,
         }
     }
 

@@ -10,7 +10,7 @@
 //! - [`walk`]: lookups and ranges on a sound store; [`reading`]: the same on any
 //!   bytes, judged as they go; [`update`] over a [`draft`]: the page rules;
 //!   [`mod@abandon`]; [`mod@difference`]; [`mod@life`]; [`returning`];
-//!   [`convert`]: from edition 1 to edition 2; [`mod@prune`];
+//!   [`convert`]: from edition 1 to edition 2; [`mod@prune`]; [`mod@state`];
 //! - [`unjudged`]: the calls on a store known to be sound, and [`calls`]: the
 //!   calls as the console has them, on any bytes; [`named`]: named settings and
 //!   the viewer above them;
@@ -57,6 +57,7 @@ pub mod reading;
 pub mod returning;
 pub mod rng;
 pub mod samples;
+pub mod state;
 pub mod store;
 pub mod tall;
 pub mod trace;

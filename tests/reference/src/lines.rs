@@ -97,6 +97,7 @@ impl Session {
             Call::Fresh | Call::FreshSecond => format!("store {}", self.pages),
             // There is no line for these; a lookup stands for them.
             Call::Check
+            | Call::State
             | Call::Difference(..)
             | Call::Life(..)
             | Call::Return(_)

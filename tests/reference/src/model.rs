@@ -12,6 +12,7 @@ use crate::edition::{Edition, FIRST, SECOND};
 use crate::engine::{Answer, Call};
 use crate::image::Image;
 use crate::layout::{FIRST_BENCH_KEY, HIGHEST_KEY, HIGHEST_VERSION};
+use crate::state::State;
 use crate::{life, number, store, walk};
 
 pub type Settings = BTreeMap<u32, u32>;
@@ -90,10 +91,12 @@ impl Model {
     }
 
     /// The answer to `call` if pages and slots were endless. Of a lookup's
-    /// pages it knows only whether they are refused by 5 or 6.
+    /// pages it knows only whether they are refused by 5 or 6, of a state what
+    /// is not of pages and slots.
     pub fn answer(&self, call: Call) -> Answer {
         match call {
             Call::Fresh | Call::FreshSecond | Call::Check => Answer::default(),
+            Call::State => self.answer_to_state(),
             Call::Open => Answer::of(self.number_of_open()),
             Call::Commit if self.nothing_changed() => Answer::of(number::NOTHING_CHANGED),
             Call::Commit | Call::Abandon => Answer::of(self.number_unless_open()),
@@ -110,6 +113,20 @@ impl Model {
             Call::Visits(key, version, _) => Answer::of(self.number_of_reading(key, version)),
             Call::Difference(old, new, length) => self.answer_to_difference(old, new, length),
             Call::Life(key, length) => self.answer_to_life(key, length),
+        }
+    }
+
+    fn answer_to_state(&self) -> Answer {
+        let state = State {
+            current: self.current,
+            open: u32::from(self.is_open()),
+            edition: u32::from(self.edition.number),
+            oldest: self.oldest,
+            ..State::default()
+        };
+        Answer {
+            state,
+            ..Answer::default()
         }
     }
 
@@ -267,7 +284,7 @@ impl Model {
             Call::Abandon => self.open = None,
             Call::Return(version) => *self.opened() = self.at(version).clone(),
             Call::Prune(version) => self.prune(version),
-            Call::Check | Call::Lookup(..) | Call::Range(..) => {}
+            Call::Check | Call::State | Call::Lookup(..) | Call::Range(..) => {}
             Call::Visits(..) | Call::Difference(..) | Call::Life(..) => {}
         }
     }

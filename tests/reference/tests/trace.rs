@@ -43,7 +43,7 @@ fn list_hash(front: &[u32], length: usize) -> String {
 fn each_line_and_its_answer() {
     let input = "store 16\nopen\ninsert 5 50\ninsert 9 0\ncommit\nget 5 1\nget 9 1\nget 7 1\n\
                  list 6\nrange 0 20 1\nlist 3\nrange 0 20 1\nvisits 5 1\nlist 0\nvisits 5 1\n\
-                 get 5 2\nrange 2 1 9\nopen\ndelete 5\nabandon\ncheck\ndelete 5";
+                 get 5 2\nrange 2 1 9\nopen\ndelete 5\nstate\nabandon\ncheck\ndelete 5";
     let six = list_hash(&[5, 50, 9, 0], 6);
     let three = list_hash(&[], 3);
     let none = list_hash(&[], 0);
@@ -67,9 +67,58 @@ fn each_line_and_its_answer() {
         &format!("5 count=0 list={none}"),
         "0",
         "0",
+        "0 pages=16 current=1 open=1 roots=1 edition=1 free=10 oldest=0",
         "0",
         "0 rule=0",
         "7",
+    ];
+    assert_eq!(told(input), expected);
+}
+
+/// Document 02's calls, each with a number that is not 0 too.
+#[test]
+fn the_lines_of_document_02() {
+    let input = "state\nstore2 16\nopen\ninsert 5 50\nprune 0\ncommit\nopen\ndelete 5\n\
+                 insert 5 51\ncommit\nopen\nreturn 3\nreturn 1\ncommit\nlist 10\nlife 5\n\
+                 diff 1 2\ndiff 1 3\nprune 4\nprune 2\nprune 1\nlife 5\ndiff 1 2\nget 5 1\n\
+                 visits 5 2\nreturn 2\nstate\nlist 5\nlife 5\nlife 16777216\nstore 6\nprune 0";
+    let lived = list_hash(&[1, 2, 50, 2, 3, 51, 3, 1_048_575, 50], 10);
+    let changed = list_hash(&[5, 2, 50, 51], 10);
+    let kept = list_hash(&[2, 3, 51, 3, 1_048_575, 50], 10);
+    let (ten, five) = (list_hash(&[], 10), list_hash(&[], 5));
+    let expected = [
+        "1 pages=0 current=0 open=0 roots=0 edition=0 free=0 oldest=0",
+        "0",
+        "0",
+        "0",
+        "8",
+        "0",
+        "0",
+        "0",
+        "0",
+        "0",
+        "0",
+        "6",
+        "0",
+        "0",
+        "0",
+        &format!("0 count=3 list={lived}"),
+        &format!("0 count=1 list={changed}"),
+        &format!("0 count=0 list={ten}"),
+        "6",
+        "0",
+        "6",
+        &format!("0 count=2 list={kept}"),
+        &format!("6 count=0 list={ten}"),
+        "6 found=0 value=0",
+        "0 pages=5",
+        "7",
+        "0 pages=16 current=3 open=0 roots=1 edition=2 free=10 oldest=2",
+        "0",
+        &format!("14 count=2 list={five}"),
+        &format!("5 count=0 list={five}"),
+        "0",
+        "3",
     ];
     assert_eq!(told(input), expected);
 }
@@ -194,7 +243,7 @@ fn lines_there_and_back() {
 }
 
 const WORDS: &str = "store store2 open insert delete commit abandon get range check visits list \
-                     byte cut rawinsert rawcommit diff life return convert swap prune";
+                     byte cut rawinsert rawcommit diff life return convert swap prune state";
 const NUMBERS: &str = "0 1 2 3 4 5 6 7 8 10 11 12 14 15 bad";
 
 /// How often each first word and each number stands in generated lines.
@@ -252,6 +301,10 @@ fn is_caught(fault: fn(Call, &mut [u8], &mut [u32], &mut Answer)) -> bool {
 fn a_faulty_program_is_caught() {
     assert!(!is_caught(|_, _, _, _| {}));
     assert!(is_caught(|_, _, _, answer| answer.rule = answer.rule.min(5)));
+    assert!(is_caught(|_, _, _, answer| answer.state.oldest = 0));
+    assert!(is_caught(|call, _, _, answer| {
+        answer.state.free += u32::from(call == Call::State && answer.number == 0);
+    }));
     assert!(is_caught(|call, _, list, answer| {
         if let (Call::Visits(..), 0) = (call, answer.number) {
             list[answer.count as usize - 1] += 1;

@@ -6,6 +6,7 @@ use super::both_convert;
 use host::Proved;
 use reference::beside::compare;
 use reference::engine::{Answer, Call, Reference};
+use reference::state::State;
 
 /// One call on both programs; `bytes` is the store after it.
 fn call(call: Call, bytes: &mut [u8]) -> Answer {
@@ -31,6 +32,11 @@ pub fn convert(source: &[u8], target: &mut [u8]) -> u32 {
 pub fn check(bytes: &[u8]) -> (u32, u32) {
     let answer = call(Call::Check, &mut bytes.to_vec());
     (answer.number, answer.rule)
+}
+
+pub fn state(bytes: &[u8]) -> (u32, State) {
+    let answer = call(Call::State, &mut bytes.to_vec());
+    (answer.number, answer.state)
 }
 
 pub fn open(bytes: &mut [u8]) -> u32 {

@@ -86,7 +86,12 @@ pub struct Both {
     /// Which numbers were given, and how often each; returns' apart.
     pub given: BTreeMap<u32, u64>,
     pub returns: BTreeMap<u32, u64>,
+    /// What is wrong with the plain engine.
+    pub fault: Fault,
 }
+
+/// A call, what was lent, and what it left: to be made wrong.
+pub type Fault = fn(Call, &Plain, &mut Plain);
 
 impl Both {
     /// Lent bytes, with no store in them yet.
@@ -96,6 +101,7 @@ impl Both {
             plain: Plain::fresh(1),
             given: BTreeMap::new(),
             returns: BTreeMap::new(),
+            fault: |_, _, _| {},
         }
     }
 
@@ -113,7 +119,7 @@ impl Both {
         match (call, answer.number) {
             (Call::Fresh, _) => self.plain = Plain::fresh(1),
             (Call::FreshSecond, _) => self.plain = Plain::fresh(2),
-            (Call::Check | Call::Visits(..), _) => {}
+            (Call::Check | Call::State | Call::Visits(..), _) => {}
             (Call::Return(_), 12 | 13) => assert_eq!(self.plain.number(Call::Abandon), DONE),
             (_, 12 | 13) => {}
             (_, number) => {
@@ -121,7 +127,11 @@ impl Both {
                 let room = self.plain.items.len() + PLAIN_ITEM_NUMBERS * more;
                 self.plain.items.resize(room, LENT);
                 let mut beside = vec![LENT; call.list_length()];
+                let lent = self.plain.clone();
                 let plain = self.plain.apply(call, &mut beside);
+                if self.plain != lent {
+                    (self.fault)(call, &lent, &mut self.plain);
+                }
                 assert_eq!(plain, answer, "{call:?}");
                 assert!(beside == list, "{call:?}: {beside:?}, and not {list:?}");
             }

@@ -69,7 +69,8 @@ pub fn some_versions(bytes: &[u8], rng: &mut Rng) -> Vec<u32> {
 
 /// Calls at the borders of keys, versions and lists.
 pub fn border_calls(bytes: &[u8], rng: &mut Rng) -> Vec<Call> {
-    let mut calls = vec![Call::Check, Call::Open, Call::Commit, Call::Abandon];
+    let mut calls = vec![Call::Check, Call::State, Call::Open, Call::Commit];
+    calls.push(Call::Abandon);
     let (keys, versions) = (some_keys(bytes, rng), some_versions(bytes, rng));
     for key in &keys {
         calls.push(Call::Insert(*key, rng.word()));

@@ -217,6 +217,7 @@ impl Writer {
             11 => Call::Life(key, 9),
             12 => Call::Return(version),
             13 => Call::Prune(version),
+            14 => Call::State,
             _ => Call::Range(key, other, version, self.rng.below(400) as usize),
         };
         self.write_call(call);
@@ -269,6 +270,8 @@ pub const MALFORMED: &[&str] = &[
     "visits 1",
     "visits 1 2 3",
     "check 1",
+    "state 1",
+    "state of",
     "store",
     "store 5001",
     "store 6 6",

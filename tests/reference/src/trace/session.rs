@@ -8,6 +8,7 @@ use crate::calls;
 use crate::edition::{Edition, FIRST, SECOND};
 use crate::engine::{Answer, Call, Engine};
 use crate::number;
+use crate::state::State;
 
 /// How many numbers the caller's list holds at first.
 pub const LIST_AT_FIRST: usize = 200_000;
@@ -132,6 +133,7 @@ pub fn lent_pages(edition: &Edition, pages: u32) -> Vec<u8> {
 fn results(call: Call, answer: Answer, list: &[u32]) -> String {
     match call {
         Call::Check => format!(" rule={}", answer.rule),
+        Call::State => state_of(answer.state),
         Call::Lookup(..) => {
             let found = u32::from(answer.found);
             format!(" found={found} value={}", answer.value)
@@ -148,4 +150,20 @@ fn results(call: Call, answer: Answer, list: &[u32]) -> String {
         Call::Visits(..) => " pages=".to_string(),
         _ => String::new(),
     }
+}
+
+fn state_of(told: State) -> String {
+    let State {
+        pages,
+        current,
+        open,
+        roots,
+        edition,
+        free,
+        oldest,
+    } = told;
+    format!(
+        " pages={pages} current={current} open={open} roots={roots} edition={edition} \
+         free={free} oldest={oldest}"
+    )
 }

@@ -139,6 +139,8 @@ fn every_other_count_is_rule_8() {
         assert_eq!(calls::commit(&mut damaged), 4);
         assert_eq!(calls::abandon(&mut damaged), 4);
         assert_eq!(calls::return_to(&mut damaged, 0), 4);
+        assert_eq!(calls::prune(&mut damaged, 0), 4);
+        assert_eq!(calls::state(&damaged), (4, Default::default()));
         assert_eq!(calls::visits(&damaged, 1, 1, &mut [0; 5]), (4, 0));
         assert_eq!(calls::life(&damaged, 1, &mut [0; 3]), (4, 0));
         assert_eq!(calls::difference(&damaged, 0, 1, &mut []), (4, 0));
@@ -146,6 +148,39 @@ fn every_other_count_is_rule_8() {
         assert_eq!(calls::lookup(&damaged, 7, 1), (0, true, 70));
         assert_eq!(calls::range(&damaged, 7, 8, 1, &mut [0; 4]), (0, 2));
         assert_eq!(damaged, before);
+    }
+}
+
+/// On a leaf, an index page, a killed leaf and a killed index page, reached at the
+/// last version, at an older one, or, behind the oldest version, at none: every
+/// number but the right one, 41 to 63 too.
+#[test]
+fn every_other_count_on_pages_of_every_kind() {
+    let mut bytes = twelve_pages();
+    insert_all(&mut bytes, [41]);
+    commit(&mut bytes);
+    open(&mut bytes);
+    delete_all(&mut bytes, 22..=34);
+    insert_all(&mut bytes, 50..=70);
+    commit(&mut bytes);
+    let mut expired = Image::read(&bytes);
+    expired.header.oldest = 2;
+    expired.slots.drain(..2);
+    let levels = [5, 6, 8, 9, 11].map(|number| store::level(&bytes, number));
+    assert_eq!(levels, [1, 1, 2, 1, 2]);
+    for bytes in [bytes, expired.write()] {
+        assert_sound(&bytes);
+        for (number, right) in [(5, 0), (6, 0), (8, 0), (9, 21), (11, 2)] {
+            assert_eq!(told(&bytes, number), right, "page {number}");
+            for count in (0..64).filter(|count| *count != right) {
+                let mut damaged = bytes.clone();
+                set(&mut damaged, number, count);
+                assert_eq!(calls::check(&damaged), (4, 8), "page {number}: {count}");
+                assert_eq!(calls::open(&mut damaged), 4);
+                assert_eq!(calls::prune(&mut damaged, 2), 4);
+                assert_eq!(calls::lookup(&damaged, 7, 2), (0, true, 70));
+            }
+        }
     }
 }
 

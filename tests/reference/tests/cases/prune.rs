@@ -265,6 +265,47 @@ fn an_ended_router_to_an_index_page() {
     assert_sound(&image.write());
 }
 
+/// Freed pages used again at the same level, at another one and as a root, while
+/// the one index page of the oldest version has ended routers to all of them.
+#[test]
+fn used_again_at_another_level_and_as_a_root() {
+    // With these routers the root is full: one entry more and it is made anew.
+    let ended = (0..38).map(|i| entry(2000 + i, 1, 2, [5, 9, 10][i as usize % 3]));
+    let root = with(index(1, ALIVE, &[(0, 6), (1000, 7)]), ended);
+    let pages = vec![leaf(1, ALIVE, 0..40), leaf(1, ALIVE, 1000..1008), root];
+    let mut image = image_of(&SECOND, 5, false, &[(1, 8)], pages);
+    image.slots.remove(0);
+    *image.page_mut(5) = Page::free();
+    free_pages(&mut image, 3);
+    image.header.oldest = 3;
+    let before = image.write();
+    assert_sound(&before);
+    let mut bytes = before.clone();
+    open(&mut bytes);
+    insert_all(&mut bytes, [40]);
+    // Page 6 splits into 5 and 9, and page 8 becomes page 10, the root.
+    assert_eq!([5, 9, 10].map(|n| store::level(&bytes, n)), [1, 1, 2]);
+    assert_eq!(slots(&bytes), [(1, 8), (6, 10)]);
+    assert_eq!(span(&page(&bytes, 8)), (1, 6));
+    assert_eq!(page(&bytes, 8).entries.len(), 40);
+    let mut released = bytes.clone();
+    abandon(&mut bytes);
+    assert_eq!(bytes, before);
+    commit(&mut released);
+    for (version, count) in [(3, 48), (5, 48), (6, 49)] {
+        let mut list = [0; 100];
+        assert_eq!(
+            calls::range(&released, 0, 2000, version, &mut list),
+            (0, count)
+        );
+    }
+    assert_eq!(calls::lookup(&released, 40, 6), (0, true, 400));
+    // Pages 6 and 8 ended at 6, and go with it.
+    prune(&mut released, 6);
+    assert!(is_zero(&released, 6) && is_zero(&released, 8));
+    assert_eq!(slots(&released), [(6, 10)]);
+}
+
 /// Reading 12.4: rule 7 no longer follows.
 #[test]
 fn rule_7_is_tested() {

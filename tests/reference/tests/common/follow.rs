@@ -1,6 +1,6 @@
 //! A history on this program, beside one ordered map for each version.
 
-use super::literal::pruned;
+use super::literal::{pruned, sizes};
 use super::roomier;
 use crate::calls;
 use reference::beside::Tally;
@@ -99,6 +99,13 @@ impl Follower {
             expected.number = if short { number::LIST_TOO_SHORT } else { 0 };
             expected.count = wanted as u64;
         }
+        if call == Call::State {
+            // What the model knows nothing of, read as bits.
+            let (pages, roots, free) = sizes(before);
+            expected.state.pages = pages;
+            expected.state.roots = roots;
+            expected.state.free = free;
+        }
         let lacking = is_lack(answer.number);
         let update = matches!(call, Call::Insert(..) | Call::Delete(..) | Call::Return(_));
         if update && expected.number == number::DONE {
@@ -137,7 +144,7 @@ impl Follower {
                 assert_eq!(pruned(&before, version), self.followed.store, "{call:?}");
                 self.followed.prunes += 1;
             }
-            Call::Check | Call::Lookup(..) | Call::Range(..) => return,
+            Call::Check | Call::State | Call::Lookup(..) | Call::Range(..) => return,
             Call::Visits(..) | Call::Difference(..) | Call::Life(..) => return,
         }
         self.every_reached_page_is_filled();

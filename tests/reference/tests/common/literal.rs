@@ -110,6 +110,16 @@ pub fn pruned(bytes: &[u8], version: u32) -> Vec<u8> {
     after
 }
 
+/// How many pages the bytes are, how many roots the header counts, and how many
+/// pages from 5 on have level 0.
+pub fn sizes(bytes: &[u8]) -> (u32, u32, u32) {
+    let numbers = numbers(bytes);
+    let pages = bytes.chunks(numbers.page);
+    let free = pages.clone().skip(5).filter(|page| bits(page, 0, 4) == 0);
+    let roots = bits(bytes, 74, numbers.roots_bits);
+    (pages.count() as u32, roots as u32, free.count() as u32)
+}
+
 /// The number and rule that check is to give.
 pub fn verdict(bytes: &[u8]) -> (u32, u32) {
     let number = no_store(bytes);

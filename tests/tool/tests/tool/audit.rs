@@ -133,7 +133,7 @@ fn line(call: Call, pages: usize) -> Option<String> {
         Call::Range(low, high, version, _) => format!("range {low} {high} {version}"),
         Call::Difference(old, new, _) => format!("diff {old} {new}"),
         Call::Life(key, _) => format!("life {key}"),
-        Call::Check | Call::Visits(..) => return None,
+        Call::Check | Call::State | Call::Visits(..) => return None,
     })
 }
 

@@ -8,6 +8,7 @@ mod kills;
 mod names;
 mod pictures;
 mod places;
+mod progress;
 mod prunes;
 mod refusals;
 mod second;

@@ -229,3 +229,26 @@ fn many_versions_still_read() {
         svg.matches("<text").count()
     );
 }
+
+/// Thousands of keys, in hundreds of leaves.
+#[test]
+fn many_keys_still_read() {
+    let folder = Folder::new();
+    let mut bytes = vec![0; 2048 * 256];
+    plain::fresh(&mut bytes);
+    for version in 0..3u32 {
+        reference::unjudged::open(&mut bytes);
+        for key in 0..4000 {
+            let key = 16_000_000 / 12_000 * (3 * key + version);
+            assert_eq!(reference::unjudged::insert(&mut bytes, key, version), 0);
+        }
+        assert_eq!(reference::unjudged::raw_commit(&mut bytes), 0);
+    }
+    folder.put("s", &bytes);
+    let svg = folder.done(&["draw", "s"], "");
+    assert_eq!(well_formed(&svg), Ok(()));
+    let (boxes, words) = (svg.matches(": keys ").count(), svg.matches("<text").count());
+    assert!(boxes > 600 && words < 100, "{boxes} boxes, {words} words");
+    let tree = folder.done(&["draw", "s", "--tree", "@3"], "");
+    assert_eq!(well_formed(&tree), Ok(()));
+}
