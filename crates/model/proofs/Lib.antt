@@ -73,15 +73,3 @@ pub mod Quiet
 pub mod Parents
 pub mod Once
 pub mod Facts
-pub mod QuickSpans
-pub mod QuickHigh
-pub mod QuickFront
-pub mod QuickWalk
-pub mod QuickSums
-pub mod QuickOnce
-pub mod QuickReach
-pub mod QuickBack
-pub mod Quick
-pub mod QuickLent
-pub mod QuickLaws
-pub mod Short

@@ -13,7 +13,6 @@ use Rattle.model.specs.Page.{free}
 use Rattle.model.specs.Figures.{to, each, leaf, index, slot}
 use Rattle.model.specs.Store.{Store, fresh}
 use Rattle.model.specs.Sound.{sound}
-use Rattle.model.specs.Quick.{quickSound}
 use Rattle.model.specs.Histories.{Call, begins, commits, abandons, prunes, After, runOn}
 use Rattle.model.specs.Table.{insertKey}
 use Rattle.model.specs.Replay.{allOf, gives, slots, leads, span, freed, live, looks}
@@ -32,8 +31,8 @@ toReused = toPruned ++ (begins ∷ map insertKey (count 63 21))
 abbrev pub at : List Call → After
 at cs = runOn 8 (fresh 12) cs
 
-abbrev pub both : List Call → Bool
-both cs = sound 8 (at cs .store) && quickSound 8 (at cs .store)
+abbrev pub leavesSound : List Call → Bool
+leavesSound cs = sound 8 (at cs .store)
 
 abbrev pub prunedFacts : Bool
 prunedFacts =

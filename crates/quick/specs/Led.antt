@@ -13,7 +13,7 @@ use Rattle.model.specs.Basic.{pick}
 use Rattle.model.specs.Page.{Page}
 use Rattle.model.specs.Store.{Store}
 use Rattle.model.specs.Layout.{readHeader, readSlots, decode, sizeOf}
-use Rattle.model.specs.Quick.{upto, routed, routedAll, rooted, ledTo, spansMet}
+use Rattle.spans.specs.Quick.{upto, routed, routedAll, rooted, ledTo, spansMet}
 use Rattle.store.specs.Read.{slots-of, length-pages, behind}
 use Rattle.quick.specs.Sums.{addTo, addSlots, addEntries, addPage, addPages, allMet, Sums, sum-at, none, fewer, slots-more}
 

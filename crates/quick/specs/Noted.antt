@@ -5,7 +5,7 @@ use mathlib.Core.Path.{_≡_, ap, sym, _∙_}
 use lib.ListN.{drop}
 use Rattle.model.specs.Store.{Store}
 use Rattle.model.specs.Sound.{rule1, rule2, rule3, rule4, rule5}
-use Rattle.model.specs.Quick.{spansMet, slotsFine, quick}
+use Rattle.spans.specs.Quick.{spansMet, slotsFine, quick}
 use Rattle.notes.specs.Six.{quick-by}
 
 -- a store of which rules 1 to 3 hold

@@ -14,8 +14,8 @@ use Rattle.model.specs.Clean.{clean}
 use Rattle.model.specs.Counted.{rule8}
 use Rattle.model.proofs.Lists.{both-true}
 use Rattle.model.specs.Judged.{lengthOk, magicOk, editionOk, judged}
-use Rattle.model.proofs.QuickLent.{number-quickly}
-use Rattle.model.specs.Quick.{kept, apart, childrenFine, slotsFine, spansMet, quick, quickIn}
+use Rattle.spans.proofs.laws.OfBytes.{number-quickly}
+use Rattle.spans.specs.Quick.{kept, apart, childrenFine, slotsFine, spansMet, quick, quickIn}
 
 -- numbers 1 to 3: the length, the name, the edition
 abbrev pub refusedBy : Bool → Bool → Bool → ℕ

@@ -12,7 +12,7 @@ use Rattle.model.specs.declared.Entry.{Entry}
 use Rattle.model.specs.Basic.{all, inOrder}
 use Rattle.model.specs.Entry.{before}
 use Rattle.model.specs.Layout.{readEntry, readEntries}
-use Rattle.model.specs.Quick.{meets, lowOver}
+use Rattle.spans.specs.Quick.{meets, lowOver}
 use Rattle.model.proofs.Lists.{both-true, both-intro}
 use Rattle.model.proofs.Members.{In, either-true, all-in, all-by}
 use Rattle.page.specs.Read.{entries-step}

@@ -15,7 +15,7 @@ use Rattle.model.specs.Limits.{Edition}
 use Rattle.model.specs.Page.{Page, isFree}
 use Rattle.model.specs.Sound.{pagesPass}
 use Rattle.model.specs.Layout.{pageOf, readEntries, readPages, decodePage, decode, sizeOf}
-use Rattle.model.specs.Quick.{kept, apart, routersFine, childrenFine}
+use Rattle.spans.specs.Quick.{kept, apart, routersFine, childrenFine}
 use Rattle.page.specs.declared.Head.{Head}
 use Rattle.page.specs.Head.{readHead}
 use Rattle.page.specs.Read.{level-of, entries-of}

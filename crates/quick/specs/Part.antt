@@ -13,12 +13,12 @@ use Rattle.model.specs.declared.Entry.{Entry}
 use Rattle.model.specs.Basic.{all, those, keep, pick, inOrder}
 use Rattle.model.specs.Entry.{before}
 use Rattle.model.specs.Layout.{readEntry, readEntries, decodePage}
-use Rattle.model.specs.Quick.{meets, past, pastAll, kept, apart, lowOver, keyOver, liveCount, manyOver, fineOver}
+use Rattle.spans.specs.Quick.{meets, past, pastAll, kept, apart, lowOver, keyOver, liveCount, manyOver, fineOver}
 use Rattle.model.specs.Inner.{firstOk, throughout}
 use Rattle.model.proofs.Lists.{both-true}
 use Rattle.model.proofs.Members.{In, in-those}
-use Rattle.model.proofs.QuickLaws.{apart-neighbours}
-use Rattle.model.proofs.QuickSpans.{kept-order}
+use Rattle.spans.proofs.laws.Neighbours.{apart-neighbours}
+use Rattle.spans.proofs.laws.Stretches.{kept-order}
 use Rattle.page.specs.declared.Head.{Head}
 use Rattle.page.specs.Head.{readHead}
 use Rattle.page.specs.Read.{level-of, entries-of, entries-step, entries-end, read-sized}

@@ -15,7 +15,7 @@ use Rattle.model.specs.Store.{page}
 use Rattle.model.specs.Sound.{fewest}
 use Rattle.model.specs.Clean.{clean}
 use Rattle.model.specs.Layout.{decodePage, readHeader, readSlot, readSlots, decode}
-use Rattle.model.specs.Quick.{upto, slotFine, slotsFine, fineOver}
+use Rattle.spans.specs.Quick.{upto, slotFine, slotsFine, fineOver}
 use Rattle.page.specs.declared.Head.{Head}
 use Rattle.page.specs.Head.{readHead}
 use Rattle.page.specs.Read.{level-of, start-of, end-of}

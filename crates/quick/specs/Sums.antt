@@ -15,7 +15,7 @@ use Rattle.model.specs.declared.Slot.{Slot}
 use Rattle.model.specs.Basic.{pick}
 use Rattle.model.specs.Page.{Page, isFree}
 use Rattle.model.specs.Layout.{pageOf, decodePage, readEntry, readEntries, readSlot, readSlots, readPages}
-use Rattle.model.specs.Quick.{upto}
+use Rattle.spans.specs.Quick.{upto}
 use Rattle.page.specs.declared.Head.{Head}
 use Rattle.page.specs.Head.{readHead}
 use Rattle.page.specs.Read.{level-of, start-of, end-of, entries-of, read-sized, entries-step, entries-end}

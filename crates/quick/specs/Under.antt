@@ -11,7 +11,7 @@ use Rattle.model.specs.declared.Entry.{Entry}
 use Rattle.model.specs.Page.{Page}
 use Rattle.model.specs.Store.{page}
 use Rattle.model.specs.Layout.{readEntry, readEntries, pageOf, decode}
-use Rattle.model.specs.Quick.{meets, past, pastAll, kept, lastFine, lasts, under, nextFine, nexts, fineOver, routersFine}
+use Rattle.spans.specs.Quick.{meets, past, pastAll, kept, lastFine, lasts, under, nextFine, nexts, fineOver, routersFine}
 use Rattle.page.specs.Read.{entries-step, entries-end, entries-of}
 use Rattle.store.specs.Read.{page-at}
 use Rattle.local.specs.Local.{IsPage, countAt}

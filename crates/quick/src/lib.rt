@@ -21,7 +21,7 @@ ghost use lib.ListN.{drop};
 ghost use Rattle.model.specs.Limits.{Edition};
 ghost use Rattle.model.specs.Layout.{decode};
 ghost use Rattle.model.specs.Judged.{lengthOk, magicOk, editionOk, judged};
-ghost use Rattle.model.specs.Quick.{spansMet, slotsFine, quick, quickIn};
+ghost use Rattle.spans.specs.Quick.{spansMet, slotsFine, quick, quickIn};
 ghost use Rattle.local.specs.Local.{Sized};
 ghost use Rattle.notes.specs.Ready.{Ready};
 ghost use Rattle.quick.specs.Good.{Good};

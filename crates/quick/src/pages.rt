@@ -9,7 +9,7 @@ ghost use Rattle.model.specs.Limits.{Edition};
 ghost use Rattle.model.specs.Page.{Page};
 ghost use Rattle.model.specs.Sound.{pagesPass};
 ghost use Rattle.model.specs.Layout.{pageOf, decodePage, decode, readHeader, readPages, sizeOf};
-ghost use Rattle.model.specs.Quick.{kept, apart, childrenFine};
+ghost use Rattle.spans.specs.Quick.{kept, apart, childrenFine};
 ghost use Rattle.local.specs.Local.{IsPage};
 ghost use Rattle.quick.specs.Good.{Good};
 ghost use Rattle.quick.specs.Pages.{ownFine, atLevel};

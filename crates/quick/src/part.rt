@@ -8,7 +8,7 @@ ghost use Rattle.model.specs.Basic.{all, those, inOrder};
 ghost use Rattle.model.specs.Entry.{before};
 ghost use Rattle.model.specs.Limits.{Edition};
 ghost use Rattle.model.specs.Layout.{readEntry, readEntries, decodePage};
-ghost use Rattle.model.specs.Quick.{kept, apart, lowOver, keyOver, liveCount, manyOver, fineOver, pastAll};
+ghost use Rattle.spans.specs.Quick.{kept, apart, lowOver, keyOver, liveCount, manyOver, fineOver, pastAll};
 ghost use Rattle.model.specs.Inner.{throughout};
 ghost use Rattle.page.specs.Head.{readHead};
 ghost use Rattle.notes.specs.Linked.{Stands};

@@ -6,7 +6,7 @@ ghost use mathlib.Core.Path.{_≡_};
 ghost use Prim.Native.Nat.{_+_, _*_, _-_, _≤_, _<_, min, max};
 ghost use Rattle.model.specs.Limits.{Edition};
 ghost use Rattle.model.specs.Layout.{readEntry, readEntries, readHeader, decode};
-ghost use Rattle.model.specs.Quick.{kept, under, nexts, routersFine};
+ghost use Rattle.spans.specs.Quick.{kept, under, nexts, routersFine};
 ghost use Rattle.local.specs.Local.{IsPage, levelAt};
 ghost use Rattle.quick.specs.Good.{Good};
 ghost use Rattle.notes.specs.Linked.{Stands};

@@ -10,7 +10,7 @@ ghost use Rattle.model.specs.Entry.{before};
 ghost use Rattle.model.specs.Limits.{Edition};
 ghost use Rattle.model.specs.Store.{page};
 ghost use Rattle.model.specs.Layout.{decode, decodePage, readHeader, readEntries, readSlots};
-ghost use Rattle.model.specs.Quick.{upto, slotFine, slotsFine};
+ghost use Rattle.spans.specs.Quick.{upto, slotFine, slotsFine};
 ghost use Rattle.page.specs.Head.{readHead};
 ghost use Rattle.local.specs.Local.{slotAt};
 ghost use Rattle.quick.specs.Good.{Good};

@@ -5,7 +5,7 @@ ghost use Prim.Native.Nat.{ℕ, _+_, _*_, _^_, _≤_, _<_};
 ghost use lib.ListN.{length, getD, drop};
 ghost use Rattle.model.specs.Limits.{Edition};
 ghost use Rattle.model.specs.Layout.{pageOf, decode, decodePage, readEntry, readEntries};
-ghost use Rattle.model.specs.Quick.{spansMet};
+ghost use Rattle.spans.specs.Quick.{spansMet};
 ghost use Rattle.local.specs.Local.{IsPage};
 ghost use Rattle.quick.specs.Good.{Good};
 ghost use Rattle.notes.specs.Linked.{Stands};

@@ -7,7 +7,7 @@ ghost use lib.Dec.{ltb};
 ghost use Rattle.model.specs.Basic.{pick};
 ghost use Rattle.model.specs.Limits.{Edition};
 ghost use Rattle.model.specs.Layout.{readEntry, readEntries, decode};
-ghost use Rattle.model.specs.Quick.{under};
+ghost use Rattle.spans.specs.Quick.{under};
 ghost use Rattle.quick.specs.Good.{Good, Asks};
 ghost use Rattle.notes.specs.Linked.{Stands};
 ghost use Rattle.quick.specs.Under.{wayOf};

@@ -5,7 +5,7 @@ use native.Mathlib.Omega.{arith}
 use borrow.Author.Needs.{needs}
 use borrow.Author.Tests.{not-true, not-false}
 use Rattle.model.specs.Basic.{inOrder}
-use Rattle.model.specs.Quick.{kept, apart, childrenFine, routersFine}
+use Rattle.spans.specs.Quick.{kept, apart, childrenFine, routersFine}
 use Rattle.model.specs.Layout.{decode, decodePage, pageOf, readEntries}
 use Rattle.quick.specs.Pages.{ownFine, own-none, own-some, children-leaf, children-index}
 use Rattle.quick.specs.Routers.{entriesAt}

@@ -2,7 +2,7 @@ use mathlib.Core.Path.{sym, ap, _∙_}
 use native.Mathlib.Omega.{arith}
 use borrow.Author.Tests.{not-true, not-false}
 use Rattle.model.specs.Layout.{readEntries}
-use Rattle.model.specs.Quick.{liveCount}
+use Rattle.spans.specs.Quick.{liveCount}
 use Rattle.quick.specs.Part.{endFine, leb-min}
 use borrow.Author.Needs.{needs}
 use Rattle.quick.proofs.part.end_fine.Statement.{statement}

@@ -7,7 +7,7 @@ use native.Mathlib.Nat.{sub-zero}
 use borrow.Author.Tests.{not-true, not-false}
 use Rattle.model.specs.declared.Entry.{Entry}
 use Rattle.model.specs.Layout.{readEntries}
-use Rattle.model.specs.Quick.{meets}
+use Rattle.spans.specs.Quick.{meets}
 use Rattle.quick.specs.Part.{highOver}
 use Rattle.local.specs.Loops.{all-entries-step, all-entries-end}
 use borrow.Author.Needs.{needs}

@@ -1,9 +1,9 @@
 use mathlib.Core.Path.{ap, sym, _∙_}
 use native.Mathlib.Omega.{arith}
 use borrow.Author.Tests.{le-leb, lt-leb}
-use Rattle.model.proofs.QuickLaws.{many-through}
+use Rattle.spans.proofs.laws.Neighbours.{many-through}
 use Rattle.model.specs.Layout.{readEntries}
-use Rattle.model.specs.Quick.{liveCount}
+use Rattle.spans.specs.Quick.{liveCount}
 use borrow.Author.Needs.{needs}
 use Rattle.quick.proofs.part.many_over.Statement.{statement}
 use Rattle.quick.proofs.part.many_over.Tie as tie

@@ -5,7 +5,7 @@ use native.Mathlib.Omega.{arith}
 use borrow.Author.Needs.{needs}
 use borrow.Author.Tests.{not-true, not-false}
 use Rattle.model.specs.Layout.{readEntry, readEntries, decode}
-use Rattle.model.specs.Quick.{nexts}
+use Rattle.spans.specs.Quick.{nexts}
 use Rattle.local.specs.Local.{IsPage, levelAt}
 use Rattle.notes.specs.Here.{part-asks, room-here}
 use Rattle.quick.specs.Here.{order-part}

@@ -1,5 +1,5 @@
 use Rattle.quick.specs.Slots.{slots-start, slots-fine-step, slots-fine-end}
-use Rattle.model.specs.Quick.{slotsFine}
+use Rattle.spans.specs.Quick.{slotsFine}
 use Rattle.model.specs.Layout.{decode, readHeader, readSlots}
 use Rattle.model.specs.declared.Header.{Header}
 use borrow.Author.Tests.{not-true, not-false}

@@ -1,7 +1,7 @@
 use Rattle.quick.specs.Sums.{Sums, addTo, addSlots, add-slots-step, add-slots-end, one-more, upto-most}
 use Rattle.quick.specs.Slots.{slots-start}
 use Rattle.local.specs.Local.{slotAt}
-use Rattle.model.specs.Quick.{upto}
+use Rattle.spans.specs.Quick.{upto}
 use Rattle.model.specs.Layout.{readHeader, readSlots, decode}
 use Rattle.model.specs.declared.Header.{Header}
 use Rattle.model.specs.declared.Slot.{Slot}

@@ -10,7 +10,7 @@ use borrow.Fn.Kinds.{In}
 use borrow.Fn.PlainCycle.{Measures, is, falls, and}
 use Rattle.model.specs.Basic.{pick}
 use Rattle.model.specs.Layout.{decode, readEntry, readEntries}
-use Rattle.model.specs.Quick.{under as underOf, lasts}
+use Rattle.spans.specs.Quick.{under as underOf, lasts}
 use Rattle.quick.specs.Part.{highOver}
 use Rattle.notes.specs.Here.{part-asks, head-asks, stands-here, few, entries-are, entries-start, child-here}
 use Rattle.quick.specs.Here.{order-here}

@@ -10,26 +10,26 @@ use lib.Dec.{leb}
 use lib.ListN.{drop, length-drop}
 use lib.Seq.{getD-drop}
 use borrow.Author.Tests.{leb-true, leb-false, not-true}
 use Rattle.model.specs.Basic.{all, has, inOrder}
 use Rattle.model.specs.declared.Slot.{Slot}
 use Rattle.model.specs.Entry.{alive, within}
 use Rattle.model.specs.Page.{Page, free, isFree}
 use Rattle.model.specs.Store.{Store, page, last}
 use Rattle.model.specs.Walk.{Seen, seen}
 use Rattle.model.specs.Sound.{pagesPass, versions, keysOk, reachedWell, sound, rule1, rule2, rule3, rule4, rule5, rule6, rule7}
-use Rattle.model.specs.Quick.{kept, apart, childrenFine, slotsFine, ledTo, spansMet, quick, quickSound}
+use Rattle.spans.specs.Quick.{kept, apart, childrenFine, slotsFine, ledTo, spansMet, quick, quickSound}
 use Rattle.model.specs.Inner.{Out}
 use Rattle.model.proofs.Lists.{both-true, both-intro}
 use Rattle.model.proofs.Members.{bool-cases, In, all-in, all-by, all-implies}
 use Rattle.model.proofs.Given.{Front, front-of, span-of, numbers, livesAt, enough, used-in, high-used, passes-at, at-passes, reached-at, at-reached, Readable, old-last, version-in, in-version}
 use Rattle.model.proofs.Quiet.{QuietPage, Quiet, seen-still, reached-still}
 use Rattle.model.proofs.Bridge.{passesAt}
 use Rattle.model.proofs.Walks.{reach-self}
-use Rattle.model.proofs.QuickFront.{entry-at, root, height, root-used}
-use Rattle.model.proofs.QuickOnce.{Reached}
-use Rattle.model.proofs.QuickReach.{reached-number, number-reached, reached-as, met-at, at-met}
-use Rattle.model.proofs.QuickWalk
-use Rattle.model.proofs.QuickBack
+use Rattle.spans.proofs.laws.RulesGive.{entry-at, root, height, root-used}
+use Rattle.spans.proofs.laws.OneWay.{Reached}
+use Rattle.spans.proofs.laws.AddedUp.{reached-number, number-reached, reached-as, met-at, at-met}
+use Rattle.spans.proofs.laws.ToWalks
+use Rattle.spans.proofs.laws.FromWalks
 
 -- two tests that imply each other are one
 same-test : (a b : Bool) → (a ≡ true → b ≡ true) → (b ≡ true → a ≡ true) → a ≡ b
@@ -57,10 +57,10 @@ module _ (least : ℕ) (two : 2 ≤ least) (s : Store) (r1 : rule1 least s ≡ t
     pages-fine n u = passes-at pageTest s pages (d .front) n u
 
     walks : (v : ℕ) → s .oldest ≤ v → v < alive → all (passesAt least) (seen s v) ≡ true
-    walks v from low = QuickWalk.walk-passes least two s d pages-fine slots v from low
+    walks v from low = ToWalks.walk-passes least two s d pages-fine slots v from low
 
     roots-live : (v : ℕ) → s .oldest ≤ v → v < alive → within (page ps (root least two s d v) .start) (page ps (root least two s d v) .end) v ≡ true
-    roots-live v from low = QuickWalk.root-lives least two s d pages-fine slots v from low
+    roots-live v from low = ToWalks.root-lives least two s d pages-fine slots v from low
 
     met : (n : ℕ) → isFree (page ps n) ≡ false → ledTo s n ≡ page ps n .end - max (s .oldest) (page ps n .start)
     met n u =
@@ -172,10 +172,10 @@ module _ (least : ℕ) (two : 2 ≤ least) (s : Store) (r1 : rule1 least s ≡ t
         (both-intro _ _
         (at-met s 5 (drop 5 ps) (λ i l u.
         let e : page (drop 5 ps) i ≡ page ps (5 + i) = getD-drop 5 ps i free in
-        QuickBack.spans-met least two s d all-walks lives-reached root-lives (5 + i) (ap isFree (sym e) ∙ u) ∙ ap (λ (p : Page). p .end - max (s .oldest) (p .start)) (sym e)))
-        (QuickBack.slots-fine least two s d all-walks lives-reached root-lives))
+        FromWalks.spans-met least two s d all-walks lives-reached root-lives (5 + i) (ap isFree (sym e) ∙ u) ∙ ap (λ (p : Page). p .end - max (s .oldest) (p .start)) (sym e)))
+        (FromWalks.slots-fine least two s d all-walks lives-reached root-lives))
         (at-passes pageTest s (λ n u.
-        both-intro _ _ (QuickBack.page-apart least two s d all-walks lives-reached root-lives n u) (QuickBack.children-fine least two s d all-walks lives-reached root-lives n u)))
+        both-intro _ _ (FromWalks.page-apart least two s d all-walks lives-reached root-lives n u) (FromWalks.children-fine least two s d all-walks lives-reached root-lives n u)))
 
   pub quick-rules : quick least s ≡ (rule4 s && rule5 least s && rule6 s)
   quick-rules = same-test (quick least s) (rule4 s && rule5 least s && rule6 s) from-quick back

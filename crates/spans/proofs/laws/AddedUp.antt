@@ -10,23 +10,23 @@ use lib.Dec.{leb, ltb, eqb}
 use lib.ListN.{length, getD, drop}
 use lib.Seq.{getD-drop}
 use borrow.Author.Tests.{leb-true, leb-false, ltb-true, ltb-false, eqb-true, eq-eqb, not-true}
 use Rattle.model.specs.Basic.{all, has}
 use Rattle.model.specs.declared.Entry.{Entry}
 use Rattle.model.specs.declared.Slot.{Slot}
 use Rattle.model.specs.Entry.{alive, within}
 use Rattle.model.specs.Page.{Page, free, isFree}
 use Rattle.model.specs.Store.{Store, page}
 use Rattle.model.specs.Walk.{Seen, seen, seenUnder, keyLimit}
-use Rattle.model.specs.Quick.{upto, slotFine, slotsFine, ledTo, spansMet}
+use Rattle.spans.specs.Quick.{upto, slotFine, slotsFine, ledTo, spansMet}
 use Rattle.model.proofs.Lists.{both-true, both-intro}
 use Rattle.model.proofs.Members.{not-both, either-true, either-left, either-right, bool-cases, In, in-map, map-in, has-in, in-has}
 use Rattle.model.proofs.Given.{Front, livesAt, numbers}
 use Rattle.model.proofs.Walks.{Reach, Self, Above, reach-self, last-step, seen-reached, IsSeen, reached-under}
 use Rattle.model.proofs.Bridge.{passesAt}
 use Rattle.model.proofs.Fits.{level-used, within-of}
-use Rattle.model.proofs.QuickFront.{leads-of, child-at, page-ends, page-some, reach-level, root, height, root-level}
-use Rattle.model.proofs.QuickSums.{sumOver, sum-add, sum-full, Lies, namedAll, routed-all, rootsAt, Slots, rooted-sum}
-use Rattle.model.proofs.QuickOnce.{ways, Reached, Parent, parent-lives, parent-higher, parent-step, ways-some, ways-one}
+use Rattle.spans.proofs.laws.RulesGive.{leads-of, child-at, page-ends, page-some, reach-level, root, height, root-level}
+use Rattle.spans.proofs.laws.Sums.{sumOver, sum-add, sum-full, Lies, namedAll, routed-all, rootsAt, Slots, rooted-sum}
+use Rattle.spans.proofs.laws.OneWay.{ways, Reached, Parent, parent-lives, parent-higher, parent-step, ways-some, ways-one}
 
 -- a member by its place
 pub in-place : {A : Type 0} (f a : A) (xs : List A) → In a xs → (i : ℕ) × (i < length xs) × (getD xs i f ≡ a)

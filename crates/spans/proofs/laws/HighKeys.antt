@@ -8,16 +8,16 @@ use mathlib.Core.Logic.{_⊎_, inl, inr}
 use mathlib.Core.List.{List, [], _∷_, map}
 use lib.Dec.{leb, ltb}
 use borrow.Author.Tests.{leb-true, ltb-true, lt-ltb, ltb-false}
 use Rattle.model.specs.Basic.{those, keep}
 use Rattle.model.specs.declared.Pair.{Pair}
 use Rattle.model.specs.declared.Entry.{Entry}
 use Rattle.model.specs.Entry.{pairOf, liveAt}
 use Rattle.model.specs.Page.{Page, pairsAt}
 use Rattle.model.specs.Store.{page}
-use Rattle.model.specs.Quick.{past, pastAll, lastFine, lasts, under, nextFine, nexts}
+use Rattle.spans.specs.Quick.{past, pastAll, lastFine, lasts, under, nextFine, nexts}
 use Rattle.model.proofs.Lists.{both-true, both-intro}
 use Rattle.model.proofs.Members.{either-true, either-right, bool-cases, In}
-use Rattle.model.proofs.QuickSpans.{livePairs, Alive, alive-of, shows-of, of-shows, given-meets, to-meets, past-more, past-all-more, past-not, past-all-live}
+use Rattle.spans.proofs.laws.Stretches.{livePairs, Alive, alive-of, shows-of, of-shows, given-meets, to-meets, past-more, past-all-more, past-not, past-all-live}
 
 abbrev pub AllUnder : ℕ → List Pair → Type 0
 AllUnder h us = (x : Pair) → In x us → x .key < h

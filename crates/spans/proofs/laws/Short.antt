@@ -11,20 +11,20 @@ use mathlib.Core.List.{List, [], _∷_, map}
 use lib.Dec.{leb, ltb, eqb, eqb·suc-zero}
 use lib.ListN.{length, length-append}
 use borrow.Author.Tests.{ltb-true, leb-true, eqb-true, eqb-false, le-leb, lt-ltb}
 use Rattle.model.specs.Basic.{all, pick, inOrder, those, keep}
 use Rattle.model.specs.declared.Pair.{Pair}
 use Rattle.model.specs.declared.Entry.{Entry}
 use Rattle.model.specs.Entry.{pairOf, within, liveAt}
 use Rattle.model.specs.Page.{Page, isFree, pairsAt}
 use Rattle.model.specs.Store.{Store, page}
 use Rattle.model.specs.Walk.{seen, seenAs, seenUnder, seenBelow, spread, keyLimit}
 use Rattle.model.specs.Sound.{keysOk, startsAt}
 use Rattle.model.proofs.Lists.{both-true, both-intro, all-cons}
 use Rattle.model.proofs.Members.{In, bool-cases, not-both}
 use Rattle.model.proofs.Local.{all-left, all-right}
 use Rattle.model.proofs.Given.{Front}
 use Rattle.model.proofs.Shows.{in-list}
-use Rattle.model.proofs.QuickFront.{root, height, root-level, child-at}
+use Rattle.spans.proofs.laws.RulesGive.{root, height, root-level, child-at}
 
 -- ---- sums over the page numbers below n
 

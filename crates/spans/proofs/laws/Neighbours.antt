@@ -9,14 +9,14 @@ use mathlib.Core.List.{List, [], _∷_}
 use lib.Dec.{leb, ltb, eqb}
 use lib.ListN.{length}
 use borrow.Author.Tests.{leb-true, ltb-true, eqb-true, eq-eqb, le-leb, lt-ltb, not-true}
 use Rattle.model.specs.Basic.{all, those, keep, inOrder}
 use Rattle.model.specs.declared.Entry.{Entry}
 use Rattle.model.specs.Entry.{before, liveAt}
-use Rattle.model.specs.Quick.{apart, liveCount, manyOver}
+use Rattle.spans.specs.Quick.{apart, liveCount, manyOver}
 use Rattle.model.specs.Inner.{firstOk, throughout}
 use Rattle.model.proofs.Lists.{both-true, both-intro}
 use Rattle.model.proofs.Members.{not-both, either-true, all-by}
 use Rattle.model.proofs.Rising.{Carries, rising, in-order-rising, before-carries}
 
 -- of entries in order neighbours are enough
 abbrev beforeApart : Entry → Entry → Bool

@@ -9,26 +9,26 @@ use mathlib.Core.List.{List, [], _∷_, map}
 use lib.Dec.{leb, ltb, eqb}
 use lib.ListN.{length}
 use borrow.Author.Tests.{leb-true, leb-false, eqb-true, ltb-true, le-leb, lt-leb, lt-ltb, eq-eqb}
 use Rattle.model.specs.Basic.{all, those, keep, pick, inOrder}
 use Rattle.model.specs.declared.Pair.{Pair}
 use Rattle.model.specs.declared.Entry.{Entry}
 use Rattle.model.specs.declared.Slot.{Slot}
 use Rattle.model.specs.Entry.{alive, within, liveAt, pairOf, before}
 use Rattle.model.specs.Page.{Page, isFree, pairsAt}
 use Rattle.model.specs.Store.{Store, page}
 use Rattle.model.specs.Walk.{Seen, seen, seenAs, seenUnder, seenBelow, spread, rootAt, rootFrom, keyLimit}
 use Rattle.model.specs.Sound.{startsAt, fewest, firstVersion}
 use Rattle.model.specs.Inner.{sooner}
-use Rattle.model.specs.Quick.{lowOver, keyOver, manyOver, fineOver, under, nexts, routersFine, childrenFine, upto, slotFine, slotsFine, apart, kept}
+use Rattle.spans.specs.Quick.{lowOver, keyOver, manyOver, fineOver, under, nexts, routersFine, childrenFine, upto, slotFine, slotsFine, apart, kept}
 use Rattle.model.proofs.Lists.{both-true, both-intro}
 use Rattle.model.proofs.Members.{either-true, either-left, either-right, In, all-in, all-by}
 use Rattle.model.proofs.Given.{Front}
 use Rattle.model.proofs.Local.{all-append}
 use Rattle.model.proofs.Bridge.{passesAt}
 use Rattle.model.proofs.Fits.{level-used, of-within}
-use Rattle.model.proofs.QuickSpans.{livePairs, rising, Alive, alive-of, shows-of, apart-rises, kept-of, kept-order, kept-shows, low-at, key-at, many-at}
-use Rattle.model.proofs.QuickHigh.{AllUnder, LastOne, Below, under-below, nexts-at}
-use Rattle.model.proofs.QuickFront.{entry-at, leads-of, child-at, root, height, root-level}
+use Rattle.spans.proofs.laws.Stretches.{livePairs, rising, Alive, alive-of, shows-of, apart-rises, kept-of, kept-order, kept-shows, low-at, key-at, many-at}
+use Rattle.spans.proofs.laws.HighKeys.{AllUnder, LastOne, Below, under-below, nexts-at}
+use Rattle.spans.proofs.laws.RulesGive.{entry-at, leads-of, child-at, root, height, root-level}
 
 module _ (least : ℕ) (ps : List Page) (v : ℕ) where
   -- a page at v, as its low key and the fewest entries it may have ask

@@ -8,22 +8,22 @@ use mathlib.Core.Logic.{_⊎_, inl, inr}
 use mathlib.Core.List.{List}
 use lib.Dec.{leb, eqb}
 use borrow.Author.Tests.{leb-true, eqb-true, eq-eqb, not-true}
 use Rattle.model.specs.Basic.{all}
 use Rattle.model.specs.declared.Pair.{Pair}
 use Rattle.model.specs.declared.Entry.{Entry}
 use Rattle.model.specs.Entry.{alive, within}
 use Rattle.model.specs.Page.{Page, isFree, pairsAt}
 use Rattle.model.specs.Store.{Store, page, last}
 use Rattle.model.specs.Walk.{seen, rootAt, heightOf, keyLimit, settings}
 use Rattle.model.specs.Sound.{inside, liesWell}
 use Rattle.model.proofs.Lists.{both-true, both-intro}
 use Rattle.model.proofs.Members.{either-true, In, all-in, all-by}
 use Rattle.model.proofs.Given.{Front, GoodEntry, span-of, livesAt, entry-ok}
 use Rattle.model.proofs.Tree.{Holds}
 use Rattle.model.proofs.Walks.{Reach}
 use Rattle.model.proofs.Fits.{root-is, used-level, level-used, of-within}
 use Rattle.model.proofs.Bridge.{passesAt, root-passes}
-use Rattle.model.proofs.QuickSpans.{Alive, shows-of}
+use Rattle.spans.proofs.laws.Stretches.{Alive, shows-of}
 
 module _ (least : ℕ) (two : 2 ≤ least) (s : Store) (d : Front least s) where
   abbrev ps : List Page

@@ -10,29 +10,29 @@ use lib.Dec.{leb, ltb, eqb}
 use lib.ListN.{length, drop, length-drop}
 use lib.Seq.{getD-drop}
 use borrow.Author.Tests.{leb-true, leb-false, eqb-true, eq-eqb, le-leb, lt-leb, le-ltb}
 use Rattle.model.specs.Basic.{all, pick, inOrder}
 use Rattle.model.specs.declared.Pair.{Pair}
 use Rattle.model.specs.declared.Slot.{Slot}
 use Rattle.model.specs.Entry.{alive, within}
 use Rattle.model.specs.Page.{Page, free, isFree, pairsAt}
 use Rattle.model.specs.Store.{Store, page}
 use Rattle.model.specs.Walk.{seen, rootAt, rootFrom, keyLimit, settings}
 use Rattle.model.specs.Sound.{firstVersion}
-use Rattle.model.specs.Quick.{upto}
+use Rattle.spans.specs.Quick.{upto}
 use Rattle.model.specs.Inner.{sooner}
 use Rattle.model.proofs.Lists.{both-true}
 use Rattle.model.proofs.Members.{bool-cases, In}
 use Rattle.model.proofs.Given.{Front, livesAt}
 use Rattle.model.proofs.Walks.{Reach, Self, Above, reach-on, last-step}
 use Rattle.model.proofs.Nodes.{reach-node}
 use Rattle.model.proofs.Keeps.{holds-order}
 use Rattle.model.proofs.Parents.{above-one, reach-height}
 use Rattle.model.proofs.Bridge.{passesAt}
 use Rattle.model.proofs.Fits.{level-used, of-within}
-use Rattle.model.proofs.QuickSpans.{rising, shows-of}
-use Rattle.model.proofs.QuickFront.{child-at, lives-with, reach-level, root, height, root-level, holds-at}
-use Rattle.model.proofs.QuickWalk.{root-late, late-all}
-use Rattle.model.proofs.QuickSums.{one, named, namedBy, namedAll, rootsAt, named-in, in-named, named-one, all-some, some-all, all-one}
+use Rattle.spans.proofs.laws.Stretches.{rising, shows-of}
+use Rattle.spans.proofs.laws.RulesGive.{child-at, lives-with, reach-level, root, height, root-level, holds-at}
+use Rattle.spans.proofs.laws.ToWalks.{root-late, late-all}
+use Rattle.spans.proofs.laws.Sums.{one, named, namedBy, namedAll, rootsAt, named-in, in-named, named-one, all-some, some-all, all-one}
 
 -- ---- the slot of a version
 

@@ -9,14 +9,14 @@ use mathlib.Core.List.{List, [], _∷_, map}
 use lib.Dec.{leb, ltb, eqb}
 use lib.ListN.{length, length-map}
 use borrow.Author.Tests.{leb-true, ltb-true, eqb-true, eqb-false, le-leb, lt-ltb, eq-eqb, ne-eqb, not-true, leb-false, ltb-false}
 use Rattle.model.specs.Basic.{all, those, keep, pick, inOrder}
 use Rattle.model.specs.declared.Pair.{Pair}
 use Rattle.model.specs.declared.Entry.{Entry}
 use Rattle.model.specs.Entry.{pairOf, liveAt, before}
-use Rattle.model.specs.Quick.{meets, past, pastAll, kept, apart, lowOver, keyOver, liveCount, manyOver}
+use Rattle.spans.specs.Quick.{meets, past, pastAll, kept, apart, lowOver, keyOver, liveCount, manyOver}
 use Rattle.model.proofs.Lists.{both-true, both-intro}
 use Rattle.model.proofs.Rising.{lower}
 use Rattle.model.proofs.Members.{not-both, either-true, either-left, either-right, bool-cases, In, all-in, all-by, in-those, those-in, in-map, map-in}
 
 -- the pairs alive at v
 abbrev pub livePairs : ℕ → List Entry → List Pair

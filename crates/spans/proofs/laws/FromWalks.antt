@@ -9,33 +9,33 @@ use mathlib.Core.List.{List, [], _∷_}
 use lib.Dec.{leb, ltb, eqb}
 use lib.ListN.{length, drop}
 use borrow.Author.Tests.{leb-true, ltb-true, le-leb, lt-ltb, eq-eqb}
 use Rattle.model.specs.Basic.{all, pick, inOrder}
 use Rattle.model.specs.declared.Pair.{Pair}
 use Rattle.model.specs.declared.Entry.{Entry}
 use Rattle.model.specs.declared.Slot.{Slot}
 use Rattle.model.specs.Entry.{alive, within, pairOf, before}
 use Rattle.model.specs.Page.{Page, isFree, pairsAt}
 use Rattle.model.specs.Store.{Store, page, last}
 use Rattle.model.specs.Walk.{Seen, seen, seenAs, seenUnder, rootAt, rootFrom, keyLimit, settings}
 use Rattle.model.specs.Sound.{keysOk, fewest}
 use Rattle.model.specs.Inner.{sooner}
-use Rattle.model.specs.Quick.{kept, apart, keyOver, fineOver, under, routersFine, childrenFine, upto, slotFine, slotsFine, ledTo}
+use Rattle.spans.specs.Quick.{kept, apart, keyOver, fineOver, under, routersFine, childrenFine, upto, slotFine, slotsFine, ledTo}
 use Rattle.model.proofs.Lists.{both-true, both-intro, all-cons}
 use Rattle.model.proofs.Members.{either-left, either-right, In, all-in}
 use Rattle.model.proofs.Given.{Front, old-last, livesAt, used-in, high-used}
 use Rattle.model.proofs.Tree.{Row, Holds, Tree, row-keys, row-le}
 use Rattle.model.proofs.Local.{inRange, holds-keys}
 use Rattle.model.proofs.Nodes.{Node, reach-node}
 use Rattle.model.proofs.Keeps.{holds-order}
 use Rattle.model.proofs.Bridge.{passesAt}
 use Rattle.model.proofs.Fits.{used-level, level-used, within-of}
-use Rattle.model.proofs.QuickSpans.{rising, kept-of, kept-order, kept-shows, key-kept, Alive, of-shows, apart-less, rises-apart, at-low, at-key, at-many}
-use Rattle.model.proofs.QuickHigh.{Bounded, bounded-under, to-nexts}
-use Rattle.model.proofs.QuickFront.{entry-some, entry-ends, page-ends, page-some, leads-of, lives-with, root, height, root-used, root-level, holds-at}
-use Rattle.model.proofs.QuickWalk.{root-late, late-all}
-use Rattle.model.proofs.QuickSums.{full-sum}
-use Rattle.model.proofs.QuickOnce.{ways, Reached, ways-one, reached-ways}
-use Rattle.model.proofs.QuickReach.{since, led-sum}
+use Rattle.spans.proofs.laws.Stretches.{rising, kept-of, kept-order, kept-shows, key-kept, Alive, of-shows, apart-less, rises-apart, at-low, at-key, at-many}
+use Rattle.spans.proofs.laws.HighKeys.{Bounded, bounded-under, to-nexts}
+use Rattle.spans.proofs.laws.RulesGive.{entry-some, entry-ends, page-ends, page-some, leads-of, lives-with, root, height, root-used, root-level, holds-at}
+use Rattle.spans.proofs.laws.ToWalks.{root-late, late-all}
+use Rattle.spans.proofs.laws.Sums.{full-sum}
+use Rattle.spans.proofs.laws.OneWay.{ways, Reached, ways-one, reached-ways}
+use Rattle.spans.proofs.laws.AddedUp.{since, led-sum}
 
 -- ---- a tree at a version
 

@@ -5,17 +5,17 @@ use native.Mathlib.Omega.{arith}
 use mathlib.Core.Bool.{Bool, true, false, _&&_}
 use mathlib.Core.Path.{_≡_, refl, ap, sym, _∙_}
 use mathlib.Core.List.{List}
 use Rattle.model.specs.Basic.{pick}
 use Rattle.model.specs.Store.{Store}
 use Rattle.model.specs.Sound.{rule2, rule3, rule4, rule5, rule6, rule7}
 use Rattle.model.specs.Layout.{decode}
 use Rattle.model.specs.Clean.{clean}
 use Rattle.model.specs.Counted.{rule8}
 use Rattle.model.specs.Judged.{lengthOk, magicOk, editionOk, brokenIn, verdict, ruled, judged}
-use Rattle.model.specs.Quick.{quick, quickIn}
+use Rattle.spans.specs.Quick.{quick, quickIn}
 use Rattle.model.proofs.Judging.{clean-first, lower-one, lower-two, lower-three, lower-four, lower-five, lower-six, lower-seven, lower-none, broken-lower, broken-eight, broken-none}
 use Rattle.model.specs.Inner.{lowerIn}
-use Rattle.model.proofs.Quick.{quick-rules}
+use Rattle.spans.proofs.laws.Quick.{quick-rules}
 
 module _ (least : ℕ) (two : 2 ≤ least) (b : List ℕ) where
   abbrev s : Store

@@ -9,16 +9,16 @@ use mathlib.Core.List.{List, [], _∷_, map}
 use lib.Dec.{leb, ltb, eqb}
 use lib.ListN.{length, getD}
 use borrow.Author.Tests.{leb-true, leb-false, ltb-true, ltb-false, eqb-true, eqb-false, eq-eqb}
 use Rattle.model.specs.Basic.{all, those, keep, pick}
 use Rattle.model.specs.declared.Pair.{Pair}
 use Rattle.model.specs.declared.Entry.{Entry}
 use Rattle.model.specs.declared.Slot.{Slot}
 use Rattle.model.specs.Entry.{within, liveAt, pairOf}
 use Rattle.model.specs.Page.{Page, pairsAt}
-use Rattle.model.specs.Quick.{upto, routed, routedAll, rooted}
+use Rattle.spans.specs.Quick.{upto, routed, routedAll, rooted}
 use Rattle.model.proofs.Lists.{both-true}
 use Rattle.model.proofs.Members.{bool-cases, In, all-in}
-use Rattle.model.proofs.QuickSpans.{livePairs, rising}
+use Rattle.spans.proofs.laws.Stretches.{livePairs, rising}
 
 -- f added up over k versions from a on
 abbrev pub sumOver : (ℕ → ℕ) → ℕ → ℕ → ℕ
