@@ -37,13 +37,13 @@ use Rattle.model.specs.Editions.{leastOf}
 use Rattle.model.specs.Sound.{sound}
 use Rattle.model.specs.Ended as calls
 use Rattle.model.specs.Ended.{Asked, Ended, ended, toFresh, toFreshSecond, toCheck, toState, toOpen, toCommit, toAbandon, toInsert, toDelete, toReturn, toPrune, toLookup, toRange, toVisits, toDifference, toLife}
-use Rattle.model.proofs.Lists.{both-intro, all-cons, shorter}
-use Rattle.model.proofs.Members.{true-holds}
-use Rattle.model.proofs.Given.{to-tests}
-use Rattle.model.proofs.Turns.{fresh-sound}
-use Rattle.model.proofs.Editions.{edition-four}
-use Rattle.model.proofs.Same.{same-none}
-use Rattle.model.proofs.Lives.{life-ext}
+use Rattle.model.proofs.lists.Lists.{both-intro, all-cons, shorter}
+use Rattle.model.proofs.lists.Members.{true-holds}
+use Rattle.model.proofs.sound.ByRule.{to-tests}
+use Rattle.model.proofs.turning.Turns.{fresh-sound}
+use Rattle.model.proofs.theorems.Editions.{edition-four}
+use Rattle.model.proofs.reading.Same.{same-none}
+use Rattle.model.proofs.reading.Lives.{life-ext}
 use Rattle.promises.specs.Accepts.{storeOf, OfEdition}
 use Rattle.promises.specs.Runs.{Turn, turned, Kind, making, changing, reading, kindOf, givesUp, notMaking, fitting, each}
 use Rattle.promises.specs.Beside.{Beside, whenDone, stepped, undone, onward, fromFresh}

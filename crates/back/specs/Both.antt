@@ -14,7 +14,7 @@ use Rattle.model.specs.Calls.{abandoned}
 use Rattle.model.specs.Lent.{leftBy}
 use Rattle.model.specs.Differ.{differ}
 use Rattle.model.specs.Return.{comes, setOne, Ran, stopped, through, andOn, carried, orAbandoned, lacking}
-use Rattle.model.proofs.Returned.{Runs, carried-runs, carried-anew}
+use Rattle.model.proofs.turning.Returned.{Runs, carried-runs, carried-anew}
 use Rattle.store.specs.Sure.{same-bytes}
 use Rattle.differ.specs.Listing.{between}
 use Rattle.back.specs.Going.{Going, going-sound, Went}

@@ -17,9 +17,9 @@ use Rattle.model.specs.Walk.{find, keyLimit}
 use Rattle.model.specs.Calls.{isSome}
 use Rattle.model.specs.Differ.{added, removed}
 use Rattle.model.specs.Inner.{rising}
-use Rattle.model.proofs.Lists.{both-true, both-intro}
-use Rattle.model.proofs.Local.{inRange}
-use Rattle.model.proofs.Merging.{above, above-lower, find-above}
+use Rattle.model.proofs.lists.Lists.{both-true, both-intro}
+use Rattle.model.proofs.tree.Local.{inRange}
+use Rattle.model.proofs.lists.Merging.{above, above-lower, find-above}
 use Rattle.cursor.specs.First.{atOrAbove, leads, above-in, leads-none}
 use Rattle.differ.specs.Merge.{compared, leads-onward}
 

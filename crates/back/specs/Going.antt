@@ -18,8 +18,8 @@ use Rattle.model.specs.Climb.{Result, done, refused}
 use Rattle.model.specs.Lent.{left}
 use Rattle.model.specs.Differ.{differ}
 use Rattle.model.specs.Return.{Ran, reached, stopped, orStopped, through}
-use Rattle.model.proofs.Given as given
-use Rattle.model.proofs.Given.{Sound, old-current}
+use Rattle.model.proofs.sound.ByRule as given
+use Rattle.model.proofs.sound.ByRule.{Sound, old-current}
 use Rattle.store.specs.Sure.{sure}
 use Rattle.written.specs.Encoded.{encoded-accepted, encoded-held}
 use Rattle.walk.specs.Sure.{Readable}

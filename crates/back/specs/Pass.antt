@@ -19,9 +19,9 @@ use Rattle.model.specs.Calls.{isSome, rawInsert}
 use Rattle.model.specs.Needs.{inserting, deleting}
 use Rattle.model.specs.Lent.{left}
 use Rattle.model.specs.Return.{goes, comes, endOne, setOne, Ran, reached, stopped, orStopped, through, andOn}
-use Rattle.model.proofs.Local.{those-append}
-use Rattle.model.proofs.Stops.{Ends as Stops, update-ends}
-use Rattle.model.proofs.Returned.{delete-is, set-is}
+use Rattle.model.proofs.tree.Local.{those-append}
+use Rattle.model.proofs.kept.Stops.{Ends as Stops, update-ends}
+use Rattle.model.proofs.turning.Returned.{delete-is, set-is}
 use Rattle.update.specs.Single.{Enters, Ends}
 use Rattle.differ.specs.Merge.{told, Onward}
 use Rattle.differ.specs.Listing.{between, leftOf, nextOf, reads-rising, reads-low, from-start, from-end, from-on, from-step}

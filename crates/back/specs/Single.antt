@@ -19,15 +19,15 @@ use Rattle.model.specs.Climb.{Result, done, refused, update}
 use Rattle.model.specs.Calls.{isSome, rawInsert, delete}
 use Rattle.model.specs.Needs.{deleting}
 use Rattle.model.specs.Return.{setOne}
-use Rattle.model.proofs.Members.{true-holds}
-use Rattle.model.proofs.Given.{Sound, to-tests, old-current}
-use Rattle.model.proofs.Lookups.{lookup-is}
-use Rattle.model.proofs.Local.{applied}
-use Rattle.model.proofs.Main.{Changed}
-use Rattle.model.proofs.Edit.{keep-all}
-use Rattle.model.proofs.Fits.{raw-changes, delete-changes}
-use Rattle.model.proofs.Preserve.{Sounds, raw-keeps, delete-keeps}
-use Rattle.model.proofs.Alike.{alike-settings}
+use Rattle.model.proofs.lists.Members.{true-holds}
+use Rattle.model.proofs.sound.ByRule.{Sound, to-tests, old-current}
+use Rattle.model.proofs.reading.Lookups.{lookup-is}
+use Rattle.model.proofs.tree.Local.{applied}
+use Rattle.model.proofs.tree.UpdateChanges.{Changed}
+use Rattle.model.proofs.tree.Edit.{keep-all}
+use Rattle.model.proofs.sound.Ready.{raw-changes, delete-changes}
+use Rattle.model.proofs.kept.Preserve.{Sounds, raw-keeps, delete-keeps}
+use Rattle.model.proofs.reading.Alike.{alike-settings}
 use Rattle.update.specs.Single.{delete-is}
 use Rattle.cursor.specs.First.{atOrAbove}
 

@@ -14,7 +14,7 @@ use Rattle.model.specs.declared.Header.{Header}
 use Rattle.model.specs.Climb.{done}
 use Rattle.model.specs.Calls.{Rule, rule, numbered, firstOf, beyond, pruneTests, pruned, prune}
 use Rattle.model.specs.Lent.{leaving, lent, pruneLent}
-use Rattle.model.proofs.Given.{kept-of}
+use Rattle.model.proofs.sound.ByRule.{kept-of}
 use Rattle.reads.specs.Guard.{guarded, chain-number, lent-guard, guard-chain}
 use Rattle.changes.specs.Turning.{Goes, refused-so, done-so, flag, beyond-of}
 

@@ -15,7 +15,7 @@ use Rattle.model.specs.Calls.{Rule, rule, firstOf, beyond}
 use Rattle.model.specs.Lent.{Outcome, leaving, leftBy, returnLent}
 use Rattle.model.specs.Differ.{differ}
 use Rattle.model.specs.Return.{Came, carried, orAbandoned, returnTests, unless, returned}
-use Rattle.model.proofs.Given.{kept-of}
+use Rattle.model.proofs.sound.ByRule.{kept-of}
 use Rattle.back.specs.Going.{Going}
 use Rattle.reads.specs.Guard.{guarded, chain-number, by-guard, guard-sound, guard-chain}
 use Rattle.changes.specs.Turning.{Goes, refused-so, done-so, current-in, flag, beyond-of}

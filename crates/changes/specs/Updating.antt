@@ -18,7 +18,7 @@ use Rattle.model.specs.Climb.{update}
 use Rattle.model.specs.Calls.{isSome, Rule, rule, firstOf, benchLimit, insertTests, deleteTests, rawInsert, insert, delete, lookedAt, lookedFound}
 use Rattle.model.specs.Needs.{deleting}
 use Rattle.model.specs.Lent.{leaving, left, insertLent, deleteLent}
-use Rattle.model.proofs.Given.{old-last}
+use Rattle.model.proofs.sound.ByRule.{old-last}
 use Rattle.walk.specs.Sure.{Readable}
 use Rattle.store.specs.Sure.{sure}
 use Rattle.update.specs.Single.{Enters, Ends}

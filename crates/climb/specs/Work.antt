@@ -17,7 +17,7 @@ use Rattle.model.specs.Needs.{fills, takesInPlace, groupAt}
 use Rattle.edit.specs.Change.{changeOf}
 use Rattle.gather.specs.Gather.{pairsIn}
 use Rattle.gather.specs.Kept.{Fits}
-use Rattle.model.proofs.Members.{In, in-left}
+use Rattle.model.proofs.lists.Members.{In, in-left}
 use Rattle.parts.specs.Kept.{Kept, pagesOf}
 use Rattle.group.specs.declared.Routers.{Routers}
 use Rattle.group.specs.declared.Group.{Group}

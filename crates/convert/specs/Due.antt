@@ -19,12 +19,12 @@ use Rattle.model.specs.Calls.{isSome, rawInsert}
 use Rattle.model.specs.Needs.{deleting}
 use Rattle.model.specs.Lent.{left}
 use Rattle.model.specs.Return.{goes, comes, endOne, setOne, Ran, reached, through}
-use Rattle.model.proofs.Lists.{both-true}
-use Rattle.model.proofs.Local.{those-append}
-use Rattle.model.proofs.Given.{Sound}
-use Rattle.model.proofs.Small.{small}
-use Rattle.model.proofs.Remade.{Ends as EndsBy, Sets as SetsBy, ended, asked}
-use Rattle.model.proofs.Returned.{Stepped, Runs, Steps as StepsOf, delete-is, set-is, end-step, set-step, ends-run, sets-run}
+use Rattle.model.proofs.lists.Lists.{both-true}
+use Rattle.model.proofs.tree.Local.{those-append}
+use Rattle.model.proofs.sound.ByRule.{Sound}
+use Rattle.model.proofs.sound.Small.{small}
+use Rattle.model.proofs.turning.Remade.{Ends as EndsBy, Sets as SetsBy, ended, asked}
+use Rattle.model.proofs.turning.Returned.{Stepped, Runs, Steps as StepsOf, delete-is, set-is, end-step, set-step, ends-run, sets-run}
 use Rattle.update.specs.Single.{Enters, Ends}
 use Rattle.differ.specs.Merge.{told}
 use Rattle.back.specs.Pass.{wants, step, passed}

@@ -13,9 +13,9 @@ use Rattle.model.specs.Store.{Store}
 use Rattle.model.specs.Walk.{settings, keyLimit}
 use Rattle.model.specs.Layout.{decode}
 use Rattle.model.specs.Return.{Ran, reached, stopped, through, andOn, carried}
-use Rattle.model.proofs.Local.{those-append}
-use Rattle.model.proofs.Small.{small, settings-small}
-use Rattle.model.proofs.Remade.{Ends, Sets, Way, the-way}
+use Rattle.model.proofs.tree.Local.{those-append}
+use Rattle.model.proofs.sound.Small.{small, settings-small}
+use Rattle.model.proofs.turning.Remade.{Ends, Sets, Way, the-way}
 use Rattle.store.specs.Sure.{sure}
 use Rattle.walk.specs.Sure.{Readable}
 use Rattle.differ.specs.Merge.{told, Onward}

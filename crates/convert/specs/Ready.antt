@@ -18,9 +18,9 @@ use Rattle.model.specs.Judged.{judged, isSound}
 use Rattle.model.specs.Climb.{Result, done, refused}
 use Rattle.model.specs.Lent.{left}
 use Rattle.model.specs.Return.{Ran, reached, stopped, orStopped, through, lacking}
-use Rattle.model.proofs.Given.{Sound}
-use Rattle.model.proofs.Stops.{lacking-is}
-use Rattle.model.proofs.Returned.{Steps}
+use Rattle.model.proofs.sound.ByRule.{Sound}
+use Rattle.model.proofs.kept.Stops.{lacking-is}
+use Rattle.model.proofs.turning.Returned.{Steps}
 use Rattle.store.specs.Sure.{sure}
 use Rattle.written.specs.Encoded.{encoded-accepted, encoded-held}
 

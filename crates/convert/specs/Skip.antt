@@ -25,15 +25,15 @@ use Rattle.model.specs.Calls.{committed}
 use Rattle.model.specs.Differ.{differ}
 use Rattle.model.specs.Return.{Ran, reached, andOn, through, carried}
 use Rattle.model.specs.Convert.{replayed, replay}
-use Rattle.model.proofs.Members.{bool-cases, In}
-use Rattle.model.proofs.Given.{Sound}
-use Rattle.model.proofs.Lookups.{settings-rise}
-use Rattle.model.proofs.Differs.{none-differs}
-use Rattle.model.proofs.Alike.{Alike, alike-settings}
+use Rattle.model.proofs.lists.Members.{bool-cases, In}
+use Rattle.model.proofs.sound.ByRule.{Sound}
+use Rattle.model.proofs.reading.Lookups.{settings-rise}
+use Rattle.model.proofs.reading.Differs.{none-differs}
+use Rattle.model.proofs.reading.Alike.{Alike, alike-settings}
 use Rattle.model.specs.Inner.{Out}
-use Rattle.model.proofs.Quiet.{root-still}
-use Rattle.model.proofs.Returned.{Runs}
-use Rattle.model.proofs.Converted.{begun, current-last, Upto, runs, one-more, replayed-is}
+use Rattle.model.proofs.sound.Quiet.{root-still}
+use Rattle.model.proofs.turning.Returned.{Runs}
+use Rattle.model.proofs.turning.Converted.{begun, current-last, Upto, runs, one-more, replayed-is}
 use Rattle.page.specs.Head.{readHead}
 use Rattle.page.specs.Read.{entries-of, length-entries}
 use Rattle.store.specs.Header.{putHeader}

@@ -16,9 +16,9 @@ use Rattle.model.specs.Calls.{committed}
 use Rattle.model.specs.Differ.{differ}
 use Rattle.model.specs.Return.{Ran, reached, stopped, andOn, carried}
 use Rattle.model.specs.Convert.{replayed, replay}
-use Rattle.model.proofs.Given.{Sound}
-use Rattle.model.proofs.Returned.{Stepped, Runs}
-use Rattle.model.proofs.Converted.{begun, current-last, Upto, Replays, begun-sound, begun-shows, runs, one-more, replayed-is, replayed-so}
+use Rattle.model.proofs.sound.ByRule.{Sound}
+use Rattle.model.proofs.turning.Returned.{Stepped, Runs}
+use Rattle.model.proofs.turning.Converted.{begun, current-last, Upto, Replays, begun-sound, begun-shows, runs, one-more, replayed-is, replayed-so}
 use Rattle.store.specs.Sure.{sure, front, few}
 use Rattle.walk.specs.Sure.{Readable}
 use Rattle.differ.specs.Listing.{between}

@@ -18,8 +18,8 @@ use Rattle.model.specs.Lent.{Outcome, judgedFirst, leftBy, freshLent, leaving}
 use Rattle.model.specs.Calls.{firstOf}
 use Rattle.model.specs.Return.{Ran, reached, stopped, lacking}
 use Rattle.model.specs.Convert.{replay, orFresh, converted, convertTests, convertLent}
-use Rattle.model.proofs.Given.{Sound}
-use Rattle.model.proofs.Converted.{Upto, Replays, fresh-upto, replay-so}
+use Rattle.model.proofs.sound.ByRule.{Sound}
+use Rattle.model.proofs.turning.Converted.{Upto, Replays, fresh-upto, replay-so}
 use Rattle.page.specs.Editions.{edition-of}
 use Rattle.store.specs.Sure.{sure, same-bytes}
 use Rattle.store.specs.Tested.{Whole, whole-length}

@@ -11,8 +11,8 @@ use Rattle.model.specs.Basic.{those, keep}
 use Rattle.model.specs.declared.Pair.{Pair}
 use Rattle.model.specs.Entry.{pair, within}
 use Rattle.model.specs.Walk.{between, keyLimit}
-use Rattle.model.proofs.Lists.{both-true, both-intro, all-cons}
-use Rattle.model.proofs.Local.{inRange, those-append}
+use Rattle.model.proofs.lists.Lists.{both-true, both-intro, all-cons}
+use Rattle.model.proofs.tree.Local.{inRange, those-append}
 
 -- the settings at or above a key
 abbrev pub atOrAbove : ℕ → List Pair → List Pair

@@ -11,7 +11,7 @@ use Rattle.model.specs.Entry.{pair, pairOf}
 use Rattle.model.specs.Store.{page}
 use Rattle.model.specs.Walk.{between, followed, rootAt, heightOf, settings, keyLimit}
 use Rattle.model.specs.Layout.{decode}
-use Rattle.model.proofs.Lookups.{settings-low}
+use Rattle.model.proofs.reading.Lookups.{settings-low}
 use Rattle.store.specs.Sure.{sure}
 use Rattle.walk.specs.declared.search.Own.{Own}
 use Rattle.walk.specs.Live.{live}

@@ -16,9 +16,9 @@ use Rattle.model.specs.Page.{Page, pairsAt}
 use Rattle.model.specs.Store.{page}
 use Rattle.model.specs.Walk.{between}
 use Rattle.model.specs.Inner.{rising}
-use Rattle.model.proofs.Lists.{both-true, all-cons}
-use Rattle.model.proofs.Local.{inRange, those-append}
-use Rattle.model.proofs.Merging.{above, above-lower}
+use Rattle.model.proofs.lists.Lists.{both-true, all-cons}
+use Rattle.model.proofs.tree.Local.{inRange, those-append}
+use Rattle.model.proofs.lists.Merging.{above, above-lower}
 use Rattle.walk.specs.Ends.{between-above}
 use Rattle.cursor.specs.First.{atOrAbove}
 use Rattle.cursor.specs.Reaches.{Reaches}

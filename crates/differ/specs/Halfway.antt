@@ -14,7 +14,7 @@ use Rattle.model.specs.declared.Limits.{Limits}
 use Rattle.model.specs.Walk.{keyLimit}
 use Rattle.model.specs.Differ.{added, removed}
 use Rattle.model.specs.Telling.{Space, Gathers}
-use Rattle.model.proofs.Telling.{space-front, Gathering, gather-start, gather-same, gather-step, gather-end}
+use Rattle.model.proofs.reading.Telling.{space-front, Gathering, gather-start, gather-same, gather-step, gather-end}
 use Rattle.walk.specs.Sure.{Readable}
 use Rattle.cursor.specs.declared.Under.{Under}
 use Rattle.cursor.specs.First.{atOrAbove, leads, above-all}

@@ -17,10 +17,10 @@ use Rattle.model.specs.Walk.{between, settings, keyLimit}
 use Rattle.model.specs.Layout.{pageOf, decode}
 use Rattle.model.specs.Differ.{differ}
 use Rattle.model.specs.Inner.{rising}
-use Rattle.model.proofs.Lists.{both-true}
-use Rattle.model.proofs.Tree.{widen}
-use Rattle.model.proofs.Edit.{all-those, rising-those}
-use Rattle.model.proofs.Differs.{none-differs}
+use Rattle.model.proofs.lists.Lists.{both-true}
+use Rattle.model.proofs.tree.Tree.{widen}
+use Rattle.model.proofs.tree.Edit.{all-those, rising-those}
+use Rattle.model.proofs.reading.Differs.{none-differs}
 use Rattle.page.specs.declared.Head.{Head}
 use Rattle.page.specs.Head.{readHead}
 use Rattle.walk.specs.Scan.{Stands, from}

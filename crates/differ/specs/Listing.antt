@@ -12,8 +12,8 @@ use Rattle.model.specs.declared.Pair.{Pair}
 use Rattle.model.specs.declared.Limits.{Limits}
 use Rattle.model.specs.Walk.{settings, keyLimit}
 use Rattle.model.specs.Layout.{decode}
-use Rattle.model.proofs.Lookups.{settings-rise, settings-low}
-use Rattle.model.proofs.Local.{inRange}
+use Rattle.model.proofs.reading.Lookups.{settings-rise, settings-low}
+use Rattle.model.proofs.tree.Local.{inRange}
 use Rattle.store.specs.Sure.{sure}
 use Rattle.walk.specs.Sure.{Readable}
 use Rattle.cursor.specs.First.{atOrAbove, leads}

@@ -9,7 +9,7 @@ use Rattle.model.specs.Basic.{all, pick}
 use Rattle.model.specs.declared.Pair.{Pair}
 use Rattle.model.specs.declared.Entry.{Entry}
 use Rattle.model.specs.Entry.{pairOf, liveAt}
-use Rattle.model.proofs.Lists.{both-true}
+use Rattle.model.proofs.lists.Lists.{both-true}
 use Rattle.walk.specs.Live.{live, live-on, live-off}
 use Rattle.walk.specs.Scan.{entry, from, from-step, from-end}
 

@@ -11,9 +11,9 @@ use Rattle.model.specs.declared.Pair.{Pair}
 use Rattle.model.specs.Entry.{pair, pairOf}
 use Rattle.model.specs.Walk.{between, keyLimit}
 use Rattle.model.specs.Inner.{rising}
-use Rattle.model.proofs.Lists.{both-true}
-use Rattle.model.proofs.Local.{inRange}
-use Rattle.model.proofs.Merging.{above}
+use Rattle.model.proofs.lists.Lists.{both-true}
+use Rattle.model.proofs.tree.Local.{inRange}
+use Rattle.model.proofs.lists.Merging.{above}
 use Rattle.walk.specs.Live.{live}
 use Rattle.walk.specs.Scan.{entry, from, Next, next-none}
 use Rattle.cursor.specs.First.{atOrAbove, leads}

@@ -13,8 +13,8 @@ use Rattle.model.specs.Basic.{keep, those}
 use Rattle.model.specs.Limits.{liveShown}
 use Rattle.model.specs.Field.{lay}
 use Rattle.model.specs.Layout.{lives, liveIn, liveOf, unused, entryParts, countOf, encodePage, decodePage, readEntry, readEntries}
-use Rattle.model.proofs.Local.{those-append}
-use Rattle.model.proofs.PlanSizes.{few-those}
+use Rattle.model.proofs.tree.Local.{those-append}
+use Rattle.model.proofs.plan.PlanSizes.{few-those}
 use Rattle.page.specs.declared.Head.{Head}
 use Rattle.page.specs.Head.{readHead, putHead, putLive, HeadFits}
 use Rattle.page.specs.Read.{Sized, count-of, entries-of, level-of, start-of, end-of, length-entries}

@@ -15,8 +15,8 @@ use Rattle.model.specs.Entry.{pairOf, liveAt, born, enter, enterPair, endOne, e
 use Rattle.model.specs.Page.{Page, Change, wanted, changed, bornAll, pairsAt}
 use Rattle.model.specs.Layout.{countOf, readEntry, readEntries, decodePage}
 use Rattle.page.specs.Head.{readHead}
-use Rattle.model.proofs.Edit.{length-enter as length-enterPair}
-use Rattle.model.proofs.PlanSizes.{wanted-few}
+use Rattle.model.proofs.tree.Edit.{length-enter as length-enterPair}
+use Rattle.model.proofs.plan.PlanSizes.{wanted-few}
 use Rattle.page.specs.Read.{count-of, entries-of, length-entries, entries-step, entries-end}
 use Rattle.edit.specs.declared.Change as code
 use Rattle.edit.specs.Same.{firstOf}

@@ -15,9 +15,9 @@ use Rattle.model.specs.Page.{Page, active}
 use Rattle.model.specs.Store.{page, freeOnes}
 use Rattle.model.specs.Rules.{usable}
 use Rattle.model.specs.Needs.{actives}
-use Rattle.model.proofs.Members.{In, in-append, in-those, in-getD}
-use Rattle.model.proofs.Redo.{in-frees}
-use Rattle.model.proofs.PlanSizes.{actives-few}
+use Rattle.model.proofs.lists.Members.{In, in-append, in-those, in-getD}
+use Rattle.model.proofs.tree.GroupPages.{in-frees}
+use Rattle.model.proofs.plan.PlanSizes.{actives-few}
 use Rattle.parts.specs.Kept.{Kept, Inside, pagesOf}
 use Rattle.parts.specs.Free.{freePast, free-all, Found}
 use Rattle.group.specs.declared.Numbers.{Numbers}

@@ -14,10 +14,10 @@ use Rattle.model.specs.Sound.{rule2, rule3, rule4, rule5, rule6, rule7}
 use Rattle.model.specs.Layout.{decode, readHeader}
 use Rattle.model.specs.Clean.{clean}
 use Rattle.spans.specs.Quick.{spansMet, slotsFine, quick}
-use Rattle.model.proofs.Members.{bool-cases, not-both, all-in, in-count}
-use Rattle.model.proofs.Lists.{both-true}
+use Rattle.model.proofs.lists.Members.{bool-cases, not-both, all-in, in-count}
+use Rattle.model.proofs.lists.Lists.{both-true}
 use Rattle.spans.proofs.laws.Quick.{quick-rules}
-use Rattle.model.proofs.Judging.{clean-first, lower-four, lower-five, lower-six, lower-seven, lower-none}
+use Rattle.model.proofs.sound.Judging.{clean-first, lower-four, lower-five, lower-six, lower-seven, lower-none}
 use Rattle.model.specs.Inner.{lowerIn}
 use Rattle.notes.specs.Pass.{told}
 use Rattle.notes.specs.Six.{six-by}

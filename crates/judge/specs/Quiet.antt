@@ -10,8 +10,8 @@ use Rattle.model.specs.Page.{pairsAt}
 use Rattle.model.specs.Store.{page}
 use Rattle.model.specs.Layout.{readEntry, readEntries, pageOf, decodePage, decode}
 use Rattle.model.specs.Inner.{Out}
-use Rattle.model.proofs.Members.{In}
-use Rattle.model.proofs.Quiet.{QuietPage, pairs-still}
+use Rattle.model.proofs.lists.Members.{In}
+use Rattle.model.proofs.sound.Quiet.{QuietPage, pairs-still}
 use Rattle.page.specs.Head.{readHead}
 use Rattle.page.specs.Read.{start-of, end-of, entries-of}
 use Rattle.store.specs.Read.{page-at}

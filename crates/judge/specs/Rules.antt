@@ -14,7 +14,7 @@ use Rattle.model.specs.Store.{lastOf}
 use Rattle.model.specs.Walk.{Seen, seen}
 use Rattle.model.specs.Sound.{reachedWell, versions, rule6}
 use Rattle.model.specs.Layout.{readHeader, decode}
-use Rattle.model.proofs.Given.{numbers}
+use Rattle.model.proofs.sound.ByRule.{numbers}
 use Rattle.store.specs.Read.{oldest-of}
 use Rattle.local.specs.First.{last-is}
 use Rattle.judge.specs.Pending.{openOk, stepOk, chainOk, passes}

@@ -18,7 +18,7 @@ use Rattle.model.specs.Page.{Page, pairsAt}
 use Rattle.model.specs.Store.{page}
 use Rattle.model.specs.Walk.{Seen}
 use Rattle.model.specs.Layout.{readEntry, readHeader, decode}
-use Rattle.model.proofs.Lists.{both-true}
+use Rattle.model.proofs.lists.Lists.{both-true}
 use Rattle.local.specs.Local.{IsPage, countAt, levelAt, entryAt}
 use Rattle.judge.specs.declared.walk.Item.{Item}
 use Rattle.notes.specs.Linked.{Linked}

@@ -23,8 +23,8 @@ use Rattle.model.specs.Calls.{lookedAt}
 use Rattle.model.specs.Life.{stretchNumbers, lifeOf}
 use Rattle.model.specs.Inner.{Lasts}
 use Rattle.model.specs.Telling.{Shape}
-use Rattle.model.proofs.Lives.{stretch, toldOf, rest, rest-step, life-length}
-use Rattle.model.proofs.Given.{old-current}
+use Rattle.model.proofs.reading.Lives.{stretch, toldOf, rest, rest-step, life-length}
+use Rattle.model.proofs.sound.ByRule.{old-current}
 use Rattle.store.specs.Read.{current-of, oldest-of}
 use Rattle.store.specs.Sure.{sure}
 use Rattle.walk.specs.Sure.{Readable}

@@ -12,7 +12,7 @@ use Rattle.model.specs.Entry.{pairOf, liveAt}
 use Rattle.model.specs.Walk.{rootAt}
 use Rattle.model.specs.Layout.{readSlot, readSlots}
 use Rattle.model.specs.Inner.{Out}
-use Rattle.model.proofs.Quiet.{within-still}
+use Rattle.model.proofs.sound.Quiet.{within-still}
 use Rattle.walk.specs.Live.{live}
 use Rattle.walk.specs.Scan.{entry, from, from-step, from-end}
 use Rattle.walk.specs.Down.{root-here, root-before, root-none}

@@ -18,10 +18,10 @@ use Rattle.model.specs.Sound.{pageFine, pageOk, zeroed, spanOk, entryOk}
 use Rattle.model.specs.Layout.{lives, liveOf, pageOf, readEntry, readEntries, readPages, decodePage, decode, sizeOf}
 use Rattle.model.specs.Clean.{clean}
 use Rattle.model.specs.Counted.{countedPage, countedPages, rule8}
-use Rattle.model.proofs.Lists.{both-true}
-use Rattle.model.proofs.Local.{those-append}
-use Rattle.model.proofs.PlanSizes.{few-those}
-use Rattle.model.proofs.Counted.{those-last}
+use Rattle.model.proofs.lists.Lists.{both-true}
+use Rattle.model.proofs.tree.Local.{those-append}
+use Rattle.model.proofs.plan.PlanSizes.{few-those}
+use Rattle.model.proofs.sound.Counted.{those-last}
 use Rattle.page.specs.Head.{readHead}
 use Rattle.page.specs.Read.{level-of, entries-of, entries-step, entries-end}
 use Rattle.page.specs.Insert.{liveOne}

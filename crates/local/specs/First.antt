@@ -15,7 +15,7 @@ use Rattle.model.specs.Store.{last, lastOf}
 use Rattle.model.specs.Sound.{pageFine, isPage, zeroed, rule1}
 use Rattle.model.specs.Layout.{readHeader, readSlots, readPages, decode, sizeOf}
 use Rattle.model.specs.Clean.{zeroFrom, cleanPages, cleanFront, clean}
-use Rattle.model.proofs.Lists.{both-true}
+use Rattle.model.proofs.lists.Lists.{both-true}
 use Rattle.store.specs.Read.{length-slots, count-pages, behind, slots-of}
 use Rattle.local.specs.Local.{Sized, pagesFine}
 use Rattle.local.specs.Loops.{and-false, and-true}

@@ -12,9 +12,9 @@ use Rattle.model.specs.Basic.{all, inOrder, pick}
 use Rattle.model.specs.Sound.{isPage, firstVersion}
 use Rattle.model.specs.Layout.{readSlot, readSlots}
 use Rattle.model.specs.Inner.{firstOk, sooner}
-use Rattle.model.proofs.Lists.{both-true}
-use Rattle.model.proofs.Members.{all-implies}
-use Rattle.model.proofs.Rising.{in-order-step, sooner-carries}
+use Rattle.model.proofs.lists.Lists.{both-true}
+use Rattle.model.proofs.lists.Members.{all-implies}
+use Rattle.model.proofs.lists.Rising.{in-order-step, sooner-carries}
 use Rattle.store.specs.Read.{slots-step, slots-end}
 use Rattle.local.specs.Local.{slotsOk}
 use Rattle.local.specs.First.{rooted}

@@ -12,8 +12,8 @@ use Rattle.model.specs.Basic.{all}
 use Rattle.model.specs.Sound.{rule3}
 use Rattle.model.specs.Layout.{pageOf, decodePage, readHeader, readSlots, readPages, decode, sizeOf}
 use Rattle.model.specs.Clean.{clean}
-use Rattle.model.proofs.Lists.{both-true}
-use Rattle.model.proofs.Members.{not-both}
+use Rattle.model.proofs.lists.Lists.{both-true}
+use Rattle.model.proofs.lists.Members.{not-both}
 use Rattle.store.specs.Read.{oldest-of}
 use Rattle.local.specs.Local.{Sized, Ruled, Held, IsPage, headAt, levelAt, countAt, entryAt, slotAt, linkOk, linksOk, rootUsed}
 use Rattle.local.specs.Loops.{page-of-all, entry-of-all, slot-of-all}

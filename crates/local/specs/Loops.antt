@@ -11,8 +11,8 @@ use Rattle.model.specs.declared.Slot.{Slot}
 use Rattle.model.specs.Page.{Page, free}
 use Rattle.model.specs.Layout.{pageOf, decodePage, readEntry, readEntries, readSlot, readSlots, readPages, unused, noSlot}
 use Rattle.model.specs.Clean.{cleanPage, cleanPages}
-use Rattle.model.proofs.Lists.{both-true}
-use Rattle.model.proofs.Members.{all-at}
+use Rattle.model.proofs.lists.Lists.{both-true}
+use Rattle.model.proofs.lists.Members.{all-at}
 use Rattle.bits.specs.Put.{same?}
 use Rattle.page.specs.Read.{length-entries, entries-at, entries-step, entries-end}
 use Rattle.store.specs.Read.{length-slots, slots-at, slots-step, slots-end, length-pages, pages-at, pages-step, pages-end}

@@ -18,8 +18,8 @@ use Rattle.model.specs.Field.{field}
 use Rattle.model.specs.Layout.{pageOf, readEntry, readEntries, decodePage, readPages}
 use Rattle.model.specs.Clean.{zeroFrom, spareAt, cleanPage, cleanPages}
 use Rattle.model.specs.Inner.{firstOk}
-use Rattle.model.proofs.Lists.{both-true}
-use Rattle.model.proofs.Rising.{in-order-step, before-carries}
+use Rattle.model.proofs.lists.Lists.{both-true}
+use Rattle.model.proofs.lists.Rising.{in-order-step, before-carries}
 use Rattle.model.specs.Limits.{countBits, liveBits, Edition}
 use Rattle.model.specs.declared.Limits.{Limits}
 use Rattle.page.specs.Editions.{count-bits, live-bits, counter-is}

@@ -15,8 +15,8 @@ use Rattle.model.specs.Sound.{isPage, pageOk, pageFine, rule2}
 use Rattle.model.specs.Layout.{pageOf, decodePage, readHeader, readSlots, decode, sizeOf}
 use Rattle.model.specs.Clean.{zeroFrom, cleanPage, cleanFront}
 use Rattle.model.specs.declared.Slot.{Slot}
-use Rattle.model.proofs.Lists.{both-true}
-use Rattle.model.proofs.Given.{old-last}
+use Rattle.model.proofs.lists.Lists.{both-true}
+use Rattle.model.proofs.sound.ByRule.{old-last}
 use Rattle.page.specs.Head.{readHead}
 use Rattle.page.specs.Read.{level-of}
 use Rattle.store.specs.Read.{count-pages, page-at, front-free, slots-of, oldest-of}

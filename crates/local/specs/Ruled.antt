@@ -17,8 +17,8 @@ use Rattle.model.specs.Store.{last}
 use Rattle.model.specs.Sound.{spanOk, entryOk, pageFine, isPage, rule1}
 use Rattle.model.specs.Layout.{pageOf, readEntries, decodePage, readHeader, readSlots, readPages, decode, sizeOf}
 use Rattle.model.specs.Clean.{zeroFrom, cleanPages, cleanFront, clean}
-use Rattle.model.proofs.Lists.{both-true}
-use Rattle.model.proofs.Given.{old-last}
+use Rattle.model.proofs.lists.Lists.{both-true}
+use Rattle.model.proofs.sound.ByRule.{old-last}
 use Rattle.local.specs.Local.{Sized, Ruled, IsPage, headAt, levelAt, countAt, entryAt, slotAt, entriesOk}
 use Rattle.local.specs.Loops.{page-of-all, entry-of-all, slot-of-all, clean-at}
 use Rattle.local.specs.Pages.{clean-count, fine-free, fine-used}

@@ -13,9 +13,9 @@ use Rattle.model.specs.Store.{last}
 use Rattle.model.specs.Sound.{rule2, firstVersion}
 use Rattle.model.specs.Layout.{readHeader, readSlot, readSlots, decode}
 use Rattle.model.specs.Inner.{firstOk, sooner}
-use Rattle.model.proofs.Lists.{both-true}
-use Rattle.model.proofs.Members.{not-both}
-use Rattle.model.proofs.Rising.{in-order-step, sooner-carries}
+use Rattle.model.proofs.lists.Lists.{both-true}
+use Rattle.model.proofs.lists.Members.{not-both}
+use Rattle.model.proofs.lists.Rising.{in-order-step, sooner-carries}
 use Rattle.store.specs.Read.{slots-step, slots-end, slots-of, oldest-of}
 use Rattle.local.specs.Local.{slotAt, slotsOk}
 use Rattle.local.specs.Loops.{and-assoc, and-four}

@@ -12,7 +12,7 @@ use Rattle.model.specs.Basic.{all}
 use Rattle.model.specs.Sound.{inside, rule3}
 use Rattle.model.specs.Store.{page}
 use Rattle.model.specs.Layout.{pageOf, readEntries, decodePage, readHeader, readSlots, readPages, decode, sizeOf}
-use Rattle.model.proofs.Lists.{both-true}
+use Rattle.model.proofs.lists.Lists.{both-true}
 use Rattle.page.specs.declared.Head.{Head}
 use Rattle.page.specs.Read.{level-of, start-of, end-of, entries-of}
 use Rattle.store.specs.Read.{page-at, behind, slots-of, oldest-of}

@@ -15,8 +15,8 @@ use Rattle.model.specs.Layout.{decode}
 use Rattle.model.specs.Kinds.{knownIn, unknown}
 use Rattle.model.specs.Named.{allKnown}
 use Rattle.model.specs.Inner.{rising}
-use Rattle.model.proofs.Lists.{all-cons, both-true}
-use Rattle.model.proofs.Ranges.{range-is}
+use Rattle.model.proofs.lists.Lists.{all-cons, both-true}
+use Rattle.model.proofs.reading.Ranges.{range-is}
 use Rattle.store.specs.Sure.{sure}
 use Rattle.walk.specs.Sure.{Readable}
 use Rattle.cursor.specs.First.{atOrAbove, leads}

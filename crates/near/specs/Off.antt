@@ -28,7 +28,7 @@ use Rattle.model.specs.Judged.{lengthOk, magicOk, editionOk}
 use Rattle.model.specs.Calls.{rule, firstOf, beyond, unreadable, lookedAt}
 use Rattle.model.specs.Near.{frontRight, pageRight, startsBy}
 use Rattle.model.specs.Lent.{judgedFirst, lookupLent}
-use Rattle.model.proofs.Members.{bool-cases}
+use Rattle.model.proofs.lists.Members.{bool-cases}
 use Rattle.store.specs.Read.{length-pages, page-at, front-free, slots-of, current-of, oldest-of}
 use Rattle.local.specs.First.{last-is, clean-roots}
 use Rattle.local.specs.Right.{front-true}

@@ -16,7 +16,7 @@ use Rattle.model.specs.Layout.{pageOf, decode}
 use Rattle.model.specs.Calls.{rangedBy}
 use Rattle.model.specs.Near.{pageRight, startsBy, rangeRight}
 use Rattle.model.specs.Lent.{judgedFirst, listed, rangeLent}
-use Rattle.model.proofs.Members.{In, bool-cases, all-in}
+use Rattle.model.proofs.lists.Members.{In, bool-cases, all-in}
 use Rattle.local.specs.Right.{front-true}
 use Rattle.tabled.specs.Here.{page-of, all-of}
 use Rattle.near.specs.Early.{guarded, guard-front-right, badRange}

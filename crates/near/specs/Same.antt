@@ -25,11 +25,11 @@ use Rattle.model.specs.Judged.{isSound, lengthOk, magicOk, editionOk}
 use Rattle.model.specs.Calls.{Rule, rule, firstOf, unreadable, get, range}
 use Rattle.model.specs.Near.{frontRight, pageRight, shown, downRight, rangeRight, fromRoot, early, lookupNear, rangeNear}
 use Rattle.model.specs.Lent.{listed, lookupLent, rangeLent}
-use Rattle.model.proofs.Members.{In}
-use Rattle.model.proofs.Lists.{both-true}
-use Rattle.model.proofs.Given as given
-use Rattle.model.proofs.Given.{Sound, readable-of}
-use Rattle.model.proofs.Fits.{level-used}
+use Rattle.model.proofs.lists.Members.{In}
+use Rattle.model.proofs.lists.Lists.{both-true}
+use Rattle.model.proofs.sound.ByRule as given
+use Rattle.model.proofs.sound.ByRule.{Sound, readable-of}
+use Rattle.model.proofs.sound.Ready.{level-used}
 use Rattle.store.specs.Tested.{pages-clean}
 use Rattle.store.specs.Sure.{sure, taken, whole}
 use Rattle.walk.specs.Covers.{Covers, covers-starts, covers-own, covers-later}

@@ -10,7 +10,7 @@ use Rattle.model.specs.Store.{Store, page}
 use Rattle.model.specs.Walk.{keyLimit, rootAt, heightOf}
 use Rattle.model.specs.Layout.{decode}
 use Rattle.model.specs.Near.{rangeRight}
-use Rattle.model.proofs.Lists.{both-true}
+use Rattle.model.proofs.lists.Lists.{both-true}
 use Rattle.store.specs.Sure.{taken, few}
 use Rattle.local.specs.Sizes.{sized}
 use Rattle.walk.specs.Sure.{Readable}

@@ -8,7 +8,7 @@ use Rattle.model.specs.Page.{Page}
 use Rattle.model.specs.Store.{Store}
 use Rattle.model.specs.Walk.{rootAt, heightOf}
 use Rattle.model.specs.Sound.{versions, rule4, rule5}
-use Rattle.model.proofs.Lists.{both-true}
+use Rattle.model.proofs.lists.Lists.{both-true}
 use Rattle.notes.specs.declared.Note.{Note}
 use Rattle.notes.specs.Notes.{noteAt, keysBy, fullBy}
 use Rattle.notes.specs.Versions.{keysAt, fullAt, four-by, five-by}

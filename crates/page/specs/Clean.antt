@@ -15,7 +15,7 @@ use Rattle.model.specs.Limits.{countBits, liveBits}
 use Rattle.model.specs.Field.{field, Bytes, zeros}
 use Rattle.model.specs.Layout.{entriesBytes, readEntries, padded, encodePage, decodePage, countOf, liveOf, liveIn}
 use Rattle.model.specs.Clean.{cleanPage, spareAt}
-use Rattle.model.proofs.Lists.{both-true}
+use Rattle.model.proofs.lists.Lists.{both-true}
 use Rattle.page.specs.declared.Head.{Head}
 use Rattle.page.specs.Editions.{count-bits, live-bits}
 use Rattle.page.specs.Head.{readHead, frontBytes}

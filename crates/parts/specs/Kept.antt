@@ -18,9 +18,9 @@ use Rattle.page.specs.Exact.{Valid, Exact, encode-exact, decode-encode}
 use Rattle.store.specs.Parts.{page-fits}
 use Rattle.store.specs.Holds.{Holds, encoded-length, page-encoded, header-encoded}
 use Rattle.store.specs.Sure.{sure, held, same-bytes}
-use Rattle.model.proofs.Given.{used-in, high-used}
-use Rattle.model.proofs.Fits.{level-used}
-use Rattle.model.proofs.PlanSizes.{pairs-few, wanted-few}
+use Rattle.model.proofs.sound.ByRule.{used-in, high-used}
+use Rattle.model.proofs.sound.Ready.{level-used}
+use Rattle.model.proofs.plan.PlanSizes.{pairs-few, wanted-few}
 use Rattle.edit.specs.declared.Change as code
 use Rattle.edit.specs.Change.{changeOf}
 use Rattle.gather.specs.Kept.{Counted, Fits, takes-few}

@@ -17,9 +17,9 @@ use Rattle.model.specs.Entry.{pair}
 use Rattle.model.specs.Walk.{keyLimit, find, between}
 use Rattle.model.specs.Inner.{rising}
 use Rattle.model.specs.Differ.{differ, of, saysOf}
-use Rattle.model.proofs.Lists.{both-true, both-intro, all-cons}
-use Rattle.model.proofs.Members.{all-implies}
-use Rattle.model.proofs.Differs.{keys-so, in-order, says}
+use Rattle.model.proofs.lists.Lists.{both-true, both-intro, all-cons}
+use Rattle.model.proofs.lists.Members.{all-implies}
+use Rattle.model.proofs.reading.Differs.{keys-so, in-order, says}
 use Rattle.plain.specs.Plain.{valueAt, setting, settings, keys, differs}
 use Rattle.plain.specs.Scan.{keys-limit}
 

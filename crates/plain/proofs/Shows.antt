@@ -19,8 +19,8 @@ use Rattle.model.specs.Walk.{keyLimit, find}
 use Rattle.model.specs.Calls.{revived, restoredEntries}
 use Rattle.model.specs.Histories.{begins, commits, abandons, inserts, deletes, returns, prunes}
 use Rattle.model.specs.Settings.{Machine, start, put, edited, step}
-use Rattle.model.proofs.Lists.{both-true, both-intro, all-cons}
-use Rattle.model.proofs.Members.{either-true, either-left, either-right}
+use Rattle.model.proofs.lists.Lists.{both-true, both-intro, all-cons}
+use Rattle.model.proofs.lists.Members.{either-true, either-left, either-right}
 use Rattle.plain.specs.Plain.{valueAt, setKey, endKey, keptFrom, sameValue, endOther, setAs, setMissing, inTurn, backTo, keys}
 use Rattle.plain.proofs.Values.{set-older, set-own, set-other, end-older, end-own, end-other, restored-older, kept-later}
 use Rattle.plain.proofs.Backs.{back-older, back-now}

@@ -13,7 +13,7 @@ use Rattle.model.specs.Basic.{pick, those, keep}
 use Rattle.model.specs.declared.Entry.{Entry}
 use Rattle.model.specs.Entry.{pair, alive, liveAt, born, endedAt, endOne, endThose}
 use Rattle.model.specs.Calls.{revivedEnd, revived, restoredEntries}
-use Rattle.model.proofs.Lists.{both-true}
+use Rattle.model.proofs.lists.Lists.{both-true}
 use Rattle.plain.specs.Plain.{valueAt, setKey, endKey, keptFrom}
 
 -- the first of two values, or else the second

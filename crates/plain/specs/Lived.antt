@@ -21,7 +21,7 @@ use Rattle.model.specs.Life.{stretchNumbers, lifeOf}
 use Rattle.model.specs.Lent.{Listed, listed}
 use Rattle.model.specs.Inner.{Lasts}
 use Rattle.model.specs.Telling.{Shape}
-use Rattle.model.proofs.Lives.{stretch, toldOf, rest, rest-step, life-length}
+use Rattle.model.proofs.reading.Lives.{stretch, toldOf, rest, rest-step, life-length}
 use Rattle.plain.specs.declared.items.Found.{Found}
 use Rattle.plain.specs.declared.Told.{Told}
 use Rattle.plain.specs.Plain.{Plain, valueAt, sameValue, life}

@@ -14,7 +14,7 @@ use Rattle.model.specs.Calls.{revived, restoredEntries}
 use Rattle.plain.specs.declared.sweep.Lot.{Lot}
 use Rattle.plain.specs.Plain.{endKey, keptFrom}
 use Rattle.model.specs.Telling.{written, Space, Gathers}
-use Rattle.model.proofs.Telling.{written-none}
+use Rattle.model.proofs.reading.Telling.{written-none}
 use Rattle.plain.specs.Items.{Lent, item, from, from-step, kept}
 use Rattle.plain.specs.Laid.{laid-written, from-laid, from-written, from-length}
 

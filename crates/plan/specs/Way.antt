@@ -14,7 +14,7 @@ use lib.Seq.{drop-cons, getD-set-same, getD-set-other}
 use borrow.Author.Tests.{le-leb, lt-leb, le-ltb, leb-false}
 use Rattle.model.specs.declared.Pair.{Pair}
 use Rattle.model.specs.Walk as walk
-use Rattle.model.proofs.Members.{In, in-getD}
+use Rattle.model.proofs.lists.Members.{In, in-getD}
 use Rattle.edit.specs.Fill.{nil, Fitting}
 use Rattle.gather.specs.declared.Gather.{Gather}
 use Rattle.gather.specs.Gather.{Good, pairsIn, length-pairs, pair-at}
@@ -26,7 +26,7 @@ use Rattle.model.specs.Near.{startsBy}
 use Rattle.walk.specs.Covers.{Covers, covers-starts, covers-own, covers-later, covers-root}
 use Rattle.walk.specs.Sure.{Readable}
 use Rattle.store.specs.Sure.{sure}
-use Rattle.model.proofs.Fits.{level-used}
+use Rattle.model.proofs.sound.Ready.{level-used}
 use Rattle.parts.specs.Kept.{Inside, pagesOf, inside-used}
 use Rattle.group.specs.declared.Around.{Around}
 use Rattle.group.specs.Group.{beside, aroundOf, Router, Placed}

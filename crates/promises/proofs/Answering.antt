@@ -30,10 +30,10 @@ use Rattle.model.specs.Histories.{begins, commits, abandons, inserts, deletes, 
 use Rattle.model.specs.Settings.{Machine}
 use Rattle.model.specs.Lent.{listed}
 use Rattle.model.specs.Ended.{toInsert, toDelete, toReturn, toLookup, toRange, toLife, toDifference, ofLooked, ofListed, ended, toState, ofState, Ended}
-use Rattle.model.proofs.Given.{Readable, readable-of, old-current}
-use Rattle.model.proofs.Lives.{life-ext}
-use Rattle.model.proofs.Lookups.{lookup-is, settings-rise}
-use Rattle.model.proofs.Ranges.{range-is}
+use Rattle.model.proofs.sound.ByRule.{Readable, readable-of, old-current}
+use Rattle.model.proofs.reading.Lives.{life-ext}
+use Rattle.model.proofs.reading.Lookups.{lookup-is, settings-rise}
+use Rattle.model.proofs.reading.Ranges.{range-is}
 use Rattle.promises.specs.Accepts.{storeOf}
 use Rattle.promises.specs.Beside.{Beside}
 use Rattle.promises.specs.Answers.{lastIn, lookupTests, rangeTests, differenceTests, openTests, endTests, commitTests, lookedIn, rangedFrom, livedIn, toldFrom, aliveIn, unchangedIn, Gives, Answers, lifeTests, Stands}

@@ -22,12 +22,12 @@ use Rattle.model.specs.Lent.{Outcome, Listed, judgedFirst, listed, freshLent, l
 use Rattle.model.specs.Editions.{leastOf}
 use Rattle.model.specs.Any.{judgedAny, lookupAny, rangeAny, differenceAny, lifeAny}
 use Rattle.model.specs.Convert.{convertTests, convertLent}
-use Rattle.model.proofs.Given.{Sound, Readable}
-use Rattle.model.proofs.Stops.{lacking-is}
-use Rattle.model.proofs.Editions.{Lends, accepted-lent, goes-at}
-use Rattle.model.proofs.Converted.{Upto}
-use Rattle.model.proofs.Converting.{Passed, is-judged, source-sound, source-whole, lent-by}
-use Rattle.model.proofs.Readings.{get-same, range-same, difference-same, life-same}
+use Rattle.model.proofs.sound.ByRule.{Sound, Readable}
+use Rattle.model.proofs.kept.Stops.{lacking-is}
+use Rattle.model.proofs.theorems.Editions.{Lends, accepted-lent, goes-at}
+use Rattle.model.proofs.turning.Converted.{Upto}
+use Rattle.model.proofs.turning.Converting.{Passed, is-judged, source-sound, source-whole, lent-by}
+use Rattle.model.proofs.reading.Readings.{get-same, range-same, difference-same, life-same}
 use Rattle.near.specs.Same.{lookup-same, range-same as range-lent-same}
 use Rattle.written.specs.Encoded.{encoded-accepted, encoded-held}
 use Rattle.promises.specs.Converts.{replayOf, Numbers, Converted, Emptied, Lacks, Converts}

@@ -24,14 +24,14 @@ use Rattle.model.specs.Differ.{differ, saysOf, deltaNumbers, difference}
 use Rattle.model.specs.Lent.{Listed, listed}
 use Rattle.model.specs.Ended.{ofListed}
 use Rattle.model.specs.Inner.{rising}
-use Rattle.model.proofs.Given as stands
-use Rattle.model.proofs.Given.{Sound, from-tests, of-readable}
-use Rattle.model.proofs.Members.{holds-true}
-use Rattle.model.proofs.Lists.{both-true, both-intro, all-cons}
-use Rattle.model.proofs.Local.{inRange}
-use Rattle.model.proofs.Lookups.{lookup-is, settings-rise, settings-low}
-use Rattle.model.proofs.Alike.{alike-settings}
-use Rattle.model.proofs.Differs as lists
+use Rattle.model.proofs.sound.ByRule as stands
+use Rattle.model.proofs.sound.ByRule.{Sound, from-tests, of-readable}
+use Rattle.model.proofs.lists.Members.{holds-true}
+use Rattle.model.proofs.lists.Lists.{both-true, both-intro, all-cons}
+use Rattle.model.proofs.tree.Local.{inRange}
+use Rattle.model.proofs.reading.Lookups.{lookup-is, settings-rise, settings-low}
+use Rattle.model.proofs.reading.Alike.{alike-settings}
+use Rattle.model.proofs.reading.Differs as lists
 use Rattle.promises.specs.Accepts.{storeOf}
 use Rattle.promises.specs.Runs.{runBytes}
 use Rattle.promises.specs.Differences.{differences, Readable, Given, DifferenceGiven, Says, DifferenceSays, DifferenceNone, DifferenceExchanged, DifferenceStays}

@@ -11,11 +11,11 @@ use Rattle.model.specs.Layout.{sizeOf, encode, decode}
 use Rattle.model.specs.Clean.{cleanFront, cleanPages, clean}
 use Rattle.model.specs.Sound.{sound, rule1}
 use Rattle.model.specs.Editions.{leastOf}
-use Rattle.model.proofs.Lists.{both-true}
-use Rattle.model.proofs.Members.{holds-true, true-holds}
-use Rattle.model.proofs.Given.{Sound, from-tests}
-use Rattle.model.proofs.Judging.{Accepted}
-use Rattle.model.proofs.Editions.{edition-four, edition-eight}
+use Rattle.model.proofs.lists.Lists.{both-true}
+use Rattle.model.proofs.lists.Members.{holds-true, true-holds}
+use Rattle.model.proofs.sound.ByRule.{Sound, from-tests}
+use Rattle.model.proofs.sound.Judging.{Accepted}
+use Rattle.model.proofs.theorems.Editions.{edition-four, edition-eight}
 use Rattle.store.specs.Exactly.{encode-decode}
 use Rattle.store.specs.Tested.{whole-length, exactly}
 use Rattle.store.specs.Counted.{counted}

@@ -14,9 +14,9 @@ use Rattle.model.specs.Store.{Store, page, last}
 use Rattle.model.specs.Field.{field}
 use Rattle.model.specs.Layout.{lives, liveIn, liveOf, pageOf, decodePage, sizeOf}
 use Rattle.model.specs.Editions.{leastOf}
-use Rattle.model.proofs.Given.{Sound, used-in, high-used}
-use Rattle.model.proofs.Judging.{Accepted, accepted-sound}
-use Rattle.model.proofs.Counted.{those-last, killed-none}
+use Rattle.model.proofs.sound.ByRule.{Sound, used-in, high-used}
+use Rattle.model.proofs.sound.Judging.{Accepted, accepted-sound}
+use Rattle.model.proofs.sound.Counted.{those-last, killed-none}
 use Rattle.store.specs.Read.{page-at, count-pages}
 use Rattle.store.specs.Tested.{whole-length}
 use Rattle.store.specs.Counted.{counted}

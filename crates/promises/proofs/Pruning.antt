@@ -24,8 +24,8 @@ use Rattle.model.specs.Histories.{prunes, callBy, after}
 use Rattle.model.specs.Lent
 use Rattle.model.specs.Lent.{leftBy, leaving}
 use Rattle.model.specs.Ended.{toPrune, toLookup, Ended, ofOutcome, ofLooked, ended, endedBy}
-use Rattle.model.proofs.Given.{kept-of, old-current}
-use Rattle.model.proofs.Editions.{least-is, ended-goes, ended-refuses}
+use Rattle.model.proofs.sound.ByRule.{kept-of, old-current}
+use Rattle.model.proofs.theorems.Editions.{least-is, ended-goes, ended-refuses}
 use Rattle.promises.specs.Accepts.{Accepts, storeOf}
 use Rattle.promises.specs.Runs.{Turn}
 use Rattle.promises.specs.Beside.{fromLent}

@@ -23,12 +23,12 @@ use Rattle.model.specs.Calls.{isSome, unchanged, rule, benchLimit, firstOf, loo
 use Rattle.model.specs.Histories.{commits}
 use Rattle.model.specs.Settings.{Machine, edited}
 use Rattle.model.specs.Ended.{toCommit, toInsert, toDelete, toLookup, toDifference, Ended, ofLooked, ended}
-use Rattle.model.proofs.Given.{of-readable, old-current}
-use Rattle.model.proofs.Lists.{both-true}
-use Rattle.model.proofs.Members.{not-both}
-use Rattle.model.proofs.Lookups.{settings-rise, settings-low}
-use Rattle.model.proofs.Same.{same-equal, equal-same, same-none, finds-equal, enter-undone}
-use Rattle.model.proofs.Unique.{refused}
+use Rattle.model.proofs.sound.ByRule.{of-readable, old-current}
+use Rattle.model.proofs.lists.Lists.{both-true}
+use Rattle.model.proofs.lists.Members.{not-both}
+use Rattle.model.proofs.reading.Lookups.{settings-rise, settings-low}
+use Rattle.model.proofs.reading.Same.{same-equal, equal-same, same-none, finds-equal, enter-undone}
+use Rattle.model.proofs.theorems.Unique.{refused}
 use Rattle.promises.specs.Accepts.{Accepts, storeOf}
 use Rattle.promises.specs.Beside.{Beside, whenDone, onward, fromLent}
 use Rattle.promises.specs.Answers.{commitTests, aliveIn, unchangedIn, Gives}

@@ -26,13 +26,13 @@ use Rattle.model.specs.Return.{carried, Came, gave, lacking, orAbandoned, unles
 use Rattle.model.specs.Histories.{abandons, returns, after}
 use Rattle.model.specs.Lent.{left, leftBy}
 use Rattle.model.specs.Ended.{toAbandon, toReturn, toDifference, Ended, ofOutcome, ended}
-use Rattle.model.proofs.Members.{holds-true}
-use Rattle.model.proofs.Given.{Sound, from-tests, Kept}
-use Rattle.model.proofs.Lookups.{settings-rise}
-use Rattle.model.proofs.Alike.{alike-settings}
-use Rattle.model.proofs.Differs.{none-differs}
-use Rattle.model.proofs.Stops.{lacking-is}
-use Rattle.model.proofs.Returned.{Stepped, returned-by}
+use Rattle.model.proofs.lists.Members.{holds-true}
+use Rattle.model.proofs.sound.ByRule.{Sound, from-tests, Kept}
+use Rattle.model.proofs.reading.Lookups.{settings-rise}
+use Rattle.model.proofs.reading.Alike.{alike-settings}
+use Rattle.model.proofs.reading.Differs.{none-differs}
+use Rattle.model.proofs.kept.Stops.{lacking-is}
+use Rattle.model.proofs.turning.Returned.{Stepped, returned-by}
 use Rattle.promises.specs.Accepts.{Accepts, storeOf}
 use Rattle.promises.specs.Runs.{Turn, turned, runBytes}
 use Rattle.promises.specs.Beside.{fromLent}

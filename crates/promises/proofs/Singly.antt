@@ -25,16 +25,16 @@ use Rattle.model.specs.Histories.{Call, inserts, deletes, returns, callBy}
 use Rattle.model.specs.Settings
 use Rattle.model.specs.Settings.{Both, together, lent}
 use Rattle.model.specs.Ended.{toReturn, ended}
-use Rattle.model.proofs.Lists.{all-cons, both-true, both-intro}
-use Rattle.model.proofs.Members.{holds-true}
-use Rattle.model.proofs.Given.{Sound, from-tests, Kept}
-use Rattle.model.proofs.Lookups.{settings-rise}
-use Rattle.model.proofs.Differs.{keys-so}
-use Rattle.model.proofs.Small.{small}
-use Rattle.model.proofs.Remade
-use Rattle.model.proofs.Remade.{all-those}
-use Rattle.model.proofs.Returned.{way}
-use Rattle.model.proofs.Undone.{together-append}
+use Rattle.model.proofs.lists.Lists.{all-cons, both-true, both-intro}
+use Rattle.model.proofs.lists.Members.{holds-true}
+use Rattle.model.proofs.sound.ByRule.{Sound, from-tests, Kept}
+use Rattle.model.proofs.reading.Lookups.{settings-rise}
+use Rattle.model.proofs.reading.Differs.{keys-so}
+use Rattle.model.proofs.sound.Small.{small}
+use Rattle.model.proofs.turning.Remade
+use Rattle.model.proofs.turning.Remade.{all-those}
+use Rattle.model.proofs.turning.Returned.{way}
+use Rattle.model.proofs.theorems.Undone.{together-append}
 use Rattle.promises.specs.Accepts.{Accepts, storeOf}
 use Rattle.promises.specs.Runs.{Turn, runBytes, Kind, kindOf, asks, notMaking, fitting, each}
 use Rattle.promises.specs.Replayed.{turnOf}

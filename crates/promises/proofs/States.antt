@@ -13,7 +13,7 @@ use Rattle.model.specs.State.{stateOf}
 use Rattle.model.specs.Calls.{firstOf}
 use Rattle.model.specs.Editions.{leastOf}
 use Rattle.model.specs.Ended.{toAbandon, ended, ofState}
-use Rattle.model.proofs.Members.{not-both}
+use Rattle.model.proofs.lists.Members.{not-both}
 use Rattle.store.specs.Read.{count-pages}
 use Rattle.store.specs.Tested.{Whole, whole-length}
 use Rattle.promises.specs.Accepts.{Accepts, storeOf}

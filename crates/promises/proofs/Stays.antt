@@ -24,11 +24,11 @@ use Rattle.model.specs.Settings.{lent, together}
 use Rattle.model.specs.Lent.{Listed, listed}
 use Rattle.model.specs.Any.{lookupAny, rangeAny, visitsAny}
 use Rattle.model.specs.Ended.{ofLooked, ofListed}
-use Rattle.model.proofs.Given.{Readable, of-readable}
-use Rattle.model.proofs.Alike.{Alike, alike-lookup, alike-visits, alike-range, alike-range-visits}
-use Rattle.model.proofs.Visits.{pages-told}
-use Rattle.model.proofs.Undone.{lent-agrees}
-use Rattle.model.proofs.Steady.{Onward, goes-on}
+use Rattle.model.proofs.sound.ByRule.{Readable, of-readable}
+use Rattle.model.proofs.reading.Alike.{Alike, alike-lookup, alike-visits, alike-range, alike-range-visits}
+use Rattle.model.proofs.reading.Visits.{pages-told}
+use Rattle.model.proofs.theorems.Undone.{lent-agrees}
+use Rattle.model.proofs.reading.Steady.{Onward, goes-on}
 use Rattle.promises.specs.Accepts.{Accepts, storeOf}
 use Rattle.promises.specs.Runs.{Turn, runBytes, notMaking, fitting, each}
 use Rattle.promises.specs.Views.{SameView, SameAnswers}

@@ -23,12 +23,12 @@ use Rattle.model.specs.Histories.{Call, begins, commits, abandons, inserts, del
 use Rattle.model.specs.Settings.{Machine, put, step}
 use Rattle.model.specs.Lent.{Outcome, freshLent}
 use Rattle.model.specs.Ended.{Asked, toFresh, toFreshSecond, toCheck, toOpen, toCommit, toAbandon, toInsert, toDelete, toReturn, toPrune, toLookup, toRange, toVisits, toDifference, toLife, ended, toState}
-use Rattle.model.proofs.Lists.{all-cons}
-use Rattle.model.proofs.Members.{true-holds, either-left, either-right, bool-cases, In, all-by}
-use Rattle.model.proofs.Given.{to-tests}
-use Rattle.model.proofs.Turns.{fresh-sound}
-use Rattle.model.proofs.Editions.{edition-four}
-use Rattle.model.proofs.Theorems as stores
+use Rattle.model.proofs.lists.Lists.{all-cons}
+use Rattle.model.proofs.lists.Members.{true-holds, either-left, either-right, bool-cases, In, all-by}
+use Rattle.model.proofs.sound.ByRule.{to-tests}
+use Rattle.model.proofs.turning.Turns.{fresh-sound}
+use Rattle.model.proofs.theorems.Editions.{edition-four}
+use Rattle.model.proofs.theorems.Theorems as stores
 use Rattle.promises.specs.Accepts.{Accepts, storeOf, OfEdition, Written}
 use Rattle.promises.specs.Runs.{Turn, Kind, making, changing, reading, kindOf, asks, fitting, givesUp, each}
 use Rattle.promises.specs.Beside.{Beside, whenDone, stepped, undone, onward, fromFresh, fromLent}

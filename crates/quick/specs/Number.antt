@@ -12,7 +12,7 @@ use Rattle.model.specs.Sound.{rule2, rule3, rule7, pagesPass}
 use Rattle.model.specs.Layout.{decode}
 use Rattle.model.specs.Clean.{clean}
 use Rattle.model.specs.Counted.{rule8}
-use Rattle.model.proofs.Lists.{both-true}
+use Rattle.model.proofs.lists.Lists.{both-true}
 use Rattle.model.specs.Judged.{lengthOk, magicOk, editionOk, judged}
 use Rattle.spans.proofs.laws.OfBytes.{number-quickly}
 use Rattle.spans.specs.Quick.{kept, apart, childrenFine, slotsFine, spansMet, quick, quickIn}

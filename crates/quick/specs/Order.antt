@@ -13,8 +13,8 @@ use Rattle.model.specs.Basic.{all, inOrder}
 use Rattle.model.specs.Entry.{before}
 use Rattle.model.specs.Layout.{readEntry, readEntries}
 use Rattle.spans.specs.Quick.{meets, lowOver}
-use Rattle.model.proofs.Lists.{both-true, both-intro}
-use Rattle.model.proofs.Members.{In, either-true, all-in, all-by}
+use Rattle.model.proofs.lists.Lists.{both-true, both-intro}
+use Rattle.model.proofs.lists.Members.{In, either-true, all-in, all-by}
 use Rattle.page.specs.Read.{entries-step}
 use Rattle.quick.specs.Part.{highOver}
 

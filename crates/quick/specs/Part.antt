@@ -15,8 +15,8 @@ use Rattle.model.specs.Entry.{before}
 use Rattle.model.specs.Layout.{readEntry, readEntries, decodePage}
 use Rattle.spans.specs.Quick.{meets, past, pastAll, kept, apart, lowOver, keyOver, liveCount, manyOver, fineOver}
 use Rattle.model.specs.Inner.{firstOk, throughout}
-use Rattle.model.proofs.Lists.{both-true}
-use Rattle.model.proofs.Members.{In, in-those}
+use Rattle.model.proofs.lists.Lists.{both-true}
+use Rattle.model.proofs.lists.Members.{In, in-those}
 use Rattle.spans.proofs.laws.Neighbours.{apart-neighbours}
 use Rattle.spans.proofs.laws.Stretches.{kept-order}
 use Rattle.page.specs.declared.Head.{Head}

@@ -16,8 +16,8 @@ use Rattle.model.specs.Calls.{Rule, rule, firstOf, unreadable}
 use Rattle.model.specs.Lent.{judgedFirst, Listed, listed, differenceLent}
 use Rattle.model.specs.Told.{toldBy}
 use Rattle.model.specs.Differ.{differ, deltaNumbers, eitherUnreadable, difference}
-use Rattle.model.proofs.Given.{readable-of}
-use Rattle.model.proofs.Members.{neither}
+use Rattle.model.proofs.sound.ByRule.{readable-of}
+use Rattle.model.proofs.lists.Members.{neither}
 use Rattle.walk.specs.Sure.{Readable}
 use Rattle.reads.specs.Guard.{guarded, refused-by, goes-by, chain-number, by-guard, guard-sound, guard-chain}
 

@@ -18,7 +18,7 @@ use Rattle.model.specs.Calls.{Rule, rule, firstOf, beyond, unreadable}
 use Rattle.model.specs.Told.{toldBy}
 use Rattle.model.specs.Visited.{pageNumber, visits}
 use Rattle.model.specs.Lent.{judgedFirst, Listed, listed, visitsLent}
-use Rattle.model.proofs.Given.{readable-of}
+use Rattle.model.proofs.sound.ByRule.{readable-of}
 use Rattle.walk.specs.Sure.{Readable}
 use Rattle.reads.specs.Guard.{guarded, refused-by, goes-by, chain-number, by-guard, guard-sound, guard-chain}
 

@@ -14,9 +14,9 @@ use Rattle.model.specs.Page.{Page, isFree}
 use Rattle.model.specs.Store.{Store, page, next, last}
 use Rattle.model.specs.Sound.{entryOk, liesWell}
 use Rattle.model.specs.Layout.{pageOf, decodePage, decode}
-use Rattle.model.proofs.Lists.{both-true, both-intro}
-use Rattle.model.proofs.Given.{Sound, entry-ok}
-use Rattle.model.proofs.Fits.{level-used}
+use Rattle.model.proofs.lists.Lists.{both-true, both-intro}
+use Rattle.model.proofs.sound.ByRule.{Sound, entry-ok}
+use Rattle.model.proofs.sound.Ready.{level-used}
 use Rattle.page.specs.Head.{readHead}
 use Rattle.store.specs.Read.{page-at}
 use Rattle.store.specs.Sure.{sure}

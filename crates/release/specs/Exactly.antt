@@ -19,11 +19,11 @@ use Rattle.model.specs.Store.{Store, page, next, last, lastOf}
 use Rattle.model.specs.Walk.{keyLimit, find, settings}
 use Rattle.model.specs.Same.{samePairs}
 use Rattle.model.specs.Calls.{unchanged}
-use Rattle.model.proofs.Members.{In, all-in, all-by, in-count, bool-cases, not-both}
-use Rattle.model.proofs.Given.{Readable, old-current, Sound, GoodEntry, entry-of, used-in, high-used}
-use Rattle.model.proofs.Fits.{level-used, within-of, of-within}
-use Rattle.model.proofs.Lookups.{lookup-is, settings-rise, settings-low}
-use Rattle.model.proofs.Same.{same-equal, equal-same, finds-equal}
+use Rattle.model.proofs.lists.Members.{In, all-in, all-by, in-count, bool-cases, not-both}
+use Rattle.model.proofs.sound.ByRule.{Readable, old-current, Sound, GoodEntry, entry-of, used-in, high-used}
+use Rattle.model.proofs.sound.Ready.{level-used, within-of, of-within}
+use Rattle.model.proofs.reading.Lookups.{lookup-is, settings-rise, settings-low}
+use Rattle.model.proofs.reading.Same.{same-equal, equal-same, finds-equal}
 use Rattle.release.specs.Settled.{isValue, has, settled, leafSettled, settledFrom}
 use Rattle.release.specs.Leaves.{Alive, found-alive, alive-found}
 

@@ -17,13 +17,13 @@ use Rattle.model.specs.Page.{Page, pairsAt}
 use Rattle.model.specs.Store.{Store, page, last}
 use Rattle.model.specs.Walk.{find, below, heightOf, rootAt, settings}
 use Rattle.model.specs.Inner.{rising}
-use Rattle.model.proofs.Lists.{both-true}
-use Rattle.model.proofs.Members.{In, in-left, in-right, those-in, map-in, all-in}
-use Rattle.model.proofs.Once.{in-flat}
-use Rattle.model.proofs.Walks.{Reach}
-use Rattle.model.proofs.Given.{Readable, Sound}
-use Rattle.model.proofs.Fits.{level-used, shown-by, root-level, lives-by, reached-of, reach-level}
-use Rattle.model.proofs.Lookups.{settings-rise}
+use Rattle.model.proofs.lists.Lists.{both-true}
+use Rattle.model.proofs.lists.Members.{In, in-left, in-right, those-in, map-in, all-in}
+use Rattle.model.proofs.sound.Once.{in-flat}
+use Rattle.model.proofs.sound.Walks.{Reach}
+use Rattle.model.proofs.sound.ByRule.{Readable, Sound}
+use Rattle.model.proofs.sound.Ready.{level-used, shown-by, root-level, lives-by, reached-of, reach-level}
+use Rattle.model.proofs.reading.Lookups.{settings-rise}
 
 flat-in : {A B : Type 0} (f : A → List B) (b : B) (a : A) (xs : List A) → In a xs → In b (f a) → In b (flatMap f xs)
 flat-in f b a [] i j = absurd i

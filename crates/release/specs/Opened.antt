@@ -20,7 +20,7 @@ use Rattle.model.specs.Judged.{isSound}
 use Rattle.model.specs.Calls.{unchanged}
 use Rattle.store.specs.Read.{count-pages}
 use Rattle.store.specs.Exactly.{header-of}
-use Rattle.model.proofs.Given.{old-current}
+use Rattle.model.proofs.sound.ByRule.{old-current}
 use Rattle.store.specs.Sure.{sure, whole, exact}
 use Rattle.walk.specs.Sure.{Readable}
 use Rattle.walk.specs.Scan.{entry}

@@ -13,8 +13,8 @@ use Rattle.model.specs.Store.{page}
 use Rattle.model.specs.Rules.{rebuild, roomy}
 use Rattle.model.specs.Climb as climb
 use Rattle.model.specs.Needs.{goes, rootGroup}
-use Rattle.model.proofs.Lists.{both-true}
-use Rattle.model.proofs.Members.{not-both}
+use Rattle.model.proofs.lists.Lists.{both-true}
+use Rattle.model.proofs.lists.Members.{not-both}
 use Rattle.edit.specs.Fill.{nil}
 use Rattle.root.specs.declared.Rooted.{Rooted}
 use Rattle.root.specs.declared.Rooted.the-variants.{Stays, Moves, Lacks}

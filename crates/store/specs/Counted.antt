@@ -20,10 +20,10 @@ use Rattle.model.specs.Sound.{rule1}
 use Rattle.model.specs.Layout.{lives, liveIn, liveOf, pageOf, decodePage, decode, sizeOf}
 use Rattle.model.specs.Clean.{cleanFront, cleanPage, cleanPages, clean}
 use Rattle.model.specs.Counted.{countedPage, countedPages, rule8}
-use Rattle.model.proofs.Lists.{both-true}
-use Rattle.model.proofs.Given.{Sound}
-use Rattle.model.proofs.Judging.{Accepted, accepted-sound}
-use Rattle.model.proofs.Counted.{those-last}
+use Rattle.model.proofs.lists.Lists.{both-true}
+use Rattle.model.proofs.sound.ByRule.{Sound}
+use Rattle.model.proofs.sound.Judging.{Accepted, accepted-sound}
+use Rattle.model.proofs.sound.Counted.{those-last}
 use Rattle.page.specs.Exact.{live-none}
 use Rattle.page.specs.Clean.{passed, free-live}
 use Rattle.page.specs.Head.{readHead}

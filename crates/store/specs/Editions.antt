@@ -12,7 +12,7 @@ use lib.ListN.{length, getD}
 use Rattle.model.specs.Limits.{limits, Edition, editionOf}
 use Rattle.model.specs.Judged.{magicOk, editionOk}
 use Rattle.model.specs.Editions.{byEdition, lentNumber, leastOf}
-use Rattle.model.proofs.Editions.{goes, refuses, least-is, edition-four, edition-eight}
+use Rattle.model.proofs.theorems.Editions.{goes, refuses, least-is, edition-four, edition-eight}
 use Rattle.bits.specs.Laws.{field-byte}
 use Rattle.page.specs.Editions.{edition-of}
 use Rattle.store.specs.declared.editions.Lent.{Lent}

@@ -16,9 +16,9 @@ use Rattle.model.specs.Layout.{readHeader, decode, encode, sizeOf}
 use Rattle.model.specs.Sound.{rule1}
 use Rattle.model.specs.Clean.{cleanPages, cleanFront, clean}
 use Rattle.model.specs.Judged.{judged, isSound}
-use Rattle.model.proofs.Lists.{both-true}
-use Rattle.model.proofs.Given.{Sound}
-use Rattle.model.proofs.Judging.{Accepted, accepted, accepted-sound}
+use Rattle.model.proofs.lists.Lists.{both-true}
+use Rattle.model.proofs.sound.ByRule.{Sound}
+use Rattle.model.proofs.sound.Judging.{Accepted, accepted, accepted-sound}
 use Rattle.store.specs.Read.{slots-of, length-slots}
 use Rattle.store.specs.Parts.{page-fits}
 use Rattle.store.specs.Exactly.{Exactly, encode-decode}

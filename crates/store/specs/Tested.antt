@@ -22,7 +22,7 @@ use Rattle.model.specs.Store.{page}
 use Rattle.model.specs.Layout.{pageOf, readHeader, decodePage, decode, sizeOf, magic, liveOf, liveIn}
 use Rattle.model.specs.Clean.{cleanPage, cleanPages, cleanFront, clean}
 use Rattle.model.specs.Judged.{lengthOk, magicOk, editionOk}
-use Rattle.model.proofs.Lists.{both-true}
+use Rattle.model.proofs.lists.Lists.{both-true}
 use Rattle.page.specs.Exact.{Valid, valid-free, valid-read}
 use Rattle.page.specs.Clean.{Clean, clean-page, passed}
 use Rattle.store.specs.Read.{size-is, front-free, front-five, count-pages, page-at, current-of, current-lt, oldest-of, oldest-lt, slots-of, length-slots, pages-lt}

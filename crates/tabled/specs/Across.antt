@@ -13,7 +13,7 @@ use Rattle.model.specs.Page.{Page, pairsAt}
 use Rattle.model.specs.Store.{page}
 use Rattle.model.specs.Walk.{between, followed}
 use Rattle.model.specs.Layout.{decode}
-use Rattle.model.proofs.Lists.{both-true}
+use Rattle.model.proofs.lists.Lists.{both-true}
 use Rattle.model.specs.Near.{pageRight, startsBy, rangeRight}
 use Rattle.walk.specs.declared.search.Own.{Own}
 use Rattle.walk.specs.Live.{live}

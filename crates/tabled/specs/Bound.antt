@@ -18,7 +18,7 @@ use Rattle.model.specs.Sound.{spanOk, entryOk, pageOk}
 use Rattle.model.specs.Walk.{followed, rangeBelow}
 use Rattle.model.specs.Layout.{pageOf, decode}
 use Rattle.model.specs.Clean.{cleanPage}
-use Rattle.model.proofs.Lists.{both-true, all-cons}
+use Rattle.model.proofs.lists.Lists.{both-true, all-cons}
 use Rattle.model.specs.Near.{pageRight, rangeRight}
 use Rattle.walk.specs.Bound.{length-those, length-followed, most, most-rises}
 use Rattle.tabled.specs.Here.{page-of, all-of}

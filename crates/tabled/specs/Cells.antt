@@ -18,8 +18,8 @@ use Rattle.model.specs.Store.{page, last}
 use Rattle.model.specs.Sound.{pageOk}
 use Rattle.model.specs.Layout.{pageOf, decode}
 use Rattle.model.specs.Clean.{cleanPage}
-use Rattle.model.proofs.Lists.{both-true}
-use Rattle.model.proofs.Members.{not-both}
+use Rattle.model.proofs.lists.Lists.{both-true}
+use Rattle.model.proofs.lists.Members.{not-both}
 use Rattle.local.specs.Local.{Sized, countAt}
 use Rattle.model.specs.Near.{pageRight}
 use Rattle.local.specs.Pages.{clean-count}

@@ -16,7 +16,7 @@ use Rattle.model.specs.Page.{Page, pairsAt}
 use Rattle.model.specs.Store.{page}
 use Rattle.model.specs.Walk.{followed, rangeBelow}
 use Rattle.model.specs.Layout.{pageOf, sizeOf, decode}
-use Rattle.model.proofs.Lists.{both-true}
+use Rattle.model.proofs.lists.Lists.{both-true}
 use Rattle.page.specs.declared.Head.{Head}
 use Rattle.page.specs.Head.{readHead}
 use Rattle.local.specs.Local.{Sized}

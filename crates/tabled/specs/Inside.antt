@@ -17,8 +17,8 @@ use Rattle.model.specs.Store.{page, last}
 use Rattle.model.specs.Sound.{spanOk, entryOk, pageOk}
 use Rattle.model.specs.Layout.{readEntries, decodePage, pageOf, sizeOf, decode}
 use Rattle.model.specs.Clean.{cleanPage}
-use Rattle.model.proofs.Lists.{both-true}
-use Rattle.model.proofs.Members.{not-both}
+use Rattle.model.proofs.lists.Lists.{both-true}
+use Rattle.model.proofs.lists.Members.{not-both}
 use Rattle.page.specs.Head.{readHead}
 use Rattle.page.specs.Read.{level-of, entries-of}
 use Rattle.store.specs.Read.{page-at}

@@ -15,7 +15,7 @@ use Rattle.model.specs.declared.Pair.{Pair}
 use Rattle.model.specs.Entry.{pairOf, liveAt}
 use Rattle.model.specs.Walk.{between, rangeBelow}
 use Rattle.model.specs.Layout.{pageOf, decode}
-use Rattle.model.proofs.Members.{bool-cases}
+use Rattle.model.proofs.lists.Members.{bool-cases}
 use Rattle.page.specs.Read.{length-entries}
 use Rattle.local.specs.Local.{Sized, countAt}
 use Rattle.model.specs.Near.{pageRight, rangeRight}

@@ -14,7 +14,7 @@ use Rattle.model.specs.declared.Pair.{Pair}
 use Rattle.model.specs.declared.Entry.{Entry}
 use Rattle.model.specs.Entry.{pairOf, liveAt, before}
 use Rattle.model.specs.Walk.{between}
-use Rattle.model.proofs.Members.{bool-cases}
+use Rattle.model.proofs.lists.Members.{bool-cases}
 use Rattle.model.specs.Near.{startsBy}
 use Rattle.walk.specs.Live.{live, above, live-on, live-off, live-above, order-rest}
 use Rattle.walk.specs.Ends.{between-above}

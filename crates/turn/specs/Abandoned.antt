@@ -23,7 +23,7 @@ use Rattle.model.specs.Layout.{noSlot, headerOf, readHeader, readSlot, encode, 
 use Rattle.model.specs.Judged.{isSound}
 use Rattle.model.specs.Sound.{firstVersion}
 use Rattle.model.specs.Calls.{back, abandoned}
-use Rattle.model.proofs.Members.{all-at, bool-cases}
+use Rattle.model.proofs.lists.Members.{all-at, bool-cases}
 use Rattle.page.specs.Exact.{Valid}
 use Rattle.store.specs.Slots.{slotParts}
 use Rattle.store.specs.Header.{putHeader}

@@ -15,9 +15,9 @@ use Rattle.model.specs.Store.{Store, page, last}
 use Rattle.model.specs.Sound.{entryOk, liesWell}
 use Rattle.model.specs.Layout.{decodePage}
 use Rattle.model.specs.Calls.{back}
-use Rattle.model.proofs.Lists.{both-true}
-use Rattle.model.proofs.Members.{bool-cases}
-use Rattle.model.proofs.Given.{Sound, GoodEntry, entry-ok, span-of}
+use Rattle.model.proofs.lists.Lists.{both-true}
+use Rattle.model.proofs.lists.Members.{bool-cases}
+use Rattle.model.proofs.sound.ByRule.{Sound, GoodEntry, entry-ok, span-of}
 use Rattle.page.specs.Head.{readHead}
 use Rattle.turn.specs.Partly.{free-back}
 use Rattle.turn.specs.Touched.{Still, still-more, still-page}

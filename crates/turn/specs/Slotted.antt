@@ -14,10 +14,10 @@ use Rattle.model.specs.Basic.{all, those, inOrder}
 use Rattle.model.specs.declared.Slot.{Slot}
 use Rattle.model.specs.Field.{lay}
 use Rattle.model.specs.Layout.{noSlot, readSlot}
-use Rattle.model.proofs.Lists.{both-true}
-use Rattle.model.proofs.Members.{In, all-in, all-by, in-right}
+use Rattle.model.proofs.lists.Lists.{both-true}
+use Rattle.model.proofs.lists.Members.{In, all-in, all-by, in-right}
 use Rattle.store.specs.Slots.{slotParts}
-use Rattle.model.proofs.Local.{those-append, those-all}
+use Rattle.model.proofs.tree.Local.{those-append, those-all}
 
 -- a list with its last
 pub last-apart : (xs : List Slot) → 0 < length xs → xs ≡ take (length xs - 1) xs ++ (getD xs (length xs - 1) noSlot ∷ [])

@@ -15,8 +15,8 @@ use Rattle.model.specs.Rules.{settled, upward, lacking}
 use Rattle.model.specs.Climb.{Rooted, stays, moves, lacks, workRoot, climb, putSlot, Result, done, refused, slotted, rooted, update}
 use Rattle.model.specs.Plan.{slotLeft}
 use Rattle.model.specs.Lent.{left}
-use Rattle.model.proofs.Given.{Sound}
-use Rattle.model.proofs.PlanSlots.{slot-left}
+use Rattle.model.proofs.sound.ByRule.{Sound}
+use Rattle.model.proofs.plan.PlanSlots.{slot-left}
 use Rattle.store.specs.Set.{withPages, withSlots}
 use Rattle.edit.specs.declared.Change as code
 use Rattle.edit.specs.Change.{changeOf}

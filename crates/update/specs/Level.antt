@@ -8,7 +8,7 @@ use Rattle.model.specs.Page.{Page, Change}
 use Rattle.model.specs.Store.{page}
 use Rattle.model.specs.Walk.{Around}
 use Rattle.model.specs.Rules.{Worked, settled, upward, lacking, work}
-use Rattle.model.proofs.Undo.{TamePage, WayGood, WorkedFine, work-fine, keep-way}
+use Rattle.model.proofs.older.Undo.{TamePage, WayGood, WorkedFine, work-fine, keep-way}
 use Rattle.group.specs.declared.Around as code
 use Rattle.plan.specs.Plan.{upsOf}
 use Rattle.climb.specs.Climb.{climbUp, onward}

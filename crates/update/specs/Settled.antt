@@ -17,7 +17,7 @@ use Rattle.model.specs.Needs.{takesInPlace, goes}
 use Rattle.model.specs.Climb.{Rooted, stays, climb, goOn, rooted, update}
 use Rattle.model.specs.Layout.{decode}
 use Rattle.model.specs.Lent.{left}
-use Rattle.model.proofs.Lists.{both-true}
+use Rattle.model.proofs.lists.Lists.{both-true}
 use Rattle.walk.specs.Down.{Leaf}
 use Rattle.edit.specs.declared.Change as code
 use Rattle.edit.specs.Change.{changeOf}

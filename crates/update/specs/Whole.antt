@@ -15,9 +15,9 @@ use Rattle.model.specs.Judged.{isSound}
 use Rattle.model.specs.Climb.{climb, Result, done, refused, rooted, update}
 use Rattle.model.specs.Plan.{planUp, slotLeft, outlookNumber, outlook, plan}
 use Rattle.model.specs.Lent.{left}
-use Rattle.model.proofs.Given.{Sound, old-current}
-use Rattle.model.proofs.Fits.{ready}
-use Rattle.model.proofs.PlanSound.{plan-refused, plan-done}
+use Rattle.model.proofs.sound.ByRule.{Sound, old-current}
+use Rattle.model.proofs.sound.Ready.{ready}
+use Rattle.model.proofs.plan.PlanSound.{plan-refused, plan-done}
 use Rattle.store.specs.Sure.{sure}
 use Rattle.walk.specs.Sure.{Readable}
 use Rattle.edit.specs.declared.Change as code

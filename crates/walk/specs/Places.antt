@@ -14,7 +14,7 @@ use Rattle.model.specs.Entry.{liveAt, before}
 use Rattle.model.specs.Walk.{between}
 use Rattle.model.specs.Field.{field}
 use Rattle.model.specs.Layout.{readEntry, readEntries}
-use Rattle.model.proofs.Members.{In}
+use Rattle.model.proofs.lists.Members.{In}
 use Rattle.bits.specs.Laws.{field-split, field-lt}
 use Rattle.bits.specs.Put.{less}
 use Rattle.walk.specs.Live.{live, later}

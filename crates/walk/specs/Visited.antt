@@ -17,8 +17,8 @@ use Rattle.model.specs.Calls.{rule, firstOf}
 use Rattle.model.specs.Told.{toldIn, toldBy}
 use Rattle.model.specs.Visited.{pageNumber}
 use Rattle.model.specs.Lent.{Listed, listed}
-use Rattle.model.proofs.Fits.{level-used}
-use Rattle.model.proofs.Visits.{visits-count, pages-told}
+use Rattle.model.proofs.sound.Ready.{level-used}
+use Rattle.model.proofs.reading.Visits.{visits-count, pages-told}
 use Rattle.store.specs.Sure.{whole, sure}
 use Rattle.walk.specs.Counted.{withList}
 use Rattle.walk.specs.Covers.{Covers, covers-own}

@@ -16,9 +16,9 @@ use Rattle.model.specs.Page.{Page, isFree}
 use Rattle.model.specs.Store.{Store, page, last}
 use Rattle.model.specs.Layout.{lives, liveIn, liveOf, pageOf, encodePage, decodePage, encode, decode, sizeOf}
 use Rattle.model.specs.Counted.{countedPage, countedPages, rule8}
-use Rattle.model.proofs.Lists.{both-intro}
-use Rattle.model.proofs.Given.{Sound}
-use Rattle.model.proofs.Counted.{those-last}
+use Rattle.model.proofs.lists.Lists.{both-intro}
+use Rattle.model.proofs.sound.ByRule.{Sound}
+use Rattle.model.proofs.sound.Counted.{those-last}
 use Rattle.page.specs.Exact.{Valid, decode-encode, encode-live}
 use Rattle.store.specs.Holds.{Holds, page-encoded, decode-encoded}
 use Rattle.written.specs.Spare.{encoded-size}

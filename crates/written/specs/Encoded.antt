@@ -23,9 +23,9 @@ use Rattle.model.specs.Clean.{clean}
 use Rattle.model.specs.Sound.{sound, rule1, rule2, rule3, rule4, rule5, rule6, rule7}
 use Rattle.model.specs.declared.Verdict.{Verdict}
 use Rattle.model.specs.Judged.{lengthOk, magicOk, editionOk, judged}
-use Rattle.model.proofs.Lists.{both-intro}
-use Rattle.model.proofs.Given.{Sound, to-tests}
-use Rattle.model.proofs.Judging.{Accepted, judged-accepted}
+use Rattle.model.proofs.lists.Lists.{both-intro}
+use Rattle.model.proofs.sound.ByRule.{Sound, to-tests}
+use Rattle.model.proofs.sound.Judging.{Accepted, judged-accepted}
 use Rattle.page.specs.Editions.{root-bits, oldest-bits}
 use Rattle.store.specs.Header.{header-length}
 use Rattle.store.specs.Exactly.{encode-is}

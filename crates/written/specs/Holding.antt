@@ -17,9 +17,9 @@ use Rattle.model.specs.Page.{Page, free, isFree}
 use Rattle.model.specs.Store.{Store, page, last, lastOf}
 use Rattle.model.specs.Sound.{isPage}
 use Rattle.model.specs.Layout.{unused, noSlot}
-use Rattle.model.proofs.Lists.{both-true}
-use Rattle.model.proofs.Members.{all-at, in-getD, bool-cases}
-use Rattle.model.proofs.Given.{Sound, Span, span-of, GoodEntry, entry-of}
+use Rattle.model.proofs.lists.Lists.{both-true}
+use Rattle.model.proofs.lists.Members.{all-at, in-getD, bool-cases}
+use Rattle.model.proofs.sound.ByRule.{Sound, Span, span-of, GoodEntry, entry-of}
 use Rattle.page.specs.Read.{Sized, sized-unused}
 use Rattle.page.specs.Exact.{Valid, valid-free}
 use Rattle.store.specs.Slots.{SlotFits, none-fits}

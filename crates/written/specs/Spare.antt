@@ -23,7 +23,7 @@ use Rattle.store.specs.Slots.{slotParts, slots-length, directory-bytes}
 use Rattle.store.specs.Header.{header-length}
 use Rattle.store.specs.Exactly.{encode-is as store-is}
 use Rattle.store.specs.Holds.{Holds, header-encoded, page-encoded, encoded-length}
-use Rattle.model.proofs.Lists.{both-intro}
+use Rattle.model.proofs.lists.Lists.{both-intro}
 
 field-zeros : (m at n : ℕ) → field (zeros m) at n ≡ 0
 field-zeros m at n = zero-field (zeros m) at n (λ i l h. zeros-bit m i)

@@ -11,7 +11,7 @@ use Rattle.quick.specs.Slots.{good-slots}
 use Rattle.store.specs.Read.{current-lt}
 use Rattle.notes.specs.Ready.{Ready}
 use Rattle.local.specs.Local.{Held}
-use Rattle.model.proofs.Judging.{lower-one, lower-two, lower-three}
+use Rattle.model.proofs.sound.Judging.{lower-one, lower-two, lower-three}
 use Rattle.model.specs.Clean.{clean}
 use Rattle.model.specs.Layout.{decode}
 use Rattle.model.specs.Sound.{rule2, rule3}

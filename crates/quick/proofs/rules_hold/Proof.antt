@@ -3,7 +3,7 @@ use Rattle.quick.specs.Number.{in-first, in-second, in-third, in-quick, 
 use Rattle.quick.specs.Given.{good}
 use Rattle.quick.specs.Slots.{good-slots}
 use Rattle.notes.specs.Given.{ready}
-use Rattle.model.proofs.Judging.{clean-first}
+use Rattle.model.proofs.sound.Judging.{clean-first}
 use Rattle.local.specs.Linked.{held}
 use Rattle.local.specs.Local.{Held}
 use Rattle.model.specs.Sound.{rule2, rule3}

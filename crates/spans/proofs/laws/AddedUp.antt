@@ -18,12 +18,12 @@ use Rattle.model.specs.Page.{Page, free, isFree}
 use Rattle.model.specs.Store.{Store, page}
 use Rattle.model.specs.Walk.{Seen, seen, seenUnder, keyLimit}
 use Rattle.spans.specs.Quick.{upto, slotFine, slotsFine, ledTo, spansMet}
-use Rattle.model.proofs.Lists.{both-true, both-intro}
-use Rattle.model.proofs.Members.{not-both, either-true, either-left, either-right, bool-cases, In, in-map, map-in, has-in, in-has}
-use Rattle.model.proofs.Given.{Front, livesAt, numbers}
-use Rattle.model.proofs.Walks.{Reach, Self, Above, reach-self, last-step, seen-reached, IsSeen, reached-under}
-use Rattle.model.proofs.Bridge.{passesAt}
-use Rattle.model.proofs.Fits.{level-used, within-of}
+use Rattle.model.proofs.lists.Lists.{both-true, both-intro}
+use Rattle.model.proofs.lists.Members.{not-both, either-true, either-left, either-right, bool-cases, In, in-map, map-in, has-in, in-has}
+use Rattle.model.proofs.sound.ByRule.{Front, livesAt, numbers}
+use Rattle.model.proofs.sound.Walks.{Reach, Self, Above, reach-self, last-step, seen-reached, IsSeen, reached-under}
+use Rattle.model.proofs.tree.Bridge.{passesAt}
+use Rattle.model.proofs.sound.Ready.{level-used, within-of}
 use Rattle.spans.proofs.laws.RulesGive.{leads-of, child-at, page-ends, page-some, reach-level, root, height, root-level}
 use Rattle.spans.proofs.laws.Sums.{sumOver, sum-add, sum-full, Lies, namedAll, routed-all, rootsAt, Slots, rooted-sum}
 use Rattle.spans.proofs.laws.OneWay.{ways, Reached, Parent, parent-lives, parent-higher, parent-step, ways-some, ways-one}

@@ -20,15 +20,15 @@ use Rattle.model.specs.Walk.{Seen, seen, seenAs, seenUnder, rootAt, rootFrom, k
 use Rattle.model.specs.Sound.{keysOk, fewest}
 use Rattle.model.specs.Inner.{sooner}
 use Rattle.spans.specs.Quick.{kept, apart, keyOver, fineOver, under, routersFine, childrenFine, upto, slotFine, slotsFine, ledTo}
-use Rattle.model.proofs.Lists.{both-true, both-intro, all-cons}
-use Rattle.model.proofs.Members.{either-left, either-right, In, all-in}
-use Rattle.model.proofs.Given.{Front, old-last, livesAt, used-in, high-used}
-use Rattle.model.proofs.Tree.{Row, Holds, Tree, row-keys, row-le}
-use Rattle.model.proofs.Local.{inRange, holds-keys}
-use Rattle.model.proofs.Nodes.{Node, reach-node}
-use Rattle.model.proofs.Keeps.{holds-order}
-use Rattle.model.proofs.Bridge.{passesAt}
-use Rattle.model.proofs.Fits.{used-level, level-used, within-of}
+use Rattle.model.proofs.lists.Lists.{both-true, both-intro, all-cons}
+use Rattle.model.proofs.lists.Members.{either-left, either-right, In, all-in}
+use Rattle.model.proofs.sound.ByRule.{Front, old-last, livesAt, used-in, high-used}
+use Rattle.model.proofs.tree.Tree.{Row, Holds, Tree, row-keys, row-le}
+use Rattle.model.proofs.tree.Local.{inRange, holds-keys}
+use Rattle.model.proofs.tree.Nodes.{Node, reach-node}
+use Rattle.model.proofs.kept.WayUp.{holds-order}
+use Rattle.model.proofs.tree.Bridge.{passesAt}
+use Rattle.model.proofs.sound.Ready.{used-level, level-used, within-of}
 use Rattle.spans.proofs.laws.Stretches.{rising, kept-of, kept-order, kept-shows, key-kept, Alive, of-shows, apart-less, rises-apart, at-low, at-key, at-many}
 use Rattle.spans.proofs.laws.HighKeys.{Bounded, bounded-under, to-nexts}
 use Rattle.spans.proofs.laws.RulesGive.{entry-some, entry-ends, page-ends, page-some, leads-of, lives-with, root, height, root-used, root-level, holds-at}

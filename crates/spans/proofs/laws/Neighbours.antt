@@ -14,9 +14,9 @@ use Rattle.model.specs.declared.Entry.{Entry}
 use Rattle.model.specs.Entry.{before, liveAt}
 use Rattle.spans.specs.Quick.{apart, liveCount, manyOver}
 use Rattle.model.specs.Inner.{firstOk, throughout}
-use Rattle.model.proofs.Lists.{both-true, both-intro}
-use Rattle.model.proofs.Members.{not-both, either-true, all-by}
-use Rattle.model.proofs.Rising.{Carries, rising, in-order-rising, before-carries}
+use Rattle.model.proofs.lists.Lists.{both-true, both-intro}
+use Rattle.model.proofs.lists.Members.{not-both, either-true, all-by}
+use Rattle.model.proofs.lists.Rising.{Carries, rising, in-order-rising, before-carries}
 
 -- of entries in order neighbours are enough
 abbrev beforeApart : Entry → Entry → Bool

@@ -13,7 +13,7 @@ use Rattle.model.specs.Clean.{clean}
 use Rattle.model.specs.Counted.{rule8}
 use Rattle.model.specs.Judged.{lengthOk, magicOk, editionOk, brokenIn, verdict, ruled, judged}
 use Rattle.spans.specs.Quick.{quick, quickIn}
-use Rattle.model.proofs.Judging.{clean-first, lower-one, lower-two, lower-three, lower-four, lower-five, lower-six, lower-seven, lower-none, broken-lower, broken-eight, broken-none}
+use Rattle.model.proofs.sound.Judging.{clean-first, lower-one, lower-two, lower-three, lower-four, lower-five, lower-six, lower-seven, lower-none, broken-lower, broken-eight, broken-none}
 use Rattle.model.specs.Inner.{lowerIn}
 use Rattle.spans.proofs.laws.Quick.{quick-rules}
 

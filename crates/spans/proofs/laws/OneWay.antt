@@ -20,15 +20,15 @@ use Rattle.model.specs.Walk.{seen, rootAt, rootFrom, keyLimit, settings}
 use Rattle.model.specs.Sound.{firstVersion}
 use Rattle.spans.specs.Quick.{upto}
 use Rattle.model.specs.Inner.{sooner}
-use Rattle.model.proofs.Lists.{both-true}
-use Rattle.model.proofs.Members.{bool-cases, In}
-use Rattle.model.proofs.Given.{Front, livesAt}
-use Rattle.model.proofs.Walks.{Reach, Self, Above, reach-on, last-step}
-use Rattle.model.proofs.Nodes.{reach-node}
-use Rattle.model.proofs.Keeps.{holds-order}
-use Rattle.model.proofs.Parents.{above-one, reach-height}
-use Rattle.model.proofs.Bridge.{passesAt}
-use Rattle.model.proofs.Fits.{level-used, of-within}
+use Rattle.model.proofs.lists.Lists.{both-true}
+use Rattle.model.proofs.lists.Members.{bool-cases, In}
+use Rattle.model.proofs.sound.ByRule.{Front, livesAt}
+use Rattle.model.proofs.sound.Walks.{Reach, Self, Above, reach-on, last-step}
+use Rattle.model.proofs.tree.Nodes.{reach-node}
+use Rattle.model.proofs.kept.WayUp.{holds-order}
+use Rattle.model.proofs.tree.Parents.{above-one, reach-height}
+use Rattle.model.proofs.tree.Bridge.{passesAt}
+use Rattle.model.proofs.sound.Ready.{level-used, of-within}
 use Rattle.spans.proofs.laws.Stretches.{rising, shows-of}
 use Rattle.spans.proofs.laws.RulesGive.{child-at, lives-with, reach-level, root, height, root-level, holds-at}
 use Rattle.spans.proofs.laws.ToWalks.{root-late, late-all}

@@ -16,13 +16,13 @@ use Rattle.model.specs.Page.{Page, isFree, pairsAt}
 use Rattle.model.specs.Store.{Store, page, last}
 use Rattle.model.specs.Walk.{seen, rootAt, heightOf, keyLimit, settings}
 use Rattle.model.specs.Sound.{inside, liesWell}
-use Rattle.model.proofs.Lists.{both-true, both-intro}
-use Rattle.model.proofs.Members.{either-true, In, all-in, all-by}
-use Rattle.model.proofs.Given.{Front, GoodEntry, span-of, livesAt, entry-ok}
-use Rattle.model.proofs.Tree.{Holds}
-use Rattle.model.proofs.Walks.{Reach}
-use Rattle.model.proofs.Fits.{root-is, used-level, level-used, of-within}
-use Rattle.model.proofs.Bridge.{passesAt, root-passes}
+use Rattle.model.proofs.lists.Lists.{both-true, both-intro}
+use Rattle.model.proofs.lists.Members.{either-true, In, all-in, all-by}
+use Rattle.model.proofs.sound.ByRule.{Front, GoodEntry, span-of, livesAt, entry-ok}
+use Rattle.model.proofs.tree.Tree.{Holds}
+use Rattle.model.proofs.sound.Walks.{Reach}
+use Rattle.model.proofs.sound.Ready.{root-is, used-level, level-used, of-within}
+use Rattle.model.proofs.tree.Bridge.{passesAt, root-passes}
 use Rattle.spans.proofs.laws.Stretches.{Alive, shows-of}
 
 module _ (least : ℕ) (two : 2 ≤ least) (s : Store) (d : Front least s) where

@@ -20,12 +20,12 @@ use Rattle.model.specs.Walk.{Seen, seen, seenAs, seenUnder, seenBelow, spread, 
 use Rattle.model.specs.Sound.{startsAt, fewest, firstVersion}
 use Rattle.model.specs.Inner.{sooner}
 use Rattle.spans.specs.Quick.{lowOver, keyOver, manyOver, fineOver, under, nexts, routersFine, childrenFine, upto, slotFine, slotsFine, apart, kept}
-use Rattle.model.proofs.Lists.{both-true, both-intro}
-use Rattle.model.proofs.Members.{either-true, either-left, either-right, In, all-in, all-by}
-use Rattle.model.proofs.Given.{Front}
-use Rattle.model.proofs.Local.{all-append}
-use Rattle.model.proofs.Bridge.{passesAt}
-use Rattle.model.proofs.Fits.{level-used, of-within}
+use Rattle.model.proofs.lists.Lists.{both-true, both-intro}
+use Rattle.model.proofs.lists.Members.{either-true, either-left, either-right, In, all-in, all-by}
+use Rattle.model.proofs.sound.ByRule.{Front}
+use Rattle.model.proofs.tree.Local.{all-append}
+use Rattle.model.proofs.tree.Bridge.{passesAt}
+use Rattle.model.proofs.sound.Ready.{level-used, of-within}
 use Rattle.spans.proofs.laws.Stretches.{livePairs, rising, Alive, alive-of, shows-of, apart-rises, kept-of, kept-order, kept-shows, low-at, key-at, many-at}
 use Rattle.spans.proofs.laws.HighKeys.{AllUnder, LastOne, Below, under-below, nexts-at}
 use Rattle.spans.proofs.laws.RulesGive.{entry-at, leads-of, child-at, root, height, root-level}

@@ -6,7 +6,7 @@ use borrow.Author.Needs.{needs}
 use Rattle.model.specs.Layout.{decode}
 use Rattle.model.specs.Store.{next}
 use Rattle.model.specs.declared.Header.{Header}
-use Rattle.model.proofs.Given.{old-current}
+use Rattle.model.proofs.sound.ByRule.{old-current}
 use Rattle.store.specs.Sure.{sure, few, front, roots}
 use Rattle.store.specs.Header.{header-fits}
 use Rattle.store.specs.Read.{current-of}

@@ -1,7 +1,7 @@
 -- `leaves::tell` meets its contract. Assumes nothing.
 use Rattle.differ.specs.Leaves.{leaf-stands, rest-ordered, same-none, both-asked}
 use Rattle.differ.specs.Listing.{deltas}
-use Rattle.model.proofs.Telling.{written-none}
+use Rattle.model.proofs.reading.Telling.{written-none}
 use native.Mathlib.Omega.{arith}
 use Rattle.walk.specs.Sure.{covers-inside}
 use Rattle.cursor.specs.Leaf.{below-covers}

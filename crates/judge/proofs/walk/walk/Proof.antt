@@ -14,7 +14,7 @@ use Rattle.judge.specs.Walking.{Walking, Entering, weigh-top, weigh-put}
 use Rattle.judge.specs.Pending.{none, restOf, heft, weigh, stepOk}
 use Rattle.local.specs.Sizes.{part-fits}
 use Rattle.local.specs.Local.{IsPage, countAt}
-use Rattle.model.proofs.Lists.{both-true}
+use Rattle.model.proofs.lists.Lists.{both-true}
 use Rattle.model.specs.Layout.{readEntry}
 use Rattle.model.specs.declared.Entry.{Entry}
 use Rattle.page.specs.Head.{readHead}

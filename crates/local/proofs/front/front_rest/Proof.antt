@@ -6,7 +6,7 @@ use lib.Dec.{leb}
 use borrow.Author.Tests.{not-true, not-false, leb-true}
 use Rattle.model.specs.Basic.{pick}
 use Rattle.model.specs.Layout.{decode}
-use Rattle.model.proofs.Given.{old-last}
+use Rattle.model.proofs.sound.ByRule.{old-last}
 use borrow.Author.Needs.{needs}
 use Rattle.model.specs.declared.Header.{Header}
 use Rattle.model.specs.Store.{lastOf}

@@ -6,7 +6,7 @@ use native.Mathlib.Omega.{arith}
 use borrow.Author.Tests.{not-true, not-false}
 use borrow.Author.Needs.{needs}
 use Rattle.model.specs.Layout.{decode}
-use Rattle.model.proofs.Lists.{both-true}
+use Rattle.model.proofs.lists.Lists.{both-true}
 use Rattle.notes.specs.Notes.{keysBy, fullBy}
 use Rattle.notes.specs.Kept.{Kept, kept-later}
 use Rattle.notes.specs.Pass.{until-later}

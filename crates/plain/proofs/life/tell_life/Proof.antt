@@ -4,8 +4,8 @@ use native.Mathlib.Omega.{arith}
 use mathlib.Core.Option.{Option}
 use mathlib.Core.Path.{sym}
 use Rattle.model.specs.Life.{lifeOf}
-use Rattle.model.proofs.Lives.{rest, rest-start, rest-end}
-use Rattle.model.proofs.Telling.{Gathering, space-front, gather-start, gather-same, gather-step, gather-end}
+use Rattle.model.proofs.reading.Lives.{rest, rest-start, rest-end}
+use Rattle.model.proofs.reading.Telling.{Gathering, space-front, gather-start, gather-same, gather-step, gather-end}
 use Rattle.plain.specs.Plain.{valueAt}
 use Rattle.plain.specs.Items.{from}
 use Rattle.plain.specs.Lived.{stretches, shown, rest-told}

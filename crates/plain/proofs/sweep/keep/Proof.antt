@@ -7,7 +7,7 @@ use mathlib.Core.List.{List}
 use lib.ListN.{length}
 use Rattle.model.specs.declared.Entry.{Entry}
 use Rattle.model.specs.Telling.{written}
-use Rattle.model.proofs.Telling.{written-none}
+use Rattle.model.proofs.reading.Telling.{written-none}
 use Rattle.plain.specs.Items.{kept}
 use Rattle.plain.specs.Laid.{laid-written}
 use Rattle.plain.specs.Sweep.{withEnd, kept-one, kept-none}

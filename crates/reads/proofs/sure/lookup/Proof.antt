@@ -5,7 +5,7 @@ use borrow.Author.Tests.{not-false}
 use borrow.Author.Needs.{needs}
 use Rattle.model.specs.Layout.{decode}
 use Rattle.model.specs.Calls.{unreadable}
-use Rattle.model.proofs.Given.{readable-of}
+use Rattle.model.proofs.sound.ByRule.{readable-of}
 use Rattle.store.specs.Read.{current-lt}
 use Rattle.store.specs.Sure.{few, front}
 use Rattle.reads.specs.Reading.{unread-of}

@@ -4,7 +4,7 @@ use mathlib.Core.Path.{_≡_, sym, _∙_}
 use borrow.Author.Needs.{needs}
 use Rattle.model.specs.Layout.{decode}
 use Rattle.model.specs.Calls.{unreadable}
-use Rattle.model.proofs.Given.{readable-of}
+use Rattle.model.proofs.sound.ByRule.{readable-of}
 use Rattle.store.specs.Read.{current-lt}
 use Rattle.store.specs.Sure.{few, front}
 use Rattle.near.specs.Same.{low-in}
