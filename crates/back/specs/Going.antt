@@ -20,13 +20,13 @@ use Rattle.model.specs.Differ.{differ}
 use Rattle.model.specs.Return.{Ran, reached, stopped, orStopped, through}
 use Rattle.model.proofs.sound.ByRule as given
 use Rattle.model.proofs.sound.ByRule.{Sound, old-current}
-use Rattle.store.specs.Sure.{sure}
-use Rattle.written.specs.Encoded.{encoded-accepted, encoded-held}
+use Rattle.store.proofs.laws.Sure.{sure}
+use Rattle.written.proofs.laws.Encoded.{encoded-accepted, encoded-held}
 use Rattle.walk.specs.Sure.{Readable}
 use Rattle.cursor.specs.First.{atOrAbove}
 use Rattle.differ.specs.Merge.{left as leftFrom}
 use Rattle.differ.specs.Listing.{leftOf}
-use Rattle.back.specs.Single.{Left}
+use Rattle.back.proofs.laws.Single.{Left}
 
 -- the bytes of a sound store in which version w is open, and v is a version before it
 pub record Going (l : Limits) (b : List ℕ) (v w : ℕ) : Type 0 where

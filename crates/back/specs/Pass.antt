@@ -25,8 +25,8 @@ use Rattle.model.proofs.turning.Returned.{delete-is, set-is}
 use Rattle.update.specs.Single.{Enters, Ends}
 use Rattle.differ.specs.Merge.{told, Onward}
 use Rattle.differ.specs.Listing.{between, leftOf, nextOf, reads-rising, reads-low, from-start, from-end, from-on, from-step}
-use Rattle.back.specs.Due.{added-due, ended-due, few-kinds}
-use Rattle.back.specs.Single.{absent, present, set-left, set-over, end-left}
+use Rattle.back.proofs.laws.Due.{added-due, ended-due, few-kinds}
+use Rattle.back.proofs.laws.Single.{absent, present, set-left, set-over, end-left}
 use Rattle.back.specs.Going.{Going, going-sound, going-open, going-old, Stepped, stepped-none, stepped-refused, stepped-by}
 
 -- which differences a pass is for: does it insert?

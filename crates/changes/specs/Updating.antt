@@ -20,7 +20,7 @@ use Rattle.model.specs.Needs.{deleting}
 use Rattle.model.specs.Lent.{leaving, left, insertLent, deleteLent}
 use Rattle.model.proofs.sound.ByRule.{old-last}
 use Rattle.walk.specs.Sure.{Readable}
-use Rattle.store.specs.Sure.{sure}
+use Rattle.store.proofs.laws.Sure.{sure}
 use Rattle.update.specs.Single.{Enters, Ends}
 use Rattle.reads.specs.Guard.{guarded, zero-sound, chain-number, lent-guard, guard-chain, guard-sound}
 use Rattle.changes.specs.Turning.{Goes, refused-so, done-so, flag, version}

@@ -24,7 +24,7 @@ use Rattle.group.specs.declared.Group.{Group}
 use Rattle.group.specs.declared.Numbers.{Numbers}
 use Rattle.group.specs.Group.{routersOf, groupOf, Routed}
 use Rattle.group.specs.Numbers.{Numbered, usable-in, numbers-small}
-use Rattle.climb.specs.Rebuild.{rebuilt-short}
+use Rattle.climb.proofs.laws.Rebuild.{rebuilt-short}
 use Rattle.climb.specs.declared.Worked.{Worked}
 use Rattle.climb.specs.declared.Worked.the-variants.{Settled, Upward, Lacking}
 

@@ -12,7 +12,7 @@ use Rattle.model.specs.Store.{fresh}
 use Rattle.model.specs.Layout.{sizeOf, encode}
 use Rattle.model.specs.Judged.{isSound, lengthOk}
 use Rattle.model.specs.Lent.{Outcome, leaving, freshLent}
-use Rattle.store.specs.Answers.{length-rest, done-store}
+use Rattle.store.proofs.laws.Answers.{length-rest, done-store}
 use Rattle.lines.specs.declared.Answer.{Answer}
 use Rattle.lines.specs.declared.Answer.the-variants.{Done, Refused}
 use Rattle.lines.specs.Session.{Said, answered, outcome, stored, settings}

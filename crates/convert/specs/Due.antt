@@ -28,7 +28,7 @@ use Rattle.model.proofs.turning.Returned.{Stepped, Runs, Steps as StepsOf, dele
 use Rattle.update.specs.Single.{Enters, Ends}
 use Rattle.differ.specs.Merge.{told}
 use Rattle.back.specs.Pass.{wants, step, passed}
-use Rattle.back.specs.Single.{absent, present}
+use Rattle.back.proofs.laws.Single.{absent, present}
 use Rattle.convert.specs.Ready.{Ready, shown, ready-sound, Went, went-none, went-by}
 
 -- inserts one after another, each of a key that is not there; or deletes, each of one that is

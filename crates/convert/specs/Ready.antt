@@ -21,8 +21,8 @@ use Rattle.model.specs.Return.{Ran, reached, stopped, orStopped, through, lacki
 use Rattle.model.proofs.sound.ByRule.{Sound}
 use Rattle.model.proofs.kept.Stops.{lacking-is}
 use Rattle.model.proofs.turning.Returned.{Steps}
-use Rattle.store.specs.Sure.{sure}
-use Rattle.written.specs.Encoded.{encoded-accepted, encoded-held}
+use Rattle.store.proofs.laws.Sure.{sure}
+use Rattle.written.proofs.laws.Encoded.{encoded-accepted, encoded-held}
 
 -- the bytes of a sound store with an update open
 pub record Ready (l : Limits) (b : List ℕ) : Type 0 where

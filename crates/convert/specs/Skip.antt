@@ -37,14 +37,14 @@ use Rattle.model.proofs.turning.Converted.{begun, current-last, Upto, runs, one
 use Rattle.page.specs.Head.{readHead}
 use Rattle.page.specs.Read.{entries-of, length-entries}
 use Rattle.store.specs.Header.{putHeader}
-use Rattle.store.specs.Read.{count-pages, page-at}
+use Rattle.store.proofs.laws.Read.{count-pages, page-at}
 use Rattle.store.specs.Set.{withState, state-set}
-use Rattle.store.specs.Sure.{sure, whole}
+use Rattle.store.proofs.laws.Sure.{sure, whole}
 use Rattle.local.specs.Local.{slotAt}
 use Rattle.notes.specs.Ready.{quiet-slots}
 use Rattle.notes.specs.Ready.{Sooner}
 use Rattle.judge.specs.Versions.{QuietPart}
-use Rattle.judge.specs.Quiet.{pairs-quiet}
+use Rattle.judge.proofs.laws.Quiet.{pairs-quiet}
 use Rattle.turn.specs.Turned.{Kept, kept}
 use Rattle.convert.specs.Ready.{is-sound, is-held}
 use Rattle.convert.specs.Version.{Replaying, source-sound}

@@ -19,7 +19,7 @@ use Rattle.model.specs.Convert.{replayed, replay}
 use Rattle.model.proofs.sound.ByRule.{Sound}
 use Rattle.model.proofs.turning.Returned.{Stepped, Runs}
 use Rattle.model.proofs.turning.Converted.{begun, current-last, Upto, Replays, begun-sound, begun-shows, runs, one-more, replayed-is, replayed-so}
-use Rattle.store.specs.Sure.{sure, front, few}
+use Rattle.store.proofs.laws.Sure.{sure, front, few}
 use Rattle.walk.specs.Sure.{Readable}
 use Rattle.differ.specs.Listing.{between}
 use Rattle.convert.specs.Ready.{Ready, shown, Went, is-sound, is-held, is-ready}

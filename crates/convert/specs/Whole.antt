@@ -20,8 +20,8 @@ use Rattle.model.specs.Return.{Ran, reached, stopped, lacking}
 use Rattle.model.specs.Convert.{replay, orFresh, converted, convertTests, convertLent}
 use Rattle.model.proofs.sound.ByRule.{Sound}
 use Rattle.model.proofs.turning.Converted.{Upto, Replays, fresh-upto, replay-so}
-use Rattle.page.specs.Editions.{edition-of}
-use Rattle.store.specs.Sure.{sure, same-bytes}
+use Rattle.page.proofs.laws.Editions.{edition-of}
+use Rattle.store.proofs.laws.Sure.{sure, same-bytes}
 use Rattle.store.specs.Tested.{Whole, whole-length}
 use Rattle.convert.specs.Ready.{is-sound, is-held}
 use Rattle.convert.specs.Version.{Replaying, Replayed}

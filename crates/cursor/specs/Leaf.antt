@@ -12,7 +12,7 @@ use Rattle.model.specs.Store.{page}
 use Rattle.model.specs.Walk.{between, followed, rootAt, heightOf, settings, keyLimit}
 use Rattle.model.specs.Layout.{decode}
 use Rattle.model.proofs.reading.Lookups.{settings-low}
-use Rattle.store.specs.Sure.{sure}
+use Rattle.store.proofs.laws.Sure.{sure}
 use Rattle.walk.specs.declared.search.Own.{Own}
 use Rattle.walk.specs.Live.{live}
 use Rattle.walk.specs.Below.{upto-between}

@@ -25,14 +25,14 @@ use Rattle.page.specs.declared.Head.{Head}
 use Rattle.page.specs.Head.{readHead}
 use Rattle.walk.specs.Scan.{Stands, from}
 use Rattle.walk.specs.Sure.{Readable}
-use Rattle.walk.specs.Here.{here-stands, here-pairs}
+use Rattle.walk.proofs.laws.Here.{here-stands, here-pairs}
 use Rattle.cursor.specs.declared.Under.{Under}
 use Rattle.cursor.specs.First.{atOrAbove}
 use Rattle.cursor.specs.Reaches.{leaf-range}
 use Rattle.cursor.specs.Leaf.{Below, below-covers}
-use Rattle.cursor.specs.Stretch.{stretch}
+use Rattle.cursor.proofs.laws.Stretch.{stretch}
 use Rattle.differ.specs.declared.leaves.Ask.{Ask}
-use Rattle.differ.specs.Append.{between-upto, onward-above, differ-append}
+use Rattle.differ.proofs.laws.Append.{between-upto, onward-above, differ-append}
 use Rattle.differ.specs.Side.{rest, Ordered}
 use Rattle.differ.specs.Quiet.{quiet, quiet-shows}
 use Rattle.differ.specs.Merge.{left}

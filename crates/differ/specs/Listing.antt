@@ -14,14 +14,14 @@ use Rattle.model.specs.Walk.{settings, keyLimit}
 use Rattle.model.specs.Layout.{decode}
 use Rattle.model.proofs.reading.Lookups.{settings-rise, settings-low}
 use Rattle.model.proofs.tree.Local.{inRange}
-use Rattle.store.specs.Sure.{sure}
+use Rattle.store.proofs.laws.Sure.{sure}
 use Rattle.walk.specs.Sure.{Readable}
 use Rattle.cursor.specs.First.{atOrAbove, leads}
 use Rattle.model.specs.declared.Delta.{Delta}
 use Rattle.model.specs.Differ.{differ, deltaNumbers}
 use Rattle.model.specs.Inner.{rising}
 use Rattle.model.specs.Telling.{Shape}
-use Rattle.differ.specs.Append.{few-differ}
+use Rattle.differ.proofs.laws.Append.{few-differ}
 use Rattle.differ.specs.Merge.{compared, told, left, Onward, left-start, left-end, left-on, left-step}
 
 -- "Each takes four numbers"

@@ -17,7 +17,7 @@ use Rattle.model.proofs.lists.Merging.{above}
 use Rattle.walk.specs.Live.{live}
 use Rattle.walk.specs.Scan.{entry, from, Next, next-none}
 use Rattle.cursor.specs.First.{atOrAbove, leads}
-use Rattle.cursor.specs.Stretch.{all-above}
+use Rattle.cursor.proofs.laws.Stretch.{all-above}
 use Rattle.differ.specs.declared.leaves.Side.{Side}
 
 -- the settings from lo to hi alive at v, from place i on among n entries

@@ -20,7 +20,7 @@ use Rattle.edit.specs.Sift.{sifted, siftedPage}
 use Rattle.edit.specs.Same.{firstOf, ends, none-end}
 use Rattle.edit.specs.Place.{entered}
 use Rattle.page.specs.Exact.{Valid}
-use Rattle.edit.specs.Valid.{length-enter, valid-entered, valid-sifted}
+use Rattle.edit.proofs.laws.Valid.{length-enter, valid-entered, valid-sifted}
 
 abbrev pub one : Bool → ℕ
 one true = 1

@@ -17,7 +17,7 @@ use Rattle.model.specs.Layout.{lives, liveIn, liveOf, entryParts, encodePage, c
 use Rattle.page.specs.declared.Head.{Head}
 use Rattle.page.specs.Head.{putHead, putLive}
 use Rattle.page.specs.Read.{Sized}
-use Rattle.page.specs.Editions.{count-bits}
+use Rattle.page.proofs.laws.Editions.{count-bits}
 use Rattle.page.specs.Exact.{Exact, encodeWith, live-right, free-zeros, encode-exact, encode-count, valid-free}
 use Rattle.page.specs.Stage.{staged, staged-from, staged-put, staged-end}
 

@@ -18,8 +18,8 @@ use Rattle.model.proofs.plan.PlanSizes.{few-those}
 use Rattle.page.specs.declared.Head.{Head}
 use Rattle.page.specs.Head.{readHead, putHead, putLive, HeadFits}
 use Rattle.page.specs.Read.{Sized, count-of, entries-of, level-of, start-of, end-of, length-entries}
-use Rattle.page.specs.Front.{read-fits}
-use Rattle.page.specs.Editions.{count-bits}
+use Rattle.page.proofs.laws.Front.{read-fits}
+use Rattle.page.proofs.laws.Editions.{count-bits}
 use Rattle.page.specs.Exact.{Exact, encodeWith, live-right}
 use Rattle.page.specs.Stage.{staged, blanked, entriesIn, staged-from, staged-put, staged-read, staged-shut}
 use Rattle.edit.specs.declared.sift.Rule.{Rule}

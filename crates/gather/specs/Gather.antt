@@ -8,7 +8,7 @@ use lib.ListN.{length, getD, take, drop, set, replicate, length-append, length-d
 use lib.Seq.{take-suc, take-suc-set, getD-set-same, getD-set-other, getD-drop, getD-take, length-take-le, take-take}
 use native.Mathlib.Numerals.{add-one}
 use native.Mathlib.Omega.{arith}
-use Rattle.bits.specs.Put.{less}
+use Rattle.bits.proofs.laws.Put.{less}
 use Rattle.model.specs.declared.Pair.{Pair}
 use Rattle.model.specs.Basic.{keep}
 use Rattle.edit.specs.Fill.{nil, Fitting}

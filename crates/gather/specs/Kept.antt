@@ -22,7 +22,7 @@ use Rattle.edit.specs.declared.Change as code
 use Rattle.edit.specs.Same.{firstOf}
 use Rattle.edit.specs.Change.{one, firstPairs, changeOf}
 use Rattle.edit.specs.Fill.{Fitting}
-use Rattle.edit.specs.Valid.{length-enter}
+use Rattle.edit.proofs.laws.Valid.{length-enter}
 
 -- the bytes of a page whose entries stand in it
 pub record Counted (l : Limits) (p : List ℕ) : Type 0 where

@@ -14,7 +14,7 @@ use Rattle.model.specs.Field.{field}
 use Rattle.model.specs.Page.{filled}
 use Rattle.model.specs.Layout.{readEntry, encodePage}
 use Rattle.model.proofs.lists.Lists.{both-true}
-use Rattle.bits.specs.Laws.{field-fits}
+use Rattle.bits.proofs.laws.Laws.{field-fits}
 use Rattle.page.specs.Read.{Sized, read-sized}
 use Rattle.edit.specs.Fill.{nil, Fitting}
 

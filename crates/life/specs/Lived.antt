@@ -25,8 +25,8 @@ use Rattle.model.specs.Inner.{Lasts}
 use Rattle.model.specs.Telling.{Shape}
 use Rattle.model.proofs.reading.Lives.{stretch, toldOf, rest, rest-step, life-length}
 use Rattle.model.proofs.sound.ByRule.{old-current}
-use Rattle.store.specs.Read.{current-of, oldest-of}
-use Rattle.store.specs.Sure.{sure}
+use Rattle.store.proofs.laws.Read.{current-of, oldest-of}
+use Rattle.store.proofs.laws.Sure.{sure}
 use Rattle.walk.specs.Sure.{Readable}
 
 -- "Each stretch takes three numbers"

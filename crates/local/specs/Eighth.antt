@@ -26,7 +26,7 @@ use Rattle.page.specs.Head.{readHead}
 use Rattle.page.specs.Read.{level-of, entries-of, entries-step, entries-end}
 use Rattle.page.specs.Insert.{liveOne}
 use Rattle.local.specs.Local.{Sized, IsPage}
-use Rattle.local.specs.Ruled.{fine, last-low}
+use Rattle.local.proofs.laws.Ruled.{fine, last-low}
 
 -- ---- the entries of a page that live, from place i on
 

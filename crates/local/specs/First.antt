@@ -16,9 +16,9 @@ use Rattle.model.specs.Sound.{pageFine, isPage, zeroed, rule1}
 use Rattle.model.specs.Layout.{readHeader, readSlots, readPages, decode, sizeOf}
 use Rattle.model.specs.Clean.{zeroFrom, cleanPages, cleanFront, clean}
 use Rattle.model.proofs.lists.Lists.{both-true}
-use Rattle.store.specs.Read.{length-slots, count-pages, behind, slots-of}
+use Rattle.store.proofs.laws.Read.{length-slots, count-pages, behind, slots-of}
 use Rattle.local.specs.Local.{Sized, pagesFine}
-use Rattle.local.specs.Loops.{and-false, and-true}
+use Rattle.local.proofs.laws.Loops.{and-false, and-true}
 
 abbrev pub rooted : ℕ → List Slot → Bool
 rooted size xs = all (λ (x : Slot). isPage size (x .root)) xs

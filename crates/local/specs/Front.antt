@@ -15,10 +15,10 @@ use Rattle.model.specs.Inner.{firstOk, sooner}
 use Rattle.model.proofs.lists.Lists.{both-true}
 use Rattle.model.proofs.lists.Members.{all-implies}
 use Rattle.model.proofs.lists.Rising.{in-order-step, sooner-carries}
-use Rattle.store.specs.Read.{slots-step, slots-end}
+use Rattle.store.proofs.laws.Read.{slots-step, slots-end}
 use Rattle.local.specs.Local.{slotsOk}
 use Rattle.local.specs.First.{rooted}
-use Rattle.local.specs.Loops.{and-false}
+use Rattle.local.proofs.laws.Loops.{and-false}
 
 -- a slot has a version from low to top, and leads to a page
 abbrev pub slotFits : ℕ → ℕ → ℕ → Slot → Bool

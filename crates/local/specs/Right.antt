@@ -19,10 +19,10 @@ use Rattle.model.proofs.lists.Lists.{both-true}
 use Rattle.model.proofs.sound.ByRule.{old-last}
 use Rattle.page.specs.Head.{readHead}
 use Rattle.page.specs.Read.{level-of}
-use Rattle.store.specs.Read.{count-pages, page-at, front-free, slots-of, oldest-of}
+use Rattle.store.proofs.laws.Read.{count-pages, page-at, front-free, slots-of, oldest-of}
 use Rattle.local.specs.Local.{Sized}
 use Rattle.local.specs.First.{rooted}
-use Rattle.local.specs.Loops.{and-false, and-true}
+use Rattle.local.proofs.laws.Loops.{and-false, and-true}
 use Rattle.local.specs.Second.{rule2-is, two-none}
 use Rattle.local.specs.Front.{slotsFrom, slots-all, some-slots}
 use Rattle.model.specs.Near.{frontRight, pageRight}

@@ -16,9 +16,9 @@ use Rattle.model.specs.Inner.{firstOk, sooner}
 use Rattle.model.proofs.lists.Lists.{both-true}
 use Rattle.model.proofs.lists.Members.{not-both}
 use Rattle.model.proofs.lists.Rising.{in-order-step, sooner-carries}
-use Rattle.store.specs.Read.{slots-step, slots-end, slots-of, oldest-of}
+use Rattle.store.proofs.laws.Read.{slots-step, slots-end, slots-of, oldest-of}
 use Rattle.local.specs.Local.{slotAt, slotsOk}
-use Rattle.local.specs.Loops.{and-assoc, and-four}
+use Rattle.local.proofs.laws.Loops.{and-assoc, and-four}
 
 -- ---- the slots from slot i on
 

@@ -14,7 +14,7 @@ use Rattle.model.specs.Store.{Store, lastOf}
 use Rattle.model.specs.Sound.{rule7}
 use Rattle.model.specs.Layout.{pageOf, readEntries, decodePage, readHeader, readPages, decode, sizeOf}
 use Rattle.page.specs.Read.{level-of, start-of, entries-of}
-use Rattle.store.specs.Read.{behind, current-of, opened-of}
+use Rattle.store.proofs.laws.Read.{behind, current-of, opened-of}
 use Rattle.local.specs.Local.{headAt, levelAt, countAt}
 
 abbrev pub isYoung : ℕ → Entry → Bool

@@ -16,7 +16,7 @@ use Rattle.model.specs.Calls.{unreadable, Rule, rule, firstOf, lookedBy}
 use Rattle.model.specs.Near.{frontRight, fromRoot, downRight, early, lookupNear}
 use Rattle.model.specs.Lent.{judgedFirst, lookupLent}
 use Rattle.local.specs.Local.{Sized}
-use Rattle.local.specs.Sizes.{sized}
+use Rattle.local.proofs.laws.Sizes.{sized}
 use Rattle.local.specs.First.{clean-roots}
 use Rattle.local.specs.Right.{front-true}
 use Rattle.walk.specs.Sure.{Fronted}

@@ -11,7 +11,7 @@ use Rattle.model.specs.Sound.{versions, rule4, rule5}
 use Rattle.model.proofs.lists.Lists.{both-true}
 use Rattle.notes.specs.declared.Note.{Note}
 use Rattle.notes.specs.Notes.{noteAt, keysBy, fullBy}
-use Rattle.notes.specs.Versions.{keysAt, fullAt, four-by, five-by}
+use Rattle.notes.proofs.laws.Versions.{keysAt, fullAt, four-by, five-by}
 use Rattle.notes.specs.Pass.{keysOn, fullOn, keys-on, full-on, run-fails, run-ends, run-stretch, keys-stretch, full-stretch}
 use Rattle.notes.specs.Over.{keys-next, full-next}
 

@@ -5,8 +5,8 @@ use mathlib.Core.List.{List, _++_}
 use native.Mathlib.Omega.{arith}
 use lib.ListN.{length, getD, length-append}
 use lib.Seq.{ext-getD}
-use Rattle.bits.specs.Lay.{length-zeros}
-use Rattle.bits.specs.Over.{zeros-append, packed-zeros}
+use Rattle.bits.proofs.laws.Lay.{length-zeros}
+use Rattle.bits.proofs.laws.Over.{zeros-append, packed-zeros}
 use Rattle.model.specs.declared.Entry.{Entry}
 use Rattle.model.specs.Field.{zeros}
 use Rattle.model.specs.Page.{Page, free}
@@ -15,11 +15,11 @@ use Rattle.model.specs.Limits.{liveBits}
 use Rattle.model.specs.Layout.{lives, liveIn, liveOf, entriesBytes, readEntry, readEntries, unused, padded, headBytes, encodePage, decodePage, countOf}
 use Rattle.model.proofs.plan.PlanSizes.{few-those}
 use Rattle.page.specs.declared.Head.{Head}
-use Rattle.page.specs.Editions.{count-bits, live-bits, shown-fits, shown-none}
+use Rattle.page.proofs.laws.Editions.{count-bits, live-bits, shown-fits, shown-none}
 use Rattle.page.specs.Head.{readHead, headOf, frontBytes, partsOf, putLive, HeadFits}
 use Rattle.page.specs.Read.{Sized, sized-unused, sized-entries, length-entries, entries-at, level-of, start-of, end-of, count-of, entries-of, level-lt, start-lt, end-lt}
-use Rattle.page.specs.Entries.{entries-length, entry-get, length-padded, padded-get, padded-sized, unused-zeros}
-use Rattle.page.specs.Front.{head-length, head-read, live-read, live-put}
+use Rattle.page.proofs.laws.Entries.{entries-length, entry-get, length-padded, padded-get, padded-sized, unused-zeros}
+use Rattle.page.proofs.laws.Front.{head-length, head-read, live-read, live-put}
 
 -- a page that its bytes can hold
 pub record Valid (least : ℕ) (p : Page) : Type 0 where

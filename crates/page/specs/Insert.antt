@@ -17,8 +17,8 @@ use Rattle.model.proofs.plan.PlanSizes.{few-those}
 use Rattle.page.specs.declared.Head.{Head}
 use Rattle.page.specs.Head.{readHead, putHead, putLive, HeadFits}
 use Rattle.page.specs.Read.{Sized, sized-unused, sized-entries, length-entries, count-of, entries-of, level-of, start-of, end-of}
-use Rattle.page.specs.Editions.{count-bits, shown-add, shown-most}
-use Rattle.page.specs.Front.{read-fits}
+use Rattle.page.proofs.laws.Editions.{count-bits, shown-add, shown-most}
+use Rattle.page.proofs.laws.Front.{read-fits}
 use Rattle.page.specs.Exact.{Exact, encodeWith, live-right, exact-live}
 use Rattle.page.specs.Stage.{staged, staged-from, staged-put, staged-end, entriesIn, count}
 

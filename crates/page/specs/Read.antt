@@ -4,7 +4,7 @@ use mathlib.Core.Path.{_≡_, refl, ap}
 use mathlib.Core.List.{List, [], _∷_}
 use lib.ListN.{length, getD}
 use native.Mathlib.Omega.{arith}
-use Rattle.bits.specs.Laws.{field-lt}
+use Rattle.bits.proofs.laws.Laws.{field-lt}
 use Rattle.model.specs.declared.Entry.{Entry}
 use Rattle.model.specs.Limits.{countBits, liveBits}
 use Rattle.model.specs.Layout.{readEntry, readEntries, countOf, liveOf, decodePage, unused}

@@ -12,8 +12,8 @@ use Rattle.model.specs.Layout.{entryParts, readEntry, readEntries, unused, padd
 use Rattle.page.specs.declared.Head.{Head}
 use Rattle.page.specs.Head.{readHead, frontBytes, putHead, HeadFits}
 use Rattle.page.specs.Read.{Sized, sized-unused, sized-entries, length-entries, entries-of, count-of, live-lt}
-use Rattle.page.specs.Entries.{entry-put, entry-get, length-padded, padded-get}
-use Rattle.page.specs.Front.{head-length, head-put, read-fits}
+use Rattle.page.proofs.laws.Entries.{entry-put, entry-get, length-padded, padded-get}
+use Rattle.page.proofs.laws.Front.{head-length, head-put, read-fits}
 use Rattle.page.specs.Over.{over, length-over, over-put, over-high, over-own, over-padded, padded-unused, length-blank}
 use Rattle.page.specs.Exact.{Exact, bodyBytes, body-length, encode-is, head-is, encodeWith, exact-live}
 

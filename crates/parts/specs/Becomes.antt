@@ -6,14 +6,14 @@ use mathlib.Core.Logic.{_⊎_, inl, inr, ⊎-elim, _≢_}
 use native.Mathlib.Omega.{arith}
 use lib.ListN.{length, getD, set, take, drop, length-set, length-take, List·getD-eq-default}
 use lib.Seq.{getD-set-same, getD-set-other}
-use Rattle.bits.specs.Put.{less}
+use Rattle.bits.proofs.laws.Put.{less}
 use Rattle.model.specs.declared.Limits.{Limits}
 use Rattle.model.specs.declared.Pair.{Pair}
 use Rattle.model.specs.Page.{Page, free, filled}
 use Rattle.model.specs.Store.{Store, page}
 use Rattle.model.specs.Layout.{withPage, encodePage, encode, decode}
 use Rattle.page.specs.Exact.{Valid}
-use Rattle.store.specs.Parts.{part-back}
+use Rattle.store.proofs.laws.Parts.{part-back}
 use Rattle.store.specs.Pages.{AllValid}
 use Rattle.store.specs.Holds.{Holds, decode-encoded}
 use Rattle.store.specs.Set.{withPages, page-set}

@@ -15,9 +15,9 @@ use Rattle.model.specs.Page.{Page, isFree, pairsAt, wanted}
 use Rattle.model.specs.Store.{Store, page}
 use Rattle.model.specs.Layout.{pageOf, countOf, encodePage, decodePage, encode, decode, readHeader, headerOf}
 use Rattle.page.specs.Exact.{Valid, Exact, encode-exact, decode-encode}
-use Rattle.store.specs.Parts.{page-fits}
+use Rattle.store.proofs.laws.Parts.{page-fits}
 use Rattle.store.specs.Holds.{Holds, encoded-length, page-encoded, header-encoded}
-use Rattle.store.specs.Sure.{sure, held, same-bytes}
+use Rattle.store.proofs.laws.Sure.{sure, held, same-bytes}
 use Rattle.model.proofs.sound.ByRule.{used-in, high-used}
 use Rattle.model.proofs.sound.Ready.{level-used}
 use Rattle.model.proofs.plan.PlanSizes.{pairs-few, wanted-few}

@@ -5,7 +5,7 @@ use mathlib.Core.Bool.{Bool, true, false}
 use mathlib.Core.Option.{Option, none, some}
 use mathlib.Core.Logic.{⊎-elim}
 use mathlib.Core.List.{List, [], _∷_}
-use Rattle.bits.specs.Put.{less}
+use Rattle.bits.proofs.laws.Put.{less}
 use native.Mathlib.Numerals.{add-one}
 use native.Mathlib.Omega.{arith}
 use lib.Dec.{leb, ltb}
@@ -25,7 +25,7 @@ use Rattle.model.specs.Layout.{decode}
 use Rattle.model.specs.Near.{startsBy}
 use Rattle.walk.specs.Covers.{Covers, covers-starts, covers-own, covers-later, covers-root}
 use Rattle.walk.specs.Sure.{Readable}
-use Rattle.store.specs.Sure.{sure}
+use Rattle.store.proofs.laws.Sure.{sure}
 use Rattle.model.proofs.sound.Ready.{level-used}
 use Rattle.parts.specs.Kept.{Inside, pagesOf, inside-used}
 use Rattle.group.specs.declared.Around.{Around}

@@ -22,7 +22,7 @@ use Rattle.model.specs.Near.{frontRight, pageRight, startsBy, downRight, rangeR
 use Rattle.model.proofs.lists.Lists.{both-true, all-cons}
 use Rattle.model.proofs.lists.Members.{not-both}
 use Rattle.walk.specs.Live.{above}
-use Rattle.tabled.specs.Starts.{none-above}
+use Rattle.tabled.proofs.laws.Starts.{none-above}
 use Rattle.promises.specs.Near.{Some, Each, FrontWrong, Breaks, OtherLevel, NoRouter, WrongDown, WrongAcross, WrongFrom}
 
 -- ---- tests that fail

@@ -28,8 +28,8 @@ use Rattle.model.proofs.theorems.Editions.{Lends, accepted-lent, goes-at}
 use Rattle.model.proofs.turning.Converted.{Upto}
 use Rattle.model.proofs.turning.Converting.{Passed, is-judged, source-sound, source-whole, lent-by}
 use Rattle.model.proofs.reading.Readings.{get-same, range-same, difference-same, life-same}
-use Rattle.near.specs.Same.{lookup-same, range-same as range-lent-same}
-use Rattle.written.specs.Encoded.{encoded-accepted, encoded-held}
+use Rattle.near.proofs.laws.Same.{lookup-same, range-same as range-lent-same}
+use Rattle.written.proofs.laws.Encoded.{encoded-accepted, encoded-held}
 use Rattle.promises.specs.Converts.{replayOf, Numbers, Converted, Emptied, Lacks, Converts}
 
 -- ---- readings of accepted bytes of one edition

@@ -17,9 +17,9 @@ use Rattle.model.specs.Editions.{leastOf}
 use Rattle.model.proofs.sound.ByRule.{Sound, used-in, high-used}
 use Rattle.model.proofs.sound.Judging.{Accepted, accepted-sound}
 use Rattle.model.proofs.sound.Counted.{those-last, killed-none}
-use Rattle.store.specs.Read.{page-at, count-pages}
+use Rattle.store.proofs.laws.Read.{page-at, count-pages}
 use Rattle.store.specs.Tested.{whole-length}
-use Rattle.store.specs.Counted.{counted}
+use Rattle.store.proofs.laws.Counted.{counted}
 use Rattle.promises.specs.Accepts.{storeOf}
 use Rattle.promises.specs.LiveCounts.{liveCount, LiveCounts}
 use Rattle.promises.proofs.Known.{eight, taken}

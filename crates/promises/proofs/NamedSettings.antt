@@ -42,7 +42,7 @@ use Rattle.model.proofs.sound.Judging.{accepted, accepted-sound}
 use Rattle.model.proofs.reading.Ranges.{range-is}
 use Rattle.model.proofs.theorems.Editions.{goes, refuses, ended-goes}
 use Rattle.model.proofs.theorems.Unique as one
-use Rattle.kinds.specs.Floats.{no-nan}
+use Rattle.kinds.proofs.laws.Floats.{no-nan}
 use Rattle.promises.specs.Accepts.{Accepts, storeOf}
 use Rattle.promises.specs.Runs.{Turn, turned, runBytes, kindOf, fitting, each}
 use Rattle.promises.specs.Beside.{Beside, whenDone, onward, along, fromFresh}

@@ -9,7 +9,7 @@ use mathlib.Core.List.{List, [], _∷_, _++_}
 use lib.Dec.{ltb, eqb}
 use lib.ListN.{length, getD, take, length-take}
 use lib.Seq.{ext-getD, getD-take}
-use Rattle.bits.specs.Laws.{field-ext}
+use Rattle.bits.proofs.laws.Laws.{field-ext}
 use Rattle.model.specs.Basic.{pick, flatMap, eqList}
 use Rattle.model.specs.Field.{bitOf, bitAt}
 use Rattle.model.specs.Limits.{editionOf}
@@ -27,8 +27,8 @@ use Rattle.model.specs.Any
 use Rattle.model.specs.Any.{lookupAny, rangeAny}
 use Rattle.model.specs.Ended.{ofLooked, ofListed}
 use Rattle.model.proofs.lists.Members.{In}
-use Rattle.near.specs.Off as near
-use Rattle.near.specs.OffRange as across
+use Rattle.near.proofs.laws.Off as near
+use Rattle.near.proofs.laws.OffRange as across
 use Rattle.promises.specs.Accepts.{storeOf}
 use Rattle.promises.specs.Near.{Each, SameFront, SamePages, OffTheWalk}
 use Rattle.promises.proofs.Known.{four}

@@ -23,7 +23,7 @@ use Rattle.model.specs.Any.{judgedAny}
 use Rattle.model.proofs.lists.Members.{In, all-in, not-both}
 use Rattle.model.proofs.sound.ByRule.{Front, front-of, entry-ok, GoodEntry, Young, rule7-by}
 use Rattle.model.proofs.sound.Judging.{clean-first}
-use Rattle.store.specs.Read.{oldest-lt}
+use Rattle.store.proofs.laws.Read.{oldest-lt}
 use Rattle.promises.specs.Accepts.{storeOf}
 use Rattle.promises.specs.Prunes.{NeverSeven}
 use Rattle.promises.proofs.Known.{check-goes, check-refuses}

@@ -6,7 +6,7 @@ use lib.ListN.{drop}
 use Rattle.model.specs.Store.{Store}
 use Rattle.model.specs.Sound.{rule1, rule2, rule3, rule4, rule5}
 use Rattle.spans.specs.Quick.{spansMet, slotsFine, quick}
-use Rattle.notes.specs.Six.{quick-by}
+use Rattle.notes.proofs.laws.Six.{quick-by}
 
 -- a store of which rules 1 to 3 hold
 pub record Ruled (least : ℕ) (s : Store) : Type 0 where

@@ -19,10 +19,10 @@ use Rattle.spans.specs.Quick.{kept, apart, routersFine, childrenFine}
 use Rattle.page.specs.declared.Head.{Head}
 use Rattle.page.specs.Head.{readHead}
 use Rattle.page.specs.Read.{level-of, entries-of}
-use Rattle.bits.specs.Put.{less}
-use Rattle.store.specs.Read.{behind}
+use Rattle.bits.proofs.laws.Put.{less}
+use Rattle.store.proofs.laws.Read.{behind}
 use Rattle.local.specs.Local.{IsPage}
-use Rattle.notes.specs.Here.{level-is, entries-are}
+use Rattle.notes.proofs.laws.Here.{level-is, entries-are}
 use Rattle.quick.specs.Good.{Good}
 use Rattle.quick.specs.Routers.{entriesAt}
 

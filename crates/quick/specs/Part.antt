@@ -8,7 +8,7 @@ use native.Mathlib.Omega.{arith}
 use lib.Dec.{leb, ltb, eqb}
 use lib.ListN.{length}
 use borrow.Author.Tests.{le-leb, lt-leb, le-ltb, lt-ltb, leb-true, leb-false, ne-eqb}
-use Rattle.bits.specs.Put.{less}
+use Rattle.bits.proofs.laws.Put.{less}
 use Rattle.model.specs.declared.Entry.{Entry}
 use Rattle.model.specs.Basic.{all, those, keep, pick, inOrder}
 use Rattle.model.specs.Entry.{before}

@@ -9,7 +9,7 @@ use Rattle.model.specs.Page.{Page}
 use Rattle.model.specs.Store.{page}
 use Rattle.model.specs.Layout.{pageOf, readEntries, decodePage, decode}
 use Rattle.spans.specs.Quick.{fineOver, nexts}
-use Rattle.store.specs.Read.{page-at}
+use Rattle.store.proofs.laws.Read.{page-at}
 use Rattle.local.specs.Local.{IsPage, levelAt, countAt}
 use Rattle.quick.specs.Under.{underPage}
 

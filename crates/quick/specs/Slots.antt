@@ -19,9 +19,9 @@ use Rattle.spans.specs.Quick.{upto, slotFine, slotsFine, fineOver}
 use Rattle.page.specs.declared.Head.{Head}
 use Rattle.page.specs.Head.{readHead}
 use Rattle.page.specs.Read.{level-of, start-of, end-of}
-use Rattle.store.specs.Read.{slots-of, slots-step, slots-end}
+use Rattle.store.proofs.laws.Read.{slots-of, slots-step, slots-end}
 use Rattle.local.specs.Local.{IsPage, Sized, Ruled, slotAt}
-use Rattle.local.specs.Ruled.{ruled}
+use Rattle.local.proofs.laws.Ruled.{ruled}
 
 pub record GoodSlots (least : ℕ) (s : List ℕ) : Type 0 where
   pub front : 320 * least ≤ length s

@@ -9,7 +9,7 @@ use lib.Dec.{leb, eqb}
 use lib.ListN.{length, getD, set, replicate, length-set, length-replicate, getD-replicate}
 use lib.Seq.{getD-set-same, getD-set-other}
 use borrow.Author.Tests.{eq-eqb, ne-eqb}
-use Rattle.bits.specs.Put.{same?}
+use Rattle.bits.proofs.laws.Put.{same?}
 use Rattle.model.specs.declared.Entry.{Entry}
 use Rattle.model.specs.declared.Slot.{Slot}
 use Rattle.model.specs.Basic.{pick}
@@ -19,7 +19,7 @@ use Rattle.spans.specs.Quick.{upto}
 use Rattle.page.specs.declared.Head.{Head}
 use Rattle.page.specs.Head.{readHead}
 use Rattle.page.specs.Read.{level-of, start-of, end-of, entries-of, read-sized, entries-step, entries-end}
-use Rattle.store.specs.Read.{version-lt, slots-step, slots-end, pages-step, pages-end}
+use Rattle.store.proofs.laws.Read.{version-lt, slots-step, slots-end, pages-step, pages-end}
 
 -- x more at number n
 abbrev pub addTo : List ℕ → ℕ → ℕ → List ℕ

@@ -13,7 +13,7 @@ use Rattle.model.specs.Store.{page}
 use Rattle.model.specs.Layout.{readEntry, readEntries, pageOf, decode}
 use Rattle.spans.specs.Quick.{meets, past, pastAll, kept, lastFine, lasts, under, nextFine, nexts, fineOver, routersFine}
 use Rattle.page.specs.Read.{entries-step, entries-end, entries-of}
-use Rattle.store.specs.Read.{page-at}
+use Rattle.store.proofs.laws.Read.{page-at}
 use Rattle.local.specs.Local.{IsPage, countAt}
 use Rattle.quick.specs.declared.under.Way.{Way}
 use Rattle.quick.specs.Part.{highOver, past-more, past-grows}

@@ -18,14 +18,14 @@ use Rattle.model.specs.Store.{Store, next, last, lastOf}
 use Rattle.model.specs.Layout.{readHeader, sizeOf, decode}
 use Rattle.model.specs.Judged.{isSound}
 use Rattle.model.specs.Calls.{unchanged}
-use Rattle.store.specs.Read.{count-pages}
-use Rattle.store.specs.Exactly.{header-of}
+use Rattle.store.proofs.laws.Read.{count-pages}
+use Rattle.store.proofs.laws.Exactly.{header-of}
 use Rattle.model.proofs.sound.ByRule.{old-current}
-use Rattle.store.specs.Sure.{sure, whole, exact}
+use Rattle.store.proofs.laws.Sure.{sure, whole, exact}
 use Rattle.walk.specs.Sure.{Readable}
 use Rattle.walk.specs.Scan.{entry}
 use Rattle.release.specs.Settled.{has, settled, settledFrom}
-use Rattle.release.specs.Exactly.{settled-unchanged}
+use Rattle.release.proofs.laws.Exactly.{settled-unchanged}
 
 pub record Opened (l : Limits) (b : List ℕ) (c : ℕ) : Type 0 where
   pub edition : Edition l

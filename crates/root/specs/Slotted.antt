@@ -25,7 +25,7 @@ use Rattle.store.specs.Slots.{SlotFits, slotParts}
 use Rattle.store.specs.Header.{putHeader}
 use Rattle.store.specs.Holds.{slot-encoded}
 use Rattle.store.specs.Set.{withSlots, slot-set, slot-add}
-use Rattle.store.specs.Sure.{sure}
+use Rattle.store.proofs.laws.Sure.{sure}
 use Rattle.parts.specs.Kept.{Kept, Inside, header-is}
 use Rattle.parts.specs.Becomes.{Becomes, shows}
 

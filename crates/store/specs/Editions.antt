@@ -13,8 +13,8 @@ use Rattle.model.specs.Limits.{limits, Edition, editionOf}
 use Rattle.model.specs.Judged.{magicOk, editionOk}
 use Rattle.model.specs.Editions.{byEdition, lentNumber, leastOf}
 use Rattle.model.proofs.theorems.Editions.{goes, refuses, least-is, edition-four, edition-eight}
-use Rattle.bits.specs.Laws.{field-byte}
-use Rattle.page.specs.Editions.{edition-of}
+use Rattle.bits.proofs.laws.Laws.{field-byte}
+use Rattle.page.proofs.laws.Editions.{edition-of}
 use Rattle.store.specs.declared.editions.Lent.{Lent}
 
 -- a number given before the edition is known, or 0, and the edition by its least

@@ -6,9 +6,9 @@ use mathlib.Core.List.{List, [], _∷_, _++_}
 use native.Mathlib.Omega.{arith}
 use native.Mathlib.Nat.{suc-mul, add-mul}
 use lib.ListN.{length, getD, set, drop, replicate, length-set, length-replicate}
-use Rattle.bits.specs.Put.{put-byte-whole, length-put, bytes-put}
-use Rattle.bits.specs.Lay.{length-lay, length-zeros}
-use Rattle.bits.specs.Over.{lay-left, zeros-append}
+use Rattle.bits.proofs.laws.Put.{put-byte-whole, length-put, bytes-put}
+use Rattle.bits.proofs.laws.Lay.{length-lay, length-zeros}
+use Rattle.bits.proofs.laws.Over.{lay-left, zeros-append}
 use Rattle.model.specs.declared.Header.{Header}
 use Rattle.model.specs.declared.Slot.{Slot}
 use Rattle.model.specs.Entry.{alive}
@@ -18,14 +18,14 @@ use Rattle.model.specs.Store.{fresh}
 use Rattle.model.specs.Layout.{pageOf, withPage, encodePage, slotsBytes, pagesBytes, headerOf, padded, encode, liveIn}
 use Rattle.page.specs.declared.Head.{Head}
 use Rattle.page.specs.Head.{headOf, putHead}
-use Rattle.page.specs.Editions.{count-bits, root-bits, oldest-bits}
-use Rattle.page.specs.Front.{head-put}
+use Rattle.page.proofs.laws.Editions.{count-bits, root-bits, oldest-bits}
+use Rattle.page.proofs.laws.Front.{head-put}
 use Rattle.page.specs.Exact.{valid-free, free-zeros, bodyBytes, head-valid, live-fits}
 use Rattle.page.specs.Exact as page
 use Rattle.store.specs.Slots.{slotParts, directory, directory-bytes, directory-length}
 use Rattle.store.specs.Header.{namedBy, nameParts, valueParts, putHeader, header-is}
 use Rattle.store.specs.Pages.{AllValid}
-use Rattle.store.specs.Inside.{bytesOf, encode-of, slot-in, page-out, page-in, directory-add}
+use Rattle.store.proofs.laws.Inside.{bytesOf, encode-of, slot-in, page-out, page-in, directory-add}
 use Rattle.store.specs.Set.{drop-set}
 
 -- the front of page 5: "page 5 begins 10 00 00 07 FF FF 80"

@@ -6,17 +6,17 @@ use mathlib.Core.List.{List, [], _∷_, _++_}
 use native.Mathlib.Omega.{arith}
 use lib.Dec.{leb, eqb}
 use lib.ListN.{length, take, drop}
-use Rattle.bits.specs.Laws.{field-lt}
-use Rattle.bits.specs.Append.{field-left, field-part, bit-part}
-use Rattle.bits.specs.Lay.{Shows, Fit, total, length-lay, bytes-lay, length-packed, bytes-packed, packed-shows, packed-whole, zero-at, part-bytes, part-length, bytes-zeros, length-zeros}
-use Rattle.bits.specs.Over.{lay-left, lay-append, lay-twice}
+use Rattle.bits.proofs.laws.Laws.{field-lt}
+use Rattle.bits.proofs.laws.Append.{field-left, field-part, bit-part}
+use Rattle.bits.proofs.laws.Lay.{Shows, Fit, total, length-lay, bytes-lay, length-packed, bytes-packed, packed-shows, packed-whole, zero-at, part-bytes, part-length, bytes-zeros, length-zeros}
+use Rattle.bits.proofs.laws.Over.{lay-left, lay-append, lay-twice}
 use Rattle.model.specs.declared.Header.{Header}
 use Rattle.model.specs.Basic.{pick}
 use Rattle.model.specs.Limits.{rootBits, oldestBits, editionOf}
 use Rattle.model.specs.Field.{field, Part, _bits_, Bytes, lay, zeros, packed}
 use Rattle.model.specs.Layout.{bit, headerParts, headerBytes, readHeader}
-use Rattle.page.specs.Editions.{Rooted, root-bits, Aged, oldest-bits}
-use Rattle.store.specs.Read.{pages-lt, current-lt, roots-lt, oldest-lt}
+use Rattle.page.proofs.laws.Editions.{Rooted, root-bits, Aged, oldest-bits}
+use Rattle.store.proofs.laws.Read.{pages-lt, current-lt, roots-lt, oldest-lt}
 
 -- "the four bytes 52 43 53 54; edition 8 bits (1)"
 abbrev pub namedBy : ℕ → List Part

@@ -11,13 +11,13 @@ use Rattle.model.specs.Limits.{oldestBits}
 use Rattle.model.specs.Page.{Page, free}
 use Rattle.model.specs.Store.{Store, page}
 use Rattle.model.specs.Layout.{pageOf, decodePage, encodePage, readHeader, readSlot, readSlots, readPages, slotsBytes, pagesBytes, headerBytes, headerOf, noSlot, encode, decode, sizeOf}
-use Rattle.page.specs.Editions.{root-bits}
+use Rattle.page.proofs.laws.Editions.{root-bits}
 use Rattle.page.specs.Exact.{decode-encode}
-use Rattle.store.specs.Read.{size-is, length-slots, length-pages, pages-at, slots-at}
+use Rattle.store.proofs.laws.Read.{size-is, length-slots, length-pages, pages-at, slots-at}
 use Rattle.store.specs.Slots.{SlotFits, slots-length, slot-get, directory, directory-length, directory-low}
 use Rattle.store.specs.Header.{HeaderFits, header-length, header-read}
 use Rattle.store.specs.Pages.{AllValid, pages-length, page-of}
-use Rattle.store.specs.Exactly.{frontOf, encode-is}
+use Rattle.store.proofs.laws.Exactly.{frontOf, encode-is}
 
 -- a store that its bytes can hold
 pub record Holds (least : ℕ) (s : Store) : Type 0 where

@@ -4,7 +4,7 @@ use mathlib.Core.Path.{_≡_, refl, ap, sym, _∙_}
 use mathlib.Core.List.{List, [], _∷_, _++_, append-nil}
 use native.Mathlib.Nat.{add-mul}
 use lib.ListN.{length, getD, set}
-use Rattle.bits.specs.Rows.{Even, rows-length, row-part, row-with}
+use Rattle.bits.proofs.laws.Rows.{Even, rows-length, row-part, row-with}
 use Rattle.model.specs.Basic.{flatMap}
 use Rattle.model.specs.Page.{Page, free}
 use Rattle.model.specs.Layout.{pageOf, withPage, pagesBytes, encodePage}

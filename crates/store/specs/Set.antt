@@ -11,12 +11,12 @@ use Rattle.model.specs.Field.{lay}
 use Rattle.model.specs.Page.{Page}
 use Rattle.model.specs.Store.{Store}
 use Rattle.model.specs.Layout.{withPage, encodePage, headerOf, noSlot, encode}
-use Rattle.page.specs.Editions.{root-bits}
+use Rattle.page.proofs.laws.Editions.{root-bits}
 use Rattle.page.specs.Exact.{Valid}
 use Rattle.store.specs.Slots.{SlotFits, none-fits, slotParts, directory, directory-length}
 use Rattle.store.specs.Header.{HeaderFits, putHeader}
 use Rattle.store.specs.Pages.{AllValid}
-use Rattle.store.specs.Inside.{bytesOf, encode-of, header-in, slot-in, page-in, directory-set, directory-add, directory-drop}
+use Rattle.store.proofs.laws.Inside.{bytesOf, encode-of, header-in, slot-in, page-in, directory-set, directory-add, directory-drop}
 use Rattle.store.specs.Holds.{Holds, header-holds, behind-valid}
 
 abbrev pub withPages : Store → List Page → Store

@@ -4,15 +4,15 @@ use mathlib.Core.Path.{_≡_, refl, ap, sym, _∙_}
 use mathlib.Core.List.{List, [], _∷_, _++_, append-assoc}
 use native.Mathlib.Omega.{arith}
 use lib.ListN.{length, getD, set, take, drop, replicate, length-append, length-replicate, List·getD-append}
-use Rattle.bits.specs.Append.{field-part}
-use Rattle.bits.specs.Lay.{Shows, length-packed, packed-shows, packed-whole, part-bytes, part-length, two-parts}
-use Rattle.bits.specs.Over.{relay, packed-zeros, zeros-append}
-use Rattle.bits.specs.Rows.{Even, rows-length, row-field, row-lay}
+use Rattle.bits.proofs.laws.Append.{field-part}
+use Rattle.bits.proofs.laws.Lay.{Shows, length-packed, packed-shows, packed-whole, part-bytes, part-length, two-parts}
+use Rattle.bits.proofs.laws.Over.{relay, packed-zeros, zeros-append}
+use Rattle.bits.proofs.laws.Rows.{Even, rows-length, row-field, row-lay}
 use Rattle.model.specs.declared.Slot.{Slot}
 use Rattle.model.specs.Basic.{flatMap}
 use Rattle.model.specs.Field.{field, Part, _bits_, Bytes, lay, zeros, packed}
 use Rattle.model.specs.Layout.{slotBytes, readSlot, readSlots, slotsBytes, noSlot}
-use Rattle.store.specs.Read.{version-lt, root-lt}
+use Rattle.store.proofs.laws.Read.{version-lt, root-lt}
 
 -- "version 20, root page 12"
 abbrev pub slotParts : Slot → List Part

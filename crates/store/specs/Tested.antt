@@ -11,9 +11,9 @@ use borrow.Author.Tests.{leb-true, eqb-true}
 use lib.Dec.{leb, eqb}
 use lib.ListN.{length, getD, take, List·getD-eq-default}
 use lib.Seq.{getD-take}
-use Rattle.bits.specs.Laws.{field-byte}
-use Rattle.bits.specs.Put.{less}
-use Rattle.bits.specs.Lay.{Shows, part-bytes}
+use Rattle.bits.proofs.laws.Laws.{field-byte}
+use Rattle.bits.proofs.laws.Put.{less}
+use Rattle.bits.proofs.laws.Lay.{Shows, part-bytes}
 use Rattle.model.specs.Basic.{eqList}
 use Rattle.model.specs.Limits.{rootBits, oldestBits, editionOf}
 use Rattle.model.specs.Field.{field, Bytes}
@@ -24,12 +24,12 @@ use Rattle.model.specs.Clean.{cleanPage, cleanPages, cleanFront, clean}
 use Rattle.model.specs.Judged.{lengthOk, magicOk, editionOk}
 use Rattle.model.proofs.lists.Lists.{both-true}
 use Rattle.page.specs.Exact.{Valid, valid-free, valid-read}
-use Rattle.page.specs.Clean.{Clean, clean-page, passed}
-use Rattle.store.specs.Read.{size-is, front-free, front-five, count-pages, page-at, current-of, current-lt, oldest-of, oldest-lt, slots-of, length-slots, pages-lt}
-use Rattle.store.specs.Parts.{page-fits, length-page, page-take}
+use Rattle.page.proofs.laws.Clean.{Clean, clean-page, passed}
+use Rattle.store.proofs.laws.Read.{size-is, front-free, front-five, count-pages, page-at, current-of, current-lt, oldest-of, oldest-lt, slots-of, length-slots, pages-lt}
+use Rattle.store.proofs.laws.Parts.{page-fits, length-page, page-take}
 use Rattle.store.specs.Slots.{slots-fit}
 use Rattle.store.specs.Header.{nameParts}
-use Rattle.store.specs.Exactly.{Exactly}
+use Rattle.store.proofs.laws.Exactly.{Exactly}
 use Rattle.store.specs.Holds.{Holds}
 
 -- ---- length

@@ -13,7 +13,7 @@ use lib.Dec.{eqb}
 use lib.ListN.{length, getD, set, replicate, length-set, length-replicate}
 use lib.Seq.{getD-set-same, getD-set-other}
 use borrow.Author.Tests.{eqb-true}
-use Rattle.bits.specs.Put.{less}
+use Rattle.bits.proofs.laws.Put.{less}
 use Rattle.model.specs.Store.{page, last}
 use Rattle.model.specs.Sound.{pageOk}
 use Rattle.model.specs.Layout.{pageOf, decode}
@@ -22,7 +22,7 @@ use Rattle.model.proofs.lists.Lists.{both-true}
 use Rattle.model.proofs.lists.Members.{not-both}
 use Rattle.local.specs.Local.{Sized, countAt}
 use Rattle.model.specs.Near.{pageRight}
-use Rattle.local.specs.Pages.{clean-count}
+use Rattle.local.proofs.laws.Pages.{clean-count}
 use Rattle.local.specs.Right.{page-far}
 use Rattle.tabled.specs.Table.{behind}
 

@@ -26,7 +26,7 @@ use Rattle.walk.specs.Live.{live}
 use Rattle.walk.specs.Scan.{Stands, from, Owns}
 use Rattle.walk.specs.Below.{later, followed-through}
 use Rattle.walk.specs.Sure.{Inside}
-use Rattle.tabled.specs.Inside.{right-inside}
+use Rattle.tabled.proofs.laws.Inside.{right-inside}
 use Rattle.tabled.specs.Across.{rightFrom, across-on}
 
 -- bytes in which a walk that is right can be walked

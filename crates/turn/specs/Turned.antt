@@ -16,14 +16,14 @@ use Rattle.model.specs.Layout.{noSlot, headerOf, readHeader, sizeOf, encode, de
 use Rattle.model.specs.Header.{withFlag, withVersion}
 use Rattle.model.specs.Judged.{isSound}
 use Rattle.model.specs.Calls.{committed}
-use Rattle.page.specs.Editions.{root-bits}
-use Rattle.store.specs.Read.{current-of}
-use Rattle.store.specs.Exactly.{header-of}
-use Rattle.store.specs.Sure.{sure, exact, held, same-bytes}
+use Rattle.page.proofs.laws.Editions.{root-bits}
+use Rattle.store.proofs.laws.Read.{current-of}
+use Rattle.store.proofs.laws.Exactly.{header-of}
+use Rattle.store.proofs.laws.Sure.{sure, exact, held, same-bytes}
 use Rattle.store.specs.Slots.{slotParts, none-fits, directory, directory-length}
 use Rattle.store.specs.Header.{HeaderFits, putHeader}
 use Rattle.store.specs.Holds.{Holds, header-holds}
-use Rattle.store.specs.Inside.{bytesOf, encode-of, header-in, slot-in, directory-drop}
+use Rattle.store.proofs.laws.Inside.{bytesOf, encode-of, header-in, slot-in, directory-drop}
 use Rattle.store.specs.Set.{withSlots, withState, state-set}
 
 -- an update begun

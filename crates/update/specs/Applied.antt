@@ -27,7 +27,7 @@ use Rattle.plan.specs.declared.Way.{Way}
 use Rattle.plan.specs.Plan.{upsOf, Led}
 use Rattle.climb.specs.Climb.{climbUp, climb-by}
 use Rattle.root.specs.Slotted.{Slotted, slotted-after}
-use Rattle.root.specs.Moved.{moved-inside}
+use Rattle.root.proofs.laws.Moved.{moved-inside}
 
 -- it is done, with no number, and what it leaves is sound
 pub record Done (least : ℕ) (r : Result) : Type 0 where

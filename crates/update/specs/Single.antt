@@ -18,7 +18,7 @@ use Rattle.model.specs.Needs.{inserting, deleting}
 use Rattle.model.specs.Lent.{left}
 use Rattle.model.proofs.sound.Ready.{is-none}
 use Rattle.model.proofs.kept.Preserve.{Sounds, raw-keeps, delete-keeps}
-use Rattle.store.specs.Sure.{sure}
+use Rattle.store.proofs.laws.Sure.{sure}
 use Rattle.update.specs.Whole.{LeavesSound}
 
 -- an update open in a sound store, and a key that is not alive there

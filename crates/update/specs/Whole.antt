@@ -18,7 +18,7 @@ use Rattle.model.specs.Lent.{left}
 use Rattle.model.proofs.sound.ByRule.{Sound, old-current}
 use Rattle.model.proofs.sound.Ready.{ready}
 use Rattle.model.proofs.plan.PlanSound.{plan-refused, plan-done}
-use Rattle.store.specs.Sure.{sure}
+use Rattle.store.proofs.laws.Sure.{sure}
 use Rattle.walk.specs.Sure.{Readable}
 use Rattle.edit.specs.declared.Change as code
 use Rattle.edit.specs.Change.{changeOf}
@@ -28,7 +28,7 @@ use Rattle.plan.specs.declared.Way as plan-code
 use Rattle.plan.specs.Plan.{upsOf}
 use Rattle.plan.specs.Way.{Leads}
 use Rattle.root.specs.Slotted.{Slotted, slotted-sound}
-use Rattle.update.specs.Level.{root-level, length-ups}
+use Rattle.update.proofs.laws.Level.{root-level, length-ups}
 use Rattle.update.specs.Applied.{ToApply}
 
 -- a change that leaves the store sound

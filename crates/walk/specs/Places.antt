@@ -15,8 +15,8 @@ use Rattle.model.specs.Walk.{between}
 use Rattle.model.specs.Field.{field}
 use Rattle.model.specs.Layout.{readEntry, readEntries}
 use Rattle.model.proofs.lists.Members.{In}
-use Rattle.bits.specs.Laws.{field-split, field-lt}
-use Rattle.bits.specs.Put.{less}
+use Rattle.bits.proofs.laws.Laws.{field-split, field-lt}
+use Rattle.bits.proofs.laws.Put.{less}
 use Rattle.walk.specs.Live.{live, later}
 use Rattle.model.specs.Near.{startsBy}
 use Rattle.walk.specs.Scan.{entry, from, from-step, order-from, next-passed, Owning, owning-start, owning-on, owning-off, owning-above, owning-end, Owns}

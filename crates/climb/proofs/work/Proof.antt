@@ -7,7 +7,7 @@ use Rattle.gather.specs.Gather.{listed}
 use Rattle.parts.specs.Becomes.{pages-are}
 use Rattle.parts.specs.Kept.{pagesOf, valid, wanted-room}
 use Rattle.group.specs.Group.{aroundOf}
-use Rattle.climb.specs.Rebuild.{itself}
+use Rattle.climb.proofs.laws.Rebuild.{itself}
 use Rattle.climb.specs.Work.{workedOf, work-settles, work-regroups, in-place-room}
 use borrow.Author.Needs.{needs}
 use Rattle.climb.proofs.work.Statement.{statement}

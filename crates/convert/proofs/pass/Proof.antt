@@ -7,7 +7,7 @@ use Rattle.differ.specs.Listing.{between, leftOf}
 use Rattle.back.specs.Pass.{passed}
 use Rattle.convert.specs.Ready.{Ready, shown}
 use Rattle.convert.specs.Due.{Due}
-use Rattle.convert.specs.Pass.{pass-start, due-start, pass-on, asks, pass-goes, pass-due, pass-stops, pass-end}
+use Rattle.convert.proofs.laws.Pass.{pass-start, due-start, pass-on, asks, pass-goes, pass-due, pass-stops, pass-end}
 use mathlib.Core.Path.{_≡_, refl, ap, subst, _∙_}
 use mathlib.Core.List.{List}
 use native.Mathlib.Omega.{arith}

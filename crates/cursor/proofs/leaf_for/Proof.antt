@@ -1,7 +1,7 @@
 -- `leaf_for` meets its contract. Assumes nothing.
 use Rattle.cursor.specs.Leaf.{Below, below-root}
 use Rattle.walk.specs.Sure.{covers-inside, root-covers}
-use Rattle.store.specs.Sure.{few}
+use Rattle.store.proofs.laws.Sure.{few}
 use mathlib.Core.Path.{_≡_, subst}
 use native.Mathlib.Omega.{arith}
 use Prim.Native.Nat.{ℕ}

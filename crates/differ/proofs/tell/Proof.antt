@@ -1,5 +1,5 @@
 -- `tell` meets its contract. Assumes nothing.
-use Rattle.differ.specs.Halfway.{Between, between-start, between-end, between-space, between-step, high-low, high-top}
+use Rattle.differ.proofs.laws.Halfway.{Between, between-start, between-end, between-space, between-step, high-low, high-top}
 use Rattle.model.specs.Walk.{keyLimit}
 use native.Mathlib.Omega.{arith}
 use Prim.Native.Nat.{_-_}

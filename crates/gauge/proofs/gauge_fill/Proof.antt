@@ -6,7 +6,7 @@ use borrow.Author.Tests.{not-true, not-false}
 use lib.ListN.{length}
 use Rattle.model.specs.Basic.{pick}
 use Rattle.gauge.specs.Gauge.{Fillable, fillable, fitting-all, filled-four}
-use Rattle.page.specs.Editions.{edition-of}
+use Rattle.page.proofs.laws.Editions.{edition-of}
 use Rattle.model.specs.Limits.{Edition}
 use Rattle.model.specs.declared.Limits.{Limits}
 use borrow.Author.Needs.{needs}

@@ -1,7 +1,7 @@
 use Rattle.group.specs.Group.{routersOf, groupOf, gather-right, gather-left, gather-none, gather-alone}
 use Rattle.parts.specs.Kept.{pagesOf, live-few}
 use Rattle.gather.specs.Gather.{pairsIn, length-pairs, listed}
-use Rattle.page.specs.Editions.{merge-is}
+use Rattle.page.proofs.laws.Editions.{merge-is}
 use Rattle.model.specs.Store.{page}
 use Rattle.model.specs.Rules as rules
 use Rattle.model.specs.Page.{pairsAt}

@@ -1,6 +1,6 @@
 use mathlib.Core.Path.{sym, _∙_}
 use native.Mathlib.Omega.{arith}
-use Rattle.page.specs.Editions.{edition-of}
+use Rattle.page.proofs.laws.Editions.{edition-of}
 use Rattle.reads.specs.Reading.{reads}
 use borrow.Author.Needs.{needs}
 use Rattle.morning.proofs.morning_lookups.Statement.{statement}

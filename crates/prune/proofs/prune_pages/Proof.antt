@@ -5,7 +5,7 @@ use mathlib.Core.Path.{_≡_, refl, sym, _∙_}
 use lib.ListN.{length}
 use borrow.Author.Needs.{needs}
 use Rattle.model.specs.Layout.{decode}
-use Rattle.prune.specs.Pruned.{Pruned, pruned-start, pruned-short, pruned-end, pruned-part, pruned-exact, pruned-step}
+use Rattle.prune.proofs.laws.Pruned.{Pruned, pruned-start, pruned-short, pruned-end, pruned-part, pruned-exact, pruned-step}
 use Rattle.prune.proofs.prune_pages.Statement.{statement}
 use Rattle.prune.proofs.prune_pages.Tie as tie
 

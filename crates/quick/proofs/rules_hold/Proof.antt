@@ -1,10 +1,10 @@
 -- `quick::rules_hold` meets its contract: the rules that hold so far give what the next one asks. Assumes nothing.
 use Rattle.quick.specs.Number.{in-first, in-second, in-third, in-quick, in-rest}
-use Rattle.quick.specs.Given.{good}
+use Rattle.quick.proofs.laws.Given.{good}
 use Rattle.quick.specs.Slots.{good-slots}
-use Rattle.notes.specs.Given.{ready}
+use Rattle.notes.proofs.laws.Given.{ready}
 use Rattle.model.proofs.sound.Judging.{clean-first}
-use Rattle.local.specs.Linked.{held}
+use Rattle.local.proofs.laws.Linked.{held}
 use Rattle.local.specs.Local.{Held}
 use Rattle.model.specs.Sound.{rule2, rule3}
 use Rattle.model.specs.Layout.{decode}

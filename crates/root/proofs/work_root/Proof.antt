@@ -11,7 +11,7 @@ use Rattle.edit.specs.Change.{changeOf}
 use Rattle.parts.specs.Kept.{pagesOf, wanted-room}
 use Rattle.parts.specs.Becomes.{pages-are}
 use Rattle.gather.specs.Gather.{listed}
-use Rattle.climb.specs.Rebuild.{itself}
+use Rattle.climb.proofs.laws.Rebuild.{itself}
 use Rattle.root.specs.Root.{rootedOf, goes-some, root-goes, root-stays, root-renews}
 use Rattle.root.specs.Renew.{alone-is, alone-grouped}
 use borrow.Author.Needs.{needs}

@@ -8,7 +8,7 @@ use lib.ListN.{length}
 use borrow.Author.Needs.{needs}
 use Rattle.model.specs.declared.Entry.{Entry}
 use Rattle.page.specs.declared.Head.{Head}
-use Rattle.turn.specs.Touched.{Still, from, still-more, from-step, from-end, count-is, still-read}
+use Rattle.turn.proofs.laws.Touched.{Still, from, still-more, from-step, from-end, count-is, still-read}
 use Rattle.turn.proofs.touched.Statement.{statement}
 use Rattle.turn.proofs.touched.Tie as tie
 

@@ -3,7 +3,7 @@ use native.Mathlib.Omega.{arith}
 use Prim.Native.Nat.{_+_, _^_, _<_}
 use mathlib.Core.Path.{sym, _∙_}
 use borrow.Author.Tests.{not-true, not-false}
-use Rattle.store.specs.Sure.{few, front}
+use Rattle.store.proofs.laws.Sure.{few, front}
 use Rattle.walk.specs.Sure.{Readable}
 use Rattle.reads.specs.Guard.{judged-number, zero-sound}
 use Rattle.changes.specs.Updating.{updating, limit-low, gives-key, gives-unopened, gives-rest, open-readable}

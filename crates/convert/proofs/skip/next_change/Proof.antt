@@ -7,7 +7,7 @@ use Rattle.model.specs.declared.Header.{Header}
 use Rattle.model.specs.Layout.{pageOf, readHeader, sizeOf}
 use Rattle.model.specs.Inner.{Out}
 use Rattle.page.specs.Head.{readHead}
-use Rattle.store.specs.Sure.{front, few, part-in, whole}
+use Rattle.store.proofs.laws.Sure.{front, few, part-in, whole}
 use Rattle.local.specs.Local.{slotAt}
 use Rattle.notes.specs.Ready.{Sooner}
 use Rattle.judge.specs.Versions.{QuietPart}

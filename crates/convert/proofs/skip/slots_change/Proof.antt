@@ -4,7 +4,7 @@ use native.Mathlib.Omega.{arith}
 use mathlib.Core.Path.{ap}
 use Rattle.model.specs.declared.Header.{Header}
 use Rattle.model.specs.Inner.{Out}
-use Rattle.store.specs.Sure.{front, few, roots}
+use Rattle.store.proofs.laws.Sure.{front, few, roots}
 use Rattle.local.specs.Local.{slotAt}
 use Rattle.notes.specs.Ready.{Sooner, outs-more}
 use borrow.Author.Needs.{needs}

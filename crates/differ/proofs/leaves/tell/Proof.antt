@@ -5,7 +5,7 @@ use Rattle.model.proofs.reading.Telling.{written-none}
 use native.Mathlib.Omega.{arith}
 use Rattle.walk.specs.Sure.{covers-inside}
 use Rattle.cursor.specs.Leaf.{below-covers}
-use Rattle.store.specs.Sure.{few}
+use Rattle.store.proofs.laws.Sure.{few}
 use mathlib.Core.Path.{sym, _∙_, subst}
 use borrow.Author.Needs.{needs}
 use Rattle.differ.proofs.leaves.tell.Statement.{statement}

@@ -11,7 +11,7 @@ use Rattle.model.specs.Layout.{countOf, decodePage}
 use Rattle.page.specs.Read.{count-of}
 use Rattle.edit.specs.Change.{changeOf}
 use Rattle.gather.specs.Kept.{keptPairs, rest, rest-all, rest-step, rest-none}
-use Rattle.gather.specs.Tests.{kept-more, wanted-long}
+use Rattle.gather.proofs.laws.Tests.{kept-more, wanted-long}
 use borrow.Author.Needs.{needs}
 use Rattle.gather.proofs.test.has_enough.Statement.{statement}
 use Rattle.gather.proofs.test.has_enough.Tie as tie

@@ -1,4 +1,4 @@
-use Rattle.group.specs.Exchange.{apart, exchange-is, ones, fitting-pick}
+use Rattle.group.proofs.laws.Exchange.{apart, exchange-is, ones, fitting-pick}
 use Rattle.edit.specs.Change.{one}
 use mathlib.Core.Bool.{_&&_}
 use native.Mathlib.Omega.{arith}

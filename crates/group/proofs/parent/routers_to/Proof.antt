@@ -1,6 +1,6 @@
-use Rattle.group.specs.Exchange.{to-one, to-two}
+use Rattle.group.proofs.laws.Exchange.{to-one, to-two}
 use Rattle.group.specs.Group.{routersOf}
-use Rattle.page.specs.Editions.{full-is}
+use Rattle.page.proofs.laws.Editions.{full-is}
 use mathlib.Core.Path.{_≡_}
 use native.Mathlib.Omega.{arith}
 use Prim.Native.Nat.{ℕ, _+_, _*_, _/_, _≤_, _<_}

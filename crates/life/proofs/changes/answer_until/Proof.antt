@@ -4,10 +4,10 @@ use native.Mathlib.Omega.{arith}
 use mathlib.Core.Path.{_≡_, subst}
 use borrow.Author.Needs.{needs}
 use Rattle.model.specs.Layout.{decode}
-use Rattle.store.specs.Sure.{few}
+use Rattle.store.proofs.laws.Sure.{few}
 use Rattle.walk.specs.Covers.{covers-starts}
 use Rattle.walk.specs.Sure.{root-covers, covers-inside}
-use Rattle.life.specs.Way.{Going, going-start, going-down, going-end}
+use Rattle.life.proofs.laws.Way.{Going, going-start, going-down, going-end}
 use Rattle.life.proofs.changes.answer_until.Statement.{statement}
 use Rattle.life.proofs.changes.answer_until.Tie as tie
 

@@ -10,7 +10,7 @@ use Rattle.model.specs.Layout.{readHeader, readSlots, decode}
 use Rattle.model.specs.Store.{lastOf}
 use Rattle.model.specs.declared.Header.{Header}
 use Rattle.model.specs.declared.Slot.{Slot}
-use Rattle.store.specs.Read.{current-lt}
+use Rattle.store.proofs.laws.Read.{current-lt}
 use borrow.Author.Needs.{needs}
 use Rattle.local.proofs.second.slots_begin.Statement.{statement}
 use Rattle.local.proofs.second.slots_begin.Tie as tie

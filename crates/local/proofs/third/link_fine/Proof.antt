@@ -6,7 +6,7 @@ use lib.Dec.{leb, eqb}
 use borrow.Author.Tests.{not-true}
 use borrow.Author.Needs.{needs}
 use Rattle.page.specs.declared.Head.{Head}
-use Rattle.local.specs.Third.{skips, link-out, link-kept}
+use Rattle.local.proofs.laws.Third.{skips, link-out, link-kept}
 use Rattle.local.proofs.third.link_fine.Statement.{statement}
 use Rattle.local.proofs.third.link_fine.Tie as tie
 

@@ -14,10 +14,10 @@ use Rattle.model.specs.Layout.{decode}
 use Rattle.walk.specs.Counted.{counted-short, counted-all}
 use Rattle.walk.specs.Written.{numbers, written, Space, written-all}
 use Rattle.near.specs.Crossed.{answered-wrong, answered-right}
-use Rattle.tabled.specs.Most.{found-most}
+use Rattle.tabled.proofs.laws.Most.{found-most}
 use Rattle.tabled.specs.Cells.{table-fewer}
 use Rattle.tabled.specs.Table.{found-some, found-zero}
-use Rattle.tabled.specs.Bound.{right-few}
+use Rattle.tabled.proofs.laws.Bound.{right-few}
 use Rattle.near.proofs.bounded.listed_by.Statement.{statement}
 use Rattle.near.proofs.bounded.listed_by.Tie as tie
 

@@ -7,7 +7,7 @@ use borrow.Author.Tests.{not-true, not-false}
 use Rattle.model.specs.declared.Header.{Header}
 use Rattle.model.specs.Layout.{decode}
 use Rattle.model.specs.Sound.{rule4, rule5}
-use Rattle.store.specs.Read.{current-lt}
+use Rattle.store.proofs.laws.Read.{current-lt}
 use Rattle.notes.specs.Kept.{Kept, height-here}
 use Rattle.notes.specs.Ready.{root-quiet, versions-upto}
 use Rattle.notes.specs.Both.{bothAt, both-slot, both-done, both-rules}

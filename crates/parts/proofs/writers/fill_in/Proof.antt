@@ -1,9 +1,9 @@
 use Rattle.parts.specs.Becomes.{lent, fitting-part}
 use Rattle.parts.specs.Kept.{pagesOf, part-in, short, exact}
 use Rattle.gather.specs.Gather.{pairsIn, part-pairs}
-use Rattle.edit.specs.Left.{valid-filled}
-use Rattle.store.specs.Parts.{part-page}
-use Rattle.page.specs.Editions.{bytes-is}
+use Rattle.edit.proofs.laws.Left.{valid-filled}
+use Rattle.store.proofs.laws.Parts.{part-page}
+use Rattle.page.proofs.laws.Editions.{bytes-is}
 use Rattle.model.specs.Layout.{pageOf}
 use Rattle.model.specs.Page.{filled}
 use Rattle.model.specs.declared.Pair.{Pair}

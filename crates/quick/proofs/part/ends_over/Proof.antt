@@ -6,7 +6,7 @@ use borrow.Author.Tests.{not-true, not-false}
 use Rattle.model.specs.Basic.{all}
 use Rattle.model.specs.Layout.{readEntries}
 use Rattle.quick.specs.Part.{endFine}
-use Rattle.local.specs.Loops.{all-entries-step, all-entries-end}
+use Rattle.local.proofs.laws.Loops.{all-entries-step, all-entries-end}
 use borrow.Author.Needs.{needs}
 use Rattle.quick.proofs.part.ends_over.Statement.{statement}
 use Rattle.quick.proofs.part.ends_over.Tie as tie

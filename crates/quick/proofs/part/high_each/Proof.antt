@@ -9,7 +9,7 @@ use Rattle.model.specs.declared.Entry.{Entry}
 use Rattle.model.specs.Layout.{readEntries}
 use Rattle.spans.specs.Quick.{meets}
 use Rattle.quick.specs.Part.{highOver}
-use Rattle.local.specs.Loops.{all-entries-step, all-entries-end}
+use Rattle.local.proofs.laws.Loops.{all-entries-step, all-entries-end}
 use borrow.Author.Needs.{needs}
 use Rattle.quick.proofs.part.high_each.Statement.{statement}
 use Rattle.quick.proofs.part.high_each.Tie as tie

@@ -8,7 +8,7 @@ use borrow.Author.Tests.{not-true, not-false}
 use Rattle.model.specs.declared.Entry.{Entry}
 use Rattle.model.specs.Layout.{readEntries}
 use Rattle.spans.specs.Quick.{meets, lowOver}
-use Rattle.local.specs.Loops.{all-entries-step, all-entries-end}
+use Rattle.local.proofs.laws.Loops.{all-entries-step, all-entries-end}
 use borrow.Author.Needs.{needs}
 use Rattle.quick.proofs.part.low_each.Statement.{statement}
 use Rattle.quick.proofs.part.low_each.Tie as tie

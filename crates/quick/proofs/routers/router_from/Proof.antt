@@ -7,8 +7,8 @@ use borrow.Author.Tests.{not-true, not-false}
 use Rattle.model.specs.Layout.{readEntry, readEntries, decode}
 use Rattle.spans.specs.Quick.{nexts}
 use Rattle.local.specs.Local.{IsPage, levelAt}
-use Rattle.notes.specs.Here.{part-asks, room-here}
-use Rattle.quick.specs.Here.{order-part}
+use Rattle.notes.proofs.laws.Here.{part-asks, room-here}
+use Rattle.quick.proofs.laws.Here.{order-part}
 use Rattle.quick.specs.Routers.{routerFrom, leads-to, router-by}
 use Rattle.quick.specs.Under.{underPage}
 use Rattle.quick.specs.Within.{settled, handed}

@@ -1,7 +1,7 @@
 use Rattle.model.specs.declared.Slot.{Slot}
-use Rattle.notes.specs.Here.{part-asks, room-here}
-use Rattle.quick.specs.Here.{order-part}
-use Rattle.store.specs.Read.{page-at}
+use Rattle.notes.proofs.laws.Here.{part-asks, room-here}
+use Rattle.quick.proofs.laws.Here.{order-part}
+use Rattle.store.proofs.laws.Read.{page-at}
 use Rattle.local.specs.Local.{IsPage, slotAt}
 use mathlib.Core.Path.{_≡_, ap, _∙_}
 use native.Mathlib.Omega.{arith}

@@ -6,7 +6,7 @@ use borrow.Author.Tests.{not-true, not-false}
 use Prim.Native.Nat.{ℕ, _+_, _*_, _-_, _≤_}
 use mathlib.Core.List.{List}
 use Rattle.model.specs.declared.Slot.{Slot}
-use Rattle.store.specs.Read.{oldest-of}
+use Rattle.store.proofs.laws.Read.{oldest-of}
 use mathlib.Core.Path.{_≡_, ap, ap₂, sym, _∙_}
 use native.Mathlib.Omega.{arith}
 use borrow.Author.Needs.{needs}

@@ -1,6 +1,6 @@
 use Rattle.local.specs.Local.{levelAt}
 use Rattle.quick.specs.Sums.{page-by}
-use Rattle.notes.specs.Here.{part-asks, head-asks, front-is, level-is, few, stands-here, page-here}
+use Rattle.notes.proofs.laws.Here.{part-asks, head-asks, front-is, level-is, few, stands-here, page-here}
 use Rattle.model.specs.Layout.{pageOf, readEntry}
 use borrow.Author.Tests.{le-leb, lt-leb}
 use Prim.Native.Nat.{_+_, _*_, _≤_}

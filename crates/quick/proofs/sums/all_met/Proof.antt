@@ -1,5 +1,5 @@
 use Rattle.quick.specs.Sums.{allMet, met-step, met-end}
-use Rattle.store.specs.Read.{behind}
+use Rattle.store.proofs.laws.Read.{behind}
 use Rattle.model.specs.Layout.{readPages, decode, sizeOf}
 use borrow.Author.Tests.{not-true, not-false}
 use Prim.Native.Nat.{_-_, _≤_}

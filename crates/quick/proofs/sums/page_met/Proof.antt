@@ -1,5 +1,5 @@
 use Rattle.quick.specs.Sums.{met-by}
-use Rattle.notes.specs.Here.{part-asks, head-asks, front-is}
+use Rattle.notes.proofs.laws.Here.{part-asks, head-asks, front-is}
 use Rattle.model.specs.Layout.{pageOf}
 use borrow.Author.Tests.{eq-eqb, ne-eqb}
 use mathlib.Core.Path.{sym, _∙_}

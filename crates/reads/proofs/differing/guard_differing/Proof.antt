@@ -2,8 +2,8 @@
 use native.Mathlib.Omega.{arith}
 use mathlib.Core.Path.{sym, _∙_}
 use borrow.Author.Needs.{needs}
-use Rattle.store.specs.Sure.{few, front}
-use Rattle.store.specs.Read.{current-lt}
+use Rattle.store.proofs.laws.Sure.{few, front}
+use Rattle.store.proofs.laws.Read.{current-lt}
 use Rattle.reads.specs.Reading.{unread-of}
 use Rattle.reads.specs.Differing.{differing, gives-first, gives-second, gives-both}
 use Rattle.reads.specs.Guard.{judged-number, zero-sound}

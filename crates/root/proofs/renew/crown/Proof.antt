@@ -7,7 +7,7 @@ use Rattle.parts.specs.Kept.{pagesOf}
 use Rattle.parts.specs.Free.{freePast, free-all}
 use Rattle.parts.specs.Becomes.{stays, pages-are}
 use Rattle.gather.specs.Gather.{listed}
-use Rattle.climb.specs.Rebuild.{itself}
+use Rattle.climb.proofs.laws.Rebuild.{itself}
 use Rattle.root.specs.Root.{rootedOf}
 use Rattle.root.specs.Renew.{crown-one, crown-none, crown-two}
 use borrow.Author.Needs.{needs}

@@ -8,7 +8,7 @@ use Rattle.parts.specs.Kept.{pagesOf}
 use Rattle.parts.specs.Becomes.{stays, then, kept-after}
 use Rattle.gather.specs.Gather.{pairsIn, length-pairs}
 use Rattle.climb.specs.Work.{usable-small}
-use Rattle.climb.specs.Rebuild.{rebuilt-short}
+use Rattle.climb.proofs.laws.Rebuild.{rebuilt-short}
 use Rattle.root.specs.Root.{rootedOf}
 use Rattle.root.specs.Renew.{renew-lacks}
 use borrow.Author.Needs.{needs}

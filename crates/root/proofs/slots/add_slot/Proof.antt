@@ -3,7 +3,7 @@ use native.Mathlib.Omega.{arith}
 use mathlib.Core.Path.{ap, _∙_}
 use Rattle.model.specs.declared.Header.{Header}
 use Rattle.store.specs.Header.{header-fits}
-use Rattle.page.specs.Editions.{root-bits}
+use Rattle.page.proofs.laws.Editions.{root-bits}
 use Rattle.parts.specs.Kept.{front, short}
 use Rattle.root.specs.Slotted.{roots-are, next-is, added}
 use borrow.Author.Needs.{needs}

@@ -2,7 +2,7 @@
 use native.Mathlib.Omega.{arith}
 use mathlib.Core.Path.{ap, _∙_}
 use Rattle.model.specs.declared.Header.{Header}
-use Rattle.page.specs.Editions.{slots-is}
+use Rattle.page.proofs.laws.Editions.{slots-is}
 use Rattle.parts.specs.Kept.{front, short}
 use Rattle.root.specs.Slotted.{roots-are}
 use borrow.Author.Needs.{needs}

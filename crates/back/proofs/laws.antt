@@ -1,0 +1,3 @@
+pub mod Both
+pub mod Due
+pub mod Single

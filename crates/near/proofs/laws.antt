@@ -1,0 +1,4 @@
+pub mod Off
+pub mod OffRange
+pub mod Same
+pub mod Sounded

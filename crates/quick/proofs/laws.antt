@@ -1,0 +1,4 @@
+pub mod Given
+pub mod Here
+pub mod Led
+pub mod Order

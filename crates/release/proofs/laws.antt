@@ -1,0 +1,4 @@
+pub mod Ended
+pub mod Exactly
+pub mod Leaves
+pub mod Places

@@ -1,0 +1,5 @@
+pub mod Bound
+pub mod Filling
+pub mod Inside
+pub mod Most
+pub mod Starts

@@ -1,0 +1,5 @@
+pub mod Abandoned
+pub mod Ended
+pub mod Partly
+pub mod Touched
+pub mod Undone

@@ -1,0 +1,3 @@
+pub mod Foreseen
+pub mod Level
+pub mod Settled
