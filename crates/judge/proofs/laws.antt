@@ -9,3 +9,4 @@ pub mod Stretch
 pub mod Taking
 pub mod Tests
 pub mod Walking
+pub mod Pending

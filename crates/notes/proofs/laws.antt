@@ -4,3 +4,9 @@ pub mod Laws
 pub mod Means
 pub mod Six
 pub mod Versions
+pub mod Both
+pub mod Kept
+pub mod Notes
+pub mod Over
+pub mod Pass
+pub mod Ready

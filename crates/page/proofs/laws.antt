@@ -4,3 +4,9 @@ pub mod Entries
 pub mod Front
 pub mod Passes
 pub mod Words
+pub mod Exact
+pub mod Head
+pub mod Insert
+pub mod Over
+pub mod Read
+pub mod Stage

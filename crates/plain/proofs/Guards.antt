@@ -23,11 +23,14 @@ use Rattle.plain.specs.declared.Left.{Left}
 use Rattle.plain.specs.declared.items.Found.{Found}
 use Rattle.plain.specs.Plain.{Plain, Given, next, keys, valueAt, differs, unless, standing, holding, setKey, endKey, backTo, keptFrom, pruned, begin, insert, delete, commit, abandon, return, prune}
 use Rattle.plain.specs.Items.{Lent, Held, foundOf, from, plainOf}
-use Rattle.plain.specs.Laid.{from-length}
-use Rattle.plain.specs.Sweep.{fate, outliving, swept-ended, swept-undone, swept-outliving, swept-few}
+use Rattle.plain.proofs.laws.Laid.{from-length}
+use Rattle.plain.specs.Sweep.{fate, outliving}
+use Rattle.plain.proofs.laws.Sweep.{swept-ended, swept-undone, swept-outliving, swept-few}
 use Rattle.plain.specs.Calls.{givenBy, Room, Opens}
-use Rattle.plain.specs.Scan.{told, saying, sameFound}
-use Rattle.plain.specs.Tell.{deltaBy, kindBy, saying-step}
+use Rattle.plain.specs.Scan.{sameFound}
+use Rattle.plain.proofs.laws.Scan.{told, saying}
+use Rattle.plain.specs.Tell.{deltaBy, kindBy}
+use Rattle.plain.proofs.laws.Tell.{saying-step}
 use Rattle.plain.specs.Guard.{stateOf, stateNumbers, areVersions, isEdition, isState, longest, isLent, readPlain, leftLent, refusing, guarded, lacks, fitted, ownInserts, comesBy}
 use Rattle.plain.proofs.Backs.{those-append, back-few}
 

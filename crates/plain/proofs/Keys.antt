@@ -21,7 +21,7 @@ use Rattle.model.proofs.lists.Lists.{both-true, both-intro, all-cons}
 use Rattle.model.proofs.lists.Members.{all-implies}
 use Rattle.model.proofs.reading.Differs.{keys-so, in-order, says}
 use Rattle.plain.specs.Plain.{valueAt, setting, settings, keys, differs}
-use Rattle.plain.specs.Scan.{keys-limit}
+use Rattle.plain.proofs.laws.Scan.{keys-limit}
 
 module _ {A : Type 0} (key : A → ℕ) where
   -- those of one key

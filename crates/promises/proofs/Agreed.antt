@@ -28,7 +28,7 @@ use Rattle.model.proofs.theorems.History.{Agrees, one-call, fresh-agrees}
 use Rattle.model.proofs.theorems.Undone.{lent-agrees}
 use Rattle.model.proofs.theorems.Numbered.{Counts, one-count}
 use Rattle.model.proofs.theorems.Editions.{edition-four}
-use Rattle.store.specs.Tested.{whole-length}
+use Rattle.store.proofs.laws.Tested.{whole-length}
 use Rattle.promises.specs.Accepts.{Accepts, storeOf, OfEdition, Written}
 use Rattle.promises.specs.Runs.{Turn, Kind, making, changing, kindOf, asks, fitting, each}
 use Rattle.promises.specs.Beside.{Beside, whenDone, stepped, undone, talliedBy, onward, along, fromFresh, fromLent}

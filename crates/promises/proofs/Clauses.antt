@@ -21,7 +21,7 @@ use Rattle.model.specs.Clean.{cleanPage, cleanFront}
 use Rattle.model.specs.Near.{frontRight, pageRight, startsBy, downRight, rangeRight, fromRoot}
 use Rattle.model.proofs.lists.Lists.{both-true, all-cons}
 use Rattle.model.proofs.lists.Members.{not-both}
-use Rattle.walk.specs.Live.{above}
+use Rattle.walk.proofs.laws.Live.{above}
 use Rattle.tabled.proofs.laws.Starts.{none-above}
 use Rattle.promises.specs.Near.{Some, Each, FrontWrong, Breaks, OtherLevel, NoRouter, WrongDown, WrongAcross, WrongFrom}
 

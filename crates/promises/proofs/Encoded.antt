@@ -17,7 +17,7 @@ use Rattle.model.proofs.sound.ByRule.{Sound, from-tests}
 use Rattle.model.proofs.sound.Judging.{Accepted}
 use Rattle.model.proofs.theorems.Editions.{edition-four, edition-eight}
 use Rattle.store.proofs.laws.Exactly.{encode-decode}
-use Rattle.store.specs.Tested.{whole-length, exactly}
+use Rattle.store.proofs.laws.Tested.{whole-length, exactly}
 use Rattle.store.proofs.laws.Counted.{counted}
 use Rattle.written.proofs.laws.Encoded.{encoded-accepted, encoded-are-bytes, encoded-held}
 use Rattle.promises.specs.Accepts.{Accepts, storeOf, OfEdition, Written, Exact}

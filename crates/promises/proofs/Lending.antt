@@ -28,7 +28,7 @@ use Rattle.model.proofs.sound.ByRule.{to-tests}
 use Rattle.model.proofs.turning.Turns.{fresh-sound}
 use Rattle.model.proofs.theorems.Theorems.{call-sound}
 use Rattle.model.proofs.theorems.Editions.{edition-four, least-is}
-use Rattle.store.specs.Tested.{whole-length}
+use Rattle.store.proofs.laws.Tested.{whole-length}
 use Rattle.promises.specs.Accepts.{Accepts, storeOf, OfEdition, Written}
 use Rattle.promises.specs.Runs.{making, changing, reading, kindOf, asks, fitting}
 use Rattle.promises.proofs.High.{numberBy}

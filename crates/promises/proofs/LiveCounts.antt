@@ -18,7 +18,7 @@ use Rattle.model.proofs.sound.ByRule.{Sound, used-in, high-used}
 use Rattle.model.proofs.sound.Judging.{Accepted, accepted-sound}
 use Rattle.model.proofs.sound.Counted.{those-last, killed-none}
 use Rattle.store.proofs.laws.Read.{page-at, count-pages}
-use Rattle.store.specs.Tested.{whole-length}
+use Rattle.store.proofs.laws.Tested.{whole-length}
 use Rattle.store.proofs.laws.Counted.{counted}
 use Rattle.promises.specs.Accepts.{storeOf}
 use Rattle.promises.specs.LiveCounts.{liveCount, LiveCounts}

@@ -15,7 +15,8 @@ use Rattle.model.specs.Editions.{leastOf}
 use Rattle.model.specs.Ended.{toAbandon, ended, ofState}
 use Rattle.model.proofs.lists.Members.{not-both}
 use Rattle.store.proofs.laws.Read.{count-pages}
-use Rattle.store.specs.Tested.{Whole, whole-length}
+use Rattle.store.specs.Tested.{Whole}
+use Rattle.store.proofs.laws.Tested.{whole-length}
 use Rattle.promises.specs.Accepts.{Accepts, storeOf}
 use Rattle.promises.specs.Beside.{fromLent}
 use Rattle.promises.specs.Answers.{endTests, Answers}

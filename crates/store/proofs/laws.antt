@@ -5,3 +5,11 @@ pub mod Inside
 pub mod Parts
 pub mod Read
 pub mod Sure
+pub mod Editions
+pub mod Fresh
+pub mod Header
+pub mod Holds
+pub mod Pages
+pub mod Set
+pub mod Slots
+pub mod Tested

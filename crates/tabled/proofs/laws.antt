@@ -3,3 +3,9 @@ pub mod Filling
 pub mod Inside
 pub mod Most
 pub mod Starts
+pub mod Across
+pub mod Cells
+pub mod Here
+pub mod Skips
+pub mod Table
+pub mod Told

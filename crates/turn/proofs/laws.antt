@@ -3,3 +3,5 @@ pub mod Ended
 pub mod Partly
 pub mod Touched
 pub mod Undone
+pub mod Slotted
+pub mod Turned

@@ -17,7 +17,8 @@ use Rattle.model.specs.Return.{comes, setOne, Ran, stopped, through, andOn, car
 use Rattle.model.proofs.turning.Returned.{Runs, carried-runs, carried-anew}
 use Rattle.store.proofs.laws.Sure.{same-bytes}
 use Rattle.differ.specs.Listing.{between}
-use Rattle.back.specs.Going.{Going, going-sound, Went}
+use Rattle.back.specs.Going.{Going, Went}
+use Rattle.back.proofs.laws.Going.{going-sound}
 use Rattle.back.specs.Pass.{passed}
 
 module _ {l : Limits} {b : List ℕ} {v w : ℕ} (g : Going l b v w) where

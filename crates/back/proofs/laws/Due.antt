@@ -20,8 +20,10 @@ use Rattle.model.specs.Inner.{rising}
 use Rattle.model.proofs.lists.Lists.{both-true, both-intro}
 use Rattle.model.proofs.tree.Local.{inRange}
 use Rattle.model.proofs.lists.Merging.{above, above-lower, find-above}
-use Rattle.cursor.specs.First.{atOrAbove, leads, above-in, leads-none}
-use Rattle.differ.specs.Merge.{compared, leads-onward}
+use Rattle.cursor.specs.First.{atOrAbove, leads}
+use Rattle.cursor.proofs.laws.First.{above-in, leads-none}
+use Rattle.differ.specs.Merge.{compared}
+use Rattle.differ.proofs.laws.Merge.{leads-onward}
 
 -- ---- one cursor
 

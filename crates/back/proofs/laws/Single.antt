@@ -28,7 +28,7 @@ use Rattle.model.proofs.tree.Edit.{keep-all}
 use Rattle.model.proofs.sound.Ready.{raw-changes, delete-changes}
 use Rattle.model.proofs.kept.Preserve.{Sounds, raw-keeps, delete-keeps}
 use Rattle.model.proofs.reading.Alike.{alike-settings}
-use Rattle.update.specs.Single.{delete-is}
+use Rattle.update.proofs.laws.Single.{delete-is}
 use Rattle.cursor.specs.First.{atOrAbove}
 
 -- what a change at key k leaves: behind the key the open version shows what it did, and earlier versions are as before

@@ -1,6 +1,6 @@
 -- `guard_committing` meets its contract. Assumes nothing.
 use Rattle.changes.proofs.laws.Committing.{gives-closing, gives-test, opens}
-use Rattle.reads.specs.Guard.{guard-sound}
+use Rattle.reads.proofs.laws.Guard.{guard-sound}
 use Rattle.changes.specs.Turning.{closing}
 use Rattle.store.proofs.laws.Sure.{few, front}
 use Rattle.model.specs.Basic.{pick}

@@ -14,8 +14,10 @@ use Rattle.model.specs.Limits.{Edition}
 use Rattle.model.specs.Calls.{unchanged, rule, firstOf}
 use Rattle.model.specs.Lent.{judgedFirst}
 use Rattle.release.specs.Opened.{Opened}
-use Rattle.reads.specs.Guard.{guarded, guard-sound}
-use Rattle.changes.specs.Turning.{closing, committing, current-in, is-open}
+use Rattle.reads.specs.Guard.{guarded}
+use Rattle.reads.proofs.laws.Guard.{guard-sound}
+use Rattle.changes.specs.Turning.{closing, committing}
+use Rattle.changes.proofs.laws.Turning.{current-in, is-open}
 
 module _ (least : ℕ) (b : List ℕ) where
   first-closing : (m : ℕ) (x y : Bool) → (judgedFirst m (λ n. n) (firstOf (rule 7 (not x) ∷ [])) ≡ 0 → ⊥)

@@ -17,9 +17,11 @@ use Rattle.model.specs.Rules as rules
 use Rattle.model.specs.Plan.{routersTo}
 use Rattle.model.specs.Needs.{fills}
 use Rattle.gather.specs.declared.Gather.{Gather}
-use Rattle.gather.specs.Gather.{Good, pairsIn, length-pairs}
+use Rattle.gather.specs.Gather.{Good, pairsIn}
+use Rattle.gather.proofs.laws.Gather.{length-pairs}
 use Rattle.parts.specs.Kept.{Kept, pagesOf}
-use Rattle.parts.specs.Becomes.{Becomes, pages-are, then}
+use Rattle.parts.specs.Becomes.{Becomes}
+use Rattle.parts.proofs.laws.Becomes.{pages-are, then}
 use Rattle.group.specs.declared.Group.{Group}
 use Rattle.group.specs.declared.Routers.{Routers}
 use Rattle.group.specs.declared.Numbers.{Numbers}

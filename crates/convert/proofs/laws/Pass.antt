@@ -19,10 +19,13 @@ use Rattle.model.proofs.turning.Remade.{Ends, Sets, Way, the-way}
 use Rattle.store.proofs.laws.Sure.{sure}
 use Rattle.walk.specs.Sure.{Readable}
 use Rattle.differ.specs.Merge.{told, Onward}
-use Rattle.differ.specs.Listing.{between, leftOf, nextOf, reads-rising, from-start, from-end, from-on, from-step}
-use Rattle.back.specs.Pass.{wants, step, passed, through-append}
+use Rattle.differ.specs.Listing.{between, leftOf, nextOf}
+use Rattle.differ.proofs.laws.Listing.{reads-rising, from-start, from-end, from-on, from-step}
+use Rattle.back.specs.Pass.{wants, step, passed}
+use Rattle.back.proofs.laws.Pass.{through-append}
 use Rattle.convert.specs.Ready.{Ready, shown, Went}
-use Rattle.convert.specs.Due.{Due, due-first, due-done, due-on}
+use Rattle.convert.specs.Due.{Due}
+use Rattle.convert.proofs.laws.Due.{due-first, due-done, due-on}
 
 -- a pass asks first what the cursors say, then the rest
 passed-first : (insert : Bool) (least : ℕ) (cs ds : List Delta) (t : Store) → passed insert least (cs ++ ds) t ≡ andOn (passed insert least ds) (passed insert least cs t)

@@ -19,7 +19,7 @@ use Rattle.model.specs.Inner.{rising}
 use Rattle.model.proofs.lists.Lists.{both-true, all-cons}
 use Rattle.model.proofs.tree.Local.{inRange, those-append}
 use Rattle.model.proofs.lists.Merging.{above, above-lower}
-use Rattle.walk.specs.Ends.{between-above}
+use Rattle.walk.proofs.laws.Ends.{between-above}
 use Rattle.cursor.specs.First.{atOrAbove}
 use Rattle.cursor.specs.Reaches.{Reaches}
 

@@ -17,13 +17,16 @@ use Rattle.model.specs.Telling.{Space, Gathers}
 use Rattle.model.proofs.reading.Telling.{space-front, Gathering, gather-start, gather-same, gather-step, gather-end}
 use Rattle.walk.specs.Sure.{Readable}
 use Rattle.cursor.specs.declared.Under.{Under}
-use Rattle.cursor.specs.First.{atOrAbove, leads, above-all}
+use Rattle.cursor.specs.First.{atOrAbove, leads}
+use Rattle.cursor.proofs.laws.First.{above-all}
 use Rattle.cursor.specs.Leaf.{Below}
 use Rattle.differ.specs.declared.leaves.Ask.{Ask}
 use Rattle.differ.specs.declared.leaves.Side.{Side}
-use Rattle.differ.specs.Merge.{compared, told, left, Onward, left-start, left-end, left-on, left-step, above-above}
+use Rattle.differ.specs.Merge.{compared, told, left, Onward}
+use Rattle.differ.proofs.laws.Merge.{left-start, left-end, left-on, left-step, above-above}
 use Rattle.differ.specs.Side.{rest, Ordered, At}
-use Rattle.differ.specs.Listing.{deltas, between, leftOf, from-start, from-end}
+use Rattle.differ.specs.Listing.{deltas, between, leftOf}
+use Rattle.differ.proofs.laws.Listing.{from-start, from-end}
 use Rattle.differ.specs.Leaves.{asked, inLeaves}
 use Rattle.differ.proofs.laws.Past as past
 

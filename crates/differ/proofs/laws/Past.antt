@@ -16,7 +16,8 @@ use Rattle.cursor.specs.declared.Under.{Under}
 use Rattle.cursor.specs.Leaf.{Below}
 use Rattle.differ.specs.declared.leaves.Ask.{Ask}
 use Rattle.differ.specs.Listing.{leftOf}
-use Rattle.differ.specs.Leaves.{inLeaves, stretch-on}
+use Rattle.differ.specs.Leaves.{inLeaves}
+use Rattle.differ.proofs.laws.Leaves.{stretch-on}
 
 module _ {l : Limits} {b : List ℕ} {u v : ℕ} (r : Readable l b u) (q : Readable l b v) (key : ℕ) (x y : Under) (g : Below l b u 0 key x) (f : Below l b v 0 key y)
     (high : ℕ) (e : high ≡ pick (ltb (x .high) (y .high)) (x .high) (y .high)) where

@@ -9,14 +9,17 @@ use Rattle.model.specs.declared.Pair.{Pair}
 use Rattle.model.specs.Entry.{born}
 use Rattle.model.specs.Page.{Page, filled, changed, gone, goneIf, active}
 use Rattle.model.specs.Calls.{back, backBy}
-use Rattle.page.specs.Read.{sized-unused}
-use Rattle.page.specs.Exact.{Valid, valid-free}
+use Rattle.page.proofs.laws.Read.{sized-unused}
+use Rattle.page.specs.Exact.{Valid}
+use Rattle.page.proofs.laws.Exact.{valid-free}
 use Rattle.edit.specs.declared.Change.{Change}
 use Rattle.edit.specs.declared.sift.Rule.the-variants.{Kill, Back}
 use Rattle.edit.proofs.laws.Valid.{valid-sifted, AllSized, sized-cons}
-use Rattle.edit.specs.Same.{killed-is, restored-is}
-use Rattle.edit.specs.Change.{changeOf, second, third, third-is, valid-if, second-valid, second-room}
-use Rattle.edit.specs.Fill.{nil, Fitting, length-map}
+use Rattle.edit.proofs.laws.Same.{killed-is, restored-is}
+use Rattle.edit.specs.Change.{changeOf}
+use Rattle.edit.proofs.laws.Change.{second, third, third-is, valid-if, second-valid, second-room}
+use Rattle.edit.specs.Fill.{nil, Fitting}
+use Rattle.edit.proofs.laws.Fill.{length-map}
 
 pub valid-gone : (least w : ℕ) (p : Page) → w < 2 ^ 20 → Valid least p → Valid least (gone w p)
 valid-gone least w p hw v = by (active w p)

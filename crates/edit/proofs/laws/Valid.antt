@@ -11,11 +11,14 @@ use Rattle.model.specs.Basic.{keep}
 use Rattle.model.specs.Entry.{before, born, placed, enter}
 use Rattle.model.specs.Page.{Page}
 use Rattle.model.specs.Layout.{unused}
-use Rattle.page.specs.Read.{Sized, sized-unused}
+use Rattle.page.specs.Read.{Sized}
+use Rattle.page.proofs.laws.Read.{sized-unused}
 use Rattle.page.specs.Exact.{Valid}
 use Rattle.edit.specs.declared.sift.Rule.{Rule}
-use Rattle.edit.specs.Fate.{fateOf, fate-sized, end-fits}
-use Rattle.edit.specs.Sift.{sifted, siftedPage, sifted-short}
+use Rattle.edit.specs.Fate.{fateOf}
+use Rattle.edit.proofs.laws.Fate.{fate-sized, end-fits}
+use Rattle.edit.specs.Sift.{sifted, siftedPage}
+use Rattle.edit.proofs.laws.Sift.{sifted-short}
 use Rattle.edit.specs.Place.{entered}
 
 abbrev pub AllSized : List Entry → Type 0

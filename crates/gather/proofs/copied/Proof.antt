@@ -1,4 +1,5 @@
-use Rattle.gather.specs.Gather.{Good, pairsIn, listed, length-pairs, part-none, part-more, part-pairs}
+use Rattle.gather.specs.Gather.{Good, pairsIn}
+use Rattle.gather.proofs.laws.Gather.{listed, length-pairs, part-none, part-more, part-pairs}
 use Rattle.edit.specs.Fill.{nil}
 use Rattle.model.specs.declared.Pair.{Pair}
 use lib.ListN.{length, getD, take, drop, length-append}

@@ -1,7 +1,9 @@
-use Rattle.gather.specs.Kept.{keptPairs, kept-step, rest, rest-all, rest-step, rest-none}
-use Rattle.gather.specs.Gather.{Good, pairsIn, listed, one-more}
+use Rattle.gather.specs.Kept.{keptPairs}
+use Rattle.gather.proofs.laws.Kept.{kept-step, rest, rest-all, rest-step, rest-none}
+use Rattle.gather.specs.Gather.{Good, pairsIn}
+use Rattle.gather.proofs.laws.Gather.{listed, one-more}
 use Rattle.edit.specs.Change.{changeOf}
-use Rattle.page.specs.Read.{read-sized, count-of}
+use Rattle.page.proofs.laws.Read.{read-sized, count-of}
 use Rattle.page.specs.Head.{readHead}
 use Rattle.model.specs.Layout.{countOf, readEntry}
 use Rattle.model.specs.Entry.{liveAt}

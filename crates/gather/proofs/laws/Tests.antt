@@ -12,7 +12,8 @@ use Rattle.model.specs.Entry.{pairOf, liveAt, enterPair}
 use Rattle.model.specs.Page.{Page, Change, wanted, changed}
 use Rattle.edit.specs.declared.Change as code
 use Rattle.edit.specs.Change.{one, changeOf}
-use Rattle.gather.specs.Kept.{Fits, keptPairs, kept-step, enter-few, wanted-none, wanted-one, wanted-two, staying-few, after-is}
+use Rattle.gather.specs.Kept.{Fits, keptPairs}
+use Rattle.gather.proofs.laws.Kept.{kept-step, enter-few, wanted-none, wanted-one, wanted-two, staying-few, after-is}
 
 -- one entry more
 pub kept-more : (w : ℕ) (c : Change) (e : Entry) (es : List Entry) (b : Bool) → b ≡ (liveAt w e && not (has (e .key) (c .drop)))

@@ -1,5 +1,7 @@
-use Rattle.gather.specs.Place.{placeIn, place-step, place-past}
-use Rattle.gather.specs.Gather.{pairsIn, length-pairs}
+use Rattle.gather.specs.Place.{placeIn}
+use Rattle.gather.proofs.laws.Place.{place-step, place-past}
+use Rattle.gather.specs.Gather.{pairsIn}
+use Rattle.gather.proofs.laws.Gather.{length-pairs}
 use Rattle.edit.specs.Fill.{nil}
 use Rattle.model.specs.declared.Pair.{Pair}
 use borrow.Author.Tests.{lt-ltb, le-ltb}

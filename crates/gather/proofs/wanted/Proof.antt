@@ -1,5 +1,6 @@
-use Rattle.gather.specs.Kept.{kept-room, enter-few, wanted-none, wanted-one, wanted-two}
-use Rattle.gather.specs.Gather.{pairsIn, length-pairs, listed}
+use Rattle.gather.proofs.laws.Kept.{kept-room, enter-few, wanted-none, wanted-one, wanted-two}
+use Rattle.gather.specs.Gather.{pairsIn}
+use Rattle.gather.proofs.laws.Gather.{length-pairs, listed}
 use Rattle.edit.specs.Change.{changeOf}
 use Rattle.model.specs.Layout.{decodePage}
 use Rattle.model.specs.Entry.{enterPair}

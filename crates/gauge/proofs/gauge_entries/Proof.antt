@@ -5,7 +5,8 @@ use native.Mathlib.Omega.{arith}
 use borrow.Author.Tests.{not-true, not-false}
 use lib.ListN.{length}
 use Rattle.model.specs.Basic.{pick}
-use Rattle.gauge.specs.Gauge.{Fit, told, weight, entrySum, entries-none, entries-more, entries-small}
+use Rattle.gauge.specs.Gauge.{weight, entrySum}
+use Rattle.gauge.proofs.laws.Gauge.{Fit, told, entries-none, entries-more, entries-small}
 use borrow.Author.Needs.{needs}
 use Rattle.gauge.proofs.gauge_entries.Statement.{statement}
 use Rattle.gauge.proofs.gauge_entries.Tie as tie

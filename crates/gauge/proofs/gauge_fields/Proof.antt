@@ -5,7 +5,8 @@ use native.Mathlib.Omega.{arith}
 use borrow.Author.Tests.{not-true, not-false}
 use lib.ListN.{length}
 use Rattle.model.specs.Basic.{pick}
-use Rattle.gauge.specs.Gauge.{Fit, told, fieldSum, fields-none, fields-more, fields-small}
+use Rattle.gauge.specs.Gauge.{fieldSum}
+use Rattle.gauge.proofs.laws.Gauge.{Fit, told, fields-none, fields-more, fields-small}
 use Rattle.model.specs.Field.{field as fieldOf}
 use borrow.Author.Needs.{needs}
 use Rattle.gauge.proofs.gauge_fields.Statement.{statement}

@@ -5,7 +5,7 @@ use native.Mathlib.Omega.{arith}
 use borrow.Author.Tests.{not-true, not-false}
 use lib.ListN.{length}
 use Rattle.model.specs.Basic.{pick}
-use Rattle.gauge.specs.Gauge.{Fillable, fillable, fitting-all, filled-four}
+use Rattle.gauge.proofs.laws.Gauge.{Fillable, fillable, fitting-all, filled-four}
 use Rattle.page.proofs.laws.Editions.{edition-of}
 use Rattle.model.specs.Limits.{Edition}
 use Rattle.model.specs.declared.Limits.{Limits}

@@ -1,6 +1,9 @@
-use Rattle.group.specs.Group.{routersOf, groupOf, gather-right, gather-left, gather-none, gather-alone}
-use Rattle.parts.specs.Kept.{pagesOf, live-few}
-use Rattle.gather.specs.Gather.{pairsIn, length-pairs, listed}
+use Rattle.group.specs.Group.{routersOf, groupOf}
+use Rattle.group.proofs.laws.Group.{gather-right, gather-left, gather-none, gather-alone}
+use Rattle.parts.specs.Kept.{pagesOf}
+use Rattle.parts.proofs.laws.Kept.{live-few}
+use Rattle.gather.specs.Gather.{pairsIn}
+use Rattle.gather.proofs.laws.Gather.{length-pairs, listed}
 use Rattle.page.proofs.laws.Editions.{merge-is}
 use Rattle.model.specs.Store.{page}
 use Rattle.model.specs.Rules as rules

@@ -16,7 +16,8 @@ use Rattle.edit.specs.Same.{firstOf}
 use Rattle.edit.specs.Change.{one, firstPairs, changeOf}
 use Rattle.edit.specs.Fill.{nil, Fitting}
 use Rattle.gather.specs.declared.Gather.{Gather}
-use Rattle.gather.specs.Gather.{Good, pairsIn, length-pairs, pair-at}
+use Rattle.gather.specs.Gather.{Good, pairsIn}
+use Rattle.gather.proofs.laws.Gather.{length-pairs, pair-at}
 use Rattle.group.specs.declared.Routers.{Routers}
 use Rattle.group.specs.Group.{oneOrTwo, routersOf}
 

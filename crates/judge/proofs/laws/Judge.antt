@@ -5,7 +5,8 @@ use mathlib.Core.Path.{_≡_, refl, ap}
 use mathlib.Core.List.{List}
 use Rattle.model.specs.Basic.{pick}
 use Rattle.model.specs.Judged.{lengthOk, magicOk, editionOk, brokenIn, verdict, ruled, judged}
-use Rattle.quick.specs.Number.{refusedBy, not-refused}
+use Rattle.quick.specs.Number.{refusedBy}
+use Rattle.quick.proofs.laws.Number.{not-refused}
 
 pub ruled-none : (r : ℕ) → r ≡ 0 → ruled r ≡ verdict 0 0
 ruled-none r e = ap ruled e

@@ -13,7 +13,7 @@ use Rattle.model.specs.Basic.{pick}
 use Rattle.model.specs.Entry.{pairOf, liveAt}
 use Rattle.model.specs.Sound.{fewest, startsAt}
 use Rattle.model.specs.Layout.{readEntry}
-use Rattle.page.specs.Read.{entries-step, entries-end}
+use Rattle.page.proofs.laws.Read.{entries-step, entries-end}
 use Rattle.judge.specs.Pending.{pairsFrom, Next, firstKey, openOk}
 
 module _ (p : List ℕ) (v k n : ℕ) where

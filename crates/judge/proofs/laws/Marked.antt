@@ -13,7 +13,7 @@ use Rattle.model.specs.Page.{Page}
 use Rattle.model.specs.Walk.{Seen, seen, rootAt, heightOf}
 use Rattle.model.specs.Sound.{same, reachedWell}
 use Rattle.model.specs.Layout.{pageOf, readPages, decode, sizeOf}
-use Rattle.page.specs.Read.{level-of, start-of, end-of}
+use Rattle.page.proofs.laws.Read.{level-of, start-of, end-of}
 use Rattle.store.proofs.laws.Read.{pages-step, pages-end, behind, page-at}
 use Rattle.local.specs.Local.{headAt, levelAt}
 use Rattle.judge.specs.declared.walk.Walked.{Walked}

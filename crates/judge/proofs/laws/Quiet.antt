@@ -13,7 +13,7 @@ use Rattle.model.specs.Inner.{Out}
 use Rattle.model.proofs.lists.Members.{In}
 use Rattle.model.proofs.sound.Quiet.{QuietPage, pairs-still}
 use Rattle.page.specs.Head.{readHead}
-use Rattle.page.specs.Read.{start-of, end-of, entries-of}
+use Rattle.page.proofs.laws.Read.{start-of, end-of, entries-of}
 use Rattle.store.proofs.laws.Read.{page-at}
 use Rattle.local.specs.Local.{IsPage}
 use Rattle.judge.specs.Versions.{QuietEntries, QuietPart}

@@ -16,7 +16,7 @@ use Rattle.model.specs.Sound.{reachedWell, versions, rule6}
 use Rattle.model.specs.Layout.{readHeader, decode}
 use Rattle.model.proofs.sound.ByRule.{numbers}
 use Rattle.store.proofs.laws.Read.{oldest-of}
-use Rattle.local.specs.First.{last-is}
+use Rattle.local.proofs.laws.First.{last-is}
 use Rattle.judge.specs.Pending.{openOk, stepOk, chainOk, passes}
 use Rattle.judge.specs.Versions.{versionOk}
 use Rattle.judge.proofs.laws.Tests.{all-ext, all-true}

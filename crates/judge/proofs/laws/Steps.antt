@@ -22,7 +22,8 @@ use Rattle.model.proofs.lists.Lists.{both-true}
 use Rattle.local.specs.Local.{IsPage, countAt, levelAt, entryAt}
 use Rattle.judge.specs.declared.walk.Item.{Item}
 use Rattle.notes.specs.Linked.{Linked}
-use Rattle.judge.specs.Pending.{firstKey, stepOk, chainOk, passes, here, spanOf, kidsIn, none, restOf, pend, weight, heft, weigh, Fine, pairsFrom, Next, wholeIn}
+use Rattle.judge.specs.Pending.{firstKey, stepOk, chainOk, passes, restOf, pairsFrom, Next, wholeIn}
+use Rattle.judge.proofs.laws.Pending.{here, spanOf, kidsIn, none, pend, weight, heft, weigh, Fine}
 use Rattle.judge.proofs.laws.Live.{pairs-end, upper-first}
 use Rattle.judge.proofs.laws.Tests.{any-append, same-all}
 use Rattle.judge.proofs.laws.Walking.{Walking, Entering, kidWeight, weight-kids, pend-push, weigh-push, kids-none, kids-leaf, kids-next, pairs-here}

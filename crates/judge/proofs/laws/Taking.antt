@@ -20,7 +20,8 @@ use Rattle.model.specs.Layout.{readHeader, pageOf, decode}
 use Rattle.local.specs.Local.{IsPage, countAt, levelAt}
 use Rattle.judge.specs.declared.walk.Item.{Item}
 use Rattle.notes.specs.Linked.{Linked}
-use Rattle.judge.specs.Pending.{openOk, chainOk, passes, here, seenOf, kids, spanOf, kidsIn, none, restOf, pend, Same, weight, heft, weigh, Fine, pairsFrom, Next, whole, wholeIn, isNumber, Tells}
+use Rattle.judge.specs.Pending.{openOk, chainOk, passes, restOf, pairsFrom, Next, whole, wholeIn, isNumber, Tells}
+use Rattle.judge.proofs.laws.Pending.{here, seenOf, kids, spanOf, kidsIn, none, pend, Same, weight, heft, weigh, Fine}
 use Rattle.notes.specs.Ready.{Sooner}
 use Rattle.judge.specs.Versions.{QuietPart}
 use Rattle.judge.proofs.laws.Quiet.{pairs-quiet}

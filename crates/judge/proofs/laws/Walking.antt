@@ -19,11 +19,12 @@ use Rattle.model.specs.Page.{Page, pairsAt}
 use Rattle.model.specs.Store.{page}
 use Rattle.model.specs.Walk.{Seen, seenBelow}
 use Rattle.model.specs.Layout.{readEntry, pageOf, decode}
-use Rattle.page.specs.Read.{entries-of}
+use Rattle.page.proofs.laws.Read.{entries-of}
 use Rattle.store.proofs.laws.Read.{page-at}
 use Rattle.local.specs.Local.{IsPage, countAt}
 use Rattle.judge.specs.declared.walk.Item.{Item}
-use Rattle.judge.specs.Pending.{firstKey, openOk, chainOk, passes, here, seenOf, kids, over, spanOf, kidsIn, none, pend, Same, weight, heft, weigh, Fine, pairsFrom, wholeIn, isNumber}
+use Rattle.judge.specs.Pending.{firstKey, openOk, chainOk, passes, over, pairsFrom, wholeIn, isNumber}
+use Rattle.judge.proofs.laws.Pending.{here, seenOf, kids, spanOf, kidsIn, none, pend, Same, weight, heft, weigh, Fine}
 use Rattle.judge.proofs.laws.Tests.{spread-cons}
 use Rattle.judge.proofs.laws.Stretch.{over-none, over-nil, over-both, over-const}
 

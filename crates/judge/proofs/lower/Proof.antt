@@ -7,7 +7,7 @@ use Rattle.local.proofs.laws.Linked.{held}
 use Rattle.notes.proofs.laws.Given.{ready}
 use Rattle.judge.proofs.laws.Named.{named-sound, named-some, six-last, six-led, six-none}
 use Rattle.quick.proofs.laws.Given.{good}
-use Rattle.quick.specs.Slots.{good-slots}
+use Rattle.quick.proofs.laws.Slots.{good-slots}
 use Rattle.store.proofs.laws.Read.{current-lt}
 use Rattle.notes.specs.Ready.{Ready}
 use Rattle.local.specs.Local.{Held}

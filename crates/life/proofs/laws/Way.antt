@@ -9,8 +9,9 @@ use Rattle.model.specs.declared.Pair.{Pair}
 use Rattle.model.specs.Page.{Page, pairsAt}
 use Rattle.model.specs.Store.{Store, page}
 use Rattle.model.specs.Walk.{around, rootAt, heightOf, find, lookup}
-use Rattle.walk.specs.Covers.{Covers, covers-own}
-use Rattle.walk.specs.Down.{leafDown, way-leaf}
+use Rattle.walk.specs.Covers.{Covers}
+use Rattle.walk.proofs.laws.Covers.{covers-own}
+use Rattle.walk.proofs.laws.Down.{leafDown, way-leaf}
 use Rattle.life.specs.Still.{Until}
 
 -- the value of a key below page n

@@ -17,7 +17,7 @@ use Rattle.model.proofs.lists.Members.{not-both}
 use Rattle.store.proofs.laws.Read.{oldest-of}
 use Rattle.local.specs.Local.{Sized, Ruled, Held, IsPage, headAt, levelAt, countAt, entryAt, slotAt, linkOk, linksOk, rootUsed}
 use Rattle.local.proofs.laws.Loops.{page-of-all, entry-of-all, slot-of-all}
-use Rattle.local.specs.First.{last-is}
+use Rattle.local.proofs.laws.First.{last-is}
 use Rattle.local.proofs.laws.Ruled.{ruled, last-low, old-low}
 use Rattle.local.proofs.laws.Third.{link-is, link-kept, by-lower, links-used, root-used-is, rule3-is}
 

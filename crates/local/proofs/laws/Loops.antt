@@ -14,7 +14,7 @@ use Rattle.model.specs.Clean.{cleanPage, cleanPages}
 use Rattle.model.proofs.lists.Lists.{both-true}
 use Rattle.model.proofs.lists.Members.{all-at}
 use Rattle.bits.proofs.laws.Put.{same?}
-use Rattle.page.specs.Read.{length-entries, entries-at, entries-step, entries-end}
+use Rattle.page.proofs.laws.Read.{length-entries, entries-at, entries-step, entries-end}
 use Rattle.store.proofs.laws.Read.{length-slots, slots-at, slots-step, slots-end, length-pages, pages-at, pages-step, pages-end}
 
 pub and-false : (a : Bool) → (a && false) ≡ false

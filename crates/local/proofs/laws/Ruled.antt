@@ -22,7 +22,8 @@ use Rattle.model.proofs.sound.ByRule.{old-last}
 use Rattle.local.specs.Local.{Sized, Ruled, IsPage, headAt, levelAt, countAt, entryAt, slotAt, entriesOk}
 use Rattle.local.proofs.laws.Loops.{page-of-all, entry-of-all, slot-of-all, clean-at}
 use Rattle.local.proofs.laws.Pages.{clean-count, fine-free, fine-used}
-use Rattle.local.specs.First.{rooted, oldLow, rule1-is}
+use Rattle.local.specs.First.{rooted}
+use Rattle.local.proofs.laws.First.{oldLow, rule1-is}
 
 module _ (least : ℕ) (s : List ℕ) (size : ℕ) (z : Sized least s size) (r : clean least s ≡ true) where
   abbrev roots : ℕ

@@ -8,7 +8,8 @@ use native.Mathlib.Nat.{suc-mul, le-div-iff-mul-le}
 use lib.ListN.{length}
 use Rattle.model.specs.Layout.{sizeOf}
 use Rattle.model.specs.Judged.{lengthOk}
-use Rattle.store.specs.Tested.{Whole, whole-length, whole-least, whole-most}
+use Rattle.store.specs.Tested.{Whole}
+use Rattle.store.proofs.laws.Tested.{whole-length, whole-least, whole-most}
 use Rattle.local.specs.Local.{Sized}
 
 module _ (least : ℕ) (four : 4 ≤ least) (s : List ℕ) where

@@ -13,9 +13,10 @@ use Rattle.model.specs.Sound.{rule3}
 use Rattle.model.specs.Layout.{pageOf, readEntries, decodePage, readHeader, readSlots, readPages, decode, sizeOf}
 use Rattle.model.proofs.lists.Lists.{both-true}
 use Rattle.page.specs.declared.Head.{Head}
-use Rattle.page.specs.Read.{level-of, start-of, end-of, entries-of}
+use Rattle.page.proofs.laws.Read.{level-of, start-of, end-of, entries-of}
 use Rattle.store.proofs.laws.Read.{page-at, behind, slots-of, oldest-of}
-use Rattle.local.specs.Local.{IsPage, headAt, levelAt, countAt, linkFull, linkOk, lies, linkBy, linksOk, rootUsed}
+use Rattle.local.specs.Local.{IsPage, headAt, levelAt, countAt, linkFull, linkOk, lies, linksOk, rootUsed}
+use Rattle.local.proofs.laws.Local.{linkBy}
 
 -- ---- an entry of page n
 

@@ -1,7 +1,7 @@
 use mathlib.Core.Path.{sym, _∙_}
 use native.Mathlib.Omega.{arith}
 use Rattle.page.proofs.laws.Editions.{edition-of}
-use Rattle.reads.specs.Reading.{reads}
+use Rattle.reads.proofs.laws.Reading.{reads}
 use borrow.Author.Needs.{needs}
 use Rattle.morning.proofs.morning_lookups.Statement.{statement}
 use Rattle.morning.proofs.morning_lookups.Tie as tie

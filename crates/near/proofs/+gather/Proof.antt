@@ -13,10 +13,12 @@ use Rattle.model.specs.Entry.{pairOf}
 use Rattle.page.proofs.entry_at.Reads as entry-at-reads
 use Rattle.page.proofs.head_of.Reads as head-of-reads
 use Rattle.store.proofs.part.Reads as part-reads
-use Rattle.walk.specs.Written.{gathers-space, gathers-length, Gathering, space-front, gather-start, gather-same, gather-step, gather-end, gathers-append}
-use Rattle.tabled.specs.Here.{here-inside, here-stands, here-pairs, here-starts, here-own, here-all, here-range}
-use Rattle.tabled.specs.Across.{rightFrom, from-first, from-same}
-use Rattle.walk.specs.Below.{later, later-step, later-same, later-end, leaf-range}
+use Rattle.walk.proofs.laws.Written.{gathers-space, gathers-length, Gathering, space-front, gather-start, gather-same, gather-step, gather-end, gathers-append}
+use Rattle.tabled.proofs.laws.Here.{here-inside, here-stands, here-pairs, here-starts, here-own, here-all, here-range}
+use Rattle.tabled.specs.Across.{rightFrom}
+use Rattle.tabled.proofs.laws.Across.{from-first, from-same}
+use Rattle.walk.specs.Below.{later}
+use Rattle.walk.proofs.laws.Below.{later-step, later-same, later-end, leaf-range}
 use Rattle.walk.specs.Scan.{from, entry}
 use Rattle.walk.specs.Live.{live}
 use Rattle.near.proofs.gather.Reads as gather

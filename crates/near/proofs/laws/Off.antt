@@ -30,10 +30,12 @@ use Rattle.model.specs.Near.{frontRight, pageRight, startsBy}
 use Rattle.model.specs.Lent.{judgedFirst, lookupLent}
 use Rattle.model.proofs.lists.Members.{bool-cases}
 use Rattle.store.proofs.laws.Read.{length-pages, page-at, front-free, slots-of, current-of, oldest-of}
-use Rattle.local.specs.First.{last-is, clean-roots}
-use Rattle.local.specs.Right.{front-true}
-use Rattle.near.specs.Down.{walked, descended, walk-free, walk-start, down-wrong, down-none, down-on, down-leaf}
-use Rattle.near.specs.Early.{fronted, guarded, guard-is, guard-front-right, lookup-by}
+use Rattle.local.proofs.laws.First.{last-is, clean-roots}
+use Rattle.local.proofs.laws.Right.{front-true}
+use Rattle.near.specs.Down.{walked}
+use Rattle.near.proofs.laws.Down.{descended, walk-free, walk-start, down-wrong, down-none, down-on, down-leaf}
+use Rattle.near.specs.Early.{fronted, guarded}
+use Rattle.near.proofs.laws.Early.{guard-is, guard-front-right, lookup-by}
 
 -- two stores of one length whose header and directory are the same
 pub record SameFront (least : ℕ) (b c : List ℕ) : Type 0 where

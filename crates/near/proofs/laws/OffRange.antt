@@ -17,11 +17,13 @@ use Rattle.model.specs.Calls.{rangedBy}
 use Rattle.model.specs.Near.{pageRight, startsBy, rangeRight}
 use Rattle.model.specs.Lent.{judgedFirst, listed, rangeLent}
 use Rattle.model.proofs.lists.Members.{In, bool-cases, all-in}
-use Rattle.local.specs.Right.{front-true}
-use Rattle.tabled.specs.Here.{page-of, all-of}
-use Rattle.near.specs.Early.{guarded, guard-front-right, badRange}
+use Rattle.local.proofs.laws.Right.{front-true}
+use Rattle.tabled.proofs.laws.Here.{page-of, all-of}
+use Rattle.near.specs.Early.{guarded, badRange}
+use Rattle.near.proofs.laws.Early.{guard-front-right}
 use Rattle.near.proofs.laws.Off.{SameFront, page-same, right-same, directory-same, guard-same}
-use Rattle.near.specs.Crossed.{kept, crossed, cross-free, cross-at, cross-not, range-by}
+use Rattle.near.specs.Crossed.{crossed}
+use Rattle.near.proofs.laws.Crossed.{kept, cross-free, cross-at, cross-not, range-by}
 
 all-same : (f g : Pair → Bool) (xs : List Pair) → ((x : Pair) → In x xs → f x ≡ g x) → all f xs ≡ all g xs
 all-same f g [] h = refl

@@ -30,10 +30,12 @@ use Rattle.model.proofs.lists.Lists.{both-true}
 use Rattle.model.proofs.sound.ByRule as given
 use Rattle.model.proofs.sound.ByRule.{Sound, readable-of}
 use Rattle.model.proofs.sound.Ready.{level-used}
-use Rattle.store.specs.Tested.{pages-clean}
+use Rattle.store.proofs.laws.Tested.{pages-clean}
 use Rattle.store.proofs.laws.Sure.{sure, taken, whole}
-use Rattle.walk.specs.Covers.{Covers, covers-starts, covers-own, covers-later}
-use Rattle.walk.specs.Sure.{Readable, root-covers, size, five}
+use Rattle.walk.specs.Covers.{Covers}
+use Rattle.walk.proofs.laws.Covers.{covers-starts, covers-own, covers-later}
+use Rattle.walk.specs.Sure.{Readable}
+use Rattle.walk.proofs.laws.Sure.{root-covers, size, five}
 
 -- ---- the routers that a range follows all pass, if the last at or below the key does, and every one by its own key
 

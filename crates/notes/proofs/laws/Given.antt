@@ -9,7 +9,7 @@ use Rattle.model.specs.Sound.{rule2, rule3}
 use Rattle.model.specs.Layout.{readHeader, decode}
 use Rattle.local.specs.Local.{Held, IsPage, slotAt}
 use Rattle.local.proofs.laws.Linked.{child-lower, root-used}
-use Rattle.local.specs.Second.{some-root, root-first}
+use Rattle.local.proofs.laws.Second.{some-root, root-first}
 use Rattle.notes.specs.Ready.{Ready}
 
 module _ (least : ℕ) (s : List ℕ) (h : Header) (d : Held least s h) (two : rule2 (decode least s) ≡ true) (three : rule3 (decode least s) ≡ true) where

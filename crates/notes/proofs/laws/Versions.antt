@@ -14,7 +14,8 @@ use Rattle.model.specs.Sound.{keysOk, fewest, versions, rule4, rule5}
 use Rattle.model.proofs.lists.Lists.{both-true}
 use Rattle.model.proofs.sound.ByRule.{enough}
 use Rattle.notes.specs.declared.Note.{Note}
-use Rattle.notes.specs.Notes.{noteAt, rootNote, lowFine, keysBy, fullBy}
+use Rattle.notes.specs.Notes.{noteAt, lowFine, keysBy, fullBy}
+use Rattle.notes.proofs.laws.Notes.{rootNote}
 use Rattle.notes.proofs.laws.Laws.{note-still}
 use Rattle.notes.proofs.laws.Means.{note-four, note-five, note-says}
 

@@ -6,7 +6,7 @@ use native.Mathlib.Omega.{arith}
 use borrow.Author.Needs.{needs}
 use Rattle.model.specs.Limits.{liveShown}
 use Rattle.page.specs.Head.{putLive}
-use Rattle.page.specs.Insert.{live-low, live-end}
+use Rattle.page.proofs.laws.Insert.{live-low, live-end}
 use Rattle.page.proofs.insert_entry.Statement.{statement}
 use Rattle.page.proofs.insert_entry.Tie as tie
 

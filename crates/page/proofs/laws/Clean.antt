@@ -19,10 +19,11 @@ use Rattle.model.proofs.lists.Lists.{both-true}
 use Rattle.page.specs.declared.Head.{Head}
 use Rattle.page.proofs.laws.Editions.{count-bits, live-bits}
 use Rattle.page.specs.Head.{readHead, frontBytes}
-use Rattle.page.specs.Read.{length-entries, count-of, entries-of}
+use Rattle.page.proofs.laws.Read.{length-entries, count-of, entries-of}
 use Rattle.page.proofs.laws.Entries.{entries-part, padded-bytes}
 use Rattle.page.proofs.laws.Front.{head-part}
-use Rattle.page.specs.Exact.{Exact, bodyBytes, encode-is, head-is}
+use Rattle.page.specs.Exact.{Exact, bodyBytes}
+use Rattle.page.proofs.laws.Exact.{encode-is, head-is}
 
 pub record Clean (least : ℕ) (p : List ℕ) : Type 0 where
   pub size : length p ≡ 64 * least

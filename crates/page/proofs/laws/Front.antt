@@ -14,8 +14,9 @@ use Rattle.model.specs.Field.{field, bitAt, putField, Bytes, lay, zeros, packed
 use Rattle.model.specs.Layout.{headBytes, countOf, liveOf}
 use Rattle.page.specs.declared.Head.{Head}
 use Rattle.page.proofs.laws.Editions.{Counts, count-bits, live-bits}
-use Rattle.page.specs.Head.{readHead, partsOf, frontBytes, headOnly, putHead, putLive, HeadFits}
-use Rattle.page.specs.Read.{level-lt, start-lt, end-lt, count-lt, count-of}
+use Rattle.page.specs.Head.{readHead, frontBytes, headOnly, putHead, putLive, HeadFits}
+use Rattle.page.proofs.laws.Head.{partsOf}
+use Rattle.page.proofs.laws.Read.{level-lt, start-lt, end-lt, count-lt, count-of}
 
 pub head-length : (least : ℕ) (h : Head) (n : ℕ) → length (frontBytes least h n) ≡ 16
 unfolding headBytes

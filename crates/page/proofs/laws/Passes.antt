@@ -20,10 +20,12 @@ use Rattle.model.specs.Layout.{entryBytes, entriesBytes, headBytes, padded, enc
 use Rattle.model.specs.Clean.{cleanPage, spareAt}
 use Rattle.page.specs.declared.Head.{Head}
 use Rattle.page.proofs.laws.Editions.{Counts, count-bits, live-bits}
-use Rattle.page.specs.Head.{readHead, headOf, partsOf, frontBytes}
+use Rattle.page.specs.Head.{readHead, headOf, frontBytes}
+use Rattle.page.proofs.laws.Head.{partsOf}
 use Rattle.page.proofs.laws.Entries.{entry-bytes, entries-length, padded-bytes}
 use Rattle.page.proofs.laws.Front.{head-length, head-bytes, total-is}
-use Rattle.page.specs.Exact.{Valid, bodyBytes, encode-is, encode-head, encode-live, encode-count, live-none}
+use Rattle.page.specs.Exact.{Valid, bodyBytes}
+use Rattle.page.proofs.laws.Exact.{encode-is, encode-head, encode-live, encode-count, live-none}
 
 entries-bytes : (l : List Entry) → Bytes (entriesBytes l)
 unfolding entriesBytes

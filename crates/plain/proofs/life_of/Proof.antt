@@ -5,7 +5,8 @@ use mathlib.Core.Path.{sym, _∙_}
 use Rattle.model.proofs.reading.Telling.{none-room, counted, told-short, second-space, told-all}
 use Rattle.plain.specs.Plain.{valueAt}
 use Rattle.plain.specs.Items.{plainOf, from}
-use Rattle.plain.specs.Lived.{stretches, few-stretches, life-five, life-done}
+use Rattle.plain.specs.Lived.{stretches}
+use Rattle.plain.proofs.laws.Lived.{few-stretches, life-five, life-done}
 use borrow.Author.Needs.{needs}
 use Rattle.plain.proofs.life_of.Statement.{statement}
 use Rattle.plain.proofs.life_of.Tie as tie

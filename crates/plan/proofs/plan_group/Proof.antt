@@ -1,5 +1,6 @@
-use Rattle.plan.specs.Plan.{plannedOf, group-fails, group-rises}
-use Rattle.group.specs.Numbers.{actives-two, active-in, numbers-small}
+use Rattle.plan.specs.Plan.{plannedOf}
+use Rattle.plan.proofs.laws.Plan.{group-fails, group-rises}
+use Rattle.group.proofs.laws.Numbers.{actives-two, active-in, numbers-small}
 use Rattle.group.specs.Group.{routersOf}
 use Rattle.parts.specs.Kept.{pagesOf}
 use Rattle.model.specs.Needs.{actives}

@@ -1,4 +1,5 @@
-use Rattle.plan.specs.Plan.{plannedOf, outlookOf, upsOf, nowhere, up-step, up-end}
+use Rattle.plan.specs.Plan.{plannedOf, outlookOf, upsOf, nowhere}
+use Rattle.plan.proofs.laws.Plan.{up-step, up-end}
 use Rattle.parts.specs.Kept.{pagesOf}
 use Rattle.gather.specs.Kept.{Fits}
 use Rattle.edit.specs.Change.{changeOf}

@@ -6,7 +6,7 @@ use lib.ListN.{length}
 use borrow.Author.Needs.{needs}
 use Rattle.model.specs.declared.Slot.{Slot}
 use Rattle.model.specs.Layout.{decode}
-use Rattle.prune.specs.Needed.{Past, past-start, past-more, past-stops, past-end}
+use Rattle.prune.proofs.laws.Needed.{Past, past-start, past-more, past-stops, past-end}
 use Rattle.prune.proofs.laws.Whole.{kept-front, kept-short, few-slots, slot-is}
 use Rattle.prune.proofs.first_needed.Statement.{statement}
 use Rattle.prune.proofs.first_needed.Tie as tie

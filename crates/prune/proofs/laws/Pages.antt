@@ -12,7 +12,8 @@ use Rattle.model.specs.Basic.{pick}
 use Rattle.model.specs.Page.{Page, free}
 use Rattle.model.specs.Store.{page}
 use Rattle.model.specs.Calls.{prunedPage}
-use Rattle.page.specs.Exact.{Valid, valid-free}
+use Rattle.page.specs.Exact.{Valid}
+use Rattle.page.proofs.laws.Exact.{valid-free}
 
 -- the first n pages pruned
 unfoldable pub partly : ℕ → ℕ → List Page → List Page

@@ -23,15 +23,19 @@ use Rattle.model.specs.Judged.{isSound}
 use Rattle.model.specs.Sound.{firstVersion}
 use Rattle.model.specs.Calls.{prunedPage, needed, pruned}
 use Rattle.page.specs.Exact.{Valid}
-use Rattle.store.specs.Slots.{SlotFits, slotParts, directory}
+use Rattle.store.specs.Slots.{SlotFits, slotParts}
+use Rattle.store.proofs.laws.Slots.{directory}
 use Rattle.store.specs.Header.{HeaderFits, putHeader}
-use Rattle.store.specs.Holds.{Holds, header-holds, header-encoded, slot-encoded, encoded-length, decode-encoded}
+use Rattle.store.specs.Holds.{Holds}
+use Rattle.store.proofs.laws.Holds.{header-holds, header-encoded, slot-encoded, encoded-length, decode-encoded}
 use Rattle.store.proofs.laws.Inside.{bytesOf, encode-of, header-in}
-use Rattle.store.specs.Set.{withPages, withSlots, slot-set, holds-slots}
+use Rattle.store.specs.Set.{withPages, withSlots}
+use Rattle.store.proofs.laws.Set.{slot-set, holds-slots}
 use Rattle.store.proofs.laws.Sure.{sure}
 use Rattle.turn.specs.Turned.{Kept}
 use Rattle.prune.proofs.laws.Pages.{free-pruned, frees, valid-pruned}
-use Rattle.prune.specs.Shift.{shifted, stage, stage-start, stage-length, stage-step, stage-end, shifted-directory}
+use Rattle.prune.specs.Shift.{shifted}
+use Rattle.prune.proofs.laws.Shift.{stage, stage-start, stage-length, stage-step, stage-end, shifted-directory}
 use Rattle.prune.specs.Needed.{Needed}
 
 -- bytes of a store that can be held are exactly its own

@@ -6,7 +6,7 @@ use borrow.Author.Needs.{needs}
 use Rattle.model.specs.declared.Header.{Header}
 use Rattle.model.specs.Layout.{decode}
 use Rattle.store.proofs.laws.Sure.{few, front}
-use Rattle.turn.specs.Turned.{kept}
+use Rattle.turn.proofs.laws.Turned.{kept}
 use Rattle.prune.proofs.laws.Whole.{roots-are, some-roots, header-right, pages-kept, pages-roots, first-in, pruned-bytes}
 use Rattle.prune.proofs.prune.Statement.{statement}
 use Rattle.prune.proofs.prune.Tie as tie

@@ -15,7 +15,8 @@ use Rattle.model.specs.Store.{Store}
 use Rattle.model.specs.Layout.{readHeader, readSlots, decode, sizeOf}
 use Rattle.spans.specs.Quick.{upto, routed, routedAll, rooted, ledTo, spansMet}
 use Rattle.store.proofs.laws.Read.{slots-of, length-pages, behind}
-use Rattle.quick.specs.Sums.{addTo, addSlots, addEntries, addPage, addPages, allMet, Sums, sum-at, none, fewer, slots-more}
+use Rattle.quick.specs.Sums.{addTo, addSlots, addEntries, addPage, addPages, allMet, Sums}
+use Rattle.quick.proofs.laws.Sums.{sum-at, none, fewer, slots-more}
 
 -- ---- how many
 

@@ -15,7 +15,7 @@ use Rattle.model.specs.Layout.{readEntry, readEntries}
 use Rattle.spans.specs.Quick.{meets, lowOver}
 use Rattle.model.proofs.lists.Lists.{both-true, both-intro}
 use Rattle.model.proofs.lists.Members.{In, either-true, all-in, all-by}
-use Rattle.page.specs.Read.{entries-step}
+use Rattle.page.proofs.laws.Read.{entries-step}
 use Rattle.quick.specs.Part.{highOver}
 
 before-key : (e f : Entry) → before e f ≡ true → e .key ≤ f .key

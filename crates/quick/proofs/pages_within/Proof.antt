@@ -4,7 +4,7 @@ use native.Mathlib.Omega.{arith}
 use Rattle.model.specs.declared.Header.{Header}
 use Rattle.model.specs.Layout.{decode}
 use Rattle.store.proofs.laws.Read.{oldest-of}
-use Rattle.quick.specs.Number.{quick-pages}
+use Rattle.quick.proofs.laws.Number.{quick-pages}
 use Rattle.quick.proofs.pages_within.Statement.{statement}
 use Rattle.quick.proofs.pages_within.Tie as tie
 

@@ -1,7 +1,7 @@
 -- `quick::rules_hold` meets its contract: the rules that hold so far give what the next one asks. Assumes nothing.
-use Rattle.quick.specs.Number.{in-first, in-second, in-third, in-quick, in-rest}
+use Rattle.quick.proofs.laws.Number.{in-first, in-second, in-third, in-quick, in-rest}
 use Rattle.quick.proofs.laws.Given.{good}
-use Rattle.quick.specs.Slots.{good-slots}
+use Rattle.quick.proofs.laws.Slots.{good-slots}
 use Rattle.notes.proofs.laws.Given.{ready}
 use Rattle.model.proofs.sound.Judging.{clean-first}
 use Rattle.local.proofs.laws.Linked.{held}

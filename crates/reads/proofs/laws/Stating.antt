@@ -14,9 +14,10 @@ use Rattle.model.specs.Layout.{readHeader, decode}
 use Rattle.model.specs.Judged.{judged}
 use Rattle.model.specs.State.{stateOf, untold}
 use Rattle.model.specs.Lent.{judgedFirst, stateLent}
-use Rattle.parts.specs.Kept.{Kept, pagesOf, header-is}
+use Rattle.parts.specs.Kept.{Kept, pagesOf}
+use Rattle.parts.proofs.laws.Kept.{header-is}
 use Rattle.update.proofs.laws.Foreseen.{free-few}
-use Rattle.reads.specs.Guard.{refused-by, goes-by}
+use Rattle.reads.proofs.laws.Guard.{refused-by, goes-by}
 
 module _ (least : ℕ) (b : List ℕ) (n : ℕ) (e : n ≡ judged least b .number) where
   state-by : judgedFirst n untold (stateOf least (decode least b)) ≡ stateLent least b

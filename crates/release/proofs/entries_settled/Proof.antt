@@ -9,7 +9,7 @@ use Rattle.model.specs.Store.{page}
 use Rattle.model.specs.Layout.{decode}
 use Rattle.page.specs.declared.Head.{Head}
 use Rattle.store.proofs.laws.Sure.{few}
-use Rattle.walk.specs.Sure.{inside, five, size}
+use Rattle.walk.proofs.laws.Sure.{inside, five, size}
 use Rattle.walk.specs.Scan.{from}
 use Rattle.release.specs.Settled.{settled}
 use Rattle.release.proofs.laws.Places.{entries-are, key-low, all-stops, all-goes, all-done}

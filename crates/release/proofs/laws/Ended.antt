@@ -20,7 +20,7 @@ use Rattle.model.proofs.sound.Ready.{level-used}
 use Rattle.page.specs.Head.{readHead}
 use Rattle.store.proofs.laws.Read.{page-at}
 use Rattle.store.proofs.laws.Sure.{sure}
-use Rattle.walk.specs.Sure.{five, size}
+use Rattle.walk.proofs.laws.Sure.{five, size}
 use Rattle.release.specs.Settled.{settled}
 use Rattle.release.specs.Opened.{Opened}
 

@@ -24,7 +24,8 @@ use Rattle.model.proofs.sound.ByRule.{Readable, old-current, Sound, GoodEntry, 
 use Rattle.model.proofs.sound.Ready.{level-used, within-of, of-within}
 use Rattle.model.proofs.reading.Lookups.{lookup-is, settings-rise, settings-low}
 use Rattle.model.proofs.reading.Same.{same-equal, equal-same, finds-equal}
-use Rattle.release.specs.Settled.{isValue, has, settled, leafSettled, settledFrom}
+use Rattle.release.specs.Settled.{isValue, has, settled, leafSettled}
+use Rattle.release.proofs.laws.Settled.{settledFrom}
 use Rattle.release.proofs.laws.Leaves.{Alive, found-alive, alive-found}
 
 less : (m c : ℕ) → m ≤ suc c → (m ≡ suc c → ⊥) → m ≤ c

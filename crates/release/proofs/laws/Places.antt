@@ -18,10 +18,12 @@ use Rattle.model.specs.Walk.{keyLimit}
 use Rattle.model.specs.Layout.{pageOf, sizeOf, decodePage, decode}
 use Rattle.model.specs.Calls.{lookedAt, lookedValue}
 use Rattle.page.specs.Head.{readHead}
-use Rattle.page.specs.Read.{level-of, entries-of, read-sized}
+use Rattle.page.proofs.laws.Read.{level-of, entries-of, read-sized}
 use Rattle.store.proofs.laws.Read.{page-at}
-use Rattle.walk.specs.Scan.{from, entry, from-start, from-step, from-end}
-use Rattle.release.specs.Settled.{isValue, settled, leafSettled, settledFrom}
+use Rattle.walk.specs.Scan.{from, entry}
+use Rattle.walk.proofs.laws.Scan.{from-start, from-step, from-end}
+use Rattle.release.specs.Settled.{isValue, settled, leafSettled}
+use Rattle.release.proofs.laws.Settled.{settledFrom}
 
 -- ---- an answer
 

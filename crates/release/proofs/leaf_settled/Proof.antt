@@ -4,7 +4,7 @@ use mathlib.Core.Path.{subst}
 use borrow.Author.Needs.{needs}
 use Rattle.page.specs.declared.Head.{Head}
 use Rattle.store.proofs.laws.Sure.{few}
-use Rattle.walk.specs.Sure.{inside}
+use Rattle.walk.proofs.laws.Sure.{inside}
 use Rattle.release.proofs.laws.Ended.{ended-settled}
 use Rattle.release.proofs.leaf_settled.Statement.{statement}
 use Rattle.release.proofs.leaf_settled.Tie as tie

@@ -13,7 +13,7 @@ use Rattle.model.specs.Layout.{sizeOf, magic, encode}
 use Rattle.model.specs.Store.{fresh}
 use Rattle.model.specs.Judged.{lengthOk, magicOk}
 use Rattle.model.specs.Lent.{freshLent}
-use Rattle.store.specs.Tested.{list-true}
+use Rattle.store.proofs.laws.Tested.{list-true}
 
 -- ---- length
 

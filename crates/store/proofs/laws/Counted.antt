@@ -24,10 +24,10 @@ use Rattle.model.proofs.lists.Lists.{both-true}
 use Rattle.model.proofs.sound.ByRule.{Sound}
 use Rattle.model.proofs.sound.Judging.{Accepted, accepted-sound}
 use Rattle.model.proofs.sound.Counted.{those-last}
-use Rattle.page.specs.Exact.{live-none}
+use Rattle.page.proofs.laws.Exact.{live-none}
 use Rattle.page.proofs.laws.Clean.{passed, free-live}
 use Rattle.store.proofs.laws.Read.{page-at}
-use Rattle.store.specs.Tested.{Counted, pages-clean}
+use Rattle.store.proofs.laws.Tested.{Counted, pages-clean}
 
 pub pages-counted : (least v : ℕ) (s : List ℕ) (n k : ℕ) → countedPages least v s n k ≡ true → (m : ℕ) → n ≤ m → m < n + k → countedPage least v (pageOf least s m) ≡ true
 unfolding countedPages

@@ -17,8 +17,8 @@ use Rattle.model.specs.Layout.{pageOf, readHeader, readSlots, readPages, slotsB
 use Rattle.page.proofs.laws.Clean.{Clean, exact}
 use Rattle.store.proofs.laws.Read.{size-is, length-slots, count-pages, behind, current-of, opened-of, oldest-of, slots-of}
 use Rattle.store.proofs.laws.Parts.{page-take}
-use Rattle.store.specs.Slots.{directory, directory-bytes, slots-part}
-use Rattle.store.specs.Header.{nameParts, header-part}
+use Rattle.store.proofs.laws.Slots.{directory, directory-bytes, slots-part}
+use Rattle.store.proofs.laws.Header.{nameParts, header-part}
 
 pub record Exactly (least : ℕ) (s : List ℕ) (size : ℕ) : Type 0 where
   pub bytes : Bytes s

@@ -11,9 +11,12 @@ use Rattle.model.specs.Field.{lay}
 use Rattle.model.specs.Page.{Page, free}
 use Rattle.model.specs.Store.{Store}
 use Rattle.model.specs.Layout.{pageOf, withPage, encodePage, slotsBytes, pagesBytes, headerBytes, headerOf, noSlot, encode}
-use Rattle.store.specs.Slots.{SlotFits, slotParts, slot-put, directory, slots-length}
-use Rattle.store.specs.Header.{HeaderFits, putHeader, header-length, header-put}
-use Rattle.store.specs.Pages.{AllValid, page-of, with-page}
+use Rattle.store.specs.Slots.{SlotFits, slotParts}
+use Rattle.store.proofs.laws.Slots.{slot-put, directory, slots-length}
+use Rattle.store.specs.Header.{HeaderFits, putHeader}
+use Rattle.store.proofs.laws.Header.{header-length, header-put}
+use Rattle.store.specs.Pages.{AllValid}
+use Rattle.store.proofs.laws.Pages.{page-of, with-page}
 
 abbrev pub bytesOf : ℕ → Header → List Slot → List Page → List ℕ
 bytesOf least h xs ps = headerBytes least h ++ (slotsBytes xs ++ pagesBytes least ps)

@@ -23,7 +23,8 @@ use Rattle.store.proofs.laws.Read.{slots-of, length-slots}
 use Rattle.store.proofs.laws.Parts.{page-fits}
 use Rattle.store.proofs.laws.Exactly.{Exactly, encode-decode}
 use Rattle.store.specs.Holds.{Holds}
-use Rattle.store.specs.Tested.{Whole, whole-length, exactly, holds}
+use Rattle.store.specs.Tested.{Whole}
+use Rattle.store.proofs.laws.Tested.{whole-length, exactly, holds}
 use Rattle.store.proofs.laws.Counted.{counted}
 
 module _ {l : Limits} (d : Edition l) (b : List ℕ) (h : isSound (l .least) b ≡ true) where

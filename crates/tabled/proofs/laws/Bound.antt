@@ -21,7 +21,7 @@ use Rattle.model.specs.Clean.{cleanPage}
 use Rattle.model.proofs.lists.Lists.{both-true, all-cons}
 use Rattle.model.specs.Near.{pageRight, rangeRight}
 use Rattle.walk.proofs.laws.Bound.{length-those, length-followed, most, most-rises}
-use Rattle.tabled.specs.Here.{page-of, all-of}
+use Rattle.tabled.proofs.laws.Here.{page-of, all-of}
 
 pub flat-most : (f : Pair → Bool) (g : Pair → List Pair) (m : ℕ) → ((x : Pair) → f x ≡ true → length (g x) ≤ m) → (xs : List Pair) → all f xs ≡ true → length (flatMap g xs) ≤ length xs * m
 flat-most f g m h [] e = omega arith

@@ -11,8 +11,10 @@ use Rattle.model.specs.Near.{pageRight}
 use Rattle.walk.specs.Scan.{entry}
 use Rattle.tabled.proofs.laws.Bound.{parts}
 use Rattle.tabled.specs.Told.{join}
-use Rattle.tabled.specs.Table.{behind, turn, behind-end, behind-step}
-use Rattle.tabled.specs.Cells.{two-up, right-low, right-count, Table, Row, table-fewer, table-more, table-skip, table-put, row-last, row-more}
+use Rattle.tabled.specs.Table.{behind, turn}
+use Rattle.tabled.proofs.laws.Table.{behind-end, behind-step}
+use Rattle.tabled.specs.Cells.{Table, Row}
+use Rattle.tabled.proofs.laws.Cells.{two-up, right-low, right-count, table-fewer, table-more, table-skip, table-put, row-last, row-more}
 use Rattle.tabled.proofs.laws.Most.{behind-most}
 
 -- page n has this level; its places from i on are known, and `rest` is the number of place i

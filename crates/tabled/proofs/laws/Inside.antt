@@ -20,16 +20,16 @@ use Rattle.model.specs.Clean.{cleanPage}
 use Rattle.model.proofs.lists.Lists.{both-true}
 use Rattle.model.proofs.lists.Members.{not-both}
 use Rattle.page.specs.Head.{readHead}
-use Rattle.page.specs.Read.{level-of, entries-of}
+use Rattle.page.proofs.laws.Read.{level-of, entries-of}
 use Rattle.store.proofs.laws.Read.{page-at}
 use Rattle.store.proofs.laws.Parts.{length-page}
 use Rattle.local.specs.Local.{Sized}
 use Rattle.local.proofs.laws.Sizes.{part-fits}
 use Rattle.local.proofs.laws.Pages.{clean-count}
 use Rattle.model.specs.Near.{pageRight}
-use Rattle.local.specs.Right.{page-low, page-far}
+use Rattle.local.proofs.laws.Right.{page-low, page-far}
 use Rattle.walk.specs.Live.{live}
-use Rattle.walk.specs.Scan.{from-start}
+use Rattle.walk.proofs.laws.Scan.{from-start}
 use Rattle.walk.specs.Sure.{Inside}
 
 module _ {l : Limits} (d : Edition l) (b : List ℕ) (size : ℕ) (z : Sized (l .least) b size) (up n : ℕ) (e : pageRight (l .least) b (suc up) n ≡ true) where

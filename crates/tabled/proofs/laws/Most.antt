@@ -16,18 +16,20 @@ use Rattle.model.specs.Entry.{pairOf, liveAt}
 use Rattle.model.specs.Walk.{between, rangeBelow}
 use Rattle.model.specs.Layout.{pageOf, decode}
 use Rattle.model.proofs.lists.Members.{bool-cases}
-use Rattle.page.specs.Read.{length-entries}
+use Rattle.page.proofs.laws.Read.{length-entries}
 use Rattle.local.specs.Local.{Sized, countAt}
 use Rattle.model.specs.Near.{pageRight, rangeRight}
 use Rattle.walk.specs.Live.{live}
 use Rattle.walk.specs.Scan.{from}
 use Rattle.walk.specs.Below.{through, later}
 use Rattle.walk.proofs.laws.Bound.{length-those, most, most-rises}
-use Rattle.tabled.specs.Across.{under, rightFrom, across-wrong}
+use Rattle.tabled.specs.Across.{under, rightFrom}
+use Rattle.tabled.proofs.laws.Across.{across-wrong}
 use Rattle.tabled.proofs.laws.Bound.{flat-most, parts, below-most, right-few}
-use Rattle.tabled.specs.Told.{told-most}
+use Rattle.tabled.proofs.laws.Told.{told-most}
 use Rattle.tabled.specs.Table.{found, behind, turn}
-use Rattle.tabled.specs.Cells.{Table, right-count, right-low}
+use Rattle.tabled.specs.Cells.{Table}
+use Rattle.tabled.proofs.laws.Cells.{right-count, right-low}
 
 length-from : (p : List ℕ) (i n : ℕ) → length (from p i n) ≤ n
 unfolding from

@@ -16,9 +16,11 @@ use Rattle.model.specs.Entry.{pairOf, liveAt, before}
 use Rattle.model.specs.Walk.{between}
 use Rattle.model.proofs.lists.Members.{bool-cases}
 use Rattle.model.specs.Near.{startsBy}
-use Rattle.walk.specs.Live.{live, above, live-on, live-off, live-above, order-rest}
-use Rattle.walk.specs.Ends.{between-above}
-use Rattle.walk.specs.Scan.{Stands, from, order-from, Next, entry, next-none}
+use Rattle.walk.specs.Live.{live}
+use Rattle.walk.proofs.laws.Live.{above, live-on, live-off, live-above, order-rest}
+use Rattle.walk.proofs.laws.Ends.{between-above}
+use Rattle.walk.specs.Scan.{Stands, from, Next, entry}
+use Rattle.walk.proofs.laws.Scan.{order-from, next-none}
 
 -- where the first one alive is above the key, all are
 pub none-above : (v k : ℕ) (es : List Entry) → inOrder before es ≡ true → startsBy k (live v es) ≡ false → above k (live v es) ≡ true

@@ -27,13 +27,17 @@ use Rattle.model.proofs.lists.Members.{all-at, bool-cases}
 use Rattle.page.specs.Exact.{Valid}
 use Rattle.store.specs.Slots.{slotParts}
 use Rattle.store.specs.Header.{putHeader}
-use Rattle.store.specs.Holds.{Holds, slot-encoded}
-use Rattle.store.specs.Set.{withPages, withSlots, withState, state-set}
+use Rattle.store.specs.Holds.{Holds}
+use Rattle.store.proofs.laws.Holds.{slot-encoded}
+use Rattle.store.specs.Set.{withPages, withSlots, withState}
+use Rattle.store.proofs.laws.Set.{state-set}
 use Rattle.store.proofs.laws.Sure.{sure}
 use Rattle.edit.proofs.laws.Left.{valid-back}
 use Rattle.turn.proofs.laws.Partly.{free-back, frees}
-use Rattle.turn.specs.Slotted.{last-apart, other, last-goes, last-stays, lastPlace, Cleared}
-use Rattle.turn.specs.Turned.{Kept, dropped}
+use Rattle.turn.specs.Slotted.{lastPlace, Cleared}
+use Rattle.turn.proofs.laws.Slotted.{last-apart, other, last-goes, last-stays}
+use Rattle.turn.specs.Turned.{Kept}
+use Rattle.turn.proofs.laws.Turned.{dropped}
 
 take-map : {A B : Type 0} (f : A → B) (n : ℕ) (xs : List A) → take n (map f xs) ≡ map f (take n xs)
 take-map f zero xs = refl

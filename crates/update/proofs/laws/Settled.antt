@@ -21,11 +21,12 @@ use Rattle.model.proofs.lists.Lists.{both-true}
 use Rattle.walk.specs.Down.{Leaf}
 use Rattle.edit.specs.declared.Change as code
 use Rattle.edit.specs.Change.{changeOf}
-use Rattle.parts.specs.Kept.{Inside, pagesOf, inside-used}
+use Rattle.parts.specs.Kept.{Inside, pagesOf}
+use Rattle.parts.proofs.laws.Kept.{inside-used}
 use Rattle.parts.specs.Becomes.{Becomes}
-use Rattle.climb.specs.Work.{work-settles}
-use Rattle.root.specs.Root.{root-stays}
-use Rattle.update.specs.Whole.{Begun}
+use Rattle.climb.proofs.laws.Work.{work-settles}
+use Rattle.root.proofs.laws.Root.{root-stays}
+use Rattle.update.proofs.laws.Whole.{Begun}
 
 -- a leaf is no index root
 leaf-stays : (w : ℕ) (c : Change) (p : Page) → p .level ≡ 1 → goes w c p ≡ false

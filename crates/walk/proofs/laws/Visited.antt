@@ -21,8 +21,10 @@ use Rattle.model.proofs.sound.Ready.{level-used}
 use Rattle.model.proofs.reading.Visits.{visits-count, pages-told}
 use Rattle.store.proofs.laws.Sure.{whole, sure}
 use Rattle.walk.specs.Counted.{withList}
-use Rattle.walk.specs.Covers.{Covers, covers-own}
-use Rattle.walk.specs.Sure.{Readable, size, root-covers}
+use Rattle.walk.specs.Covers.{Covers}
+use Rattle.walk.proofs.laws.Covers.{covers-own}
+use Rattle.walk.specs.Sure.{Readable}
+use Rattle.walk.proofs.laws.Sure.{size, root-covers}
 
 module _ (ns ms : List ℕ) where
   abbrev told : Listed

@@ -19,8 +19,9 @@ use Rattle.model.specs.Counted.{countedPage, countedPages, rule8}
 use Rattle.model.proofs.lists.Lists.{both-intro}
 use Rattle.model.proofs.sound.ByRule.{Sound}
 use Rattle.model.proofs.sound.Counted.{those-last}
-use Rattle.page.specs.Exact.{decode-encode, encode-live}
-use Rattle.store.specs.Holds.{Holds, page-encoded, decode-encoded}
+use Rattle.page.proofs.laws.Exact.{decode-encode, encode-live}
+use Rattle.store.specs.Holds.{Holds}
+use Rattle.store.proofs.laws.Holds.{page-encoded, decode-encoded}
 use Rattle.written.proofs.laws.Spare.{encoded-size}
 
 pages-counted : (least v : ℕ) (b : List ℕ) (n k : ℕ) → ((m : ℕ) → n ≤ m → m < n + k → countedPage least v (pageOf least b m) ≡ true) → countedPages least v b n k ≡ true

@@ -27,9 +27,10 @@ use Rattle.model.proofs.lists.Lists.{both-intro}
 use Rattle.model.proofs.sound.ByRule.{Sound, to-tests}
 use Rattle.model.proofs.sound.Judging.{Accepted, judged-accepted}
 use Rattle.page.proofs.laws.Editions.{root-bits, oldest-bits}
-use Rattle.store.specs.Header.{header-length}
+use Rattle.store.proofs.laws.Header.{header-length}
 use Rattle.store.proofs.laws.Exactly.{encode-is}
-use Rattle.store.specs.Holds.{Holds, header-holds, encoded-length, decode-encoded}
+use Rattle.store.specs.Holds.{Holds}
+use Rattle.store.proofs.laws.Holds.{header-holds, encoded-length, decode-encoded}
 use Rattle.written.proofs.laws.Holding.{holds}
 use Rattle.written.proofs.laws.Counted.{all-counted}
 use Rattle.written.proofs.laws.Spare.{front-clean, all-clean, encoded-size, encoded-bytes, total-is}

@@ -20,9 +20,12 @@ use Rattle.model.specs.Layout.{unused, noSlot}
 use Rattle.model.proofs.lists.Lists.{both-true}
 use Rattle.model.proofs.lists.Members.{all-at, in-getD, bool-cases}
 use Rattle.model.proofs.sound.ByRule.{Sound, Span, span-of, GoodEntry, entry-of}
-use Rattle.page.specs.Read.{Sized, sized-unused}
-use Rattle.page.specs.Exact.{Valid, valid-free}
-use Rattle.store.specs.Slots.{SlotFits, none-fits}
+use Rattle.page.specs.Read.{Sized}
+use Rattle.page.proofs.laws.Read.{sized-unused}
+use Rattle.page.specs.Exact.{Valid}
+use Rattle.page.proofs.laws.Exact.{valid-free}
+use Rattle.store.specs.Slots.{SlotFits}
+use Rattle.store.proofs.laws.Slots.{none-fits}
 use Rattle.store.specs.Holds.{Holds}
 
 module _ (least : ℕ) (s : Store) (d : Sound least s) where

@@ -19,10 +19,12 @@ use Rattle.model.specs.Clean.{cleanPage, cleanPages, cleanFront}
 use Rattle.page.proofs.laws.Editions.{root-bits, oldest-bits}
 use Rattle.page.proofs.laws.Passes.{encode-bytes, encode-clean}
 use Rattle.store.proofs.laws.Read.{size-is}
-use Rattle.store.specs.Slots.{slotParts, slots-length, directory-bytes}
-use Rattle.store.specs.Header.{header-length}
+use Rattle.store.specs.Slots.{slotParts}
+use Rattle.store.proofs.laws.Slots.{slots-length, directory-bytes}
+use Rattle.store.proofs.laws.Header.{header-length}
 use Rattle.store.proofs.laws.Exactly.{encode-is as store-is}
-use Rattle.store.specs.Holds.{Holds, header-encoded, page-encoded, encoded-length}
+use Rattle.store.specs.Holds.{Holds}
+use Rattle.store.proofs.laws.Holds.{header-encoded, page-encoded, encoded-length}
 use Rattle.model.proofs.lists.Lists.{both-intro}
 
 field-zeros : (m at n : ℕ) → field (zeros m) at n ≡ 0

@@ -5,8 +5,9 @@ use mathlib.Core.Path.{sym, _∙_}
 use borrow.Author.Tests.{not-true, not-false}
 use Rattle.store.proofs.laws.Sure.{few, front}
 use Rattle.walk.specs.Sure.{Readable}
-use Rattle.reads.specs.Guard.{judged-number, zero-sound}
-use Rattle.changes.specs.Updating.{updating, limit-low, gives-key, gives-unopened, gives-rest, open-readable}
+use Rattle.reads.proofs.laws.Guard.{judged-number, zero-sound}
+use Rattle.changes.specs.Updating.{updating}
+use Rattle.changes.proofs.laws.Updating.{limit-low, gives-key, gives-unopened, gives-rest, open-readable}
 use borrow.Author.Needs.{needs}
 use Rattle.changes.proofs.updating.guard_updating.Statement.{statement}
 use Rattle.changes.proofs.updating.guard_updating.Tie as tie

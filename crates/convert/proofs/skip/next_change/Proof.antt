@@ -11,7 +11,8 @@ use Rattle.store.proofs.laws.Sure.{front, few, part-in, whole}
 use Rattle.local.specs.Local.{slotAt}
 use Rattle.notes.specs.Ready.{Sooner}
 use Rattle.judge.specs.Versions.{QuietPart}
-use Rattle.convert.specs.Skip.{Still, room, slots-less, parts-more}
+use Rattle.convert.specs.Skip.{Still}
+use Rattle.convert.proofs.laws.Skip.{room, slots-less, parts-more}
 use borrow.Author.Needs.{needs}
 use Rattle.convert.proofs.skip.next_change.Statement.{statement}
 use Rattle.convert.proofs.skip.next_change.Tie as tie

@@ -6,7 +6,8 @@ use Rattle.model.specs.declared.Header.{Header}
 use Rattle.model.specs.Inner.{Out}
 use Rattle.store.proofs.laws.Sure.{front, few, roots}
 use Rattle.local.specs.Local.{slotAt}
-use Rattle.notes.specs.Ready.{Sooner, outs-more}
+use Rattle.notes.specs.Ready.{Sooner}
+use Rattle.notes.proofs.laws.Ready.{outs-more}
 use borrow.Author.Needs.{needs}
 use Rattle.convert.proofs.skip.slots_change.Statement.{statement}
 use Rattle.convert.proofs.skip.slots_change.Tie as tie

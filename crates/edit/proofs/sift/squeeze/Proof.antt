@@ -9,9 +9,12 @@ use Rattle.model.specs.Field.{lay}
 use Rattle.model.specs.Basic.{those}
 use Rattle.model.specs.Layout.{lives, entryParts, countOf, readEntries, unused}
 use Rattle.page.specs.Stage.{staged}
-use Rattle.page.specs.Read.{Sized, read-sized, length-entries}
-use Rattle.edit.specs.Fate.{fateOf, fate-sized, left}
-use Rattle.edit.specs.Sift.{sifted, Staged, sift-none, sift-read, sift-put, sifted-more, live-more, live-one-most}
+use Rattle.page.specs.Read.{Sized}
+use Rattle.page.proofs.laws.Read.{read-sized, length-entries}
+use Rattle.edit.specs.Fate.{fateOf, left}
+use Rattle.edit.proofs.laws.Fate.{fate-sized}
+use Rattle.edit.specs.Sift.{sifted}
+use Rattle.edit.proofs.laws.Sift.{Staged, sift-none, sift-read, sift-put, sifted-more, live-more, live-one-most}
 use lib.Seq.{take-all}
 use lib.ListN.{length, getD, take, length-append}
 use borrow.Author.Needs.{needs}

@@ -8,9 +8,10 @@ use lib.ListN.{length}
 use Rattle.model.specs.declared.Entry.{Entry}
 use Rattle.model.specs.Page.{wanted}
 use Rattle.model.specs.Layout.{countOf, decodePage}
-use Rattle.page.specs.Read.{count-of}
+use Rattle.page.proofs.laws.Read.{count-of}
 use Rattle.edit.specs.Change.{changeOf}
-use Rattle.gather.specs.Kept.{keptPairs, rest, rest-all, rest-step, rest-none}
+use Rattle.gather.specs.Kept.{keptPairs}
+use Rattle.gather.proofs.laws.Kept.{rest, rest-all, rest-step, rest-none}
 use Rattle.gather.proofs.laws.Tests.{kept-more, wanted-long}
 use borrow.Author.Needs.{needs}
 use Rattle.gather.proofs.test.has_enough.Statement.{statement}

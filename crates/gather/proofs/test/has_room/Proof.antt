@@ -5,7 +5,7 @@ use borrow.Author.Tests.{le-leb}
 use lib.ListN.{length}
 use Rattle.model.specs.Page.{changed}
 use Rattle.model.specs.Layout.{countOf, decodePage}
-use Rattle.page.specs.Read.{count-of, entries-of, length-entries}
+use Rattle.page.proofs.laws.Read.{count-of, entries-of, length-entries}
 use Rattle.page.proofs.laws.Editions.{room-is}
 use Rattle.edit.specs.Change.{changeOf}
 use Rattle.gather.proofs.laws.Tests.{changed-few}

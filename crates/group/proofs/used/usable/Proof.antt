@@ -1,4 +1,4 @@
-use Rattle.group.specs.Numbers.{numbers-are, numbered-self, take-two, actives-two, usable-two}
+use Rattle.group.proofs.laws.Numbers.{numbers-are, numbered-self, take-two, actives-two, usable-two}
 use Rattle.group.specs.Group.{routersOf}
 use Rattle.parts.specs.Kept.{pagesOf}
 use Rattle.model.specs.Needs.{actives}

@@ -11,7 +11,8 @@ use Rattle.bits.proofs.laws.Put.{less}
 use Rattle.judge.proofs.laws.Taking.{start, fewer, leaf-marked, enter, shut, finish, stopped}
 use Rattle.judge.proofs.laws.Steps.{stops, passed, pushed, left, lighter}
 use Rattle.judge.proofs.laws.Walking.{Walking, Entering, weigh-top, weigh-put}
-use Rattle.judge.specs.Pending.{none, restOf, heft, weigh, stepOk}
+use Rattle.judge.specs.Pending.{restOf, stepOk}
+use Rattle.judge.proofs.laws.Pending.{none, heft, weigh}
 use Rattle.local.proofs.laws.Sizes.{part-fits}
 use Rattle.local.specs.Local.{IsPage, countAt}
 use Rattle.model.proofs.lists.Lists.{both-true}

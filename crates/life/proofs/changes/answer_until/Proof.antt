@@ -5,8 +5,8 @@ use mathlib.Core.Path.{_≡_, subst}
 use borrow.Author.Needs.{needs}
 use Rattle.model.specs.Layout.{decode}
 use Rattle.store.proofs.laws.Sure.{few}
-use Rattle.walk.specs.Covers.{covers-starts}
-use Rattle.walk.specs.Sure.{root-covers, covers-inside}
+use Rattle.walk.proofs.laws.Covers.{covers-starts}
+use Rattle.walk.proofs.laws.Sure.{root-covers, covers-inside}
 use Rattle.life.proofs.laws.Way.{Going, going-start, going-down, going-end}
 use Rattle.life.proofs.changes.answer_until.Statement.{statement}
 use Rattle.life.proofs.changes.answer_until.Tie as tie

@@ -11,8 +11,8 @@ use borrow.Author.Needs.{needs}
 use Rattle.model.specs.declared.Header.{Header}
 use Rattle.model.specs.Store.{lastOf}
 use Rattle.store.proofs.laws.Read.{current-lt, oldest-of}
-use Rattle.local.specs.First.{last-is, clean-roots}
-use Rattle.local.specs.Right.{front-clean, front-last, front-none, front-slots}
+use Rattle.local.proofs.laws.First.{last-is, clean-roots}
+use Rattle.local.proofs.laws.Right.{front-clean, front-last, front-none, front-slots}
 use Rattle.local.proofs.front.front_rest.Statement.{statement}
 use Rattle.local.proofs.front.front_rest.Tie as tie
 

@@ -10,7 +10,7 @@ use Rattle.local.specs.Local.{headAt, lies}
 use Rattle.model.specs.Layout.{pageOf}
 use Rattle.page.specs.Head.{readHead}
 use Rattle.page.specs.declared.Head.{Head}
-use Rattle.page.specs.Read.{level-lt}
+use Rattle.page.proofs.laws.Read.{level-lt}
 use borrow.Author.Needs.{needs}
 use Rattle.local.proofs.third.link_ok.Statement.{statement}
 use Rattle.local.proofs.third.link_ok.Tie as tie

@@ -11,12 +11,13 @@ use Rattle.model.specs.Near.{rangeRight}
 use Rattle.model.specs.Lent.{Listed}
 use Rattle.model.specs.Walk.{rangeBelow}
 use Rattle.model.specs.Layout.{decode}
-use Rattle.walk.specs.Counted.{counted-short, counted-all}
-use Rattle.walk.specs.Written.{numbers, written, Space, written-all}
-use Rattle.near.specs.Crossed.{answered-wrong, answered-right}
+use Rattle.walk.proofs.laws.Counted.{counted-short, counted-all}
+use Rattle.walk.specs.Written.{numbers, written, Space}
+use Rattle.walk.proofs.laws.Written.{written-all}
+use Rattle.near.proofs.laws.Crossed.{answered-wrong, answered-right}
 use Rattle.tabled.proofs.laws.Most.{found-most}
-use Rattle.tabled.specs.Cells.{table-fewer}
-use Rattle.tabled.specs.Table.{found-some, found-zero}
+use Rattle.tabled.proofs.laws.Cells.{table-fewer}
+use Rattle.tabled.proofs.laws.Table.{found-some, found-zero}
 use Rattle.tabled.proofs.laws.Bound.{right-few}
 use Rattle.near.proofs.bounded.listed_by.Statement.{statement}
 use Rattle.near.proofs.bounded.listed_by.Tie as tie

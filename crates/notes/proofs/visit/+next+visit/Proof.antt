@@ -3,11 +3,13 @@ use mathlib.Core.Bool.{true}
 use native.Mathlib.Omega.{arith}
 use borrow.Author.Tests.{not-true, not-false}
 use Rattle.model.specs.Layout.{decode, readEntry, readEntries}
-use Rattle.page.specs.Read.{Sized, read-sized}
+use Rattle.page.specs.Read.{Sized}
+use Rattle.page.proofs.laws.Read.{read-sized}
 use Rattle.notes.specs.declared.Note.{Note}
 use Rattle.notes.specs.Notes.{nothing, noteAt, row}
 use Rattle.notes.proofs.laws.Here.{part-asks, head-asks, stands-here, few, entries-start, leads-here}
-use Rattle.notes.specs.Kept.{Kept, kidsAt, below-leaf, below-dead, below-live, leads-on, known-is, note-row, step-kid, row-end, row-next, row-stops, live-next, kept-after, entries-here, height-here}
+use Rattle.notes.specs.Kept.{Kept, kidsAt}
+use Rattle.notes.proofs.laws.Kept.{below-leaf, below-dead, below-live, leads-on, known-is, note-row, step-kid, row-end, row-next, row-stops, live-next, kept-after, entries-here, height-here}
 use borrow.Author.Needs.{needs}
 use Prim.Native.Nat.{ℕ, _<_, _≤_, _+_, _*_, _-_}
 use borrow.Fn.Kinds.{In}

@@ -1,4 +1,5 @@
-use Rattle.parts.specs.Free.{freePast, free-here, free-not, free-none}
+use Rattle.parts.specs.Free.{freePast}
+use Rattle.parts.proofs.laws.Free.{free-here, free-not, free-none}
 use Rattle.parts.specs.Kept.{pagesOf}
 use lib.ListN.{length}
 use native.Mathlib.Omega.{arith}

@@ -1,4 +1,5 @@
-use Rattle.parts.specs.Kept.{pagesOf, long}
+use Rattle.parts.specs.Kept.{pagesOf}
+use Rattle.parts.proofs.laws.Kept.{long}
 use Rattle.store.proofs.laws.Read.{size-is}
 use lib.ListN.{length}
 use mathlib.Core.Path.{_∙_}

@@ -1,6 +1,8 @@
-use Rattle.parts.specs.Becomes.{lent, fitting-part}
-use Rattle.parts.specs.Kept.{pagesOf, part-in, short, exact}
-use Rattle.gather.specs.Gather.{pairsIn, part-pairs}
+use Rattle.parts.proofs.laws.Becomes.{lent, fitting-part}
+use Rattle.parts.specs.Kept.{pagesOf}
+use Rattle.parts.proofs.laws.Kept.{part-in, short, exact}
+use Rattle.gather.specs.Gather.{pairsIn}
+use Rattle.gather.proofs.laws.Gather.{part-pairs}
 use Rattle.edit.proofs.laws.Left.{valid-filled}
 use Rattle.store.proofs.laws.Parts.{part-page}
 use Rattle.page.proofs.laws.Editions.{bytes-is}

@@ -3,7 +3,7 @@ use Prim.Native.Nat.{_+_, _-_}
 use native.Mathlib.Omega.{arith}
 use Rattle.model.specs.Walk.{keyLimit}
 use Rattle.plain.specs.Plain.{setMissing}
-use Rattle.plain.specs.Turns.{Turning, missing-silent, turning-start, turning-on, turning-end, turning-room}
+use Rattle.plain.proofs.laws.Turns.{Turning, missing-silent, turning-start, turning-on, turning-end, turning-room}
 use borrow.Author.Needs.{needs}
 use Rattle.plain.proofs.back.set_missing.Statement.{statement}
 use Rattle.plain.proofs.back.set_missing.Tie as tie

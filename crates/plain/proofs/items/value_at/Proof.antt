@@ -6,7 +6,8 @@ use mathlib.Core.Path.{_≡_, refl, ap, sym, _∙_}
 use Rattle.model.specs.declared.Entry.{Entry}
 use lib.ListN.{length}
 use Rattle.plain.specs.Plain.{valueAt}
-use Rattle.plain.specs.Items.{from, from-end, foundOf, value-here, value-on}
+use Rattle.plain.specs.Items.{from, foundOf}
+use Rattle.plain.proofs.laws.Items.{from-end, value-here, value-on}
 use borrow.Author.Needs.{needs}
 use Rattle.plain.proofs.items.value_at.Statement.{statement}
 use Rattle.plain.proofs.items.value_at.Tie as tie

@@ -10,7 +10,7 @@ use Rattle.model.specs.Walk.{keyLimit}
 use Rattle.model.specs.Return.{comes}
 use Rattle.plain.specs.Plain.{keys, differs}
 use Rattle.plain.specs.Items.{from}
-use Rattle.plain.specs.Scan.{told, saying, differs-told, saying-skip, saying-end}
+use Rattle.plain.proofs.laws.Scan.{told, saying, differs-told, saying-skip, saying-end}
 use Rattle.plain.proofs.Guards.{comes-step, comes-few}
 use borrow.Author.Needs.{needs}
 use Rattle.plain.proofs.room.comings.Statement.{statement}

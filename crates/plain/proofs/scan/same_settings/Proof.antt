@@ -9,7 +9,7 @@ use Rattle.model.specs.declared.Delta.{Delta}
 use Rattle.model.specs.Walk.{keyLimit}
 use Rattle.plain.specs.Plain.{keys, differs}
 use Rattle.plain.specs.Items.{from}
-use Rattle.plain.specs.Scan.{told, saying, differs-told, saying-skip, saying-same, saying-other, saying-end}
+use Rattle.plain.proofs.laws.Scan.{told, saying, differs-told, saying-skip, saying-same, saying-other, saying-end}
 use borrow.Author.Needs.{needs}
 use Rattle.plain.proofs.scan.same_settings.Statement.{statement}
 use Rattle.plain.proofs.scan.same_settings.Tie as tie

@@ -9,8 +9,9 @@ use Rattle.model.specs.declared.Entry.{Entry}
 use Rattle.model.specs.Telling.{written}
 use Rattle.model.proofs.reading.Telling.{written-none}
 use Rattle.plain.specs.Items.{kept}
-use Rattle.plain.specs.Laid.{laid-written}
-use Rattle.plain.specs.Sweep.{withEnd, kept-one, kept-none}
+use Rattle.plain.proofs.laws.Laid.{laid-written}
+use Rattle.plain.specs.Sweep.{withEnd}
+use Rattle.plain.proofs.laws.Sweep.{kept-one, kept-none}
 use borrow.Author.Needs.{needs}
 use Rattle.plain.proofs.sweep.keep.Statement.{statement}
 use Rattle.plain.proofs.sweep.keep.Tie as tie

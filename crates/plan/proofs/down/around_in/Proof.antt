@@ -1,5 +1,6 @@
-use Rattle.plan.specs.Way.{lookedFrom, looked-start, looked-on, looked-here, looked-last}
-use Rattle.gather.specs.Gather.{pairsIn, length-pairs, pair-at}
+use Rattle.plan.proofs.laws.Way.{lookedFrom, looked-start, looked-on, looked-here, looked-last}
+use Rattle.gather.specs.Gather.{pairsIn}
+use Rattle.gather.proofs.laws.Gather.{length-pairs, pair-at}
 use Rattle.edit.specs.Fill.{nil}
 use Rattle.model.specs.Walk.{around}
 use Rattle.model.specs.declared.Pair.{Pair}

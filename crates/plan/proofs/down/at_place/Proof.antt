@@ -1,4 +1,4 @@
-use Rattle.plan.specs.Way.{taken-is, taken-among}
+use Rattle.plan.proofs.laws.Way.{taken-is, taken-among}
 use Rattle.model.specs.declared.Pair.{Pair}
 use lib.ListN.{length, getD}
 use mathlib.Core.List.{List}

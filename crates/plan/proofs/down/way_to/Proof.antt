@@ -1,5 +1,6 @@
-use Rattle.plan.specs.Way.{Going, root-inside, root-level, going-start, going-inside, going-live, going-step, going-end}
-use Rattle.parts.specs.Kept.{Kept, pagesOf, kept-sound}
+use Rattle.plan.proofs.laws.Way.{Going, root-inside, root-level, going-start, going-inside, going-live, going-step, going-end}
+use Rattle.parts.specs.Kept.{Kept, pagesOf}
+use Rattle.parts.proofs.laws.Kept.{kept-sound}
 use Rattle.model.specs.Walk.{heightOf}
 use Rattle.model.specs.Store.{page}
 use mathlib.Core.Path.{_≡_, sym, ap, _∙_}

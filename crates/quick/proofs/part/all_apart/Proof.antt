@@ -10,7 +10,7 @@ use Rattle.model.specs.Basic.{inOrder}
 use Rattle.model.specs.Entry.{before}
 use Rattle.model.specs.Layout.{readEntries}
 use Rattle.spans.specs.Quick.{kept, apart}
-use Rattle.quick.specs.Part.{behind, behind-start, apart-step, apart-end, order-step}
+use Rattle.quick.proofs.laws.Part.{behind, behind-start, apart-step, apart-end, order-step}
 use Rattle.quick.proofs.part.all_apart.Statement.{statement}
 use Rattle.quick.proofs.part.all_apart.Tie as tie
 

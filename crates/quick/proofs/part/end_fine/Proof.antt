@@ -3,7 +3,8 @@ use native.Mathlib.Omega.{arith}
 use borrow.Author.Tests.{not-true, not-false}
 use Rattle.model.specs.Layout.{readEntries}
 use Rattle.spans.specs.Quick.{liveCount}
-use Rattle.quick.specs.Part.{endFine, leb-min}
+use Rattle.quick.specs.Part.{endFine}
+use Rattle.quick.proofs.laws.Part.{leb-min}
 use borrow.Author.Needs.{needs}
 use Rattle.quick.proofs.part.end_fine.Statement.{statement}
 use Rattle.quick.proofs.part.end_fine.Tie as tie

@@ -3,7 +3,7 @@ use native.Mathlib.Omega.{arith}
 use borrow.Author.Tests.{not-true, not-false, eq-eqb, ne-eqb}
 use Rattle.page.specs.declared.Head.{Head}
 use Rattle.notes.specs.Linked.{Stands}
-use Rattle.quick.specs.Part.{fine-by}
+use Rattle.quick.proofs.laws.Part.{fine-by}
 use borrow.Author.Needs.{needs}
 use Rattle.quick.proofs.part.fine_over.Statement.{statement}
 use Rattle.quick.proofs.part.fine_over.Tie as tie

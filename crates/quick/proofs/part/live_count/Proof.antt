@@ -8,7 +8,7 @@ use Rattle.model.specs.Layout.{readEntries}
 use Rattle.model.specs.Basic.{pick}
 use Rattle.model.specs.Entry.{liveAt}
 use Rattle.spans.specs.Quick.{liveCount}
-use Rattle.quick.specs.Part.{count-step, count-end, one-most}
+use Rattle.quick.proofs.laws.Part.{count-step, count-end, one-most}
 use Rattle.quick.proofs.part.live_count.Statement.{statement}
 use Rattle.quick.proofs.part.live_count.Tie as tie
 

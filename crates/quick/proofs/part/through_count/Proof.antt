@@ -8,7 +8,7 @@ use Rattle.model.specs.Layout.{readEntries}
 use lib.ListN.{length}
 use Rattle.model.specs.Basic.{pick, those}
 use Rattle.model.specs.Inner.{throughout}
-use Rattle.quick.specs.Part.{count-step, count-end, one-most}
+use Rattle.quick.proofs.laws.Part.{count-step, count-end, one-most}
 use Rattle.quick.proofs.part.through_count.Statement.{statement}
 use Rattle.quick.proofs.part.through_count.Tie as tie
 

@@ -9,9 +9,10 @@ use Rattle.spans.specs.Quick.{nexts}
 use Rattle.local.specs.Local.{IsPage, levelAt}
 use Rattle.notes.proofs.laws.Here.{part-asks, room-here}
 use Rattle.quick.proofs.laws.Here.{order-part}
-use Rattle.quick.specs.Routers.{routerFrom, leads-to, router-by}
+use Rattle.quick.specs.Routers.{routerFrom}
+use Rattle.quick.proofs.laws.Routers.{leads-to, router-by}
 use Rattle.quick.specs.Under.{underPage}
-use Rattle.quick.specs.Within.{settled, handed}
+use Rattle.quick.proofs.laws.Within.{settled, handed}
 use Rattle.quick.proofs.routers.router_from.Statement.{statement}
 use Rattle.quick.proofs.routers.router_from.Tie as tie
 

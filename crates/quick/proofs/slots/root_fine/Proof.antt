@@ -1,4 +1,4 @@
-use Rattle.quick.specs.Slots.{slot-by}
+use Rattle.quick.proofs.laws.Slots.{slot-by}
 use borrow.Author.Tests.{le-leb, lt-leb}
 use mathlib.Core.Path.{sym, _∙_}
 use native.Mathlib.Omega.{arith}

@@ -1,4 +1,4 @@
-use Rattle.quick.specs.Slots.{slots-start, slots-fine-step, slots-fine-end}
+use Rattle.quick.proofs.laws.Slots.{slots-start, slots-fine-step, slots-fine-end}
 use Rattle.spans.specs.Quick.{slotsFine}
 use Rattle.model.specs.Layout.{decode, readHeader, readSlots}
 use Rattle.model.specs.declared.Header.{Header}

@@ -1,4 +1,4 @@
-use Rattle.quick.specs.Slots.{upto-next, upto-none}
+use Rattle.quick.proofs.laws.Slots.{upto-next, upto-none}
 use Rattle.model.specs.declared.Slot.{Slot}
 use Prim.Native.Nat.{_*_}
 use mathlib.Core.Path.{ap, sym, _∙_}

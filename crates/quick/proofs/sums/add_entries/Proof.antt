@@ -1,5 +1,6 @@
-use Rattle.quick.specs.Sums.{Sums, addTo, addEntries, add-entries-step, add-entries-end, one-more, fewer}
-use Rattle.page.specs.Read.{read-sized}
+use Rattle.quick.specs.Sums.{Sums, addTo, addEntries}
+use Rattle.quick.proofs.laws.Sums.{add-entries-step, add-entries-end, one-more, fewer}
+use Rattle.page.proofs.laws.Read.{read-sized}
 use Rattle.model.specs.Layout.{readEntry, readEntries}
 use Rattle.model.specs.declared.Entry.{Entry}
 use Prim.Native.Nat.{_+_, _*_, _-_, _≤_, _<_, max}

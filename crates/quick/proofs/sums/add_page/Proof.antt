@@ -1,5 +1,5 @@
 use Rattle.local.specs.Local.{levelAt}
-use Rattle.quick.specs.Sums.{page-by}
+use Rattle.quick.proofs.laws.Sums.{page-by}
 use Rattle.notes.proofs.laws.Here.{part-asks, head-asks, front-is, level-is, few, stands-here, page-here}
 use Rattle.model.specs.Layout.{pageOf, readEntry}
 use borrow.Author.Tests.{le-leb, lt-leb}

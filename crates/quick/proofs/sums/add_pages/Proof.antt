@@ -1,5 +1,6 @@
 use Rattle.page.specs.Head.{readHead}
-use Rattle.quick.specs.Sums.{Sums, addPage, addPages, add-pages-step, add-pages-end, page-more, fewer}
+use Rattle.quick.specs.Sums.{Sums, addPage, addPages}
+use Rattle.quick.proofs.laws.Sums.{add-pages-step, add-pages-end, page-more, fewer}
 use Rattle.store.proofs.laws.Read.{behind}
 use Rattle.model.specs.Layout.{pageOf, decode, decodePage, readPages, sizeOf}
 use lib.ListN.{drop}

@@ -1,5 +1,6 @@
-use Rattle.quick.specs.Sums.{Sums, addTo, addSlots, add-slots-step, add-slots-end, one-more, upto-most}
-use Rattle.quick.specs.Slots.{slots-start}
+use Rattle.quick.specs.Sums.{Sums, addTo, addSlots}
+use Rattle.quick.proofs.laws.Sums.{add-slots-step, add-slots-end, one-more, upto-most}
+use Rattle.quick.proofs.laws.Slots.{slots-start}
 use Rattle.local.specs.Local.{slotAt}
 use Rattle.spans.specs.Quick.{upto}
 use Rattle.model.specs.Layout.{readHeader, readSlots, decode}

@@ -1,4 +1,5 @@
-use Rattle.quick.specs.Sums.{allMet, met-step, met-end}
+use Rattle.quick.specs.Sums.{allMet}
+use Rattle.quick.proofs.laws.Sums.{met-step, met-end}
 use Rattle.store.proofs.laws.Read.{behind}
 use Rattle.model.specs.Layout.{readPages, decode, sizeOf}
 use borrow.Author.Tests.{not-true, not-false}

@@ -1,4 +1,4 @@
-use Rattle.quick.specs.Sums.{met-by}
+use Rattle.quick.proofs.laws.Sums.{met-by}
 use Rattle.notes.proofs.laws.Here.{part-asks, head-asks, front-is}
 use Rattle.model.specs.Layout.{pageOf}
 use borrow.Author.Tests.{eq-eqb, ne-eqb}

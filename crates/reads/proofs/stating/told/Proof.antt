@@ -3,7 +3,8 @@ use native.Mathlib.Omega.{arith}
 use mathlib.Core.Path.{_∙_}
 use borrow.Author.Needs.{needs}
 use Rattle.store.proofs.laws.Sure.{few, front}
-use Rattle.parts.specs.Kept.{Kept, kept-sound}
+use Rattle.parts.specs.Kept.{Kept}
+use Rattle.parts.proofs.laws.Kept.{kept-sound}
 use Rattle.reads.proofs.laws.Stating.{free-fits, told}
 use Rattle.reads.proofs.stating.told.Statement.{statement}
 use Rattle.reads.proofs.stating.told.Tie as tie

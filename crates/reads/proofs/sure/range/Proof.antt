@@ -8,7 +8,7 @@ use Rattle.model.proofs.sound.ByRule.{readable-of}
 use Rattle.store.proofs.laws.Read.{current-lt}
 use Rattle.store.proofs.laws.Sure.{few, front}
 use Rattle.near.proofs.laws.Same.{low-in}
-use Rattle.reads.specs.Reading.{unread-of}
+use Rattle.reads.proofs.laws.Reading.{unread-of}
 use Rattle.reads.proofs.laws.Looking.{ranges-five, ranges-six, ranges}
 use Rattle.reads.proofs.sure.range.Statement.{statement}
 use Rattle.reads.proofs.sure.range.Tie as tie

@@ -1,7 +1,9 @@
 -- `store::make::make` meets its contract: the stages of specs/Fresh, one call after the other. Assumes nothing.
-use Rattle.store.specs.Fresh.{rootHead, rootSlot, freshHeader, made}
-use Rattle.store.specs.Tested.{whole-least, whole-most}
-use Rattle.store.specs.Header.{namedBy, nameParts, putHeader}
+use Rattle.store.specs.Fresh.{rootHead}
+use Rattle.store.proofs.laws.Fresh.{rootSlot, freshHeader, made}
+use Rattle.store.proofs.laws.Tested.{whole-least, whole-most}
+use Rattle.store.specs.Header.{namedBy, putHeader}
+use Rattle.store.proofs.laws.Header.{nameParts}
 use Rattle.store.specs.Slots.{slotParts}
 use Rattle.page.proofs.laws.Editions.{root-bits, oldest-bits}
 use Rattle.page.specs.Head.{putHead}

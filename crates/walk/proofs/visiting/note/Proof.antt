@@ -6,8 +6,8 @@ use borrow.Author.Needs.{needs}
 use lib.ListN.{length-set}
 use Rattle.model.specs.Layout.{decode}
 use Rattle.store.proofs.laws.Sure.{few}
-use Rattle.walk.specs.Sure.{covers-inside}
-use Rattle.walk.specs.Covers.{covers-starts}
+use Rattle.walk.proofs.laws.Sure.{covers-inside}
+use Rattle.walk.proofs.laws.Covers.{covers-starts}
 use Rattle.walk.proofs.laws.Visited.{covers-number, Noting, noting-start, noting-covers, noting-step, noting-end}
 use Rattle.walk.proofs.visiting.note.Statement.{statement}
 use Rattle.walk.proofs.visiting.note.Tie as tie
