@@ -5,32 +5,29 @@ use native.Mathlib.Omega.{arith}
 use mathlib.Core.Bool.{Bool, true, false, _&&_, _||_, not}
 use mathlib.Core.Option.{Option, none, some}
 use mathlib.Core.Path.{_≡_, refl, ap, ap₂, sym, _∙_, subst}
-use mathlib.Core.Logic.{_⊎_, inl, inr}
-use mathlib.Core.List.{List, [], _∷_, _++_, map}
+use mathlib.Core.Logic.{inl, inr}
+use mathlib.Core.List.{List, [], _∷_, map}
 use lib.Dec.{leb, ltb, eqb}
 use lib.ListN.{length, length-append}
-use borrow.Author.Tests.{leb-true, leb-false, ltb-true, ltb-false, eqb-true, not-false}
+use borrow.Author.Tests.{leb-false, ltb-false, not-false}
 use Rattle.model.specs.Basic.{pick, those, keep, all, isEmpty}
 use Rattle.model.specs.declared.Pair.{Pair}
 use Rattle.model.specs.declared.Entry.{Entry}
 use Rattle.model.specs.declared.Delta.{Delta}
-use Rattle.model.specs.declared.Stretch.{Stretch}
-use Rattle.model.specs.declared.Looked.{Looked}
-use Rattle.model.specs.Entry.{pair, born, endThose, liveAt}
+use Rattle.model.specs.Entry.{pair, born, liveAt}
 use Rattle.model.specs.Limits.{editionOf}
-use Rattle.model.specs.Store.{Store, fresh, lastOf}
+use Rattle.model.specs.Store.{fresh, lastOf}
 use Rattle.model.specs.Store as store
 use Rattle.model.specs.Walk.{keyLimit, find, between}
 use Rattle.model.specs.Walk as walk
 use Rattle.model.specs.Layout.{encode}
-use Rattle.model.specs.Calls.{isSome, Rule, rule, firstOf, beyond, insertTests, deleteTests, pruneTests, benchLimit, revived, restoredEntries, lookedNumber, lookedFound, lookedValue, lookedAt, lookedBy, Ranged, rangedBy}
-use Rattle.model.specs.Layout.{bit}
+use Rattle.model.specs.Calls.{isSome, Rule, rule, firstOf, beyond, insertTests, deleteTests, pruneTests, benchLimit, revived, restoredEntries, lookedAt, lookedBy, Ranged, rangedBy}
 use Rattle.model.specs.Inner.{rising}
 use Rattle.model.specs.Told.{toldBy}
 use Rattle.model.specs.Differ.{differ, deltaNumbers}
 use Rattle.model.specs.Life.{lifeOf, stretchNumbers}
 use Rattle.model.specs.Return.{returnTests, comes, lacking}
-use Rattle.model.specs.Histories.{Call, begins, commits, abandons, inserts, deletes, returns, prunes}
+use Rattle.model.specs.Histories.{begins, commits, abandons, inserts, deletes, returns, prunes}
 use Rattle.model.specs.Settings.{Machine, start, step}
 use Rattle.model.specs.Lent.{Listed, listed}
 use Rattle.model.specs.Editions.{leastOf}
@@ -45,7 +42,7 @@ use Rattle.model.proofs.theorems.Editions.{edition-four}
 use Rattle.model.proofs.reading.Same.{same-none}
 use Rattle.model.proofs.reading.Lives.{life-ext}
 use Rattle.promises.specs.Accepts.{storeOf, OfEdition}
-use Rattle.promises.specs.Runs.{Turn, turned, Kind, making, changing, reading, kindOf, givesUp, notMaking, fitting, each}
+use Rattle.promises.specs.Runs.{Turn, turned, Kind, changing, reading, kindOf, givesUp, notMaking, fitting, each}
 use Rattle.promises.specs.Beside.{Beside, whenDone, stepped, undone, onward, fromFresh}
 use Rattle.promises.specs.Answers.{Answers, Gives, lastIn, lookupTests, rangeTests, differenceTests, lifeTests, openTests, endTests, commitTests, lookedIn, rangedFrom, toldFrom, livedIn, aliveIn, unchangedIn}
 use Rattle.promises.proofs.Agreed.{Agreed, fresh-agreed, one-turn}
@@ -56,7 +53,7 @@ use Rattle.plain.proofs.Keys.{settings-are, differs-are}
 use Rattle.plain.proofs.Values.{kept-shorter}
 use Rattle.plain.proofs.Backs.{back-few}
 use Rattle.plain.proofs.Shows.{Shows, shows-start, shows-begins, shows-commits, shows-abandons, shows-inserts, shows-deletes, shows-returns, shows-prunes}
-use Rattle.auditor.specs.Engine.{has, Plainly, ofGiven, ofListed, plainly}
+use Rattle.auditor.specs.Engine.{has, ofGiven, ofListed, plainly}
 use Rattle.auditor.specs.SideBySide.{Equal, OneCall, followed, insertsBy, acceptedIn, Fits, EachCall, SideBySide}
 
 -- ---- the plain store beside the machine

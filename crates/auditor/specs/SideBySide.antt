@@ -16,7 +16,7 @@ use Rattle.model.specs.Layout.{encode}
 use Rattle.model.specs.Differ.{differ}
 use Rattle.model.specs.Return.{comes, lacking}
 use Rattle.model.specs.Histories.{begins, commits, abandons, inserts, deletes, returns, prunes}
-use Rattle.model.specs.Ended.{Asked, Ended}
+use Rattle.model.specs.Ended.{Ended}
 use Rattle.promises.specs.Accepts.{storeOf, OfEdition}
 use Rattle.promises.specs.Runs.{Turn, turned, Kind, making, changing, reading, kindOf, givesUp, fitting, each}
 use Rattle.promises.specs.Beside.{whenDone}

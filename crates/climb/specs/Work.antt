@@ -1,8 +1,6 @@
 -- One page's work: what its values stand for, and the cases.
 use mathlib.Core.List.{List}
 use Rattle.model.specs.Page.{Page}
-use Rattle.model.specs.Page as changes
-use Rattle.model.specs.Walk as walk
 use Rattle.model.specs.Rules as rules
 use Rattle.edit.specs.Change.{changeOf}
 use Rattle.gather.specs.Kept.{Fits}

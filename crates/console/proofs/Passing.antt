@@ -11,7 +11,6 @@ use Rattle.lines.specs.declared.Held.{Held}
 use Rattle.lines.specs.Reading.{reading, readOn, told}
 use Rattle.lines.specs.Session.{after}
 use Rattle.console.specs.declared.Filled.{Filled}
-use Rattle.console.specs.declared.Kept.{Kept}
 use Rattle.console.specs.Obeys.{storeIn, Sure, Upto, Passed}
 
 -- the store after the piece and the line that is being read then, as what is left gives them

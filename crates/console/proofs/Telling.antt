@@ -2,7 +2,7 @@
 use Prim.Native.Nat.{ℕ, _+_, _-_, _<_, _≤_}
 use native.Mathlib.Omega.{arith}
 use mathlib.Core.Path.{_≡_, refl, ap, sym, subst, _∙_}
-use mathlib.Core.List.{List, [], _∷_, _++_, append-nil, append-assoc}
+use mathlib.Core.List.{List, [], _++_, append-nil, append-assoc}
 use lib.ListN.{length, take, drop, length-append, length-drop}
 use lib.Seq.{take-at, take-all, drop-drop, length-take-le}
 use Rattle.model.specs.Basic.{flatMap}
@@ -11,11 +11,10 @@ use Rattle.lines.specs.declared.Heard.the-variants.{Whole, Nothing}
 use Rattle.lines.specs.declared.Line.{Line}
 use Rattle.lines.specs.declared.Held.{Held}
 use Rattle.lines.specs.declared.Taken.{Taken}
-use Rattle.lines.specs.Answers.{textOf, laid, Put}
+use Rattle.lines.specs.Answers.{textOf, Put}
 use Rattle.lines.specs.Reading.{reading, readOn, told, lastOf, heardLines, Hears}
 use Rattle.lines.proofs.Steps.{tells, reads-on}
-use Rattle.lines.proofs.Laying.{length-laid}
-use Rattle.lines.specs.Session.{said, writes, after}
+use Rattle.lines.specs.Session.{writes, after}
 use Rattle.console.specs.declared.Obeyed.{Obeyed}
 use Rattle.console.specs.declared.Filled.{Filled}
 use Rattle.console.specs.Obeys.{storeIn, Sure, heardSaid, Obeys, Upto, Ends}

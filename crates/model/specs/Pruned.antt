@@ -1,7 +1,6 @@
 -- Prunes in edition 2. One replayed: pages 5 and 7 ended by version 2, are freed and used again in version 3, while page 8 keeps the router
 -- to page 7 whose span ended at 2. A key's value is the key and 100.
 -- Assumes nothing.
-use Prim.Native.Nat.{ℕ}
 use mathlib.Core.Bool.{Bool, true, _&&_}
 use mathlib.Core.List.{List, [], _∷_, _++_, map}
 use lib.ListN.{replicate}

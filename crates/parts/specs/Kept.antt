@@ -8,7 +8,6 @@ use Rattle.model.specs.Limits.{Edition}
 use Rattle.model.specs.Page.{Page}
 use Rattle.model.specs.Layout.{encode, decode}
 use Rattle.store.specs.Holds.{Holds}
-use Rattle.edit.specs.declared.Change as code
 
 -- the pages of the store
 abbrev pub pagesOf : Limits → List ℕ → List Page

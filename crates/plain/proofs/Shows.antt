@@ -1,15 +1,15 @@
 -- The items beside the machine of plain settings (model's Settings): at every version from the oldest up to the last they say the same, and each accepted call
 -- hands that on.
 -- Assumes nothing.
-use Prim.Native.Nat.{ℕ, suc, _+_, _≤_, _<_}
+use Prim.Native.Nat.{ℕ, suc, _≤_, _<_}
 use native.Mathlib.Omega.{arith}
 use mathlib.Core.Bool.{Bool, true, false, _&&_, _||_, not}
 use mathlib.Core.Option.{Option, none, some}
 use mathlib.Core.Path.{_≡_, refl, ap, ap₂, sym, _∙_, subst}
 use mathlib.Core.Logic.{_⊎_, inl, inr}
-use mathlib.Core.List.{List, [], _∷_, _++_, map}
+use mathlib.Core.List.{List, [], _∷_, map}
 use lib.Dec.{leb, ltb, eqb}
-use borrow.Author.Tests.{leb-true, leb-false, ltb-true, ltb-false, lt-ltb, le-ltb, le-leb, lt-leb, eqb-true, eqb-false, eq-eqb, ne-eqb}
+use borrow.Author.Tests.{leb-true, lt-ltb, le-ltb, le-leb, eqb-true, eqb-false, eq-eqb, ne-eqb}
 use Rattle.model.specs.Basic.{pick, those, keep, all, count}
 use Rattle.model.specs.declared.Pair.{Pair}
 use Rattle.model.specs.declared.Entry.{Entry}
@@ -18,7 +18,7 @@ use Rattle.model.specs.Store.{lastOf}
 use Rattle.model.specs.Walk.{keyLimit, find}
 use Rattle.model.specs.Calls.{revived, restoredEntries}
 use Rattle.model.specs.Histories.{begins, commits, abandons, inserts, deletes, returns, prunes}
-use Rattle.model.specs.Settings.{Machine, start, put, edited, step}
+use Rattle.model.specs.Settings.{Machine, start, put, step}
 use Rattle.model.proofs.lists.Lists.{both-true, both-intro, all-cons}
 use Rattle.model.proofs.lists.Members.{either-true, either-left, either-right}
 use Rattle.plain.specs.Plain.{valueAt, setKey, endKey, keptFrom, sameValue, endOther, setAs, setMissing, inTurn, backTo, keys}

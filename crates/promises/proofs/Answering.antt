@@ -8,7 +8,7 @@ use mathlib.Core.Option.{Option}
 use mathlib.Core.List.{List, [], _∷_}
 use lib.Dec.{leb, ltb}
 use lib.ListN.{length}
-use borrow.Author.Tests.{leb-false, ltb-false}
+use borrow.Author.Tests.{leb-false}
 use Rattle.model.specs.Basic.{inOrder}
 use Rattle.model.specs.declared.Pair.{Pair}
 use Rattle.model.specs.Store.{Store, next, last, lastOf}
@@ -16,7 +16,7 @@ use Rattle.model.specs.Walk.{keyLimit, find, lookup, settings, between, rangeOf
 use Rattle.model.specs.Editions.{leastOf}
 use Rattle.model.specs.Calls
 use Rattle.model.specs.Same.{samePairs}
-use Rattle.model.specs.Calls.{unchanged, isSome, rule, benchLimit, beyond, unreadable, insertTests, deleteTests, pruneTests, firstOf, lookedBy, rangedBy, get, range}
+use Rattle.model.specs.Calls.{unchanged, isSome, rule, benchLimit, unreadable, insertTests, deleteTests, pruneTests, firstOf, lookedBy, rangedBy, get, range}
 use Rattle.model.specs.Told
 use Rattle.model.specs.Told.{toldBy}
 use Rattle.model.specs.Differ

@@ -18,11 +18,10 @@ use Rattle.model.specs.Calls.{rule, firstOf, get, range}
 use Rattle.model.specs.Differ.{difference}
 use Rattle.model.specs.Life.{lived}
 use Rattle.model.specs.Return.{Ran, reached, stopped, lacking}
-use Rattle.model.specs.Lent.{Outcome, Listed, judgedFirst, listed, freshLent, lookupLent, rangeLent, differenceLent, lifeLent}
-use Rattle.model.specs.Editions.{leastOf}
+use Rattle.model.specs.Lent.{Outcome, judgedFirst, listed, freshLent, lookupLent, rangeLent, differenceLent, lifeLent}
 use Rattle.model.specs.Any.{judgedAny, lookupAny, rangeAny, differenceAny, lifeAny}
 use Rattle.model.specs.Convert.{convertTests, convertLent}
-use Rattle.model.proofs.sound.ByRule.{Sound, Readable}
+use Rattle.model.proofs.sound.ByRule.{Readable}
 use Rattle.model.proofs.kept.Stops.{lacking-is}
 use Rattle.model.proofs.theorems.Editions.{Lends, accepted-lent, goes-at}
 use Rattle.model.proofs.turning.Converted.{Upto}

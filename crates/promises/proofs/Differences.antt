@@ -12,7 +12,7 @@ use Rattle.model.specs.Basic.{all, flatMap}
 use Rattle.model.specs.declared.Pair.{Pair}
 use Rattle.model.specs.declared.Delta.{Delta}
 use Rattle.model.specs.Entry.{within}
-use Rattle.model.specs.Store.{Store, last}
+use Rattle.model.specs.Store.{Store}
 use Rattle.model.specs.Walk.{keyLimit, find, lookup, settings}
 use Rattle.model.specs.Editions.{leastOf}
 use Rattle.model.specs.Any.{differenceAny}

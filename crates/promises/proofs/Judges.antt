@@ -11,7 +11,7 @@ use borrow.Author.Tests.{not-true}
 use lib.ListN.{length}
 use Rattle.model.specs.Basic.{pick}
 use Rattle.model.specs.declared.Verdict.{Verdict}
-use Rattle.model.specs.Store.{Store, last}
+use Rattle.model.specs.Store.{Store}
 use Rattle.model.specs.Walk.{keyLimit, settings, lookupVisits}
 use Rattle.model.specs.Sound.{sound}
 use Rattle.model.specs.Layout.{encode, decode}

@@ -12,7 +12,7 @@ use Rattle.model.specs.Entry.{liveAt}
 use Rattle.model.specs.Page.{Page}
 use Rattle.model.specs.Store.{Store, page, last}
 use Rattle.model.specs.Field.{field}
-use Rattle.model.specs.Layout.{lives, liveIn, liveOf, pageOf, decodePage, sizeOf}
+use Rattle.model.specs.Layout.{lives, liveIn, liveOf, pageOf, sizeOf}
 use Rattle.model.specs.Editions.{leastOf}
 use Rattle.model.proofs.sound.ByRule.{Sound, used-in, high-used}
 use Rattle.model.proofs.sound.Judging.{Accepted, accepted-sound}

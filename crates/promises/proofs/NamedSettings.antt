@@ -11,7 +11,7 @@ use mathlib.Core.List.{List, [], _∷_, _++_}
 use lib.Dec.{leb, ltb, eqb}
 use lib.ListN.{length, drop}
 use lib.Ieee.{binary32, nanBits}
-use borrow.Author.Tests.{le-leb, lt-leb, le-ltb, ltb-false, leb-false, eqb-true, eq-eqb, ne-eqb}
+use borrow.Author.Tests.{le-leb, lt-leb, le-ltb, leb-false, eqb-true, eq-eqb, ne-eqb}
 use Rattle.model.specs.Basic.{all, keep, pick, those, flatMap}
 use Rattle.model.specs.declared.Pair.{Pair}
 use Rattle.model.specs.declared.Looked.the-variants.{Refused}

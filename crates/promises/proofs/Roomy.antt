@@ -8,7 +8,7 @@ use mathlib.Core.Logic.{_≢_}
 use mathlib.Core.List.{List, [], _∷_}
 use lib.Dec.{leb, ltb}
 use lib.ListN.{length}
-use borrow.Author.Tests.{ltb-false, le-ltb}
+use borrow.Author.Tests.{le-ltb}
 use Rattle.model.specs.declared.Pair.{Pair}
 use Rattle.model.specs.Store.{last}
 use Rattle.model.specs.Walk.{keyLimit, settings, between}

@@ -1,6 +1,6 @@
 -- A return that is done leaves the bytes that its deletes and inserts leave as single calls.
 -- Assumes nothing.
-use Prim.Native.Nat.{ℕ, _≤_, _<_}
+use Prim.Native.Nat.{ℕ, _<_}
 use native.Mathlib.Omega.{arith}
 use mathlib.Core.Bool.{Bool, true, false, not}
 use mathlib.Core.Path.{_≡_, refl, ap, ap₂, sym, _∙_}

@@ -2,7 +2,6 @@
 use Prim.Native.Nat.{ℕ}
 use mathlib.Core.Bool.{false}
 use Rattle.model.specs.Entry.{pair}
-use Rattle.model.specs.Climb as climb
 use Rattle.gather.specs.declared.Gather.{Gather}
 use Rattle.group.specs.declared.Group.{Group}
 

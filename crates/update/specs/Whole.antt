@@ -4,8 +4,6 @@ use mathlib.Core.Path.{_≡_}
 use Rattle.model.specs.Store.{Store}
 use Rattle.model.specs.Climb.{Result, done}
 use Rattle.model.proofs.sound.ByRule.{Sound}
-use Rattle.edit.specs.declared.Change as code
-use Rattle.plan.specs.declared.Way as plan-code
 
 -- a change that leaves the store sound
 abbrev pub LeavesSound : ℕ → Result → Type 0

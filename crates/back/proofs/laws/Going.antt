@@ -16,7 +16,6 @@ use Rattle.model.specs.Climb.{Result, done, refused}
 use Rattle.model.specs.Lent.{left}
 use Rattle.model.specs.Differ.{differ}
 use Rattle.model.specs.Return.{reached, orStopped, through}
-use Rattle.model.proofs.sound.ByRule as given
 use Rattle.model.proofs.sound.ByRule.{Sound, old-current}
 use Rattle.store.proofs.laws.Sure.{sure}
 use Rattle.written.proofs.laws.Encoded.{encoded-accepted, encoded-held}

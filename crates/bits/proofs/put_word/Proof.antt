@@ -7,7 +7,6 @@ use lib.Pow.{pow-pos}
 use lib.ListN.{length, length-set}
 use Rattle.model.specs.Field.{putField}
 use Rattle.bits.proofs.laws.Whole.{put-more-byte}
-use borrow.Author.Needs.{needs}
 use Rattle.bits.proofs.put_word.Statement.{statement}
 use Rattle.bits.proofs.put_word.Tie as tie
 

@@ -12,7 +12,6 @@ use Rattle.model.specs.declared.Pair.{Pair}
 use Rattle.model.specs.Basic.{has}
 use Rattle.model.specs.Entry.{born, liveAt, endThose}
 use Rattle.model.specs.Page.{Page, bornAll, changed}
-use Rattle.model.specs.Page as model
 use Rattle.edit.specs.declared.Change.{Change}
 use Rattle.edit.specs.declared.sift.Rule.the-variants.{End}
 use Rattle.edit.specs.Fate.{endOf}

@@ -10,7 +10,6 @@ use lib.Dec.{ltb, eqb}
 use borrow.Author.Tests.{ltb-true, eqb-true, lt-ltb, eq-eqb}
 use Rattle.model.specs.Basic.{all, inOrder}
 use Rattle.model.specs.declared.Pair.{Pair}
-use Rattle.model.specs.declared.Slot.{Slot}
 use Rattle.model.specs.Entry.{before}
 use Rattle.model.specs.Inner.{firstOk, sooner}
 use Rattle.model.proofs.lists.Lists.{both-true, both-intro}

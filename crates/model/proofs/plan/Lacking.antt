@@ -3,19 +3,19 @@
 -- Assumes nothing.
 use Prim.Native.Nat.{ℕ, zero, suc, _*_, _≤_, _<_}
 use native.Mathlib.Omega.{arith}
-use mathlib.Core.Bool.{Bool, true, false, _&&_, _||_, not}
+use mathlib.Core.Bool.{Bool, true, false, _&&_, _||_}
 use mathlib.Core.Path.{_≡_, refl, ap, sym, _∙_}
 use mathlib.Core.Logic.{_⊎_, inl, inr, _↔_}
 use mathlib.Core.List.{List, [], _∷_}
 use lib.Dec.{T, leb, ltb, eqb}
 use lib.ListN.{length}
-use borrow.Author.Tests.{leb-false, ltb-false, lt-leb, le-ltb, ne-eqb, not-false}
+use borrow.Author.Tests.{ltb-false, le-ltb, ne-eqb}
 use Rattle.model.specs.Basic.{pick}
 use Rattle.model.specs.declared.Pair.{Pair}
 use Rattle.model.specs.declared.Slot.{Slot}
 use Rattle.model.specs.Page.{Page, Change, wanted}
 use Rattle.model.specs.Store.{Store, page, freeOnes, next}
-use Rattle.model.specs.Walk.{Around, rootAt, way, lookup, keyLimit}
+use Rattle.model.specs.Walk.{Around, rootAt, way, lookup}
 use Rattle.model.specs.Rules
 use Rattle.model.specs.Rules.{Group, Parts, one, two, Rebuilt, rebuilt, short, rebuild, roomy, Worked, settled, upward, work}
 use Rattle.model.specs.Climb
@@ -31,7 +31,6 @@ use Rattle.model.specs.Lent.{left, judgedFirst}
 use Rattle.model.specs.Needs.{Short, takesInPlace, groupAt, goes, rootGroup, PageNeeded, here, above, root, top, NeedsPage, hasSlot, NeedsSlot, inserting, deleting, InsertTried, DeleteTried, Lacks, LacksLent}
 use Rattle.model.proofs.lists.Members.{holds-true, true-holds, not-both, bool-cases}
 use Rattle.model.proofs.sound.ByRule.{from-tests}
-use Rattle.model.proofs.sound.Ready.{Fail}
 use Rattle.model.proofs.sound.Judging.{accepted}
 use Rattle.model.proofs.plan.PlanCount.{usable-count, sizeOf, fills-size}
 use Rattle.model.proofs.plan.PlanSlots.{slot-left}

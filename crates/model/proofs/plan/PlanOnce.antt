@@ -1,7 +1,7 @@
 -- Within one level pages are never both freed and taken (decision 19). A router that "stays untouched" leads to an active page, and a
 -- router to an active page starts at the open version (decision 18).
 -- Assumes nothing.
-use Prim.Native.Nat.{ℕ, zero, suc, _+_, _≤_, _<_}
+use Prim.Native.Nat.{ℕ, zero, suc, _≤_, _<_}
 use native.Mathlib.Omega.{arith}
 use mathlib.Core.Bool.{Bool, true, false, _&&_, _||_}
 use mathlib.Core.Path.{_≡_, refl, ap, sym, _∙_, subst}

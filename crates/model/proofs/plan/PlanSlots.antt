@@ -1,6 +1,6 @@
 -- The open version's slot: whether there is one, where it stands, and what a new root makes of the slots.
 -- Assumes nothing.
-use Prim.Native.Nat.{ℕ, zero, suc, _+_, _-_, _≤_, _<_}
+use Prim.Native.Nat.{ℕ, zero, suc, _+_, _≤_, _<_}
 use native.Mathlib.Omega.{arith}
 use mathlib.Core.Bool.{Bool, true, false, _||_, not}
 use mathlib.Core.Path.{_≡_, refl, ap}

@@ -9,11 +9,11 @@ use mathlib.Core.Logic.{_⊎_, inl, inr}
 use mathlib.Core.List.{List, [], _∷_, _++_}
 use lib.Dec.{T, leb, ltb, eqb}
 use borrow.Author.Tests.{leb-true, ltb-true, ne-eqb}
-use Rattle.model.specs.Basic.{pick, inOrder}
+use Rattle.model.specs.Basic.{pick}
 use Rattle.model.specs.declared.Pair.{Pair}
 use Rattle.model.specs.Entry.{within}
 use Rattle.model.specs.Page.{Page, pairsAt}
-use Rattle.model.specs.Store.{Store, page, last}
+use Rattle.model.specs.Store.{Store, page}
 use Rattle.model.specs.Walk.{Around, around, find, lookup, settings, rootAt, heightOf, wayDown, leafOf, keyLimit}
 use Rattle.model.specs.Sound.{sound}
 use Rattle.model.specs.Inner.{rising}

@@ -12,7 +12,7 @@ use Rattle.model.specs.Basic.{those, keep, flatMap}
 use Rattle.model.specs.declared.Pair.{Pair}
 use Rattle.model.specs.Entry.{pair, within}
 use Rattle.model.specs.Page.{Page, pairsAt}
-use Rattle.model.specs.Store.{Store, page, last}
+use Rattle.model.specs.Store.{Store, page}
 use Rattle.model.specs.Walk.{between, followFrom, followed, rangeBelow, rangeOf, settings, rootAt, heightOf, keyLimit}
 use Rattle.model.specs.Sound.{sound}
 use Rattle.model.specs.Inner.{rising}

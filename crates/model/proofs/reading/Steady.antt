@@ -13,7 +13,7 @@ use Rattle.model.specs.Store.{Store, lastOf}
 use Rattle.model.specs.Walk.{settings, lookup, lookupVisits, rangeOf, rangeVisits}
 use Rattle.model.specs.Sound.{sound}
 use Rattle.model.specs.Climb.{Result, done, refused}
-use Rattle.model.specs.Calls.{rule, insert, delete, begin, committed, unchanged, commit, abandon, abandoned, prune, pruned}
+use Rattle.model.specs.Calls.{rule, insert, delete, begin, committed, unchanged, commit, abandon, abandoned, pruned}
 use Rattle.model.specs.Return.{Came, gave}
 use Rattle.model.specs.Histories.{Call, begins, commits, abandons, inserts, deletes, returns, prunes, callBy}
 use Rattle.model.specs.Settings.{Both, onward, together, fits, lent}

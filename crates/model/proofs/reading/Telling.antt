@@ -10,7 +10,7 @@ use mathlib.Core.List.{List, [], _∷_, _++_, append-assoc, append-nil}
 use lib.ListN.{length, set, drop, length-append}
 use lib.Seq.{sets, length-sets, sets-eq}
 use borrow.Author.Tests.{lt-ltb, le-ltb}
-use Rattle.model.specs.Basic.{pick, flatMap}
+use Rattle.model.specs.Basic.{flatMap}
 use Rattle.model.specs.Calls.{rule, firstOf}
 use Rattle.model.specs.Told.{toldIn, toldBy}
 use Rattle.model.specs.Telling.{Shape, allNumbers, written, Space, Gathers}

@@ -17,7 +17,7 @@ use Rattle.model.specs.Page.{Page, free, isFree}
 use Rattle.model.specs.declared.Slot.{Slot}
 use Rattle.model.specs.Store.{Store, page, next, lastOf, last}
 use Rattle.model.specs.Walk.{Seen, seen, keyLimit}
-use Rattle.model.specs.Sound.{pagesPass, isPage, spanOk, entryOk, pageOk, zeroed, pageFine, firstVersion, inside, leadsWell, skipped, liesWell, versions, keysOk, fewest, same, reachedWell, sound, rule1, rule2, rule3, rule4, rule5, rule6, rule7}
+use Rattle.model.specs.Sound.{pagesPass, isPage, spanOk, entryOk, pageOk, zeroed, pageFine, firstVersion, inside, liesWell, versions, keysOk, fewest, same, reachedWell, sound, rule1, rule2, rule3, rule4, rule5, rule6, rule7}
 use Rattle.model.specs.Calls.{beyond, unreadable}
 use Rattle.model.proofs.lists.Lists.{both-true, both-intro}
 use Rattle.model.proofs.lists.Members.{not-both, neither, either-true, either-left, either-right, bool-cases, In, all-in, all-by, all-at, all-places, in-count, count-in}

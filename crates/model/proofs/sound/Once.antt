@@ -1,6 +1,6 @@
 -- At a version of a sound store a walk meets each page once.
 -- Assumes nothing.
-use Prim.Native.Nat.{ℕ, zero, suc, _+_, _≤_}
+use Prim.Native.Nat.{ℕ, zero, suc, _≤_}
 use native.Mathlib.Omega.{arith}
 use mathlib.Core.Bool.{Bool, true, false, not}
 use mathlib.Core.Path.{_≡_, refl, ap, ap₂, sym, _∙_, subst}
@@ -11,7 +11,7 @@ use borrow.Author.Tests.{ne-eqb}
 use Rattle.model.specs.Basic.{all, flatMap, inOrder}
 use Rattle.model.specs.declared.Pair.{Pair}
 use Rattle.model.specs.Page.{Page, pairsAt}
-use Rattle.model.specs.Store.{Store, page, last}
+use Rattle.model.specs.Store.{Store, page}
 use Rattle.model.specs.Walk.{Seen, seenAs, seenUnder, seenBelow, spread, heightOf, keyLimit, settings}
 use Rattle.model.proofs.lists.Lists.{both-true, both-intro}
 use Rattle.model.proofs.lists.Members.{In, in-append, all-by, all-in}

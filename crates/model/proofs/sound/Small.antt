@@ -21,7 +21,7 @@ use Rattle.model.proofs.lists.Lists.{both-true, both-intro}
 use Rattle.model.proofs.lists.Members.{all-by, in-map, in-those}
 use Rattle.model.proofs.tree.Local.{all-append}
 use Rattle.model.proofs.tree.Tree.{Row, Holds, Tree}
-use Rattle.model.proofs.sound.ByRule.{Readable, old-last, Sound, GoodEntry, entry-of}
+use Rattle.model.proofs.sound.ByRule.{Readable, Sound, GoodEntry, entry-of}
 use Rattle.model.proofs.sound.Ready.{level-used, root-level, holds-all}
 
 abbrev pub small : Pair → Bool

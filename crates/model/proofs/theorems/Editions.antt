@@ -7,10 +7,10 @@ use native.Mathlib.Omega.{arith}
 use mathlib.Core.Bool.{Bool, true, false, _&&_, true≢false}
 use mathlib.Core.Path.{_≡_, refl, ap, sym, subst, _∙_}
 use mathlib.Core.Logic.{_≢_, _⊎_, inl, inr}
-use mathlib.Core.List.{List, []}
+use mathlib.Core.List.{List}
 use lib.Dec.{leb, ltb, eqb}
 use lib.ListN.{length}
-use borrow.Author.Tests.{leb-true, eqb-true, ltb-true, le-ltb, ne-eqb}
+use borrow.Author.Tests.{leb-true, eqb-true, le-ltb, ne-eqb}
 use Rattle.model.specs.Basic.{pick}
 use Rattle.model.specs.Field.{field}
 use Rattle.model.specs.Layout.{sizeOf}
@@ -24,7 +24,7 @@ use Rattle.model.specs.State.{untold}
 use Rattle.model.specs.Lent
 use Rattle.model.specs.Any
 use Rattle.model.specs.Any.{judgedAny}
-use Rattle.model.specs.Ended.{Asked, toFresh, toFreshSecond, toCheck, toOpen, toCommit, toAbandon, toInsert, toDelete, toReturn, toPrune, toLookup, toRange, toLife, toDifference, toVisits, Ended, ofOutcome, ofVerdict, ofLooked, ofListed, ended, endedBy, makes, Untouched, Refuses, toState, ofState}
+use Rattle.model.specs.Ended.{Asked, toFresh, toFreshSecond, toCheck, toOpen, toCommit, toAbandon, toInsert, toDelete, toReturn, toPrune, toLookup, toRange, toLife, toDifference, toVisits, Ended, ofOutcome, ofVerdict, ofLooked, ofListed, ended, endedBy, makes, Refuses, toState, ofState}
 use Rattle.model.proofs.lists.Lists.{both-true}
 use Rattle.model.proofs.sound.Judging.{accepted}
 

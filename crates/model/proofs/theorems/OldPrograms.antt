@@ -3,7 +3,7 @@
 -- Assumes nothing.
 use Prim.Native.Nat.{ℕ, suc}
 use mathlib.Core.Bool.{Bool, true, false, _||_, not, true≢false}
-use mathlib.Core.Path.{_≡_, refl, sym, ap, subst, _∙_}
+use mathlib.Core.Path.{_≡_, refl, sym}
 use mathlib.Core.Logic.{_⊎_, inl, inr, ⊎-elim}
 use mathlib.Core.Option.{Option}
 use mathlib.Core.List.{List, [], _∷_}
@@ -14,7 +14,7 @@ use Rattle.model.specs.declared.Pair.{Pair}
 use Rattle.model.specs.Walk.{keyLimit, lookup, rangeOf}
 use Rattle.model.specs.Layout.{decode}
 use Rattle.model.specs.Judged
-use Rattle.model.specs.Judged.{lengthOk, magicOk, editionOk, verdict, judged}
+use Rattle.model.specs.Judged.{lengthOk, verdict, judged}
 use Rattle.model.specs.Near
 use Rattle.model.specs.Near.{early, fromRoot, downRight, rangeRight}
 use Rattle.model.specs.Calls

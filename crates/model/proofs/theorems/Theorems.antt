@@ -14,7 +14,7 @@ use Rattle.model.specs.Basic.{all, has, pick, those, keep, inOrder}
 use Rattle.model.specs.declared.Pair.{Pair}
 use Rattle.model.specs.Entry.{pair, enterPair}
 use Rattle.model.specs.Page.{pairsAt}
-use Rattle.model.specs.Store.{Store, page, next, last, lastOf}
+use Rattle.model.specs.Store.{Store, page, next, lastOf}
 use Rattle.model.specs.Walk.{settings, lookup, find, rootAt, heightOf, Seen, seen, keyLimit}
 use Rattle.model.specs.Sound.{sound, fewest}
 use Rattle.model.specs.Climb.{Result, done, refused, update}

@@ -7,15 +7,12 @@ use native.Mathlib.Omega.{arith}
 use mathlib.Core.Bool.{Bool, true, false}
 use mathlib.Core.Path.{_≡_, refl, ap, sym, subst, _∙_}
 use mathlib.Core.Logic.{_⊎_, inl, inr}
-use mathlib.Core.List.{List}
 use lib.Dec.{leb}
 use borrow.Author.Tests.{leb-true, leb-false, lt-leb}
 use Rattle.model.specs.Basic.{pick}
-use Rattle.model.specs.declared.Pair.{Pair}
-use Rattle.model.specs.declared.Delta.{Delta}
 use Rattle.model.specs.Store.{Store, next, lastOf, last, fresh}
 use Rattle.model.specs.Walk.{settings}
-use Rattle.model.specs.Climb.{Result, done, refused}
+use Rattle.model.specs.Climb.{done, refused}
 use Rattle.model.specs.Calls.{begin, committed}
 use Rattle.model.specs.Differ.{differ}
 use Rattle.model.specs.Return.{Ran, reached, stopped, orStopped, andOn, carried, Came, gave, gaveUp, lacking}

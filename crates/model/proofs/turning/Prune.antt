@@ -8,21 +8,20 @@ use mathlib.Core.Logic.{_⊎_, inl, inr}
 use mathlib.Core.List.{List, [], _∷_, map}
 use lib.Dec.{leb, ltb, eqb}
 use lib.ListN.{length, drop, getD, List·getD-map}
-use borrow.Author.Tests.{leb-true, leb-false, ltb-true, ltb-false, eqb-true, le-leb, lt-ltb, lt-leb, le-ltb, not-true}
+use borrow.Author.Tests.{leb-true, leb-false, ltb-true, le-leb, lt-ltb, le-ltb, not-true}
 use Rattle.model.specs.Basic.{all, has, pick, those, keep, inOrder}
-use Rattle.model.specs.declared.Pair.{Pair}
 use Rattle.model.specs.declared.Entry.{Entry}
 use Rattle.model.specs.Entry.{pairOf, within, liveAt}
 use Rattle.model.specs.Page.{Page, free, isFree, pairsAt}
 use Rattle.model.specs.declared.Slot.{Slot}
 use Rattle.model.specs.Store.{Store, page, lastOf, last}
-use Rattle.model.specs.Walk.{rootFrom, rootAt, heightOf, Seen, seen}
+use Rattle.model.specs.Walk.{rootFrom, rootAt, Seen, seen}
 use Rattle.model.specs.Sound.{isPage, entryOk, inside, liesWell, keysOk, firstVersion}
 use Rattle.model.specs.Calls.{rule, pruneTests, prunedPage, needed, pruned, prune}
 use Rattle.model.specs.Climb.{Result, done, refused}
 use Rattle.model.proofs.lists.Lists.{both-true, both-intro}
 use Rattle.model.proofs.lists.Members.{not-both, either-true, either-left, either-right, bool-cases, In, all-in, all-by}
-use Rattle.model.proofs.sound.ByRule.{Readable, kept-of, old-current, old-last, Sound, GoodPage, GoodEntry, entry-of, ok-entry, Spoken, leadsIfSpoken, rule7-shut, spansWell, livesAt, enough}
+use Rattle.model.proofs.sound.ByRule.{Readable, kept-of, Sound, GoodPage, GoodEntry, entry-of, ok-entry, Spoken, leadsIfSpoken, rule7-shut, spansWell, livesAt, enough}
 use Rattle.model.proofs.sound.Ready.{numbered-by, root-used, root-lives, within-of}
 use Rattle.model.proofs.older.Past.{bySlot, stands}
 use Rattle.model.proofs.reading.Alike.{Alike, alike-seen}

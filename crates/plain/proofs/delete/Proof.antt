@@ -1,11 +1,10 @@
 -- `delete` meets its contract. Assumes nothing.
-use Prim.Native.Nat.{ℕ, suc, _+_, _*_, _<_}
+use Prim.Native.Nat.{ℕ, suc, _+_, _<_}
 use native.Mathlib.Omega.{arith}
-use mathlib.Core.Path.{_≡_, refl, ap, ap₂, sym, _∙_}
+use mathlib.Core.Path.{_≡_, ap, ap₂, sym, _∙_}
 use mathlib.Core.List.{List}
 use Rattle.plain.specs.declared.Left.{Left}
 use Rattle.model.specs.Walk.{keyLimit}
-use Rattle.model.specs.Calls.{benchLimit}
 use Rattle.plain.specs.Plain.{valueAt}
 use Rattle.plain.specs.Items.{plainOf, from}
 use Rattle.plain.proofs.laws.Items.{found-some, found-none}

@@ -5,8 +5,7 @@ use Rattle.gather.proofs.laws.Gather.{listed}
 use Rattle.edit.specs.Change.{changeOf, one}
 use Rattle.model.specs.Store.{page}
 use Rattle.model.specs.Needs.{goes}
-use mathlib.Core.Bool.{Bool}
-use mathlib.Core.Path.{_≡_, ap, sym, _∙_}
+use mathlib.Core.Path.{_≡_, sym, _∙_}
 use native.Mathlib.Omega.{arith}
 use borrow.Author.Needs.{needs}
 use Rattle.plan.proofs.plan_root.Statement.{statement}

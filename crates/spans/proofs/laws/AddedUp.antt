@@ -24,7 +24,7 @@ use Rattle.model.proofs.sound.ByRule.{Front, livesAt, numbers}
 use Rattle.model.proofs.sound.Walks.{Reach, Self, Above, reach-self, last-step, seen-reached, IsSeen, reached-under}
 use Rattle.model.proofs.tree.Bridge.{passesAt}
 use Rattle.model.proofs.sound.Ready.{level-used, within-of}
-use Rattle.spans.proofs.laws.RulesGive.{leads-of, child-at, page-ends, page-some, reach-level, root, height, root-level}
+use Rattle.spans.proofs.laws.RulesGive.{leads-of, child-at, page-ends, reach-level, root, height, root-level}
 use Rattle.spans.proofs.laws.Sums.{sumOver, sum-add, sum-full, Lies, namedAll, routed-all, rootsAt, Slots, rooted-sum}
 use Rattle.spans.proofs.laws.OneWay.{ways, Reached, Parent, parent-lives, parent-higher, parent-step, ways-some, ways-one}
 

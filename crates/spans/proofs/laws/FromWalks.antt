@@ -31,7 +31,7 @@ use Rattle.model.proofs.tree.Bridge.{passesAt}
 use Rattle.model.proofs.sound.Ready.{used-level, level-used, within-of}
 use Rattle.spans.proofs.laws.Stretches.{rising, kept-of, kept-order, kept-shows, key-kept, Alive, of-shows, apart-less, rises-apart, at-low, at-key, at-many}
 use Rattle.spans.proofs.laws.HighKeys.{Bounded, bounded-under, to-nexts}
-use Rattle.spans.proofs.laws.RulesGive.{entry-some, entry-ends, page-ends, page-some, leads-of, lives-with, root, height, root-used, root-level, holds-at}
+use Rattle.spans.proofs.laws.RulesGive.{entry-some, entry-ends, page-ends, leads-of, lives-with, root, height, root-used, root-level, holds-at}
 use Rattle.spans.proofs.laws.ToWalks.{root-late, late-all}
 use Rattle.spans.proofs.laws.Sums.{full-sum}
 use Rattle.spans.proofs.laws.OneWay.{ways, Reached, ways-one, reached-ways}

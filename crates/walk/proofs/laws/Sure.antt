@@ -13,7 +13,6 @@ use Rattle.model.specs.declared.Limits.{Limits}
 use Rattle.model.specs.Limits.{Edition}
 use Rattle.model.specs.Layout.{readEntries, decodePage, pageOf, sizeOf, decode}
 use Rattle.model.specs.Judged.{isSound}
-use Rattle.model.proofs.sound.ByRule as given
 use Rattle.model.proofs.sound.ByRule.{used-in, high-used}
 use Rattle.model.proofs.sound.Ready.{level-used}
 use Rattle.page.specs.Head.{readHead}

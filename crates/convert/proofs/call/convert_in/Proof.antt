@@ -1,5 +1,5 @@
 -- `convert_in` meets its contract. Assumes nothing.
-use mathlib.Core.Path.{refl, sym, _∙_}
+use mathlib.Core.Path.{refl, _∙_}
 use borrow.Author.Needs.{needs}
 use Rattle.convert.proofs.laws.Whole.{fresh-made, starts, all-done, one-stops}
 use Rattle.convert.proofs.call.convert_in.Statement.{statement}

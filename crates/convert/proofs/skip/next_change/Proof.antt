@@ -1,19 +1,15 @@
 -- `next_change` meets its contract: nothing of the pages before n starts or ends behind v and before q. Assumes nothing.
-use Prim.Native.Nat.{ℕ, _*_, _≤_, _<_, _-_}
+use Prim.Native.Nat.{ℕ, _≤_, _<_, _-_}
 use native.Mathlib.Omega.{arith}
-use mathlib.Core.Path.{_≡_, ap, sym, _∙_}
-use mathlib.Core.List.{List}
+use mathlib.Core.Path.{ap}
 use Rattle.model.specs.declared.Header.{Header}
 use Rattle.model.specs.Layout.{pageOf, readHeader, sizeOf}
 use Rattle.model.specs.Inner.{Out}
-use Rattle.page.specs.Head.{readHead}
 use Rattle.store.proofs.laws.Sure.{front, few, part-in, whole}
 use Rattle.local.specs.Local.{slotAt}
 use Rattle.notes.specs.Ready.{Sooner}
 use Rattle.judge.specs.Versions.{QuietPart}
-use Rattle.convert.specs.Skip.{Still}
 use Rattle.convert.proofs.laws.Skip.{room, slots-less, parts-more}
-use borrow.Author.Needs.{needs}
 use Rattle.convert.proofs.skip.next_change.Statement.{statement}
 use Rattle.convert.proofs.skip.next_change.Tie as tie
 

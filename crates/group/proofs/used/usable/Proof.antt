@@ -4,7 +4,6 @@ use Rattle.parts.specs.Kept.{pagesOf}
 use Rattle.model.specs.Needs.{actives}
 use lib.ListN.{take}
 use Rattle.model.specs.Store.{freeOnes}
-use mathlib.Core.Path.{_∙_}
 use borrow.Author.Needs.{needs}
 use Rattle.group.proofs.used.usable.Statement.{statement}
 use Rattle.group.proofs.used.usable.Tie as tie

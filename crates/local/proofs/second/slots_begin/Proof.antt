@@ -7,7 +7,7 @@ use Rattle.local.specs.Second.{begun}
 use Rattle.local.proofs.laws.Second.{two-none, two-first, two-rest, slots-ok-start, slots-ok-step, slots-ok-end}
 use Rattle.local.proofs.laws.First.{last-is}
 use Rattle.local.specs.Local.{slotsOk}
-use Rattle.model.specs.Layout.{readHeader, readSlots, decode}
+use Rattle.model.specs.Layout.{readHeader, readSlots}
 use Rattle.model.specs.Store.{lastOf}
 use Rattle.model.specs.declared.Header.{Header}
 use Rattle.model.specs.declared.Slot.{Slot}

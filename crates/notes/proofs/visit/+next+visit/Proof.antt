@@ -1,8 +1,8 @@
-use mathlib.Core.Path.{_≡_, refl, ap, sym, _∙_, subst}
+use mathlib.Core.Path.{_≡_, ap, sym, _∙_, subst}
 use mathlib.Core.Bool.{true}
 use native.Mathlib.Omega.{arith}
 use borrow.Author.Tests.{not-true, not-false}
-use Rattle.model.specs.Layout.{decode, readEntry, readEntries}
+use Rattle.model.specs.Layout.{decode, readEntries}
 use Rattle.page.specs.Read.{Sized}
 use Rattle.page.proofs.laws.Read.{read-sized}
 use Rattle.notes.specs.declared.Note.{Note}

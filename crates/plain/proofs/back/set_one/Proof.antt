@@ -1,7 +1,7 @@
 -- `set_one` meets its contract. Assumes nothing.
 use Prim.Native.Nat.{ℕ, _+_}
 use native.Mathlib.Omega.{arith}
-use mathlib.Core.Path.{refl, sym, _∙_, subst}
+use mathlib.Core.Path.{refl, sym, subst}
 use mathlib.Core.List.{List}
 use Rattle.plain.specs.Plain.{valueAt, setMissing}
 use Rattle.plain.specs.Items.{from, foundOf}

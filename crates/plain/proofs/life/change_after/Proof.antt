@@ -1,5 +1,5 @@
 -- `change_after` meets its contract: up to u the value has not changed. Assumes nothing.
-use Prim.Native.Nat.{ℕ, suc, _+_, _-_}
+use Prim.Native.Nat.{ℕ, suc, _-_}
 use native.Mathlib.Omega.{arith}
 use mathlib.Core.Path.{sym, _∙_}
 use Rattle.plain.specs.Plain.{valueAt}

@@ -1,5 +1,5 @@
 -- `tell_life` meets its contract: what is left is the life from version v on. Assumes nothing.
-use Prim.Native.Nat.{ℕ, suc, _≤_, _-_}
+use Prim.Native.Nat.{ℕ, suc, _-_}
 use native.Mathlib.Omega.{arith}
 use mathlib.Core.Option.{Option}
 use mathlib.Core.Path.{sym}

@@ -1,8 +1,7 @@
 -- `same_settings` meets its contract: what differs of all keys is what differs of the keys left. Assumes nothing.
 use Prim.Native.Nat.{_+_, _-_, _≤_}
 use native.Mathlib.Omega.{arith}
-use mathlib.Core.Bool.{Bool}
-use mathlib.Core.Path.{_≡_, refl, ap, sym, _∙_}
+use mathlib.Core.Path.{_≡_, ap, sym, _∙_}
 use mathlib.Core.List.{List}
 use Rattle.model.specs.Basic.{isEmpty}
 use Rattle.model.specs.declared.Delta.{Delta}

@@ -5,7 +5,6 @@ use mathlib.Core.Bool.{Bool}
 use mathlib.Core.Path.{_≡_, ap, sym, _∙_}
 use mathlib.Core.List.{[], _∷_}
 use lib.ListN.{length-set}
-use Rattle.model.specs.Entry.{pair}
 use Rattle.model.specs.Telling.{written}
 use Rattle.model.proofs.reading.Telling.{write-one, write-not}
 use Rattle.plain.specs.Tell.{deltas}

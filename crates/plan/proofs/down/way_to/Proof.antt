@@ -1,11 +1,8 @@
 use Rattle.plan.proofs.laws.Way.{Going, root-inside, root-level, going-start, going-inside, going-live, going-step, going-end}
-use Rattle.parts.specs.Kept.{Kept, pagesOf}
+use Rattle.parts.specs.Kept.{Kept}
 use Rattle.parts.proofs.laws.Kept.{kept-sound}
-use Rattle.model.specs.Walk.{heightOf}
-use Rattle.model.specs.Store.{page}
-use mathlib.Core.Path.{_≡_, sym, ap, _∙_}
 use native.Mathlib.Omega.{arith}
-use Prim.Native.Nat.{ℕ, suc, _+_, _-_, _≤_, _<_}
+use Prim.Native.Nat.{_-_}
 use borrow.Author.Needs.{needs}
 use Rattle.plan.proofs.down.way_to.Statement.{statement}
 use Rattle.plan.proofs.down.way_to.Tie as tie
