@@ -52,9 +52,9 @@ use Rattle.plain.specs.Plain.{Plain, empty, valueAt, settings, differs, setKey,
 use Rattle.plain.proofs.Keys.{settings-are, differs-are}
 use Rattle.plain.proofs.Values.{kept-shorter}
 use Rattle.plain.proofs.Backs.{back-few}
-use Rattle.plain.proofs.Shows.{Shows, shows-start, shows-begins, shows-commits, shows-abandons, shows-inserts, shows-deletes, shows-returns, shows-prunes}
+use Rattle.plain.proofs.Shows.{ItemsShow, shows-start, shows-begins, shows-commits, shows-abandons, shows-inserts, shows-deletes, shows-returns, shows-prunes}
 use Rattle.auditor.specs.Engine.{has, ofGiven, ofListed, plainly}
-use Rattle.auditor.specs.SideBySide.{Equal, OneCall, followed, insertsBy, acceptedIn, Fits, EachCall, SideBySide}
+use Rattle.auditor.specs.SideBySide.{Equal, OneCall, followed, insertsBy, acceptedIn, FitsRoom, EachCall, SideBySide}
 
 -- ---- the plain store beside the machine
 
@@ -65,7 +65,7 @@ plainBy d m es = record { current = m .current; opened = m .opened; oldest = m .
 record Follows (d : ℕ) (m : Machine) (p : Plain) : Type 0 where
   pub items : List Entry
   pub is : p ≡ plainBy d m items
-  pub shows : Shows m items
+  pub shows : ItemsShow m items
 
 -- ---- the first test that holds
 
@@ -189,7 +189,7 @@ restored-shorter w (e ∷ es) = at (eqb (e .start) w) (restored-shorter w es)
 
 -- ---- one call, by the machine beside the tree
 
-module _ (x : Beside) (a : Agreed x) (es : List Entry) (s : Shows (x .machine) es) where
+module _ (x : Beside) (a : Agreed x) (es : List Entry) (s : ItemsShow (x .machine) es) where
   abbrev m : Machine
   m = x .machine
 
@@ -579,7 +579,7 @@ module _ (x : Beside) (a : Agreed x) (es : List Entry) (s : Shows (x .machine) e
 
 -- ---- one after another
 
-fits-by : (d : ℕ) (m : Machine) (es : List Entry) → Shows m es → (room : ℕ) → length es ≤ room → Fits room (plainBy d m es)
+fits-by : (d : ℕ) (m : Machine) (es : List Entry) → ItemsShow m es → (room : ℕ) → length es ≤ room → FitsRoom room (plainBy d m es)
 fits-by d m es s room h = record { items = h; version = at (m .opened) (s .low) }
   where
     at : (b : Bool) → lastOf b (m .current) ≤ 1048574 → m .current ≤ 1048574
@@ -612,7 +612,7 @@ same-edition x a t fit own =
 each-call : (ts : List Turn) → each fitting ts ≡ true → all (λ (t : Turn). has (t .call)) ts ≡ true → (x : Beside) → Agreed x → (p : Plain) → Follows (editionOf (leastOf (x .bytes))) (x .machine) p
     → (room : ℕ) → length (p .items) + acceptedIn (x .bytes) ts ≤ room → EachCall room (x .bytes) p ts
 each-call [] f h x a p follows room fits =
-    subst (λ (q : Plain). length (q .items) + 0 ≤ room → Fits room q) (sym (follows .is))
+    subst (λ (q : Plain). length (q .items) + 0 ≤ room → FitsRoom room q) (sym (follows .is))
     (λ i. fits-by (editionOf (leastOf (x .bytes))) (x .machine) (follows .items) (follows .shows) room (omega (arith, i))) fits
 each-call (t ∷ ts) f h x a p follows room fits =
     let (fit, fits-on) = all-cons (λ (u : Turn). fitting (kindOf (u .call))) t ts f in

@@ -17,16 +17,16 @@ pub record Going (l : Limits) (b : List ℕ) (v w : ℕ) : Type 0 where
   pub edition : Edition l
   pub sound : isSound (l .least) b ≡ true
   pub opened : decode (l .least) b .opened ≡ true
-  pub old : given.Kept (decode (l .least) b) v
+  pub old : given.Committed (decode (l .least) b) v
   pub is-next : w ≡ next (decode (l .least) b)
 
 -- what steps leave, by the number that they gave
-pub record Went (l : Limits) (b : List ℕ) (v w r : ℕ) (ran : Ran) : Type 0 where
+pub record BackWent (l : Limits) (b : List ℕ) (v w r : ℕ) (ran : Ran) : Type 0 where
   pub going : Going l b v w
   pub goes : r ≡ 0 → ran ≡ reached (decode (l .least) b)
   pub stops : (r ≡ 0 → ⊥) → ran ≡ stopped r (decode (l .least) b)
 
 -- one step at key k
-pub record Stepped (l : Limits) (b b′ : List ℕ) (v w k r : ℕ) (ran : Ran) : Type 0 where
-  pub went : Went l b′ v w r ran
+pub record BackStepped (l : Limits) (b b′ : List ℕ) (v w k r : ℕ) (ran : Ran) : Type 0 where
+  pub went : BackWent l b′ v w r ran
   pub rest : leftOf l b′ w v (k + 1) ≡ leftOf l b w v (k + 1)

@@ -17,7 +17,7 @@ use Rattle.lines.proofs.Steps.{tells, reads-on}
 use Rattle.lines.specs.Session.{writes, after}
 use Rattle.console.specs.declared.Obeyed.{Obeyed}
 use Rattle.console.specs.declared.Filled.{Filled}
-use Rattle.console.specs.Obeys.{storeIn, Sure, heardSaid, Obeys, Upto, Ends}
+use Rattle.console.specs.Obeys.{storeIn, Sure, heardSaid, Obeys, PieceUpto, LastWritten}
 
 pub writes-heard : (b : List ℕ) (h : Heard) (ls : List Line) → writes 4 b (heardLines h ++ ls) ≡ flatMap textOf (heardSaid b h .answers) ++ writes 4 (heardSaid b h .store) ls
 unfolding writes
@@ -38,7 +38,7 @@ take-put {d} {d'} {t} {at} {r} p h =
 -- ---- before the first line of a piece
 
 pub from-here : (h : Held) (bytes : List ℕ) (pages : ℕ) (piece out : List ℕ) → h .len ≤ 81 → pages ≤ 256 → Sure bytes pages
-    → Upto h (storeIn bytes pages) piece bytes out (record { held = h; pages = pages; used = 0; len = 0 })
+    → PieceUpto h (storeIn bytes pages) piece bytes out (record { held = h; pages = pages; used = 0; len = 0 })
 from-here h bytes pages piece out room few s = record {
   written = refl;
   store = refl;
@@ -61,7 +61,7 @@ moves-on piece used k l = (k .moves (omega (arith, length-drop used piece)), ome
 
 -- ---- one line more
 
-module _ {h₀ : Held} {b piece bytes out : List ℕ} {f : Filled} (u : Upto h₀ b piece bytes out f) {t : Taken} (k : Hears (f .held) (drop (f .used) piece) t)
+module _ {h₀ : Held} {b piece bytes out : List ℕ} {f : Filled} (u : PieceUpto h₀ b piece bytes out f) {t : Taken} (k : Hears (f .held) (drop (f .used) piece) t)
     {bytes' out' : List ℕ} {o : Obeyed} (a : Obeys (heardSaid (storeIn bytes (f .pages)) (t .heard)) bytes' out (f .len) out' o) where
   abbrev rest : List ℕ
   rest = drop (f .used + t .used) piece
@@ -94,7 +94,7 @@ module _ {h₀ : Held} {b piece bytes out : List ℕ} {f : Filled} (u : Upto h�
       ∙ after-heard (storeIn bytes (f .pages)) (t .heard) left
       ∙ ap (λ (x : List ℕ). after 4 x left) (sym (a .store))
 
-  pub one-more : o .at ≤ length out' → Upto h₀ b piece bytes' out' (record { held = t .held; pages = o .pages; used = f .used + t .used; len = o .at })
+  pub one-more : o .at ≤ length out' → PieceUpto h₀ b piece bytes' out' (record { held = t .held; pages = o .pages; used = f .used + t .used; len = o .at })
   one-more len = record {
     written = written;
     store = store;
@@ -113,7 +113,7 @@ nothing : (t c : List ℕ) → t ++ writes 4 c [] ≡ t
 unfolding writes
 nothing t c = append-nil t
 
-pub ended : {h : Held} {b bytes d d' : List ℕ} {o : Obeyed} (x : Heard) → x ≡ lastOf (reading h) → Obeys (heardSaid b x) bytes d 0 d' o → o .at ≤ length d' → Ends h b d' (o .at)
+pub ended : {h : Held} {b bytes d d' : List ℕ} {o : Obeyed} (x : Heard) → x ≡ lastOf (reading h) → Obeys (heardSaid b x) bytes d 0 d' o → o .at ≤ length d' → LastWritten h b d' (o .at)
 ended {h} {b} {bytes} {d} {d'} {o} x e a len = record {
   written =
       ap (λ (y : Heard). writes 4 b (heardLines y)) (sym e)

@@ -13,7 +13,7 @@ use Rattle.model.specs.Judged.{isSound}
 use Rattle.model.specs.Return.{Ran, reached, stopped}
 
 -- the bytes of a sound store with an update open
-pub record Ready (l : Limits) (b : List ℕ) : Type 0 where
+pub record UpdateOpen (l : Limits) (b : List ℕ) : Type 0 where
   pub edition : Edition l
   pub sound : isSound (l .least) b ≡ true
   pub opened : decode (l .least) b .opened ≡ true
@@ -24,6 +24,6 @@ shown l b = settings (decode (l .least) b) (next (decode (l .least) b))
 
 -- what steps leave, by the number that they gave
 pub record Went (l : Limits) (b : List ℕ) (r : ℕ) (ran : Ran) : Type 0 where
-  pub ready : Ready l b
+  pub ready : UpdateOpen l b
   pub goes : r ≡ 0 → ran ≡ reached (decode (l .least) b)
   pub stops : (r ≡ 0 → ⊥) → ran ≡ stopped r (decode (l .least) b)

@@ -49,7 +49,7 @@ unfoldable pub pairsFrom : List ℕ → ℕ → ℕ → ℕ → List Pair
 pairsFrom p v i n = map pairOf (those (liveAt v) (readEntries p (128 + 96 * i) (n - i)))
 
 -- r is the place of the first live entry from i on, or n
-pub record Next (p : List ℕ) (v i n r : ℕ) : Type 0 where
+pub record NextLive (p : List ℕ) (v i n r : ℕ) : Type 0 where
   pub low : i ≤ r
   pub high : r ≤ n
   pub same : pairsFrom p v i n ≡ pairsFrom p v r n

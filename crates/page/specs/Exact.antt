@@ -8,7 +8,7 @@ use Rattle.model.specs.Field.{zeros}
 use Rattle.model.specs.Page.{Page}
 use Rattle.model.specs.Layout.{entriesBytes, unused, padded, encodePage, decodePage, countOf}
 use Rattle.page.specs.Head.{headOf, frontBytes}
-use Rattle.page.specs.Read.{Sized}
+use Rattle.page.specs.Read.{FieldsFit}
 
 -- a page that its bytes can hold
 pub record Valid (least : ℕ) (p : Page) : Type 0 where
@@ -16,7 +16,7 @@ pub record Valid (least : ℕ) (p : Page) : Type 0 where
   pub start : p .start < 2 ^ 20
   pub end : p .end < 2 ^ 20
   pub room : length (p .entries) ≤ 5 * least
-  pub sized : (k : ℕ) → Sized (getD (p .entries) k unused)
+  pub sized : (k : ℕ) → FieldsFit (getD (p .entries) k unused)
 
 -- bytes of a page with nothing beside the page that they show: spare bits and unused entries are zero, the live count is right
 pub record Exact (least : ℕ) (p : List ℕ) : Type 0 where

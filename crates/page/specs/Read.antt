@@ -5,7 +5,7 @@ use Rattle.model.specs.declared.Entry.{Entry}
 -- ---- entries
 
 -- each field fits its bits
-pub record Sized (e : Entry) : Type 0 where
+pub record FieldsFit (e : Entry) : Type 0 where
   pub key : e .key < 2 ^ 24
   pub start : e .start < 2 ^ 20
   pub end : e .end < 2 ^ 20

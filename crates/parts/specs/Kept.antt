@@ -13,7 +13,7 @@ use Rattle.store.specs.Holds.{Holds}
 abbrev pub pagesOf : Limits → List ℕ → List Page
 pagesOf l b = decode (l .least) b .pages
 
-pub record Kept (l : Limits) (b : List ℕ) : Type 0 where
+pub record ExactBytes (l : Limits) (b : List ℕ) : Type 0 where
   pub edition : Edition l
   pub holds : Holds (l .least) (decode (l .least) b)
   pub same : encode (l .least) (decode (l .least) b) ≡ b

@@ -21,7 +21,7 @@ use Rattle.plain.specs.declared.State.{State}
 use Rattle.plain.specs.declared.Left.{Left}
 use Rattle.plain.specs.declared.items.Found.{Found}
 use Rattle.plain.specs.Plain.{Plain, Given, next, keys, valueAt, differs, unless, standing, holding, setKey, endKey, backTo, pruned, begin, insert, delete, commit, abandon, return, prune}
-use Rattle.plain.specs.Items.{Held, foundOf, plainOf}
+use Rattle.plain.specs.Items.{ItemsHeld, foundOf, plainOf}
 use Rattle.plain.proofs.laws.Laid.{from-length}
 use Rattle.plain.specs.Sweep.{fate, outliving}
 use Rattle.plain.proofs.laws.Sweep.{swept-ended, swept-undone, swept-outliving, swept-few}
@@ -118,7 +118,7 @@ module _ (ns ms : List ℕ) (e : isLent ns ms ≡ true) where
       let g = both (versions ms) (old-edition ms (leb (getD ms 3 0) (getD ms 0 0))) (f .0) in
       leb-true (getD ms 0 0 + getD ms 1 0) 1048574 (both (leb (getD ms 1 0) 1) (leb (getD ms 0 0 + getD ms 1 0) 1048574) (g .0) .1)
 
-  pub held : Held (stateOf ms) ns
+  pub held : ItemsHeld (stateOf ms) ns
   held = record {
     version = omega (arith, lent-version);
     lent = record { room = lent-fits .1; short = omega (arith, lent-fits .0) };
@@ -283,8 +283,8 @@ module _ (p : Plain) (v : ℕ) where
 -- ---- on what is lent: s is the state as the code has it
 
 module _ (ns ms : List ℕ) (lent : isLent ns ms ≡ true) (s : State) (is : s ≡ stateOf ms) where
-  pub own-held : Held s ns
-  own-held = subst (λ (t : State). Held t ns) (sym is) (held ns ms lent)
+  pub own-held : ItemsHeld s ns
+  own-held = subst (λ (t : State). ItemsHeld t ns) (sym is) (held ns ms lent)
 
   abbrev own : Plain
   own = plainOf s ns

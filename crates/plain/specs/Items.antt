@@ -34,7 +34,7 @@ pub record Lent (n : ℕ) (ns : List ℕ) : Type 0 where
   pub short : length ns ≤ 2 ^ 40
 
 -- the list holds the items, and the version is one
-pub record Held (s : State) (ns : List ℕ) : Type 0 where
+pub record ItemsHeld (s : State) (ns : List ℕ) : Type 0 where
   pub version : s .current ≤ 1048574
   pub lent : Lent (s .count) ns
 

@@ -28,7 +28,7 @@ pub record Sooner (v r x q : ℕ) : Type 0 where
   pub out : (x ≤ v) ⊎ (q ≤ x)
 
 -- the item says the same of the key from v up to q
-pub record Change (e : Entry) (k v r q : ℕ) : Type 0 where
+pub record ItemStill (e : Entry) (k v r q : ℕ) : Type 0 where
   pub below : q ≤ r
   pub above : v < q
   pub still : (w : ℕ) → v ≤ w → w < q → (eqb (e .key) k && liveAt w e) ≡ (eqb (e .key) k && liveAt v e)

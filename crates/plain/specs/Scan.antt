@@ -21,7 +21,7 @@ pub record Lower (e : Entry) (a r u v q : ℕ) : Type 0 where
   pub new : (k : ℕ) → a ≤ k → k < q → (eqb (e .key) k && liveAt v e) ≡ false
 
 -- from a up to r no key has a value at u or at v
-pub record Skips (a r u v : ℕ) (es : List Entry) : Type 0 where
+pub record SkipsKeys (a r u v : ℕ) (es : List Entry) : Type 0 where
   pub behind : a ≤ r
   pub within : r ≤ keyLimit
   pub old : (k : ℕ) → a ≤ k → k < r → valueAt k u es ≡ none

@@ -36,7 +36,7 @@ use Rattle.model.proofs.reading.Lookups.{lookup-is, settings-rise}
 use Rattle.model.proofs.reading.Ranges.{range-is}
 use Rattle.promises.specs.Accepts.{storeOf}
 use Rattle.promises.specs.Beside.{Beside}
-use Rattle.promises.specs.Answers.{lastIn, lookupTests, rangeTests, differenceTests, openTests, endTests, commitTests, lookedIn, rangedFrom, livedIn, toldFrom, aliveIn, unchangedIn, Gives, Answers, lifeTests, Stands}
+use Rattle.promises.specs.Answers.{lastIn, lookupTests, rangeTests, differenceTests, openTests, endTests, commitTests, lookedIn, rangedFrom, livedIn, toldFrom, aliveIn, unchangedIn, Gives, Answers, lifeTests, StateTells}
 use Rattle.promises.proofs.High.{begin-number, commit-number, abandon-number, insert-number, delete-number, return-number, prune-number}
 use Rattle.promises.proofs.Known.{four}
 use Rattle.promises.proofs.Lending.{change-number}
@@ -147,9 +147,9 @@ module _ (x : Beside) (a : Agreed x) where
 
   -- ---- the state
 
-  state-answers : (ns : List ℕ) → Stands m (ended toState (x .bytes) ns)
+  state-answers : (ns : List ℕ) → StateTells m (ended toState (x .bytes) ns)
   unfolding State.stateOf
-  state-answers ns = subst (λ (e : Ended). Stands m e) (sym (ap (ofState (x .bytes) ns) (state-lent (x .bytes) (a .accepted))))
+  state-answers ns = subst (λ (e : Ended). StateTells m e) (sym (ap (ofState (x .bytes) ns) (state-lent (x .bytes) (a .accepted))))
       (record { number = refl; current = a .agrees .current; opened = ap bit (a .agrees .opened); oldest = a .agrees .oldest })
 
   -- ---- numbers

@@ -56,7 +56,7 @@ module _ (least : ℕ) (some : 1 ≤ least) (b c : List ℕ) (s : SameFront leas
   abbrev same : ℕ → Type 0
   same n = pageOf least b n ≡ pageOf least c n
 
-  front : near.SameFront least b c
+  front : near.FrontAlike least b c
   front = record {
     long = s .long;
     front = λ i l. sym (getD-take (320 * least) b i 0 l) ∙ ap (λ (x : List ℕ). getD x i 0) (s .front) ∙ getD-take (320 * least) c i 0 l;
@@ -114,7 +114,7 @@ module _ (least : ℕ) (some : 1 ≤ least) (b c : List ℕ) (s : SameFront leas
 -- ---- of the calls: the same front names the same edition
 
 module _ (b c : List ℕ) (s : SameFront (leastOf b) b c) where
-  near-front : near.SameFront (leastOf b) b c
+  near-front : near.FrontAlike (leastOf b) b c
   near-front = front (leastOf b) (some-least b) b c s
 
   bit-same : (k : ℕ) → k < 40 → bitAt b k ≡ bitAt c k

@@ -27,7 +27,7 @@ use Rattle.model.specs.Settings.{Both, together, lent}
 use Rattle.model.specs.Ended.{toReturn, ended}
 use Rattle.model.proofs.lists.Lists.{all-cons, both-true, both-intro}
 use Rattle.model.proofs.lists.Members.{holds-true}
-use Rattle.model.proofs.sound.ByRule.{Sound, from-tests, Kept}
+use Rattle.model.proofs.sound.ByRule.{Sound, from-tests, Committed}
 use Rattle.model.proofs.reading.Lookups.{settings-rise}
 use Rattle.model.proofs.reading.Differs.{keys-so}
 use Rattle.model.proofs.sound.Small.{small}
@@ -140,7 +140,7 @@ module _ (b : List ℕ) (bytes : Bytes b) (ok : Accepts b) (v : ℕ) (ns : List 
   open-last : last (storeOf b) ≡ next (storeOf b)
   open-last = ap (λ (o : Bool). lastOf o (storeOf b .current)) (w b ok v ns e .opened)
 
-  committed : Kept (storeOf b) v
+  committed : Committed (storeOf b) v
   committed = w b ok v ns e .committed
 
   lows : all below ds ≡ true

@@ -6,7 +6,7 @@ use Rattle.model.specs.Store.{Store}
 use Rattle.model.specs.Sound.{rule1, rule2, rule3}
 
 -- a store of which rules 1 to 3 hold
-pub record Ruled (least : ℕ) (s : Store) : Type 0 where
+pub record ThreeRules (least : ℕ) (s : Store) : Type 0 where
   pub two : 2 ≤ least
   pub first : rule1 least s ≡ true
   pub second : rule2 s ≡ true

@@ -13,7 +13,7 @@ abbrev pub begun : Store → Store
 begun s = withState s (s .current) true
 
 -- bytes that are exactly those of the store that they hold
-pub record Kept (least : ℕ) (b : List ℕ) : Type 0 where
+pub record HeadedBytes (least : ℕ) (b : List ℕ) : Type 0 where
   pub same : encode least (decode least b) ≡ b
   pub holds : Holds least (decode least b)
   pub header : headerOf (decode least b) ≡ readHeader least b

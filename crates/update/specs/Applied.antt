@@ -14,7 +14,7 @@ use Rattle.model.proofs.sound.ByRule.{Sound}
 use Rattle.edit.specs.declared.Change as code
 use Rattle.edit.specs.Change.{changeOf}
 use Rattle.gather.specs.Kept.{Fits}
-use Rattle.parts.specs.Kept.{Kept, Inside, pagesOf}
+use Rattle.parts.specs.Kept.{ExactBytes, Inside, pagesOf}
 use Rattle.plan.specs.declared.Way.{Way}
 use Rattle.plan.specs.Plan.{upsOf, Led}
 use Rattle.climb.specs.Climb.{climbUp}
@@ -31,7 +31,7 @@ pub record Done (least : ℕ) (r : Result) : Type 0 where
 module _ (l : Limits) (b : List ℕ) (w : ℕ) where
   -- at the root
   pub record ToRoot (n : ℕ) (c : code.Change) (size : ℕ) : Type 0 where
-    pub kept : Kept l b
+    pub kept : ExactBytes l b
     pub root : Inside l b n
     pub fits : Fits c
     pub low : w < 2 ^ 20
@@ -43,7 +43,7 @@ module _ (l : Limits) (b : List ℕ) (w : ℕ) where
 
   -- on the whole way up
   pub record ToApply (way : Way) (c : code.Change) (size : ℕ) : Type 0 where
-    pub kept : Kept l b
+    pub kept : ExactBytes l b
     pub led : Led l b way
     pub fits : Fits c
     pub low : w < 2 ^ 20

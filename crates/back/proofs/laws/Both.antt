@@ -17,7 +17,7 @@ use Rattle.model.specs.Return.{comes, setOne, Ran, stopped, through, andOn, car
 use Rattle.model.proofs.turning.Returned.{Runs, carried-runs, carried-anew}
 use Rattle.store.proofs.laws.Sure.{same-bytes}
 use Rattle.differ.specs.Listing.{between}
-use Rattle.back.specs.Going.{Going, Went}
+use Rattle.back.specs.Going.{Going, BackWent}
 use Rattle.back.proofs.laws.Going.{going-sound}
 use Rattle.back.specs.Pass.{passed}
 
@@ -35,12 +35,12 @@ module _ {l : Limits} {b : List ℕ} {v w : ℕ} (g : Going l b v w) where
       ap (λ (u : ℕ). carried (l .least) (differ (settings s u) (settings s v)) s) n ∙ carried-anew (l .least) (g .edition .four) s (going-sound g) (g .opened) v (g .old)
       ∙ sym (ap (λ (u : ℕ). andOn second (passed false (l .least) (differ (settings s u) (settings s v)) s)) n)
 
-  module _ (b₁ : List ℕ) (n : ℕ) (p : Went l b₁ v w n (passed false (l .least) (between l b w v) (decode (l .least) b))) where
-    pub first-stops : (n ≡ 0 → ⊥) → Went l b₁ v w n (carried (l .least) (between l b w v) (decode (l .least) b))
+  module _ (b₁ : List ℕ) (n : ℕ) (p : BackWent l b₁ v w n (passed false (l .least) (between l b w v) (decode (l .least) b))) where
+    pub first-stops : (n ≡ 0 → ⊥) → BackWent l b₁ v w n (carried (l .least) (between l b w v) (decode (l .least) b))
     first-stops z = record { going = p .going; goes = λ y. absurd (z y); stops = λ y. anew ∙ ap (andOn second) (p .stops z) }
 
-    pub second-so : n ≡ 0 → (b₂ : List ℕ) (m : ℕ) → Went l b₂ v w m (passed true (l .least) (between l b₁ w v) (decode (l .least) b₁))
-        → Went l b₂ v w m (carried (l .least) (between l b w v) (decode (l .least) b))
+    pub second-so : n ≡ 0 → (b₂ : List ℕ) (m : ℕ) → BackWent l b₂ v w m (passed true (l .least) (between l b₁ w v) (decode (l .least) b₁))
+        → BackWent l b₂ v w m (carried (l .least) (between l b w v) (decode (l .least) b))
     second-so z b₂ m q =
         let is : carried (l .least) (between l b w v) s ≡ passed true (l .least) (between l b₁ w v) (decode (l .least) b₁) =
         anew ∙ ap (andOn second) (p .goes z)
@@ -53,7 +53,7 @@ module _ {l : Limits} {b : List ℕ} {v w : ℕ} (g : Going l b v w) where
       subst (Runs (l .least) s (settings s v)) (sym (ap (λ (u : ℕ). carried (l .least) (differ (settings s u) (settings s v)) s) (g .is-next)) ∙ e)
       (carried-runs (l .least) (g .edition .four) s (going-sound g) (g .opened) v (g .old)) .0
 
-  module _ (b₁ : List ℕ) (n : ℕ) (p : Went l b₁ v w n (carried (l .least) (between l b w v) (decode (l .least) b))) where
+  module _ (b₁ : List ℕ) (n : ℕ) (p : BackWent l b₁ v w n (carried (l .least) (between l b w v) (decode (l .least) b))) where
     pub all-done : n ≡ 0 → Bytes b₁ → (0 ≡ leftBy (l .least) b (orAbandoned (carried (l .least) (between l b w v) (decode (l .least) b))) .number)
         × (b₁ ≡ leftBy (l .least) b (orAbandoned (carried (l .least) (between l b w v) (decode (l .least) b))) .store)
     all-done z bytes = rw (p .goes z) (refl, sym (same-bytes (p .going .edition) b₁ (p .going .sound) bytes))

@@ -19,11 +19,11 @@ use Rattle.model.specs.Return.{reached, orStopped, through}
 use Rattle.model.proofs.sound.ByRule.{Sound, old-current}
 use Rattle.store.proofs.laws.Sure.{sure}
 use Rattle.written.proofs.laws.Encoded.{encoded-accepted, encoded-held}
-use Rattle.walk.specs.Sure.{Readable}
+use Rattle.walk.specs.Sure.{Walkable}
 use Rattle.cursor.specs.First.{atOrAbove}
 use Rattle.differ.specs.Merge.{left as leftFrom}
 use Rattle.back.proofs.laws.Single.{Left}
-use Rattle.back.specs.Going.{Going, Stepped}
+use Rattle.back.specs.Going.{Going, BackStepped}
 
 module _ {l : Limits} {b : List ℕ} {v w : ℕ} (g : Going l b v w) where
   open-last : last (decode (l .least) b) ≡ next (decode (l .least) b)
@@ -32,20 +32,20 @@ module _ {l : Limits} {b : List ℕ} {v w : ℕ} (g : Going l b v w) where
   pub going-sound : Sound (l .least) (decode (l .least) b)
   going-sound = sure (g .edition) b (g .sound)
 
-  pub going-open : Readable l b w
+  pub going-open : Walkable l b w
   going-open = record { edition = g .edition; sound = g .sound; version = omega (arith, g .is-next, open-last, old-current (l .least) (decode (l .least) b) (going-sound .old-low)) }
 
-  pub going-old : Readable l b v
+  pub going-old : Walkable l b v
   going-old = record { edition = g .edition; sound = g .sound; version = omega (arith, g .old .from, g .old .upto, open-last) }
 
 module _ {l : Limits} {b : List ℕ} {v w : ℕ} (g : Going l b v w) (one : Store → Delta → Result) where
   -- nothing to do
-  pub stepped-none : (k : ℕ) → Stepped l b b v w k 0 (through one [] (decode (l .least) b))
+  pub stepped-none : (k : ℕ) → BackStepped l b b v w k 0 (through one [] (decode (l .least) b))
   unfolding through
   stepped-none k = record { went = record { going = g; goes = λ z. refl; stops = λ z. absurd (z refl) }; rest = refl }
 
   -- refused
-  pub stepped-refused : (d : Delta) (k r : ℕ) → (r ≡ 0 → ⊥) → one (decode (l .least) b) d ≡ refused r → Stepped l b b v w k r (through one (d ∷ []) (decode (l .least) b))
+  pub stepped-refused : (d : Delta) (k r : ℕ) → (r ≡ 0 → ⊥) → one (decode (l .least) b) d ≡ refused r → BackStepped l b b v w k r (through one (d ∷ []) (decode (l .least) b))
   unfolding through
   stepped-refused d k r n e = record {
     went = record { going = g; goes = λ z. absurd (n z); stops = λ z. ap (orStopped (through one []) (decode (l .least) b)) e };
@@ -57,7 +57,7 @@ module _ {l : Limits} {b : List ℕ} {v w : ℕ} (g : Going l b v w) (one : Stor
     abbrev s : Store
     s = decode (l .least) b
 
-    pub stepped-done : one (decode (l .least) b) d ≡ done t → Stepped l b b′ v w k 0 (through one (d ∷ []) (decode (l .least) b))
+    pub stepped-done : one (decode (l .least) b) d ≡ done t → BackStepped l b b′ v w k 0 (through one (d ∷ []) (decode (l .least) b))
     unfolding through leftFrom isSound
     stepped-done e =
         let h : decode (l .least) b′ ≡ t = ap (decode (l .least)) f ∙ encoded-held (l .least) (g .edition .four) (g .edition .eight) t (p .is-sound) in
@@ -82,12 +82,12 @@ module _ {l : Limits} {b : List ℕ} {v w : ℕ} (g : Going l b v w) (one : Stor
 
   -- by the number that the change gave, which is 12 or 13 where it is refused
   pub stepped-by : (d : Delta) (k : ℕ) (u : Result) → one (decode (l .least) b) d ≡ u → ((n : ℕ) → u ≡ refused n → (n ≡ 12) ⊎ (n ≡ 13)) → ((t : Store) → u ≡ done t → Left (l .least) (decode (l .least) b) k t)
-      → (r : ℕ) (b′ : List ℕ) → r ≡ left (l .least) b u .number → b′ ≡ left (l .least) b u .store → Stepped l b b′ v w k r (through one (d ∷ []) (decode (l .least) b))
+      → (r : ℕ) (b′ : List ℕ) → r ≡ left (l .least) b u .number → b′ ≡ left (l .least) b u .store → BackStepped l b b′ v w k r (through one (d ∷ []) (decode (l .least) b))
   stepped-by d k (done t) is lack lefts r b′ e f =
-      subst (λ (m : ℕ). Stepped l b b′ v w k m (through one (d ∷ []) (decode (l .least) b))) (sym e) (stepped-done d k b′ t (lefts t refl) f is)
+      subst (λ (m : ℕ). BackStepped l b b′ v w k m (through one (d ∷ []) (decode (l .least) b))) (sym e) (stepped-done d k b′ t (lefts t refl) f is)
   stepped-by d k (refused n) is lack lefts r b′ e f =
-      subst (λ (m : ℕ). Stepped l b b′ v w k m (through one (d ∷ []) (decode (l .least) b))) (sym e)
-      (subst (λ (x : List ℕ). Stepped l b x v w k n (through one (d ∷ []) (decode (l .least) b))) (sym f) (stepped-refused d k n (none (lack n refl)) is))
+      subst (λ (m : ℕ). BackStepped l b b′ v w k m (through one (d ∷ []) (decode (l .least) b))) (sym e)
+      (subst (λ (x : List ℕ). BackStepped l b x v w k n (through one (d ∷ []) (decode (l .least) b))) (sym f) (stepped-refused d k n (none (lack n refl)) is))
     where
       none : (n ≡ 12) ⊎ (n ≡ 13) → n ≡ 0 → ⊥
       none (inl x) y = omega arith

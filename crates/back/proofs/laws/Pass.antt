@@ -27,7 +27,7 @@ use Rattle.differ.specs.Listing.{between, leftOf, nextOf}
 use Rattle.differ.proofs.laws.Listing.{reads-rising, reads-low, from-start, from-end, from-on, from-step}
 use Rattle.back.proofs.laws.Due.{added-due, ended-due, few-kinds}
 use Rattle.back.proofs.laws.Single.{absent, present, set-left, set-over, end-left}
-use Rattle.back.specs.Going.{Going, Stepped}
+use Rattle.back.specs.Going.{Going, BackStepped}
 use Rattle.back.proofs.laws.Going.{going-sound, going-open, going-old, stepped-none, stepped-refused, stepped-by}
 use Rattle.back.specs.Pass.{wants, step, passed}
 
@@ -51,11 +51,11 @@ module _ {l : Limits} {b : List ℕ} {v w : ℕ} (g : Going l b v w) (k : ℕ) (
   s = decode (l .least) b
 
   abbrev Step : Bool → List ℕ → ℕ → Type 0
-  Step insert b′ r = Stepped l b b′ v w (d .key) r (passed insert (l .least) (told d) (decode (l .least) b))
+  Step insert b′ r = BackStepped l b b′ v w (d .key) r (passed insert (l .least) (told d) (decode (l .least) b))
 
   -- none
   none-asked : (insert : Bool) → those (wants insert) (told d) ≡ [] → Step insert b 0
-  none-asked insert z = subst (λ (ds : List Delta). Stepped l b b v w (d .key) 0 (through (step insert (l .least)) ds s)) (sym z) (stepped-none g (step insert (l .least)) (d .key))
+  none-asked insert z = subst (λ (ds : List Delta). BackStepped l b b v w (d .key) 0 (through (step insert (l .least)) ds s)) (sym z) (stepped-none g (step insert (l .least)) (d .key))
 
   pub end-added : d .kind ≡ 0 → Step false b 0
   end-added z = none-asked false (rw z)
@@ -86,7 +86,7 @@ module _ {l : Limits} {b : List ℕ} {v w : ℕ} (g : Going l b v w) (k : ℕ) (
     pub end-stepped : (r : ℕ) (b′ : List ℕ) → r ≡ left (l .least) b (update (l .least) (decode (l .least) b) (d .key) (deleting (d .key))) .number
         → b′ ≡ left (l .least) b (update (l .least) (decode (l .least) b) (d .key) (deleting (d .key))) .store → Step false b′ r
     end-stepped r b′ x y =
-        subst (λ (ds : List Delta). Stepped l b b′ v w (d .key) r (through (endOne (l .least)) ds s)) (sym one-end)
+        subst (λ (ds : List Delta). BackStepped l b b′ v w (d .key) r (through (endOne (l .least)) ds s)) (sym one-end)
         (stepped-by g (endOne (l .least)) d (d .key) (update (l .least) s (d .key) (deleting (d .key)))
         (delete-is (l .least) (g .edition .four) s (going-sound g) (g .opened) (d .key) (due .0) here)
         (λ q z. subst Stops z (update-ends (l .least) s (d .key) (deleting (d .key))))
@@ -115,7 +115,7 @@ module _ {l : Limits} {b : List ℕ} {v w : ℕ} (g : Going l b v w) (k : ℕ) (
     pub set-stepped : d .new < 2 ^ 32 → (r : ℕ) (b′ : List ℕ) → r ≡ left (l .least) b (rawInsert (l .least) (decode (l .least) b) (d .key) (d .new)) .number
         → b′ ≡ left (l .least) b (rawInsert (l .least) (decode (l .least) b) (d .key) (d .new)) .store → Step true b′ r
     set-stepped few r b′ x y =
-        subst (λ (ds : List Delta). Stepped l b b′ v w (d .key) r (through (setOne (l .least)) ds s)) (sym one-set)
+        subst (λ (ds : List Delta). BackStepped l b b′ v w (d .key) r (through (setOne (l .least)) ds s)) (sym one-set)
         (stepped-by g (setOne (l .least)) d (d .key) (rawInsert (l .least) s (d .key) (d .new))
         (set-is (l .least) (g .edition .four) s (going-sound g) (g .opened) d (missing .0) away)
         (λ q u. subst Stops u (update-ends (l .least) s (d .key) (inserting (d .key) (d .new))))
@@ -126,7 +126,7 @@ module _ {l : Limits} {b : List ℕ} {v w : ℕ} (g : Going l b v w) (k : ℕ) (
   set-refused z =
       let m : d .kind ≡ 0 → ⊥ = λ y. omega (arith, y, z) in
       let n : d .kind ≡ 3 → ⊥ = λ y. omega (arith, y, z) in
-      subst (λ (ds : List Delta). Stepped l b b v w (d .key) 10 (through (setOne (l .least)) ds s)) (sym one)
+      subst (λ (ds : List Delta). BackStepped l b b v w (d .key) 10 (through (setOne (l .least)) ds s)) (sym one)
       (stepped-refused g (setOne (l .least)) d (d .key) 10 (λ y. omega (arith, y)) (set-over (l .least) (g .edition .four) s (going-sound g) (g .opened) (d .key) (due m n .0) (here m n) d refl))
     where
       one : those comes (told d) ≡ d ∷ []
@@ -155,7 +155,7 @@ module _ {l : Limits} {b : List ℕ} {v w : ℕ} (g : Going l b v w) (k : ℕ) (
         (ap (those (wants insert)) (from-step (going-open g) (going-old g) k h d e) ∙ those-append (wants insert) (told d) (leftOf l b w v (d .key + 1)))
         ∙ through-append (step insert (l .least)) (those (wants insert) (told d)) (those (wants insert) (leftOf l b w v (d .key + 1))) s
 
-    module _ (b′ : List ℕ) (r : ℕ) (t : Stepped l b b′ v w (d .key) r (passed insert (l .least) (told d) (decode (l .least) b))) where
+    module _ (b′ : List ℕ) (r : ℕ) (t : BackStepped l b b′ v w (d .key) r (passed insert (l .least) (told d) (decode (l .least) b))) where
       pub pass-goes : r ≡ 0 → passed insert (l .least) (leftOf l b w v k) (decode (l .least) b) ≡ passed insert (l .least) (leftOf l b′ w v (d .key + 1)) (decode (l .least) b′)
       pass-goes z =
           asked-first ∙ ap (andOn (passed insert (l .least) (leftOf l b w v (d .key + 1)))) (t .went .goes z)
@@ -173,5 +173,5 @@ module _ {l : Limits} {b : List ℕ} {v w : ℕ} (g : Going l b v w) (insert : B
   pass-end k h = ap (λ (ds : List Delta). passed insert (l .least) ds (decode (l .least) b)) (from-end (going-open g) (going-old g) k h)
 
 -- one of the two steps, by the pass
-pub stepped-as : {l : Limits} {b b′ : List ℕ} {v w k r : ℕ} (s : Store) (d : Delta) (x y : Bool) → x ≡ y → Stepped l b b′ v w k r (passed y (l .least) (told d) s) → Stepped l b b′ v w k r (passed x (l .least) (told d) s)
+pub stepped-as : {l : Limits} {b b′ : List ℕ} {v w k r : ℕ} (s : Store) (d : Delta) (x y : Bool) → x ≡ y → BackStepped l b b′ v w k r (passed y (l .least) (told d) s) → BackStepped l b b′ v w k r (passed x (l .least) (told d) s)
 stepped-as s d x y e t = rw e t

@@ -19,7 +19,7 @@ use Rattle.model.specs.Calls.{isSome, rule, firstOf, rawInsert, insert, delete,
 use Rattle.model.specs.Needs.{deleting}
 use Rattle.model.specs.Lent.{leaving, left, insertLent, deleteLent}
 use Rattle.model.proofs.sound.ByRule.{old-last}
-use Rattle.walk.specs.Sure.{Readable}
+use Rattle.walk.specs.Sure.{Walkable}
 use Rattle.store.proofs.laws.Sure.{sure}
 use Rattle.update.specs.Single.{Enters, Ends}
 use Rattle.reads.specs.Guard.{guarded}
@@ -94,7 +94,7 @@ module _ (least : ℕ) (b : List ℕ) where
 
 -- what the walk for it asks
 pub open-readable : {l : Limits} → Edition l → (b : List ℕ) (j : judged (l .least) b .number ≡ 0) (h : Header) → h ≡ readHeader (l .least) b → h .opened ≡ true
-    → (h .current + 1 < 2 ^ 20) × Readable l b (h .current + 1)
+    → (h .current + 1 < 2 ^ 20) × Walkable l b (h .current + 1)
 open-readable {l} d b j h e f =
     let q : last (decode (l .least) b) ≡ h .current + 1
     = ap (λ (x : Bool). lastOf x (decode (l .least) b .current)) (flag (l .least) b j h e true f) ∙ omega (arith, version (l .least) b j h e) in
@@ -104,7 +104,7 @@ open-readable {l} d b j h e f =
 
 -- ---- what the guard's 0 says
 
-pub record Passed (insert : Bool) (s : Store) (k : ℕ) : Type 0 where
+pub record GuardPassed (insert : Bool) (s : Store) (k : ℕ) : Type 0 where
   pub key : k < limitOf insert
   pub opened : s .opened ≡ true
   pub speaks-not : speaks insert (isSome (lookup s k (next s))) .holds ≡ false
@@ -122,7 +122,7 @@ module _ {l : Limits} (d : Edition l) (b : List ℕ) (k : ℕ) where
   abbrev s : Store
   s = decode (l .least) b
 
-  pub passed : (insert : Bool) → guarded (l .least) b (updating insert k) ≡ 0 → Passed insert (decode (l .least) b) k
+  pub passed : (insert : Bool) → guarded (l .least) b (updating insert k) ≡ 0 → GuardPassed insert (decode (l .least) b) k
   passed insert z =
       let (low, (o, a)) = none-holds insert (leb (limitOf insert) k) (s .opened) (isSome (lookup s k (next s))) (ap firstOf (updating-is insert k s) ∙ guard-chain (l .least) b (updating insert k) z) in
       record { key = leb-false (limitOf insert) k low; opened = o; speaks-not = a }

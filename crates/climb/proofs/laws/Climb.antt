@@ -10,7 +10,7 @@ use Rattle.model.specs.Page.{Page, Change}
 use Rattle.model.specs.Walk as walk
 use Rattle.model.specs.Rules.{Worked, settled, upward, lacking, work}
 use Rattle.model.specs.Climb.{goOn, climb, workRoot}
-use Rattle.parts.specs.Kept.{Kept}
+use Rattle.parts.specs.Kept.{ExactBytes}
 use Rattle.parts.proofs.laws.Kept.{long}
 use Rattle.parts.specs.Becomes.{Becomes}
 use Rattle.parts.proofs.laws.Becomes.{pages-are, kept-after, inside-after}
@@ -47,7 +47,7 @@ module _ (least w : ℕ) (xs : List Around) (c : Change) (ps : List Page) where
 
 -- ---- a step leaves the places above in the store, and the store as long as it was
 
-module _ {l : Limits} {b b′ : List ℕ} {ps : List Page} (k : Kept l b) (d : Becomes l b b′ ps) where
+module _ {l : Limits} {b b′ : List ℕ} {ps : List Page} (k : ExactBytes l b) (d : Becomes l b b′ ps) where
   router-after : {x : Pair} → Router l b x → Router l b′ x
   router-after r = record { inside = inside-after k d (r .inside); fits = r .fits }
 

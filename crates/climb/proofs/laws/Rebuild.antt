@@ -19,7 +19,7 @@ use Rattle.model.specs.Needs.{fills}
 use Rattle.gather.specs.declared.Gather.{Gather}
 use Rattle.gather.specs.Gather.{Good, pairsIn}
 use Rattle.gather.proofs.laws.Gather.{length-pairs}
-use Rattle.parts.specs.Kept.{Kept, pagesOf}
+use Rattle.parts.specs.Kept.{ExactBytes, pagesOf}
 use Rattle.parts.specs.Becomes.{Becomes}
 use Rattle.parts.proofs.laws.Becomes.{pages-are, then}
 use Rattle.group.specs.declared.Group.{Group}
@@ -29,12 +29,12 @@ use Rattle.group.specs.Group.{routersOf, groupOf}
 use Rattle.group.specs.Numbers.{Numbered}
 
 -- the pages named by the bytes themselves
-pub itself : {l : Limits} {b b′ : List ℕ} {ps : List Page} → Kept l b → Becomes l b b′ ps → Becomes l b b′ (pagesOf l b′)
+pub itself : {l : Limits} {b b′ : List ℕ} {ps : List Page} → ExactBytes l b → Becomes l b b′ ps → Becomes l b b′ (pagesOf l b′)
 itself k d = rw (pages-are k d) d
 
 -- ---- one page gone after the other
 
-module _ {l : Limits} {b b′ : List ℕ} (k : Kept l b) (w : ℕ) (rs : Routers) (n : ℕ) (en : n ≡ rs .first .value) (d : Becomes l b b′ (set (pagesOf l b) n (gone w (page (pagesOf l b) n)))) where
+module _ {l : Limits} {b b′ : List ℕ} (k : ExactBytes l b) (w : ℕ) (rs : Routers) (n : ℕ) (en : n ≡ rs .first .value) (d : Becomes l b b′ (set (pagesOf l b) n (gone w (page (pagesOf l b) n)))) where
   pub one-gone : rs .two ≡ false → Becomes l b b′ (rules.retire w (pagesOf l b) (routersOf rs))
   unfolding routersOf
   one-gone e = rw (e, ← en) d
@@ -54,7 +54,7 @@ lower g h = let e : h - 0 ≡ h = omega arith in rw e
 
 -- ---- the pages now used filled
 
-module _ {l : Limits} {b b₁ : List ℕ} (k : Kept l b) (w level : ℕ) (rs : List Pair) (d : Becomes l b b₁ (rules.retire w (pagesOf l b) rs)) (g : Gather) (z : Good g) (n : ℕ) where
+module _ {l : Limits} {b b₁ : List ℕ} (k : ExactBytes l b) (w level : ℕ) (rs : List Pair) (d : Becomes l b b₁ (rules.retire w (pagesOf l b) rs)) (g : Gather) (z : Good g) (n : ℕ) where
   pub one-filled : {b₂ : List ℕ} → Becomes l b₁ b₂ (set (pagesOf l b₁) n (filled w level (take (g .n - 0) (drop 0 (pairsIn g))))) → Becomes l b b₂ (set (rules.retire w (pagesOf l b) rs) n (filled w level (pairsIn g)))
   one-filled e = rw (pages-are k d, upper g z 0) at (then k d e)
 

@@ -16,7 +16,7 @@ use Rattle.model.specs.Rules as rules
 use Rattle.model.specs.Needs.{fills, takesInPlace, groupAt}
 use Rattle.gather.specs.Gather.{pairsIn}
 use Rattle.model.proofs.lists.Members.{In, in-left}
-use Rattle.parts.specs.Kept.{Kept, pagesOf}
+use Rattle.parts.specs.Kept.{ExactBytes, pagesOf}
 use Rattle.group.specs.declared.Routers.{Routers}
 use Rattle.group.specs.declared.Group.{Group}
 use Rattle.group.specs.declared.Numbers.{Numbers}
@@ -57,7 +57,7 @@ in-place-room least w c p e = leb-true (length (changed w c p .entries)) (5 * le
     left false y e = e
 
 -- the numbers of the pages used are small
-pub usable-small : (l : Limits) (b : List ℕ) → Kept l b → (w : ℕ) (rs : Routers) → Routed l b rs → (u : Numbers) → Numbered u (take 2 (rules.usable w (pagesOf l b) (routersOf rs)))
+pub usable-small : (l : Limits) (b : List ℕ) → ExactBytes l b → (w : ℕ) (rs : Routers) → Routed l b rs → (u : Numbers) → Numbered u (take 2 (rules.usable w (pagesOf l b) (routersOf rs)))
     → (u .first < 2 ^ 32) × (u .second < 2 ^ 32)
 usable-small l b k w rs r u v =
     let us : List ℕ = rules.usable w (pagesOf l b) (routersOf rs) in

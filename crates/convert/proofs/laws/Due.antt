@@ -26,7 +26,7 @@ use Rattle.update.specs.Single.{Enters, Ends}
 use Rattle.differ.specs.Merge.{told}
 use Rattle.back.specs.Pass.{wants, step, passed}
 use Rattle.back.proofs.laws.Single.{absent, present}
-use Rattle.convert.specs.Ready.{Ready, shown, Went}
+use Rattle.convert.specs.Ready.{UpdateOpen, shown, Went}
 use Rattle.convert.proofs.laws.Ready.{ready-sound, went-none, went-by}
 use Rattle.convert.specs.Due.{Steps, Due}
 
@@ -52,7 +52,7 @@ module _ (insert : Bool) (us : List Pair) (cs ds : List Delta) (p : Due insert u
 
 -- ---- done, they leave what they say
 
-module _ {l : Limits} {b : List ℕ} (g : Ready l b) where
+module _ {l : Limits} {b : List ℕ} (g : UpdateOpen l b) where
   abbrev t : Store
   t = decode (l .least) b
 

@@ -17,13 +17,13 @@ use Rattle.model.proofs.tree.Local.{those-append}
 use Rattle.model.proofs.sound.Small.{small, settings-small}
 use Rattle.model.proofs.turning.Remade.{Ends, Sets, Way, the-way}
 use Rattle.store.proofs.laws.Sure.{sure}
-use Rattle.walk.specs.Sure.{Readable}
+use Rattle.walk.specs.Sure.{Walkable}
 use Rattle.differ.specs.Merge.{told, Onward}
 use Rattle.differ.specs.Listing.{between, leftOf, nextOf}
 use Rattle.differ.proofs.laws.Listing.{reads-rising, from-start, from-end, from-on, from-step}
 use Rattle.back.specs.Pass.{wants, step, passed}
 use Rattle.back.proofs.laws.Pass.{through-append}
-use Rattle.convert.specs.Ready.{Ready, shown, Went}
+use Rattle.convert.specs.Ready.{UpdateOpen, shown, Went}
 use Rattle.convert.specs.Due.{Due}
 use Rattle.convert.proofs.laws.Due.{due-first, due-done, due-on}
 
@@ -32,7 +32,7 @@ passed-first : (insert : Bool) (least : ℕ) (cs ds : List Delta) (t : Store) �
 passed-first insert least cs ds t =
     ap (λ (es : List Delta). through (step insert least) es t) (those-append (wants insert) cs ds) ∙ through-append (step insert least) (those (wants insert) cs) (those (wants insert) ds) t
 
-module _ {k : Limits} {a : List ℕ} {u v : ℕ} (x : Readable k a u) (y : Readable k a v) (l : Limits) (b : List ℕ) (insert : Bool) where
+module _ {k : Limits} {a : List ℕ} {u v : ℕ} (x : Walkable k a u) (y : Walkable k a v) (l : Limits) (b : List ℕ) (insert : Bool) where
   pub pass-start : passed insert (l .least) (between k a u v) (decode (l .least) b) ≡ passed insert (l .least) (leftOf k a u v 0) (decode (l .least) b)
   pass-start = ap (λ (ds : List Delta). passed insert (l .least) ds (decode (l .least) b)) (sym (from-start x y))
 
@@ -43,7 +43,7 @@ module _ {k : Limits} {a : List ℕ} {u v : ℕ} (x : Readable k a u) (y : Reada
   unfolding through
   pass-end key h = ap (λ (ds : List Delta). passed insert (l .least) ds (decode (l .least) b)) (from-end x y key h)
 
-  module _ (g : Ready l b) (key : ℕ) (h : key ≤ keyLimit) (d : Delta) (e : d ≡ nextOf k a u v key) where
+  module _ (g : UpdateOpen l b) (key : ℕ) (h : key ≤ keyLimit) (d : Delta) (e : d ≡ nextOf k a u v key) where
     pub pass-on : Onward key (d .key)
     pass-on = from-on x y key h d e
 
@@ -72,7 +72,7 @@ module _ {k : Limits} {a : List ℕ} {u v : ℕ} (x : Readable k a u) (y : Reada
 
 -- ---- both passes, where the target shows what the source shows at u
 
-module _ {k : Limits} {a : List ℕ} {u v : ℕ} (x : Readable k a u) (y : Readable k a v) {l : Limits} {b : List ℕ} (g : Ready l b) (e : shown l b ≡ settings (decode (k .least) a) u) where
+module _ {k : Limits} {a : List ℕ} {u v : ℕ} (x : Walkable k a u) (y : Walkable k a v) {l : Limits} {b : List ℕ} (g : UpdateOpen l b) (e : shown l b ≡ settings (decode (k .least) a) u) where
   abbrev s : Store
   s = decode (k .least) a
 

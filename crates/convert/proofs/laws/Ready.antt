@@ -21,9 +21,9 @@ use Rattle.model.proofs.kept.Stops.{lacking-is}
 use Rattle.model.proofs.turning.Returned.{Steps}
 use Rattle.store.proofs.laws.Sure.{sure}
 use Rattle.written.proofs.laws.Encoded.{encoded-accepted, encoded-held}
-use Rattle.convert.specs.Ready.{Ready, Went}
+use Rattle.convert.specs.Ready.{UpdateOpen, Went}
 
-pub ready-sound : {l : Limits} {b : List ℕ} → Ready l b → Sound (l .least) (decode (l .least) b)
+pub ready-sound : {l : Limits} {b : List ℕ} → UpdateOpen l b → Sound (l .least) (decode (l .least) b)
 ready-sound {l} {b} g = sure (g .edition) b (g .sound)
 
 -- ---- bytes that a sound store makes
@@ -36,12 +36,12 @@ module _ {l : Limits} (d : Edition l) (t : Store) (s : Sound (l .least) t) (b : 
   pub is-held : decode (l .least) b ≡ t
   is-held = ap (decode (l .least)) e ∙ encoded-held (l .least) (d .four) (d .eight) t s
 
-  pub is-ready : t .opened ≡ true → Ready l b
+  pub is-ready : t .opened ≡ true → UpdateOpen l b
   is-ready o = record { edition = d; sound = is-sound; opened = ap (λ (x : Store). x .opened) is-held ∙ o }
 
 -- ---- one step
 
-module _ {l : Limits} {b : List ℕ} (g : Ready l b) (one : Store → Delta → Result) where
+module _ {l : Limits} {b : List ℕ} (g : UpdateOpen l b) (one : Store → Delta → Result) where
   pub went-none : Went l b 0 (through one [] (decode (l .least) b))
   unfolding through
   went-none = record { ready = g; goes = λ z. refl; stops = λ z. absurd (z refl) }
@@ -56,7 +56,7 @@ module _ {l : Limits} {b : List ℕ} (g : Ready l b) (one : Store → Delta → 
     stops = λ z. absurd (z e);
   }
   went-by d us (refused n) is p r b′ e f = record {
-    ready = subst (Ready l) (sym f) g;
+    ready = subst (UpdateOpen l) (sym f) g;
     goes = λ z. absurd (none (lacking-is n p) (sym e ∙ z));
     stops = λ z. ap (orStopped (through one []) (decode (l .least) b)) is ∙ ap (λ (m : ℕ). stopped m (decode (l .least) b)) (sym e) ∙ ap (λ (x : List ℕ). stopped r (decode (l .least) x)) (sym f);
   }

@@ -38,16 +38,16 @@ use Rattle.store.proofs.laws.Read.{count-pages, page-at}
 use Rattle.store.proofs.laws.Set.{state-set}
 use Rattle.store.proofs.laws.Sure.{sure, whole}
 use Rattle.notes.proofs.laws.Ready.{quiet-slots}
-use Rattle.notes.specs.Ready.{Sooner}
+use Rattle.notes.specs.Ready.{BehindUpto}
 use Rattle.judge.specs.Versions.{QuietPart}
 use Rattle.judge.proofs.laws.Quiet.{pairs-quiet}
-use Rattle.turn.specs.Turned.{Kept}
+use Rattle.turn.specs.Turned.{HeadedBytes}
 use Rattle.convert.proofs.laws.Ready.{is-sound, is-held}
 use Rattle.convert.specs.Version.{Replaying}
 use Rattle.convert.proofs.laws.Version.{source-sound}
 use Rattle.convert.specs.Skip.{moved, Still, Skipped}
 
-pub moved-bytes : (least : ℕ) → 4 ≤ least → least ≤ 8 → (b : List ℕ) → Kept least b → (n : ℕ) → n < 2 ^ 20
+pub moved-bytes : (least : ℕ) → 4 ≤ least → least ≤ 8 → (b : List ℕ) → HeadedBytes least b → (n : ℕ) → n < 2 ^ 20
     → putHeader least b (withFlag (withVersion (readHeader least b) n) false) ≡ encode least (moved n (decode least b))
 moved-bytes least four eight b k n low =
     ap (λ (h : Header). putHeader least b (withFlag (withVersion h n) false)) (sym (k .header))
@@ -205,7 +205,7 @@ parts-more least f n v r q h le x m five l = at (bool-cases (ltb m n))
 pub source-low : {k : Limits} {a : List ℕ} {l : Limits} {b : List ℕ} {v : ℕ} → Replaying k a l b v → decode (k .least) a .current ≤ 1048574
 source-low {k} {a} p = omega (arith, current-last (decode (k .least) a), source-sound p .last-low)
 
-pub skipped : {k : Limits} {a : List ℕ} {l : Limits} {b : List ℕ} {v : ℕ} (p : Replaying k a l b v) (c q : ℕ) → c ≡ decode (k .least) a .current → v ≤ c → Sooner v (c + 1) q → Still (k .least) a v q
+pub skipped : {k : Limits} {a : List ℕ} {l : Limits} {b : List ℕ} {v : ℕ} (p : Replaying k a l b v) (c q : ℕ) → c ≡ decode (k .least) a .current → v ≤ c → BehindUpto v (c + 1) q → Still (k .least) a v q
     → (b′ : List ℕ) → b′ ≡ encode (l .least) (moved (q - 1) (decode (l .least) b)) → Skipped k a l b b′ v (q - 1)
 skipped {k} {a} {l} {b} {v} p c q e le s still b′ f =
     let low : v ≤ q - 1 = omega (arith, s .above) in

@@ -17,9 +17,9 @@ use Rattle.model.proofs.sound.ByRule.{Sound}
 use Rattle.model.proofs.turning.Returned.{Stepped, Runs}
 use Rattle.model.proofs.turning.Converted.{begun, current-last, Upto, Replays, begun-sound, begun-shows, runs, one-more, replayed-is, replayed-so}
 use Rattle.store.proofs.laws.Sure.{sure, front, few}
-use Rattle.walk.specs.Sure.{Readable}
+use Rattle.walk.specs.Sure.{Walkable}
 use Rattle.differ.specs.Listing.{between}
-use Rattle.convert.specs.Ready.{Ready, shown, Went}
+use Rattle.convert.specs.Ready.{UpdateOpen, shown, Went}
 use Rattle.convert.proofs.laws.Ready.{is-sound, is-held, is-ready}
 use Rattle.convert.specs.Version.{Replaying, Replayed}
 
@@ -34,10 +34,10 @@ module _ {k : Limits} {a : List ℕ} {l : Limits} {b : List ℕ} {v : ℕ} (p : 
   source-sound = sure (p .from) a (p .source)
 
   module _ (h : v < decode (k .least) a .current) where
-    pub old-read : Readable k a v
+    pub old-read : Walkable k a v
     old-read = record { edition = p .from; sound = p .source; version = record { from = omega (arith, p .whole); upto = omega (arith, h, current-last s) } }
 
-    pub new-read : Readable k a (v + 1)
+    pub new-read : Walkable k a (v + 1)
     new-read = record { edition = p .from; sound = p .source; version = record { from = omega (arith, p .whole); upto = omega (arith, h, current-last s) } }
 
     -- ---- the update begun
@@ -49,7 +49,7 @@ module _ {k : Limits} {a : List ℕ} {l : Limits} {b : List ℕ} {v : ℕ} (p : 
       pub open-held : decode (l .least) b₁ ≡ begun (decode (l .least) b)
       open-held = is-held (p .into) (begun t) open-sound b₁ e
 
-      pub open-ready : Ready l b₁
+      pub open-ready : UpdateOpen l b₁
       open-ready = is-ready (p .into) (begun t) open-sound b₁ e refl
 
       pub open-shows : shown l b₁ ≡ settings (decode (k .least) a) v

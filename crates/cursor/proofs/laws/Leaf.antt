@@ -17,7 +17,7 @@ use Rattle.walk.specs.Live.{live}
 use Rattle.walk.proofs.laws.Below.{upto-between}
 use Rattle.walk.specs.Scan.{entry, from, Owns, Next}
 use Rattle.walk.proofs.laws.Scan.{next-none}
-use Rattle.walk.specs.Sure.{Readable}
+use Rattle.walk.specs.Sure.{Walkable}
 use Rattle.walk.specs.Covers.{Covers}
 use Rattle.cursor.specs.declared.Under.{Under}
 use Rattle.cursor.specs.First.{atOrAbove, leads}
@@ -26,10 +26,10 @@ use Rattle.cursor.specs.Reaches.{Reaches}
 use Rattle.cursor.proofs.laws.Reaches.{reaches-covers, reaches-root, reaches-next, reaches-last, leaf-range, leaf-then}
 use Rattle.cursor.specs.Leaf.{Below}
 
-pub below-covers : {l : Limits} {b : List ℕ} {v : ℕ} → Readable l b v → (up k : ℕ) (u : Under) → Below l b v up k u → Covers (l .least) v (decode (l .least) b .pages) up (u .page) k
+pub below-covers : {l : Limits} {b : List ℕ} {v : ℕ} → Walkable l b v → (up k : ℕ) (u : Under) → Below l b v up k u → Covers (l .least) v (decode (l .least) b .pages) up (u .page) k
 below-covers {l} {b} {v} r up k u g = reaches-covers (l .least) v (decode (l .least) b .pages) (settings (decode (l .least) b) v) up (u .page) k (u .high) g
 
-pub below-root : {l : Limits} {b : List ℕ} {v : ℕ} → Readable l b v → (k : ℕ) → k < keyLimit
+pub below-root : {l : Limits} {b : List ℕ} {v : ℕ} → Walkable l b v → (k : ℕ) → k < keyLimit
     → Below l b v (heightOf (decode (l .least) b .pages) (rootAt (decode (l .least) b .slots) v)) k (record { page = rootAt (decode (l .least) b .slots) v; high = keyLimit })
 below-root {l} {b} {v} r k h = reaches-root (l .least) (omega (arith, r .edition .four)) (decode (l .least) b) (sure (r .edition) b (r .sound)) v k (r .version) h
 
@@ -80,7 +80,7 @@ module _ (least v : ℕ) (ps : List Page) (whole : List Pair) (n k high : ℕ) (
       ∙ leads-none (g .low) high (atOrAbove k (pairsAt v (page ps n))) (atOrAbove high whole) (above-in k (g .low) high (pairsAt v (page ps n)) (leaf-range least v ps whole n k high g)) (g .top) h
 
 -- no setting is above the largest key
-pub first-end : {l : Limits} {b : List ℕ} {v : ℕ} → Readable l b v → (k : ℕ) → keyLimit ≤ k → pair keyLimit 0 ≡ leads (atOrAbove k (settings (decode (l .least) b) v))
+pub first-end : {l : Limits} {b : List ℕ} {v : ℕ} → Walkable l b v → (k : ℕ) → keyLimit ≤ k → pair keyLimit 0 ≡ leads (atOrAbove k (settings (decode (l .least) b) v))
 first-end {l} {b} {v} r k h =
     sym (ap leads (above-none k 0 keyLimit (settings (decode (l .least) b) v)
     (settings-low (l .least) (omega (arith, r .edition .four)) (decode (l .least) b) (sure (r .edition) b (r .sound)) v (r .version)) h))

@@ -54,7 +54,7 @@ module _ (least v : ℕ) (ps : List Page) where
 
   -- Of routers from lo up to hi, those that a walk for k follows: the one for k leads to page n, which has the keys up to mid, and the
   -- others come after it.
-  pub record Led (l k lo hi : ℕ) (zs qs : List Pair) : Type 0 where
+  pub record LedFor (l k lo hi : ℕ) (zs qs : List Pair) : Type 0 where
     pub n : ℕ
     pub after : List Pair
     pub low : ℕ
@@ -73,7 +73,7 @@ module _ (least v : ℕ) (ps : List Page) where
 
   module _ (l k : ℕ) where
     led : (rest : List Pair) (x : Pair) (lo hi : ℕ) (zs : List Pair) → Row (Tree least v l ps) hi (x ∷ rest) lo zs → lo ≤ k → k < hi → hi ≤ keyLimit
-        → Led l k lo hi zs (followFrom k 16777215 x rest)
+        → LedFor l k lo hi zs (followFrom k 16777215 x rest)
     led [] x lo hi zs t p q top = record {
       n = x .value;
       after = [];
@@ -93,8 +93,8 @@ module _ (least v : ℕ) (ps : List Page) where
     }
     led (y ∷ ys) x lo hi zs t p q top = at (leb (y .key) k) refl (λ far. led ys y (t .mid) hi (t .others) (t .rest) far q top)
       where
-        at : (b : Bool) → leb (y .key) k ≡ b → (t .mid ≤ k → Led l k (t .mid) hi (t .others) (followFrom k 16777215 y ys))
-            → Led l k lo hi zs (elim b as (λ z. List Pair) [ true ↦ followFrom k 16777215 y ys | false ↦ pair k (x .value) ∷ upto 16777215 (y ∷ ys) ])
+        at : (b : Bool) → leb (y .key) k ≡ b → (t .mid ≤ k → LedFor l k (t .mid) hi (t .others) (followFrom k 16777215 y ys))
+            → LedFor l k lo hi zs (elim b as (λ z. List Pair) [ true ↦ followFrom k 16777215 y ys | false ↦ pair k (x .value) ∷ upto 16777215 (y ∷ ys) ])
         at true e ih =
             let f = ih (omega (arith, leb-true (y .key) k e, t .rest .low)) in
             record {
@@ -134,13 +134,13 @@ module _ (least v : ℕ) (ps : List Page) where
           all-of = t .all-of;
         }
 
-    led-in : (rs : List Pair) (lo hi : ℕ) (zs : List Pair) → Row (Tree least v l ps) hi rs lo zs → lo ≤ k → k < hi → hi ≤ keyLimit → Led l k lo hi zs (followed k 16777215 rs)
+    led-in : (rs : List Pair) (lo hi : ℕ) (zs : List Pair) → Row (Tree least v l ps) hi rs lo zs → lo ≤ k → k < hi → hi ≤ keyLimit → LedFor l k lo hi zs (followed k 16777215 rs)
     led-in [] lo hi zs t p q top = absurd (omega (arith, t .met))
     led-in (x ∷ rs) lo hi zs t p q top = led rs x lo hi zs t p q top
 
   -- one page further down
   module _ (whole : List Pair) (up n k high : ℕ) (r : Reaches least v ps whole (suc up) n k high) where
-    way : Led up k (r .low) high (r .shown) (followed k 16777215 (pairsAt v (page ps n)))
+    way : LedFor up k (r .low) high (r .shown) (followed k 16777215 (pairsAt v (page ps n)))
     way = led-in up k (pairsAt v (page ps n)) (r .low) high (r .shown) (r .holds) (r .from) (r .below) (r .top)
 
     further : Reaches least v ps whole up (way .n) k (way .mid)

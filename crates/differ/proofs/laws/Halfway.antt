@@ -15,7 +15,7 @@ use Rattle.model.specs.Walk.{keyLimit}
 use Rattle.model.specs.Differ.{added, removed}
 use Rattle.model.specs.Telling.{Space, Gathers}
 use Rattle.model.proofs.reading.Telling.{space-front, Gathering, gather-start, gather-same, gather-step, gather-end}
-use Rattle.walk.specs.Sure.{Readable}
+use Rattle.walk.specs.Sure.{Walkable}
 use Rattle.cursor.specs.declared.Under.{Under}
 use Rattle.cursor.specs.First.{atOrAbove, leads}
 use Rattle.cursor.proofs.laws.First.{above-all}
@@ -117,18 +117,18 @@ module _ (p : List ℕ) (m : ℕ) (q : List ℕ) (n : ℕ) (a : Ask) where
 -- ---- two versions
 
 -- all that differs below a key is told
-pub record Between (l : Limits) (b : List ℕ) (u v : ℕ) (w : Bool) (ns₀ ns : List ℕ) (found key : ℕ) : Type 0 where
+pub record ToldBelow (l : Limits) (b : List ℕ) (u v : ℕ) (w : Bool) (ns₀ ns : List ℕ) (found key : ℕ) : Type 0 where
   pub limit : key ≤ keyLimit
   pub tells : Gathering deltas w ns₀ ns 0 found (between l b u v) (leftOf l b u v key)
 
-module _ {l : Limits} {b : List ℕ} {u v : ℕ} (r : Readable l b u) (q : Readable l b v) where
-  pub between-start : {w : Bool} {ns : List ℕ} → Space deltas w ns 0 (between l b u v) → Between l b u v w ns ns 0 0
+module _ {l : Limits} {b : List ℕ} {u v : ℕ} (r : Walkable l b u) (q : Walkable l b v) where
+  pub between-start : {w : Bool} {ns : List ℕ} → Space deltas w ns 0 (between l b u v) → ToldBelow l b u v w ns ns 0 0
   between-start s = record { limit = omega arith; tells = gather-same deltas (sym (from-start r q)) (gather-start deltas s) }
 
-  pub between-end : {w : Bool} {ns₀ ns : List ℕ} {found key : ℕ} → Between l b u v w ns₀ ns found key → keyLimit ≤ key → Gathers deltas w ns₀ ns 0 found (between l b u v)
+  pub between-end : {w : Bool} {ns₀ ns : List ℕ} {found key : ℕ} → ToldBelow l b u v w ns₀ ns found key → keyLimit ≤ key → Gathers deltas w ns₀ ns 0 found (between l b u v)
   between-end {key = key} h l = gather-end deltas (gather-same deltas (from-end r q key l) (h .tells))
 
-  module _ {w : Bool} {ns₀ ns : List ℕ} {found key : ℕ} (h : Between l b u v w ns₀ ns found key) (x y : Under) (g : Below l b u 0 key x) (f : Below l b v 0 key y)
+  module _ {w : Bool} {ns₀ ns : List ℕ} {found key : ℕ} (h : ToldBelow l b u v w ns₀ ns found key) (x y : Under) (g : Below l b u 0 key x) (f : Below l b v 0 key y)
       (high : ℕ) (e : high ≡ pick (ltb (x .high) (y .high)) (x .high) (y .high)) where
     pub high-low : key < high
     high-low = past.high-low r q key x y g f high e
@@ -145,5 +145,5 @@ module _ {l : Limits} {b : List ℕ} {u v : ℕ} (r : Readable l b u) (q : Reada
     pub between-space : Space deltas w ns found (inLeaves l b ask x y)
     between-space = space-front deltas (inLeaves l b ask x y) (leftOf l b u v high) (parts-of .space)
 
-    pub between-step : (ns′ : List ℕ) (found′ : ℕ) → Gathers deltas w ns ns′ found found′ (inLeaves l b ask x y) → Between l b u v w ns₀ ns′ found′ high
+    pub between-step : (ns′ : List ℕ) (found′ : ℕ) → Gathers deltas w ns ns′ found found′ (inLeaves l b ask x y) → ToldBelow l b u v w ns₀ ns′ found′ high
     between-step ns′ found′ t = record { limit = high-top; tells = gather-step deltas (inLeaves l b ask x y) (leftOf l b u v high) parts-of ns′ found′ t }

@@ -22,7 +22,7 @@ use Rattle.model.proofs.reading.Differs.{none-differs}
 use Rattle.page.specs.declared.Head.{Head}
 use Rattle.page.specs.Head.{readHead}
 use Rattle.walk.specs.Scan.{Stands, from}
-use Rattle.walk.specs.Sure.{Readable}
+use Rattle.walk.specs.Sure.{Walkable}
 use Rattle.walk.proofs.laws.Here.{here-stands, here-pairs}
 use Rattle.cursor.specs.declared.Under.{Under}
 use Rattle.cursor.specs.First.{atOrAbove}
@@ -41,7 +41,7 @@ use Rattle.differ.proofs.laws.Listing.{reads-rising}
 use Rattle.differ.specs.Leaves.{asked, inLeaf, inLeaves}
 
 -- a leaf's settings stand by key
-pub leaf-ordered : {l : Limits} {b : List ℕ} {v : ℕ} → Readable l b v → (k : ℕ) (x : Under) → Below l b v 0 k x → (lo hi : ℕ) → Ordered (inLeaf l b v lo hi x)
+pub leaf-ordered : {l : Limits} {b : List ℕ} {v : ℕ} → Walkable l b v → (k : ℕ) (x : Under) → Below l b v 0 k x → (lo hi : ℕ) → Ordered (inLeaf l b v lo hi x)
 leaf-ordered {l} {b} {v} r k x g lo hi = record {
   rises = rising-those (λ (y : Pair). leb lo (y .key) && leb (y .key) hi) shows (g .holds .rising);
   low = all-those (λ (y : Pair). within 0 keyLimit (y .key)) (λ (y : Pair). leb lo (y .key) && leb (y .key) hi) shows
@@ -53,7 +53,7 @@ leaf-ordered {l} {b} {v} r k x g lo hi = record {
 
 -- ---- a leaf as it was read
 
-module _ {l : Limits} {b : List ℕ} {v : ℕ} (r : Readable l b v) (k : ℕ) (x : Under) (g : Below l b v 0 k x)
+module _ {l : Limits} {b : List ℕ} {v : ℕ} (r : Walkable l b v) (k : ℕ) (x : Under) (g : Below l b v 0 k x)
     (p : List ℕ) (h : Head) (e : p ≡ pageOf (l .least) b (x .page)) (f : h ≡ readHead (l .least) p) where
   pub leaf-stands : Stands p (h .count)
   leaf-stands = here-stands r 0 (x .page) k (below-covers r 0 k x g) p h e f
@@ -66,7 +66,7 @@ module _ {l : Limits} {b : List ℕ} {v : ℕ} (r : Readable l b v) (k : ℕ) (x
 
 -- ---- two of them
 
-module _ {l : Limits} {b : List ℕ} (a : Ask) (r : Readable l b (a .old)) (q : Readable l b (a .new)) (x y : Under) (g : Below l b (a .old) 0 (a .low) x) (f : Below l b (a .new) 0 (a .low) y)
+module _ {l : Limits} {b : List ℕ} (a : Ask) (r : Walkable l b (a .old)) (q : Walkable l b (a .new)) (x y : Under) (g : Below l b (a .old) 0 (a .low) x) (f : Below l b (a .new) 0 (a .low) y)
     (p : List ℕ) (h : Head) (e : p ≡ pageOf (l .least) b (x .page)) (d : h ≡ readHead (l .least) p) where
   -- one page that shows the same
   pub same-none : (eqb (x .page) (y .page) && quiet (a .old) (a .new) (from p 0 (h .count))) ≡ true → inLeaves l b a x y ≡ []
@@ -82,7 +82,7 @@ module _ {l : Limits} {b : List ℕ} (a : Ask) (r : Readable l b (a .old)) (q : 
 
 -- ---- a stretch of both versions: it ends where the first of the two leaves does
 
-module _ {l : Limits} {b : List ℕ} (a : Ask) (r : Readable l b (a .old)) (q : Readable l b (a .new)) (x y : Under) (g : Below l b (a .old) 0 (a .low) x) (f : Below l b (a .new) 0 (a .low) y)
+module _ {l : Limits} {b : List ℕ} (a : Ask) (r : Walkable l b (a .old)) (q : Walkable l b (a .new)) (x y : Under) (g : Below l b (a .old) 0 (a .low) x) (f : Below l b (a .new) 0 (a .low) y)
     (h : a .low ≤ a .high) (i : a .high < x .high) (j : a .high < y .high) where
   pub stretch-on : leftOf l b (a .old) (a .new) (a .low) ≡ inLeaves l b a x y ++ leftOf l b (a .old) (a .new) (a .high + 1)
   unfolding left

@@ -14,7 +14,7 @@ use Rattle.model.specs.Layout.{decode}
 use Rattle.model.proofs.reading.Lookups.{settings-rise, settings-low}
 use Rattle.model.proofs.tree.Local.{inRange}
 use Rattle.store.proofs.laws.Sure.{sure}
-use Rattle.walk.specs.Sure.{Readable}
+use Rattle.walk.specs.Sure.{Walkable}
 use Rattle.cursor.specs.First.{atOrAbove, leads}
 use Rattle.model.specs.declared.Delta.{Delta}
 use Rattle.model.specs.Inner.{rising}
@@ -23,10 +23,10 @@ use Rattle.differ.specs.Merge.{compared, told, Onward}
 use Rattle.differ.proofs.laws.Merge.{left-start, left-end, left-on, left-step}
 use Rattle.differ.specs.Listing.{between, leftOf}
 
-pub reads-rising : {l : Limits} {b : List ℕ} {v : ℕ} → Readable l b v → rising (settings (decode (l .least) b) v) ≡ true
+pub reads-rising : {l : Limits} {b : List ℕ} {v : ℕ} → Walkable l b v → rising (settings (decode (l .least) b) v) ≡ true
 reads-rising {l} {b} {v} r = settings-rise (l .least) (omega (arith, r .edition .four)) (decode (l .least) b) (sure (r .edition) b (r .sound)) v (r .version)
 
-pub reads-low : {l : Limits} {b : List ℕ} {v : ℕ} → Readable l b v → inRange 0 keyLimit (settings (decode (l .least) b) v) ≡ true
+pub reads-low : {l : Limits} {b : List ℕ} {v : ℕ} → Walkable l b v → inRange 0 keyLimit (settings (decode (l .least) b) v) ≡ true
 reads-low {l} {b} {v} r = settings-low (l .least) (omega (arith, r .edition .four)) (decode (l .least) b) (sure (r .edition) b (r .sound)) v (r .version)
 
 -- a cursor's answer that is told, or not
@@ -36,7 +36,7 @@ told-same d e = ap (λ (b : Bool). pick b [] (d ∷ [])) (eq-eqb (d .kind) 3 e)
 pub told-one : (d : Delta) → (d .kind ≡ 3 → ⊥) → told d ≡ d ∷ []
 told-one d e = ap (λ (b : Bool). pick b [] (d ∷ [])) (ne-eqb (d .kind) 3 e)
 
-module _ {l : Limits} {b : List ℕ} {u v : ℕ} (r : Readable l b u) (q : Readable l b v) where
+module _ {l : Limits} {b : List ℕ} {u v : ℕ} (r : Walkable l b u) (q : Walkable l b v) where
   abbrev us : List Pair
   us = settings (decode (l .least) b) u
 

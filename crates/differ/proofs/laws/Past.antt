@@ -11,7 +11,7 @@ use Rattle.model.specs.Basic.{pick}
 use Rattle.model.specs.declared.Delta.{Delta}
 use Rattle.model.specs.declared.Limits.{Limits}
 use Rattle.model.specs.Walk.{keyLimit}
-use Rattle.walk.specs.Sure.{Readable}
+use Rattle.walk.specs.Sure.{Walkable}
 use Rattle.cursor.specs.declared.Under.{Under}
 use Rattle.cursor.specs.Leaf.{Below}
 use Rattle.differ.specs.declared.leaves.Ask.{Ask}
@@ -19,7 +19,7 @@ use Rattle.differ.specs.Listing.{leftOf}
 use Rattle.differ.specs.Leaves.{inLeaves}
 use Rattle.differ.proofs.laws.Leaves.{stretch-on}
 
-module _ {l : Limits} {b : List ℕ} {u v : ℕ} (r : Readable l b u) (q : Readable l b v) (key : ℕ) (x y : Under) (g : Below l b u 0 key x) (f : Below l b v 0 key y)
+module _ {l : Limits} {b : List ℕ} {u v : ℕ} (r : Walkable l b u) (q : Walkable l b v) (key : ℕ) (x y : Under) (g : Below l b u 0 key x) (f : Below l b v 0 key y)
     (high : ℕ) (e : high ≡ pick (ltb (x .high) (y .high)) (x .high) (y .high)) where
   -- the lower of two ends is behind the key
   lower : (high ≤ x .high) × (high ≤ y .high) × (key < high)

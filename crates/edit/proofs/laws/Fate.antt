@@ -6,24 +6,24 @@ use native.Mathlib.Omega.{arith}
 use Rattle.model.specs.declared.Entry.{Entry}
 use Rattle.model.specs.Basic.{pick}
 use Rattle.model.specs.Entry.{liveAt, alive}
-use Rattle.page.specs.Read.{Sized}
+use Rattle.page.specs.Read.{FieldsFit}
 use Rattle.edit.specs.declared.sift.Rule.{Rule}
 use Rattle.edit.specs.declared.sift.Rule.the-variants.{Kill, End, Back}
 use Rattle.edit.specs.Fate.{amongOf, endIf, backIf, fateOf, endOf}
 
-pub fate-sized : (r : Rule) (w : ℕ) (e : Entry) → Sized e → w < 2 ^ 20 → Sized (fateOf r w e .entry)
+pub fate-sized : (r : Rule) (w : ℕ) (e : Entry) → FieldsFit e → w < 2 ^ 20 → FieldsFit (fateOf r w e .entry)
 unfolding fateOf
 fate-sized r w e z h = go r
   where
-    ended : (b : Bool) → Sized (endIf b w e .entry)
+    ended : (b : Bool) → FieldsFit (endIf b w e .entry)
     ended true = record { key = z .key; start = z .start; end = h; value = z .value }
     ended false = z
 
-    back : (b : Bool) → Sized (backIf b e)
+    back : (b : Bool) → FieldsFit (backIf b e)
     back true = record { key = z .key; start = z .start; end = omega arith; value = z .value }
     back false = z
 
-    go : (r : Rule) → Sized (fateOf r w e .entry)
+    go : (r : Rule) → FieldsFit (fateOf r w e .entry)
     go Kill = ended (liveAt w e)
     go (End n a b) = ended (liveAt w e && amongOf (e .key) n a b)
     go Back = back (eqb (e .end) w)

@@ -16,7 +16,7 @@ use Rattle.model.specs.Limits.{liveShown}
 use Rattle.model.specs.Layout.{lives, liveIn, liveOf, entryParts, encodePage, countOf}
 use Rattle.page.specs.declared.Head.{Head}
 use Rattle.page.specs.Head.{putHead, putLive}
-use Rattle.page.specs.Read.{Sized}
+use Rattle.page.specs.Read.{FieldsFit}
 use Rattle.page.proofs.laws.Editions.{count-bits}
 use Rattle.page.specs.Exact.{Exact, encodeWith}
 use Rattle.page.proofs.laws.Exact.{live-right, free-zeros, encode-exact, encode-count, valid-free}
@@ -68,7 +68,7 @@ module _ (least : ℕ) (four : 4 ≤ least) (eight : least ≤ 8) where
     unfolding filling
     filling-step k x h h2 e f =
         let b : length (map (born w) (take k l)) ≡ k = born-length k (omega arith) in
-        let z : Sized (born w x) = record { key = f .key; start = small; end = omega arith; value = f .value } in
+        let z : FieldsFit (born w x) = record { key = f .key; start = small; end = omega arith; value = f .value } in
         let m : map (born w) (take k l) ++ (born w x ∷ []) ≡ map (born w) (take (k + 1) l)
         = sym (rw (add-one, take-suc l k nil h, map-append (born w) (take k l) (getD l k nil ∷ []), e)) in
         rw (← m) (rw b at (staged-put least four eight p clear-exact (map (born w) (take k l)) (born w x) (omega arith) z))

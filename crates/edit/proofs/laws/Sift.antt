@@ -17,7 +17,7 @@ use Rattle.model.proofs.tree.Local.{those-append}
 use Rattle.model.proofs.plan.PlanSizes.{few-those}
 use Rattle.page.specs.declared.Head.{Head}
 use Rattle.page.specs.Head.{readHead, putHead, putLive, HeadFits}
-use Rattle.page.specs.Read.{Sized}
+use Rattle.page.specs.Read.{FieldsFit}
 use Rattle.page.proofs.laws.Read.{count-of, entries-of, level-of, start-of, end-of, length-entries}
 use Rattle.page.proofs.laws.Front.{read-fits}
 use Rattle.page.proofs.laws.Editions.{count-bits}
@@ -122,6 +122,6 @@ sift-read p q n out i least four eight x e s h lt =
     ∙ ap (λ (k : ℕ). getD (readEntries p 128 k) i unused) (sym e)
 
 -- one that is kept is written
-pub sift-put : (p q : List ℕ) (n : ℕ) (out : List Entry) (e : Entry) → Staged p n out q → length out < n → Sized e → Staged p n (out ++ e ∷ []) (lay q (128 + 96 * length out) (entryParts e))
+pub sift-put : (p q : List ℕ) (n : ℕ) (out : List Entry) (e : Entry) → Staged p n out q → length out < n → FieldsFit e → Staged p n (out ++ e ∷ []) (lay q (128 + 96 * length out) (entryParts e))
 sift-put p q n out e s lt z least four eight x c =
     ap (λ (b : List ℕ). lay b (128 + 96 * length out) (entryParts e)) (s least four eight x c) ∙ staged-put least four eight p x out e (omega (arith, x .room)) z

@@ -11,7 +11,7 @@ use Rattle.model.specs.Basic.{keep}
 use Rattle.model.specs.Entry.{before, born, placed, enter}
 use Rattle.model.specs.Page.{Page}
 use Rattle.model.specs.Layout.{unused}
-use Rattle.page.specs.Read.{Sized}
+use Rattle.page.specs.Read.{FieldsFit}
 use Rattle.page.proofs.laws.Read.{sized-unused}
 use Rattle.page.specs.Exact.{Valid}
 use Rattle.edit.specs.declared.sift.Rule.{Rule}
@@ -22,17 +22,17 @@ use Rattle.edit.proofs.laws.Sift.{sifted-short}
 use Rattle.edit.specs.Place.{entered}
 
 abbrev pub AllSized : List Entry → Type 0
-AllSized es = (k : ℕ) → Sized (getD es k unused)
+AllSized es = (k : ℕ) → FieldsFit (getD es k unused)
 
-pub sized-cons : (e : Entry) (es : List Entry) → Sized e → AllSized es → AllSized (e ∷ es)
+pub sized-cons : (e : Entry) (es : List Entry) → FieldsFit e → AllSized es → AllSized (e ∷ es)
 sized-cons e es z h zero = z
 sized-cons e es z h (suc k) = h k
 
-sized-left : (b : Bool) (e : Entry) (es : List Entry) → Sized e → AllSized es → AllSized (keep b e [] ++ es)
+sized-left : (b : Bool) (e : Entry) (es : List Entry) → FieldsFit e → AllSized es → AllSized (keep b e [] ++ es)
 sized-left true e es z h = sized-cons e es z h
 sized-left false e es z h = h
 
-sized-placed : (b : Bool) (e x : Entry) (xs ys : List Entry) → Sized e → AllSized (x ∷ xs) → AllSized ys → AllSized (placed b e x xs ys)
+sized-placed : (b : Bool) (e x : Entry) (xs ys : List Entry) → FieldsFit e → AllSized (x ∷ xs) → AllSized ys → AllSized (placed b e x xs ys)
 sized-placed true e x xs ys z h g = sized-cons e (x ∷ xs) z h
 sized-placed false e x xs ys z h g = sized-cons x ys (h 0) g
 
@@ -46,7 +46,7 @@ sized-sifted r w [] hw h = λ k. sized-unused
 sized-sifted r w (e ∷ es) hw h =
     sized-left (fateOf r w e .kept) (fateOf r w e .entry) (sifted r w es) (fate-sized r w e (h 0) hw) (sized-sifted r w es hw (λ k. h (suc k)))
 
-sized-enter : (e : Entry) (es : List Entry) → Sized e → AllSized es → AllSized (enter e es)
+sized-enter : (e : Entry) (es : List Entry) → FieldsFit e → AllSized es → AllSized (enter e es)
 sized-enter e [] z h = sized-cons e [] z h
 sized-enter e (x ∷ xs) z h = sized-placed (before e x) e x xs (enter e xs) z h (sized-enter e xs z (λ k. h (suc k)))
 

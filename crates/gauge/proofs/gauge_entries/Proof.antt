@@ -4,13 +4,13 @@ use native.Mathlib.Omega.{arith}
 use borrow.Author.Tests.{not-true, not-false}
 use lib.ListN.{length}
 use Rattle.gauge.specs.Gauge.{weight, entrySum}
-use Rattle.gauge.proofs.laws.Gauge.{Fit, told, entries-none, entries-more, entries-small}
+use Rattle.gauge.proofs.laws.Gauge.{GaugeFit, told, entries-none, entries-more, entries-small}
 use borrow.Author.Needs.{needs}
 use Rattle.gauge.proofs.gauge_entries.Statement.{statement}
 use Rattle.gauge.proofs.gauge_entries.Tie as tie
 
 abbrev Inv-loop : tie.InvT-loop
-Inv-loop page n r₀ i₀ r i = Fit (length page) 128 0 n × (i ≤ n) × (r ≡ entrySum page i)
+Inv-loop page n r₀ i₀ r i = GaugeFit (length page) 128 0 n × (i ≤ n) × (r ≡ entrySum page i)
 
 abbrev μ-loop : tie.MeasureT-loop
 μ-loop page n r₀ i₀ r i = n - i

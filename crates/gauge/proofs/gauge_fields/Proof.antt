@@ -4,13 +4,13 @@ use native.Mathlib.Omega.{arith}
 use borrow.Author.Tests.{not-true, not-false}
 use lib.ListN.{length}
 use Rattle.gauge.specs.Gauge.{fieldSum}
-use Rattle.gauge.proofs.laws.Gauge.{Fit, told, fields-none, fields-more, fields-small}
+use Rattle.gauge.proofs.laws.Gauge.{GaugeFit, told, fields-none, fields-more, fields-small}
 use borrow.Author.Needs.{needs}
 use Rattle.gauge.proofs.gauge_fields.Statement.{statement}
 use Rattle.gauge.proofs.gauge_fields.Tie as tie
 
 abbrev Inv-loop : tie.InvT-loop
-Inv-loop s at width n r₀ i₀ r i = Fit (length s) at width n × (i ≤ n) × (r ≡ fieldSum s at width i)
+Inv-loop s at width n r₀ i₀ r i = GaugeFit (length s) at width n × (i ≤ n) × (r ≡ fieldSum s at width i)
 
 abbrev μ-loop : tie.MeasureT-loop
 μ-loop s at width n r₀ i₀ r i = n - i

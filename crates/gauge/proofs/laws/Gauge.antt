@@ -13,21 +13,21 @@ use Rattle.model.specs.Page.{filled}
 use Rattle.model.specs.Layout.{readEntry, encodePage}
 use Rattle.model.proofs.lists.Lists.{both-true}
 use Rattle.bits.proofs.laws.Laws.{field-fits}
-use Rattle.page.specs.Read.{Sized}
+use Rattle.page.specs.Read.{FieldsFit}
 use Rattle.page.proofs.laws.Read.{read-sized}
 use Rattle.edit.specs.Fill.{nil, Fitting}
 use Rattle.gauge.specs.Gauge.{fits, fieldSum, weight, entrySum, fillFits, fillPairs, filledPage}
 
 -- ---- what the tests tell
 
-pub record Fit (len at width n : ℕ) : Type 0 where
+pub record GaugeFit (len at width n : ℕ) : Type 0 where
   pub bytes : len ≤ 1048576
   pub place : at ≤ 1048576
   pub wide : width ≤ 32
   pub many : n ≤ 1048576
   pub held : at + 96 * n ≤ 8 * len
 
-pub told : (len at width n : ℕ) → fits len at width n ≡ true → Fit len at width n
+pub told : (len at width n : ℕ) → fits len at width n ≡ true → GaugeFit len at width n
 told len at width n e =
     let a = both-true (leb len 1048576) (leb at 1048576 && (leb width 32 && (leb n 1048576 && leb (at + 96 * n) (8 * len)))) e in
     let b = both-true (leb at 1048576) (leb width 32 && (leb n 1048576 && leb (at + 96 * n) (8 * len))) (a .1) in
@@ -82,7 +82,7 @@ module _ (s : List ℕ) where
   unfolding entrySum
   entries-small zero = omega arith
   entries-small (suc i) =
-      let z : Sized (readEntry s (128 + 96 * i)) = read-sized s (128 + 96 * i) in
+      let z : FieldsFit (readEntry s (128 + 96 * i)) = read-sized s (128 + 96 * i) in
       omega (arith, entries-small i, z .key, z .start, z .end, z .value)
 
 -- every pair of the list that a page is filled from

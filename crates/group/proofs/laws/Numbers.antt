@@ -18,7 +18,7 @@ use Rattle.model.specs.Needs.{actives}
 use Rattle.model.proofs.lists.Members.{In, in-append, in-those, in-getD}
 use Rattle.model.proofs.tree.GroupPages.{in-frees}
 use Rattle.model.proofs.plan.PlanSizes.{actives-few}
-use Rattle.parts.specs.Kept.{Kept, Inside, pagesOf}
+use Rattle.parts.specs.Kept.{ExactBytes, Inside, pagesOf}
 use Rattle.parts.specs.Free.{freePast, Found}
 use Rattle.parts.proofs.laws.Free.{free-all}
 use Rattle.group.specs.declared.Numbers.{Numbers}
@@ -154,7 +154,7 @@ module _ (u : Numbers) (xs : List ℕ) (z : Numbered u (take 2 xs)) where
   second-in h = rw (z .second) (in-take (getD (take 2 xs) 1 0) xs (in-getD 0 (take 2 xs) 1 (omega (arith, z .count))))
 
 -- a page's number is small
-pub numbers-small : (l : Limits) (b : List ℕ) → Kept l b → (u : Numbers) (ns : List ℕ) → Numbered u ns → ((n : ℕ) → In n ns → Inside l b n) → (u .first < 2 ^ 32) × (u .second < 2 ^ 32)
+pub numbers-small : (l : Limits) (b : List ℕ) → ExactBytes l b → (u : Numbers) (ns : List ℕ) → Numbered u ns → ((n : ℕ) → In n ns → Inside l b n) → (u .first < 2 ^ 32) × (u .second < 2 ^ 32)
 numbers-small l b k u [] z i = (omega (arith, z .first), omega (arith, z .second))
 numbers-small l b k u (x ∷ []) z i = (omega (arith, z .first, i x (inl refl) .high, k .most), omega (arith, z .second))
 numbers-small l b k u (x ∷ y ∷ ns) z i = (omega (arith, z .first, i x (inl refl) .high, k .most), omega (arith, z .second, i y (inr (inl refl)) .high, k .most))

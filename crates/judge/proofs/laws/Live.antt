@@ -14,7 +14,7 @@ use Rattle.model.specs.Entry.{pairOf, liveAt}
 use Rattle.model.specs.Sound.{fewest, startsAt}
 use Rattle.model.specs.Layout.{readEntry}
 use Rattle.page.proofs.laws.Read.{entries-step, entries-end}
-use Rattle.judge.specs.Pending.{pairsFrom, Next, firstKey, openOk}
+use Rattle.judge.specs.Pending.{pairsFrom, NextLive, firstKey, openOk}
 
 module _ (p : List ℕ) (v k n : ℕ) where
   pub pairs-live : k < n → liveAt v (readEntry p (128 + 96 * k)) ≡ true → pairsFrom p v k n ≡ pairOf (readEntry p (128 + 96 * k)) ∷ pairsFrom p v (k + 1) n
@@ -30,14 +30,14 @@ module _ (p : List ℕ) (v k n : ℕ) where
   pairs-end h = rw (entries-end p (128 + 96 * k) k n h)
 
 -- the key of the next live entry, or the page's high key
-pub upper-first : (p : List ℕ) (v i n k high : ℕ) → Next p v i n k → pick (ltb k n) (readEntry p (128 + 96 * k) .key) high ≡ firstKey (pairsFrom p v i n) high
+pub upper-first : (p : List ℕ) (v i n k high : ℕ) → NextLive p v i n k → pick (ltb k n) (readEntry p (128 + 96 * k) .key) high ≡ firstKey (pairsFrom p v i n) high
 upper-first p v i n k high x = ⊎-elim (λ l. rw (lt-ltb k n l, x .same, x .live l)) (λ l. rw (le-ltb k n l, x .same, pairs-end p v k n l)) (less k n)
 
 -- the first live key
-pub starts-none : (p : List ℕ) (v i n k low : ℕ) → Next p v i n k → n ≤ k → startsAt low (pairsFrom p v i n) ≡ true
+pub starts-none : (p : List ℕ) (v i n k low : ℕ) → NextLive p v i n k → n ≤ k → startsAt low (pairsFrom p v i n) ≡ true
 starts-none p v i n k low x l = rw (x .same, pairs-end p v k n l)
 
-pub starts-first : (p : List ℕ) (v i n k low : ℕ) → Next p v i n k → k < n → startsAt low (pairsFrom p v i n) ≡ eqb (readEntry p (128 + 96 * k) .key) low
+pub starts-first : (p : List ℕ) (v i n k low : ℕ) → NextLive p v i n k → k < n → startsAt low (pairsFrom p v i n) ≡ eqb (readEntry p (128 + 96 * k) .key) low
 starts-first p v i n k low x l = rw (x .same, x .live l)
 
 -- ---- how many are wanted

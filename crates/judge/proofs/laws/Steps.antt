@@ -22,7 +22,7 @@ use Rattle.model.proofs.lists.Lists.{both-true}
 use Rattle.local.specs.Local.{IsPage, countAt, levelAt, entryAt}
 use Rattle.judge.specs.declared.walk.Item.{Item}
 use Rattle.notes.specs.Linked.{Linked}
-use Rattle.judge.specs.Pending.{firstKey, stepOk, chainOk, passes, restOf, pairsFrom, Next, wholeIn}
+use Rattle.judge.specs.Pending.{firstKey, stepOk, chainOk, passes, restOf, pairsFrom, NextLive, wholeIn}
 use Rattle.judge.proofs.laws.Pending.{here, spanOf, kidsIn, none, pend, weight, heft, weigh, Fine}
 use Rattle.judge.proofs.laws.Live.{pairs-end, upper-first}
 use Rattle.judge.proofs.laws.Tests.{any-append, same-all}
@@ -66,7 +66,7 @@ module _ (least : ℕ) (four : 4 ≤ least) (eight : least ≤ 8) (s : List ℕ)
     pairs-now = rw (w .bytes, w .counted, ← w .number) (pairs-here least s (it .from) n on-page)
 
     -- an entry that breaks the rule
-    pub stops : (k next : ℕ) → Next p (it .from) (j + 1) count k → next ≡ pick (ltb k count) (readEntry p (128 + 96 * k) .key) (it .high)
+    pub stops : (k next : ℕ) → NextLive p (it .from) (j + 1) count k → next ≡ pick (ltb k count) (readEntry p (128 + 96 * k) .key) (it .high)
         → stepOk rule (it .low) (it .high) next (readEntry p (128 + 96 * j) .key) ≡ false → all (passes least rule) (wholeIn least s up a b root) ≡ false
     unfolding passes here
     stops k next y nx o =
@@ -76,7 +76,7 @@ module _ (least : ℕ) (four : 4 ≤ least) (eight : least ≤ 8) (s : List ℕ)
         same-all (passes least rule) (wholeIn least s up a b root) ((h ∷ w .done) ++ r) (w .same) ∙ rw (pairs-now, w .opened, chain-next, ← f, o)
 
     -- one that keeps it
-    module _ (k next : ℕ) (y : Next p (it .from) (j + 1) count k) (nx : next ≡ pick (ltb k count) (readEntry p (128 + 96 * k) .key) (it .high))
+    module _ (k next : ℕ) (y : NextLive p (it .from) (j + 1) count k) (nx : next ≡ pick (ltb k count) (readEntry p (128 + 96 * k) .key) (it .high))
         (o : stepOk rule (it .low) (it .high) next (readEntry p (128 + 96 * j) .key) ≡ true) where
       is-next : next ≡ firstKey (pairsFrom p (it .from) (j + 1) count) (it .high)
       is-next = nx ∙ upper-first p (it .from) (j + 1) count k (it .high) y

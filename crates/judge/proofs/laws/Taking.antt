@@ -20,9 +20,9 @@ use Rattle.model.specs.Layout.{readHeader, pageOf, decode}
 use Rattle.local.specs.Local.{IsPage, countAt, levelAt}
 use Rattle.judge.specs.declared.walk.Item.{Item}
 use Rattle.notes.specs.Linked.{Linked}
-use Rattle.judge.specs.Pending.{openOk, chainOk, passes, restOf, pairsFrom, Next, whole, wholeIn, isNumber, Tells}
+use Rattle.judge.specs.Pending.{openOk, chainOk, passes, restOf, pairsFrom, NextLive, whole, wholeIn, isNumber, Tells}
 use Rattle.judge.proofs.laws.Pending.{here, seenOf, kids, spanOf, kidsIn, none, pend, Same, weight, heft, weigh, Fine}
-use Rattle.notes.specs.Ready.{Sooner}
+use Rattle.notes.specs.Ready.{BehindUpto}
 use Rattle.judge.specs.Versions.{QuietPart}
 use Rattle.judge.proofs.laws.Quiet.{pairs-quiet}
 use Rattle.judge.proofs.laws.Tests.{any-append, same-all, all-true}
@@ -118,7 +118,7 @@ module _ (least : ℕ) (four : 4 ≤ least) (eight : least ≤ 8) (s : List ℕ)
                 (same? i n);
           }
 
-    module _ (p : List ℕ) (bytes : p ≡ pageOf least s n) (count : ℕ) (counted : count ≡ countAt least s n) (c : ℕ) (sooner : Sooner (it .from) (it .upto) c) (quiet : QuietPart least p (it .from) c) (z : Item) (zr : z ≡ restOf it c) (m : ℕ) (me : m ≡ pick (ltb c (it .upto)) 1 0) where
+    module _ (p : List ℕ) (bytes : p ≡ pageOf least s n) (count : ℕ) (counted : count ≡ countAt least s n) (c : ℕ) (sooner : BehindUpto (it .from) (it .upto) c) (quiet : QuietPart least p (it .from) c) (z : Item) (zr : z ≡ restOf it c) (m : ℕ) (me : m ≡ pick (ltb c (it .upto)) 1 0) where
       room : count ≤ 5 * least
       room = rw counted (linked .room n is-page)
 
@@ -170,7 +170,7 @@ module _ (least : ℕ) (four : 4 ≤ least) (eight : least ≤ 8) (s : List ℕ)
           (λ nothing. absurd (omega (arith, rw (le-ltb c (it .upto) nothing) at me))) (less c (it .upto)))
           (less k (top - 1))
 
-      pub enter : (j : ℕ) → length p ≡ 64 * least → openOk least rule (it .root) (it .up) (it .low) (pairsFrom p (it .from) 0 count) ≡ true → Next p (it .from) 0 count j
+      pub enter : (j : ℕ) → length p ≡ 64 * least → openOk least rule (it .root) (it .up) (it .low) (pairsFrom p (it .from) 0 count) ≡ true → NextLive p (it .from) 0 count j
           → Entering least s root up a b rule (set marks n true) items₁ (top - 1 + m) it n p count c items₁ (top - 1 + m) j
       unfolding here
       enter j sized o x =

@@ -25,7 +25,7 @@ use Rattle.model.proofs.reading.Lives.{toldOf, rest, rest-step, life-length}
 use Rattle.model.proofs.sound.ByRule.{old-current}
 use Rattle.store.proofs.laws.Read.{current-of, oldest-of}
 use Rattle.store.proofs.laws.Sure.{sure}
-use Rattle.walk.specs.Sure.{Readable}
+use Rattle.walk.specs.Sure.{Walkable}
 use Rattle.life.specs.Lived.{sameAs, shown}
 
 pub same-true : (x y : Option ℕ) → sameAs (lookedAt x) (lookedAt y) ≡ true → y ≡ x
@@ -46,8 +46,8 @@ shown-told c v r (some x) = refl
 
 -- ---- versions that can be read
 
-module _ {l : Limits} {b : List ℕ} {c : ℕ} (r : Readable l b c) where
-  pub reads-at : (v : ℕ) → decode (l .least) b .oldest ≤ v → v ≤ c → Readable l b v
+module _ {l : Limits} {b : List ℕ} {c : ℕ} (r : Walkable l b c) where
+  pub reads-at : (v : ℕ) → decode (l .least) b .oldest ≤ v → v ≤ c → Walkable l b v
   reads-at v from h = record { edition = r .edition; sound = r .sound; version = record { from = from; upto = omega (arith, r .version .upto) } }
 
   pub low : c ≤ 1048574
@@ -55,7 +55,7 @@ module _ {l : Limits} {b : List ℕ} {c : ℕ} (r : Readable l b c) where
 
 -- the current version
 module _ {l : Limits} (d : Edition l) (b : List ℕ) (h : isSound (l .least) b ≡ true) where
-  pub reads-current : Readable l b (readHeader (l .least) b .current)
+  pub reads-current : Walkable l b (readHeader (l .least) b .current)
   reads-current = record { edition = d; sound = h; version = omega (arith, current-of (l .least) b, old-current (l .least) (decode (l .least) b) (sure d b h .old-low), at (decode (l .least) b .opened) (decode (l .least) b .current)) }
     where
       at : (o : Bool) (n : ℕ) → n ≤ lastOf o n

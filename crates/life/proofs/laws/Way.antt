@@ -22,7 +22,7 @@ lookup-down : (s : Store) (k v : ℕ) → lookup s k v ≡ foundDown (heightOf (
 lookup-down s k v = ap (λ (n : ℕ). find k (pairsAt v (page (s .pages) n))) (way-leaf s v k)
 
 -- the walk at v has come to page n, and up to q every lookup comes to it
-pub record Going (least : ℕ) (s : Store) (k v r q up n : ℕ) : Type 0 where
+pub record LookupsCome (least : ℕ) (s : Store) (k v r q up n : ℕ) : Type 0 where
   pub below : q ≤ r
   pub above : v < q
   pub covers : Covers least v (s .pages) up n k
@@ -34,7 +34,7 @@ Shown s n v r q = Until v r (λ (w : ℕ). pairsAt w (page (s .pages) n)) q
 
 module _ (least : ℕ) (s : Store) (k v r q : ℕ) where
   pub going-start : Until v r (rootAt (s .slots)) q → Covers least v (s .pages) (heightOf (s .pages) (rootAt (s .slots) v)) (rootAt (s .slots) v) k
-      → Going least s k v r q (heightOf (s .pages) (rootAt (s .slots) v)) (rootAt (s .slots) v)
+      → LookupsCome least s k v r q (heightOf (s .pages) (rootAt (s .slots) v)) (rootAt (s .slots) v)
   going-start u c = record {
     below = u .below;
     above = u .above;
@@ -42,7 +42,7 @@ module _ (least : ℕ) (s : Store) (k v r q : ℕ) where
     comes = λ w low high. lookup-down s k w ∙ ap (λ (n : ℕ). foundDown (heightOf (s .pages) n) (s .pages) k n w) (u .still w low high);
   }
 
-  pub going-down : (up n q1 : ℕ) → Going least s k v r q (suc up) n → Shown s n v q q1 → Going least s k v r q1 up (around k (pairsAt v (page (s .pages) n)) .own .value)
+  pub going-down : (up n q1 : ℕ) → LookupsCome least s k v r q (suc up) n → Shown s n v q q1 → LookupsCome least s k v r q1 up (around k (pairsAt v (page (s .pages) n)) .own .value)
   going-down up n q1 g u = record {
     below = omega (arith, g .below, u .below);
     above = u .above;
@@ -50,7 +50,7 @@ module _ (least : ℕ) (s : Store) (k v r q : ℕ) where
     comes = λ w low high. g .comes w low (omega (arith, u .below)) ∙ ap (λ (xs : List Pair). foundDown up (s .pages) k (around k xs .own .value) w) (u .still w low high);
   }
 
-  pub going-end : (n q1 : ℕ) → Going least s k v r q 0 n → Shown s n v q q1 → Until v r (lookup s k) q1
+  pub going-end : (n q1 : ℕ) → LookupsCome least s k v r q 0 n → Shown s n v q q1 → Until v r (lookup s k) q1
   going-end n q1 g u = record {
     below = omega (arith, g .below, u .below);
     above = u .above;

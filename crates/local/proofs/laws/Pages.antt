@@ -24,7 +24,7 @@ use Rattle.model.specs.Limits.{countBits, liveBits, Edition}
 use Rattle.model.specs.declared.Limits.{Limits}
 use Rattle.page.proofs.laws.Editions.{count-bits, live-bits, counter-is}
 use Rattle.page.specs.Head.{readHead}
-use Rattle.page.specs.Read.{Sized as SizedEntry}
+use Rattle.page.specs.Read.{FieldsFit as SizedEntry}
 use Rattle.page.proofs.laws.Read.{level-of, start-of, end-of, count-of, entries-of, length-entries, entries-step, entries-end}
 use Rattle.local.specs.Local.{entriesOk, pagesFine}
 use Rattle.local.proofs.laws.Loops.{and-true, and-assoc, and-four, all-pages-step, all-pages-end, clean-step}

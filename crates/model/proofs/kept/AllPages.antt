@@ -23,7 +23,7 @@ use Rattle.model.proofs.tree.Edit.{lt}
 use Rattle.model.proofs.tree.Shows.{same?, in-list}
 use Rattle.model.proofs.sound.ByRule.{livesAt}
 use Rattle.model.proofs.kept.OnePage.{kindOk, PageFit, in-born, Since, stayed, ended, in-end, changed-fit, killed-fit, filled-fit}
-use Rattle.model.proofs.tree.GroupPages.{values, page-set-at, Fill, unused, member, Now, same, went, came, Stands, Redone}
+use Rattle.model.proofs.tree.GroupPages.{values, page-set-at, Fill, unused, member, Now, same, went, came, InNew, Redone}
 
 module _ (least : ℕ) (two-or-more : 2 ≤ least) (w : ℕ) (lim : w < alive) (pos : 1 ≤ w) (N : ℕ) (old : ℕ) (low-old : old < w) where
   abbrev pub Lives : List Page → ℕ → Type 0
@@ -44,7 +44,7 @@ module _ (least : ℕ) (two-or-more : 2 ≤ least) (w : ℕ) (lim : w < alive) (
     pub ends : (e .end ≤ page ps (e .value) .end) ⊎ (w ≤ page ps (e .value) .end)
 
   -- a page that lives has a router in a page that lives
-  pub record Held (ps : List Page) (W : ℕ → Pair → Type 0) (m : ℕ) : Type 0 where
+  pub record HasRouter (ps : List Page) (W : ℕ → Pair → Type 0) (m : ℕ) : Type 0 where
     pub parent : ℕ
     pub router : Pair
     pub lives : Lives ps parent
@@ -65,18 +65,18 @@ module _ (least : ℕ) (two-or-more : 2 ≤ least) (w : ℕ) (lim : w < alive) (
     pub zeros : (m : ℕ) → isFree (page ps m) ≡ true → page ps m ≡ free
     pub fit : (m : ℕ) → isFree (page ps m) ≡ false → PageFit least N w old (page ps m)
     pub leads : (m : ℕ) (e : Entry) → isFree (page ps m) ≡ false → In e (page ps m .entries) → e .start < w → Skips (page ps m .level) e ⊎ OldLead ps (page ps m .level) e
-    pub held : (m : ℕ) → Lives ps m → R m ⊎ Held ps W m
+    pub held : (m : ℕ) → Lives ps m → R m ⊎ HasRouter ps W m
 
   -- what may become of a page
-  pub data Step (p q : Page) : Type 0 where
-    steady : q .level ≡ p .level → q .start ≡ p .start → q .end ≡ p .end → Step p q
-    dead : q .level ≡ p .level → q .start ≡ p .start → q .end ≡ w → Step p q
-    lost : (isFree p ≡ true) ⊎ (p .start ≡ w) → Step p q
+  pub data PageStep (p q : Page) : Type 0 where
+    steady : q .level ≡ p .level → q .start ≡ p .start → q .end ≡ p .end → PageStep p q
+    dead : q .level ≡ p .level → q .start ≡ p .start → q .end ≡ w → PageStep p q
+    lost : (isFree p ≡ true) ⊎ (p .start ≡ w) → PageStep p q
 
-  step-same : (p q : Page) → q ≡ p → Step p q
+  step-same : (p q : Page) → q ≡ p → PageStep p q
   step-same p q e = steady (ap (λ (z : Page). z .level) e) (ap (λ (z : Page). z .start) e) (ap (λ (z : Page). z .end) e)
 
-  lead-move : (ps qs : List Page) (level : ℕ) (e : Entry) → e .start < w → OldLead ps level e → Step (page ps (e .value)) (page qs (e .value)) → OldLead qs level e
+  lead-move : (ps qs : List Page) (level : ℕ) (e : Entry) → e .start < w → OldLead ps level e → PageStep (page ps (e .value)) (page qs (e .value)) → OldLead qs level e
   lead-move ps qs level e h o (steady a b c) = record {
     used = ap (λ (k : ℕ). eqb k 0) a ∙ o .used;
     down = ap suc a ∙ o .down;
@@ -120,7 +120,7 @@ module _ (least : ℕ) (two-or-more : 2 ≤ least) (w : ℕ) (lim : w < alive) (
           from (stayed q k) = subst (λ (f : Entry). Skips (p .level) f ⊎ OldLead ps (p .level) f) (sym q) (h e j (subst (λ (f : Entry). f .start < w) q z))
           from (ended q k n) = subst (λ (f : Entry). Skips (p .level) f ⊎ OldLead ps (p .level) f) (sym q) (ended-at e (y e k) (h e j (subst (λ (f : Entry). f .start < w) q z)))
 
-  or-move : (ps qs : List Page) (level : ℕ) (e : Entry) → e .start < w → ((i : ℕ) → Step (page ps i) (page qs i)) → Skips level e ⊎ OldLead ps level e → Skips level e ⊎ OldLead qs level e
+  or-move : (ps qs : List Page) (level : ℕ) (e : Entry) → e .start < w → ((i : ℕ) → PageStep (page ps i) (page qs i)) → Skips level e ⊎ OldLead ps level e → Skips level e ⊎ OldLead qs level e
   or-move ps qs level e h f (inl z) = inl z
   or-move ps qs level e h f (inr z) = inr (lead-move ps qs level e h z (f (e .value)))
 
@@ -145,10 +145,10 @@ module _ (least : ℕ) (two-or-more : 2 ≤ least) (w : ℕ) (lim : w < alive) (
       at (inl z) = free-dead (ap (livesAt w) (sym (z .1)) ∙ h)
       at (inr z) = killed-dead p (ap (livesAt w) (sym (z .1)) ∙ h)
 
-  step-gone : (p q : Page) → q ≡ gone w p → Step p q
+  step-gone : (p q : Page) → q ≡ gone w p → PageStep p q
   step-gone p q e = at (gone-cases p)
     where
-      at : ((p .start ≡ w) × (gone w p ≡ free)) ⊎ ((p .start ≢ w) × (gone w p ≡ killed w p)) → Step p q
+      at : ((p .start ≡ w) × (gone w p ≡ free)) ⊎ ((p .start ≢ w) × (gone w p ≡ killed w p)) → PageStep p q
       at (inl z) = lost (inr (z .0))
       at (inr z) =
           let s : q ≡ killed w p = e ∙ z .1 in
@@ -183,10 +183,10 @@ module _ (least : ℕ) (two-or-more : 2 ≤ least) (w : ℕ) (lim : w < alive) (
     at-page : (m : ℕ) → At m
     at-page m = page-set-at ps n m q inn
 
-    steps : (m : ℕ) → Step (page ps m) (page placed m)
+    steps : (m : ℕ) → PageStep (page ps m) (page placed m)
     steps m = by (at-page m)
       where
-        by : At m → Step (page ps m) (page placed m)
+        by : At m → PageStep (page ps m) (page placed m)
         by (inl z) =
             steady (ap (λ (x : Page). x .level) (z .1) ∙ ap (λ (i : ℕ). page ps i .level) (sym (z .0))) (ap (λ (x : Page). x .start) (z .1) ∙ ap (λ (i : ℕ). page ps i .start) (sym (z .0)))
             (ap (λ (x : Page). x .end) (z .1) ∙ ap (λ (i : ℕ). page ps i .end) (sym (z .0)))
@@ -249,7 +249,7 @@ module _ (least : ℕ) (two-or-more : 2 ≤ least) (w : ℕ) (lim : w < alive) (
             subst (λ (x : Page). Skips (x .level) f ⊎ OldLead placed (x .level) f) (sym (z .1))
             (or-move ps placed (page ps m .level) f h steps (v .leads m f (sym (free-is m) ∙ u) (subst (λ (x : Page). In f (x .entries)) (z .1) i) h))
 
-        held-at : (m : ℕ) → R m ⊎ Held ps (Pend ps n (wanted w c (page ps n))) m → R m ⊎ Held placed (Final placed) m
+        held-at : (m : ℕ) → R m ⊎ HasRouter ps (Pend ps n (wanted w c (page ps n))) m → R m ⊎ HasRouter placed (Final placed) m
         held-at m (inl z) = inl z
         held-at m (inr h) = inr (record {
           parent = h .parent;
@@ -274,13 +274,13 @@ module _ (least : ℕ) (two-or-more : 2 ≤ least) (w : ℕ) (lim : w < alive) (
     used-mem : (m : ℕ) → In m (values rs) → isFree (page ps m) ≡ false
     used-mem m i = ne-eqb (page ps m .level) 0 (λ (z : page ps m .level ≡ 0). omega (arith, mem m i))
 
-    now-step : (m : ℕ) → N′ m → Step (page ps m) (page qs m)
+    now-step : (m : ℕ) → N′ m → PageStep (page ps m) (page qs m)
     now-step m (same e x) = step-same (page ps m) (page qs m) e
     now-step m (went i e) = step-gone (page ps m) (page qs m) e
     now-step m (came xs e (unused a x y) f z) = lost (inl (eq-eqb (page ps m .level) 0 a))
     now-step m (came xs e (member i a) f z) = lost (inr (eqb-true (page ps m .start) w a))
 
-    steps-all : (m : ℕ) → Step (page ps m) (page qs m)
+    steps-all : (m : ℕ) → PageStep (page ps m) (page qs m)
     steps-all m = now-step m (d .now m)
 
     pub front-redone : (m : ℕ) → m < 5 → isFree (page qs m) ≡ true
@@ -339,7 +339,7 @@ module _ (least : ℕ) (two-or-more : 2 ≤ least) (w : ℕ) (lim : w < alive) (
         at (went j z) = by z j (gone-cases (page ps m))
         at (came xs z s f y) = absurd (filled-start (suc l) xs e (subst (λ (x : Page). In e (x .entries)) z i) h)
 
-    pub inv-redone : (R′ : ℕ → Type 0) (W : ℕ → Pair → Type 0) → ((m : ℕ) → Lives qs m → R′ m ⊎ Held qs W m) → Inv qs R′ W
+    pub inv-redone : (R′ : ℕ → Type 0) (W : ℕ → Pair → Type 0) → ((m : ℕ) → Lives qs m → R′ m ⊎ HasRouter qs W m) → Inv qs R′ W
     inv-redone R′ W h = record { long = d .long ∙ v .long; front = front-redone; zeros = zeros-redone; fit = fit-redone; leads = leads-redone; held = h }
 
     -- what a page that lives is led to by
@@ -355,11 +355,11 @@ module _ (least : ℕ) (two-or-more : 2 ≤ least) (w : ℕ) (lim : w < alive) (
 
     pub record New (m : ℕ) : Type 0 where
       pub router : Pair
-      pub stands : Stands least two-or-more w N qs (suc l) news router
+      pub stands : InNew least two-or-more w N qs (suc l) news router
       pub level : suc l ≡ suc (page qs m .level)
       pub leads : router .value ≡ m
 
-    via : (m : ℕ) → page qs m ≡ page ps m → Held ps (Pend ps n want) m → Old m ⊎ New m
+    via : (m : ℕ) → page qs m ≡ page ps m → HasRouter ps (Pend ps n want) m → Old m ⊎ New m
     via m e h = at (h .shows)
       where
         p : ℕ
@@ -401,24 +401,24 @@ module _ (least : ℕ) (two-or-more : 2 ≤ least) (w : ℕ) (lim : w < alive) (
     )
 
     -- each page that lives: new, or led to as before
-    pub data Led (m : ℕ) : Type 0 where
-      made : In m (values news) → page qs m .level ≡ suc l → Led m
-      rooted : R m → (In m (values rs) → ⊥) → Led m
-      older : (In m (values rs) → ⊥) → Old m → Led m
-      newer : New m → Led m
+    pub data LedOrNew (m : ℕ) : Type 0 where
+      made : In m (values news) → page qs m .level ≡ suc l → LedOrNew m
+      rooted : R m → (In m (values rs) → ⊥) → LedOrNew m
+      older : (In m (values rs) → ⊥) → Old m → LedOrNew m
+      newer : New m → LedOrNew m
 
-    pub led : (m : ℕ) → Lives qs m → Led m
+    pub led : (m : ℕ) → Lives qs m → LedOrNew m
     led m h = at (d .now m)
       where
-        on : (In m (values rs) → ⊥) → Old m ⊎ New m → Led m
+        on : (In m (values rs) → ⊥) → Old m ⊎ New m → LedOrNew m
         on a (inl o) = older a o
         on a (inr o) = newer o
 
-        by : page qs m ≡ page ps m → (In m (values rs) → ⊥) → R m ⊎ Held ps (Pend ps n want) m → Led m
+        by : page qs m ≡ page ps m → (In m (values rs) → ⊥) → R m ⊎ HasRouter ps (Pend ps n want) m → LedOrNew m
         by e a (inl z) = rooted z a
         by e a (inr z) = on a (via m e z)
 
-        at : N′ m → Led m
+        at : N′ m → LedOrNew m
         at (same e a) = by e a (v .held m (ap (livesAt w) (sym e) ∙ h))
         at (went i e) = absurd (gone-dead (page ps m) (ap (livesAt w) (sym e) ∙ h))
         at (came xs e s f z) = made z (ap (λ (y : Page). y .level) e)
@@ -455,7 +455,7 @@ module _ (least : ℕ) (two-or-more : 2 ≤ least) (w : ℕ) (lim : w < alive) (
       pub inv-up : Inv qs R (Pend qs P (wanted w D (page qs P)))
       inv-up = inv-redone R (Pend qs P (wanted w D (page qs P))) (λ m h. at m (led m h))
         where
-          made-held : (m : ℕ) → page qs m .level ≡ suc l → (y : Pair) × (In y news) × (m ≡ y .value) → Held qs (Pend qs P (wanted w D (page qs P))) m
+          made-held : (m : ℕ) → page qs m .level ≡ suc l → (y : Pair) × (In y news) × (m ≡ y .value) → HasRouter qs (Pend qs P (wanted w D (page qs P))) m
           made-held m e z = record {
             parent = P;
             router = z .0;
@@ -469,7 +469,7 @@ module _ (least : ℕ) (two-or-more : 2 ≤ least) (w : ℕ) (lim : w < alive) (
           old-shows m a o (inl z) = inr (z, in-made (o .router) (subst (In (o .router)) live (subst (λ (i : ℕ). In (o .router) (pairsAt w (page ps i))) z (o .shows))) (λ (j : In (o .router .value) (values rs)). a (subst (λ (i : ℕ). In i (values rs)) (o .leads) j)))
           old-shows m a o (inr z) = inl (z, subst (λ (p : Page). In (o .router) (pairsAt w p)) (sym (o .stays)) (o .shows))
 
-          at : (m : ℕ) → Led m → R m ⊎ Held qs (Pend qs P (wanted w D (page qs P))) m
+          at : (m : ℕ) → LedOrNew m → R m ⊎ HasRouter qs (Pend qs P (wanted w D (page qs P))) m
           at m (made i e) = inr (made-held m e (in-map (λ (r : Pair). r .value) m news i))
           at m (rooted z a) = inl z
           at m (older a o) = inr (record { parent = o .parent; router = o .router; lives = o .lives; level = o .level; shows = old-shows m a o (same? (o .parent) P); leads = o .leads })
@@ -481,7 +481,7 @@ module _ (least : ℕ) (two-or-more : 2 ≤ least) (w : ℕ) (lim : w < alive) (
     pub inv-root : (R′ : ℕ → Type 0) → ((m : ℕ) → In m (values news) → page qs m .level ≡ suc l → R′ m) → ((m : ℕ) → R m → (In m (values rs) → ⊥) → R′ m) → Inv qs R′ (Final qs)
     inv-root R′ f g = inv-redone R′ (Final qs) (λ m y. at m (led m y))
       where
-        at : (m : ℕ) → Led m → R′ m ⊎ Held qs (Final qs) m
+        at : (m : ℕ) → LedOrNew m → R′ m ⊎ HasRouter qs (Final qs) m
         at m (made i e) = inl (f m i e)
         at m (rooted z a) = inl (g m z a)
         at m (older a o) = inr (record { parent = o .parent; router = o .router; lives = o .lives; level = o .level; shows = subst (λ (p : Page). In (o .router) (pairsAt w p)) (sym (o .stays)) (o .shows); leads = o .leads })
@@ -508,10 +508,10 @@ module _ (least : ℕ) (two-or-more : 2 ≤ least) (w : ℕ) (lim : w < alive) (
     free-n : isFree (page qs n) ≡ true
     free-n = eq-eqb (page qs n .level) 0 empty
 
-    crown-steps : (m : ℕ) → Step (page qs m) (page crowned m)
+    crown-steps : (m : ℕ) → PageStep (page qs m) (page crowned m)
     crown-steps m = by (at-n m)
       where
-        by : Atₙ m → Step (page qs m) (page crowned m)
+        by : Atₙ m → PageStep (page qs m) (page crowned m)
         by (inl z) = lost (inl (ap (λ (i : ℕ). isFree (page qs i)) (z .0) ∙ free-n))
         by (inr z) = step-same (page qs m) (page crowned m) (z .1)
 
@@ -551,11 +551,11 @@ module _ (least : ℕ) (two-or-more : 2 ≤ least) (w : ℕ) (lim : w < alive) (
         not-n : (p : ℕ) → Lives qs p → p ≢ n
         not-n p h e = not-both (isFree (page qs p)) (ap (λ (i : ℕ). isFree (page qs i)) e ∙ free-n) (lives-used (page qs p) h)
 
-        held-at : (m : ℕ) → Lives crowned m → Atₙ m → (m ≡ n) ⊎ Held crowned (Final crowned) m
+        held-at : (m : ℕ) → Lives crowned m → Atₙ m → (m ≡ n) ⊎ HasRouter crowned (Final crowned) m
         held-at m h (inl z) = inl (z .0)
         held-at m h (inr z) = inr (by (v .held m (ap (livesAt w) (sym (z .1)) ∙ h)))
           where
-            by : ((In m (values news)) × (page qs m .level ≡ suc l)) ⊎ Held qs (Final qs) m → Held crowned (Final crowned) m
+            by : ((In m (values news)) × (page qs m .level ≡ suc l)) ⊎ HasRouter qs (Final qs) m → HasRouter crowned (Final crowned) m
             by (inl y) =
                 let (r, i, e) = in-map (λ (r : Pair). r .value) m news (y .0) in
                 record {
@@ -597,7 +597,7 @@ module _ (least : ℕ) (two-or-more : 2 ≤ least) (w : ℕ) (lim : w < alive) (
     moved : Inv ps (λ (m : ℕ). (m ≡ r) ⊎ (m ≡ x .value)) (Pend ps r [])
     moved = record { long = v .long; front = v .front; zeros = v .zeros; fit = v .fit; leads = v .leads; held = λ m h. by m (v .held m h) }
       where
-        by : (m : ℕ) → (m ≡ r) ⊎ Held ps (Pend ps r (x ∷ [])) m → ((m ≡ r) ⊎ (m ≡ x .value)) ⊎ Held ps (Pend ps r []) m
+        by : (m : ℕ) → (m ≡ r) ⊎ HasRouter ps (Pend ps r (x ∷ [])) m → ((m ≡ r) ⊎ (m ≡ x .value)) ⊎ HasRouter ps (Pend ps r []) m
         by m (inl z) = inl (inl z)
         by m (inr k) = at (k .shows)
           where
@@ -605,7 +605,7 @@ module _ (least : ℕ) (two-or-more : 2 ≤ least) (w : ℕ) (lim : w < alive) (
             led-to (inl z) = sym (k .leads) ∙ ap (λ (y : Pair). y .value) z
             led-to (inr z) = absurd z
 
-            at : Pend ps r (x ∷ []) (k .parent) (k .router) → ((m ≡ r) ⊎ (m ≡ x .value)) ⊎ Held ps (Pend ps r []) m
+            at : Pend ps r (x ∷ []) (k .parent) (k .router) → ((m ≡ r) ⊎ (m ≡ x .value)) ⊎ HasRouter ps (Pend ps r []) m
             at (inl z) = inr (record { parent = k .parent; router = k .router; lives = k .lives; level = k .level; shows = inl z; leads = k .leads })
             at (inr z) = inl (inr (led-to (z .1)))
 

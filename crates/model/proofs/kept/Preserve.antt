@@ -33,7 +33,7 @@ use Rattle.model.proofs.tree.UpdateChanges.{Fit, pending, root-new}
 use Rattle.model.proofs.tree.Edit.{length-enter}
 use Rattle.model.proofs.sound.Ready.{level-used, reached-of, lives-of, reach-level, root-level, ready, fit-insert, fit-delete, insert-by, delete-by, last-is}
 use Rattle.model.proofs.kept.OnePage.{kindOk, EntryFit, PageFit}
-use Rattle.model.proofs.kept.AllPages.{Skips, Lives, Held, OldLead, Pend, Inv}
+use Rattle.model.proofs.kept.AllPages.{Skips, Lives, HasRouter, OldLead, Pend, Inv}
 use Rattle.model.proofs.kept.WayUp.{Keeps, RootedKeeps, climb-keeps}
 use Rattle.model.proofs.reading.Alike.{Alike}
 use Rattle.model.proofs.older.Past.{root-past, put-rise, put-all, put-first, put-newer}
@@ -121,12 +121,12 @@ module _ (least : ℕ) (four : 4 ≤ least) (s : Store) (d : Sound least s) (o :
       at (suc zero) z = inl (inl z)
       at (suc (suc j)) z = by j z (either-true (eqb (page ps m .level) 1 || leb (e .end) old′) _ (g .leads))
 
-  held-by : (n : ℕ) (us : List Pair) → page ps n .level ≡ 1 → (m : ℕ) → Lives least two′ w lim′ pos′ N old′ low-old′ ps m → (m ≡ r) ⊎ Held least two′ w lim′ pos′ N old′ low-old′ ps (Pend least two′ w lim′ pos′ N old′ low-old′ ps n us) m
+  held-by : (n : ℕ) (us : List Pair) → page ps n .level ≡ 1 → (m : ℕ) → Lives least two′ w lim′ pos′ N old′ low-old′ ps m → (m ≡ r) ⊎ HasRouter least two′ w lim′ pos′ N old′ low-old′ ps (Pend least two′ w lim′ pos′ N old′ low-old′ ps n us) m
   held-by n us e m h =
       let (j, q) = reached-of least two′ s d w now m h in
       at j (reach-level least two′ s d w (now .from) (heightOf ps r) r j m (root-level least two′ s d w (now .from)) q) (last-step ps w (heightOf ps r) r j m q)
     where
-      at : (j : ℕ) → page ps m .level ≡ suc j → Self ps w (heightOf ps r) r j m ⊎ Above ps w (heightOf ps r) r j m → (m ≡ r) ⊎ Held least two′ w lim′ pos′ N old′ low-old′ ps (Pend least two′ w lim′ pos′ N old′ low-old′ ps n us) m
+      at : (j : ℕ) → page ps m .level ≡ suc j → Self ps w (heightOf ps r) r j m ⊎ Above ps w (heightOf ps r) r j m → (m ≡ r) ⊎ HasRouter least two′ w lim′ pos′ N old′ low-old′ ps (Pend least two′ w lim′ pos′ N old′ low-old′ ps n us) m
       at j q (inl z) = inl (z .number)
       at j q (inr a) =
           let level : page ps (a .parent) .level ≡ suc (suc j) = reach-level least two′ s d w (now .from) (heightOf ps r) r (suc j) (a .parent) (root-level least two′ s d w (now .from)) (a .is-reached) in

@@ -29,8 +29,8 @@ use Rattle.model.proofs.tree.UpdateChanges.{height-is}
 use Rattle.model.proofs.tree.Bridge.{passesAt}
 use Rattle.model.proofs.sound.Ready.{used-level, level-used, within-of, of-within, root-lives, last-is, limit, root-used}
 use Rattle.model.proofs.kept.OnePage.{EntryFit, PageFit}
-use Rattle.model.proofs.kept.AllPages.{Skips, Lives, Held, OldLead, Final, Inv, lives-used}
-use Rattle.model.proofs.kept.WayUp.{Kept}
+use Rattle.model.proofs.kept.AllPages.{Skips, Lives, HasRouter, OldLead, Final, Inv, lives-used}
+use Rattle.model.proofs.kept.WayUp.{ClimbKept}
 use Rattle.model.proofs.sound.Count.{root-low}
 use Rattle.model.proofs.tree.Nodes.{Node, reach-node, shows-pass}
 use Rattle.model.proofs.reading.Alike.{Alike, alike-seen}
@@ -74,7 +74,7 @@ module _ (least : ℕ) (four : 4 ≤ least) (s : Store) (d : Sound least s) (o :
     pub now : rootAt xs w ≡ r
     pub past : (v : ℕ) → v < w → rootAt xs v ≡ rootAt (s .slots) v
 
-  module _ (xs : List Slot) (qs : List Page) (r : ℕ) (zs : List Pair) (shows : Shows least w qs r zs) (kept : Kept least two-of w lim pos N old low-old qs r)
+  module _ (xs : List Slot) (qs : List Page) (r : ℕ) (zs : List Pair) (shows : Shows least w qs r zs) (kept : ClimbKept least two-of w lim pos N old low-old qs r)
       (same : map (back w) qs ≡ map (back w) (s .pages)) (older : (v : ℕ) → v < w → (m : ℕ) → pairsAt v (page qs m) ≡ pairsAt v (page (s .pages) m)) (slots : SlotsOk xs r) where
     abbrev pub t : Store
     t = record { current = s .current; opened = s .opened; oldest = s .oldest; slots = xs; pages = qs }
@@ -124,7 +124,7 @@ module _ (least : ℕ) (four : 4 ≤ least) (s : Store) (d : Sound least s) (o :
     reach-by zero m j h e b = absurd (omega (arith, low m))
     reach-by (suc f) m j h e b = at (v′ .held m h) (λ p l g. reach-by f p (suc j) l g (omega arith))
       where
-        at : (m ≡ r) ⊎ Held least two-of w lim pos N old low-old qs (Final least two-of w lim pos N old low-old qs) m
+        at : (m ≡ r) ⊎ HasRouter least two-of w lim pos N old low-old qs (Final least two-of w lim pos N old low-old qs) m
             → ((p : ℕ) → Lives least two-of w lim pos N old low-old qs p → page qs p .level ≡ suc (suc j) → Reach qs w H r (suc j) p) → Reach qs w H r j m
         at (inl z) ih = root-case m j e z
         at (inr k) ih = subst (Reach qs w H r j) (k .leads) (reach-on qs w H r j (k .parent) (k .router) (ih (k .parent) (k .lives) (k .level ∙ ap suc e)) (k .shows))

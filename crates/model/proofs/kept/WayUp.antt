@@ -32,7 +32,7 @@ use Rattle.model.proofs.tree.Shows.{Touched, spare, Tidy, Top, Some, in
 use Rattle.model.proofs.tree.GroupShows.{Olds, lone, twin, Apart, RebuiltShows, raise-by}
 use Rattle.model.proofs.tree.Numbers.{Members, moved-retire, length-retire, uses-usable, apart-usable, Unlike}
 use Rattle.model.proofs.tree.Climbs
-use Rattle.model.proofs.tree.Climbs.{Pending, Grouped, made-of, rise, standing-lives, GroupOf, group-of, flat}
+use Rattle.model.proofs.tree.Climbs.{Pending, RebuiltGroup, made-of, rise, standing-lives, GroupOf, group-of, flat}
 use Rattle.model.proofs.kept.OnePage.{kindOk, PageFit, shown-kinds, wanted-kinds}
 use Rattle.model.proofs.tree.GroupPages.{values, Distinct, in-frees, Spare, unused, member, in-usable, Now, same, went, came, Redone, RedoneOr, redone-by, page-set-at}
 use Rattle.model.proofs.kept.AllPages.{Final, Pend, Inv, gone-cases, inv-placed, inv-up, inv-root, inv-crowned, inv-deposed}
@@ -66,7 +66,7 @@ module _ (least : ℕ) (two-or-more : 2 ≤ least) (w : ℕ) (lim : w < alive) (
     pub takes : all (kindOk N (suc l)) (c .take) ≡ true
     pub upper : length (wanted w c (page ps n)) ≤ suc (5 * least)
 
-  pub record Kept (qs : List Page) (n : ℕ) : Type 0 where
+  pub record ClimbKept (qs : List Page) (n : ℕ) : Type 0 where
     pub inv : Inv least two-or-more w lim pos N old low-old qs (λ (m : ℕ). m ≡ n) (Final least two-or-more w lim pos N old low-old qs)
     pub low : (m : ℕ) → m ≢ n → page qs m .level ≤ 7
 
@@ -184,14 +184,14 @@ module _ (least : ℕ) (two-or-more : 2 ≤ least) (w : ℕ) (lim : w < alive) (
 
     -- what comes of it
     abbrev pub WorkedKeeps : Worked → Type 0
-    WorkedKeeps (settled qs) = Kept qs r
+    WorkedKeeps (settled qs) = ClimbKept qs r
     WorkedKeeps (upward d qs) = (p′ : Pending least two-or-more w lim qs r (suc l) up d total) × Keeps qs r (p′ .n) (suc l) d
     WorkedKeeps lacking = Unit {0}
 
     abbrev Touch′ : ℕ → ℕ → ℕ → Type 0
     Touch′ lo hi m = Touched least w ps (suc l) lo hi m
 
-    handed : (rs us : List Pair) (g : Grouped least two-or-more w lim ps r l up total rs us) (i : GroupIn rs us) (x : Rebuilt)
+    handed : (rs us : List Pair) (g : RebuiltGroup least two-or-more w lim ps r l up total rs us) (i : GroupIn rs us) (x : Rebuilt)
         → RebuiltShows least w lim (Touch′ (g .lo) (g .hi)) ps l (g .lo) (g .hi) rs (g .gs) x → RedoneOr least two-or-more w N ps (suc l) rs us x → WorkedKeeps (Rules.handUp rs x)
     unfolding Rules.handUp rise Rules.exchange
     handed rs us g i short t d = tt
@@ -257,7 +257,7 @@ module _ (least : ℕ) (two-or-more : 2 ≤ least) (w : ℕ) (lim : w < alive) (
     work-by : (b : Bool) → (roomy least w c (page ps (p .n)) && leb least (length wish)) ≡ b → WorkedKeeps (Rules.workBy least b w ps a c (page ps (p .n)))
     unfolding Rules.workBy
     work-by true t =
-        subst (λ (i : ℕ). Kept (set ps i (changed w c (page ps (p .n)))) r) (sym own-value)
+        subst (λ (i : ℕ). ClimbKept (set ps i (changed w c (page ps (p .n)))) r) (sym own-value)
         (record {
           inv = inv-placed least two-or-more w lim pos N old low-old ps (p .n) l c (λ (m : ℕ). m ≡ r) v (p .level) (p .tidy .order) (p .tidy .starts) (endless-by (page ps (p .n)) own-fit (p .lives))
               (leb-true _ (5 * least) (both-true (roomy least w c (page ps (p .n))) (leb least (length wish)) t .0)) (k .takes) (holds-order least w ps l (p .lo) (p .hi) wish (p .zs) (p .holds));
@@ -282,8 +282,8 @@ module _ (least : ℕ) (two-or-more : 2 ≤ least) (w : ℕ) (lim : w < alive) (
 
   -- the root
   abbrev pub RootedKeeps : ℕ → Rooted → Type 0
-  RootedKeeps r (stays qs) = Kept qs r
-  RootedKeeps r (moves n qs) = Kept qs n
+  RootedKeeps r (stays qs) = ClimbKept qs r
+  RootedKeeps r (moves n qs) = ClimbKept qs n
   RootedKeeps r lacks = Unit {0}
 
   abbrev NewsRise : Rebuilt → Type 0

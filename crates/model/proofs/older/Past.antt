@@ -176,13 +176,13 @@ module _ (w : ℕ) where
     kept-newer (x ∷ xs) e a = subst (λ (b : Bool). newer (keep b x (those older xs)) ≡ true) (sym (first-old x e)) (those-newer xs a)
 
 -- each slot's root is the root of a version from the oldest on
-pub record Stands (old : ℕ) (xs : List Slot) (x : Slot) : Type 0 where
+pub record SlotRooted (old : ℕ) (xs : List Slot) (x : Slot) : Type 0 where
   pub at : ℕ
   pub from : old ≤ at
   pub upto : at ≤ max old (x .version)
   pub is : rootAt xs at ≡ x .root
 
-pub stands : (old : ℕ) (xs : List Slot) → firstVersion old xs ≤ old → inOrder bySlot xs ≡ true → all (λ (y : Slot). ltb old (y .version)) (drop 1 xs) ≡ true → (x : Slot) → In x xs → Stands old xs x
+pub stands : (old : ℕ) (xs : List Slot) → firstVersion old xs ≤ old → inOrder bySlot xs ≡ true → all (λ (y : Slot). ltb old (y .version)) (drop 1 xs) ≡ true → (x : Slot) → In x xs → SlotRooted old xs x
 stands old [] e o a x i = absurd i
 stands old (y ∷ ys) e o a x (inl z) = record {
   at = old;

@@ -113,21 +113,21 @@ module _ (least u : ℕ) where
   page-set P (x ∷ xs) (suc n) (suc m) q a b = page-set P xs n m q a b
 
   -- From ps to qs: abandon leaves the same, pages above level l are untouched, and all are as rule 1 has them.
-  pub record Fine (l : ℕ) (ps qs : List Page) : Type 0 where
+  pub record UndoFine (l : ℕ) (ps qs : List Page) : Type 0 where
     pub undone : map (back w) qs ≡ map (back w) ps
     pub above : (m : ℕ) → l < page ps m .level → page qs m ≡ page ps m
     pub tame : (m : ℕ) → TamePage w (page qs m)
     pub old : (v : ℕ) → v < w → (m : ℕ) → pairsAt v (page qs m) ≡ pairsAt v (page ps m)
 
-  fine-refl : (l : ℕ) (ps : List Page) → ((m : ℕ) → TamePage w (page ps m)) → Fine l ps ps
+  fine-refl : (l : ℕ) (ps : List Page) → ((m : ℕ) → TamePage w (page ps m)) → UndoFine l ps ps
   fine-refl l ps t = record { undone = refl; above = λ m h. refl; tame = t; old = λ v h m. refl }
 
   getD-of-map : {B : Type 0} (f : Page → B) (ps qs : List Page) → map f qs ≡ map f ps → (n : ℕ) → f (page qs n) ≡ f (page ps n)
   getD-of-map {B} f ps qs e n = sym (List·getD-map f qs n free) ∙ ap (λ (xs : List B). getD xs n (f free)) e ∙ List·getD-map f ps n free
 
   -- one page more is written
-  fine-set : (l : ℕ) (ps qs : List Page) (n : ℕ) (q : Page) → Fine l ps qs → page ps n .level ≤ l → TamePage w q → back w q ≡ back w (page qs n)
-      → ((v : ℕ) → v < w → pairsAt v q ≡ pairsAt v (page qs n)) → Fine l ps (set qs n q)
+  fine-set : (l : ℕ) (ps qs : List Page) (n : ℕ) (q : Page) → UndoFine l ps qs → page ps n .level ≤ l → TamePage w q → back w q ≡ back w (page qs n)
+      → ((v : ℕ) → v < w → pairsAt v q ≡ pairsAt v (page qs n)) → UndoFine l ps (set qs n q)
   fine-set l ps qs n q f low t e o = record {
     undone = map-set-same (back w) qs n q free e ∙ f .undone;
     above = λ m h. getD-set-other qs n m q free (λ (e : m ≡ n). omega (arith, ap (λ (i : ℕ). page ps i .level) e)) ∙ f .above m h;
@@ -136,23 +136,23 @@ module _ (least u : ℕ) where
   }
 
   -- what abandon leaves of one page
-  undone-at : (l : ℕ) (ps qs : List Page) → Fine l ps qs → (n : ℕ) → back w (page qs n) ≡ back w (page ps n)
+  undone-at : (l : ℕ) (ps qs : List Page) → UndoFine l ps qs → (n : ℕ) → back w (page qs n) ≡ back w (page ps n)
   undone-at l ps qs f n = getD-of-map (back w) ps qs (f .undone) n
 
   -- a page l levels above the leaves that is alive
-  pub record Good (l : ℕ) (ps : List Page) (n : ℕ) : Type 0 where
+  pub record LivePage (l : ℕ) (ps : List Page) (n : ℕ) : Type 0 where
     pub level : page ps n .level ≡ suc l
     pub endless : page ps n .end ≡ alive
 
-  gone-fine : (l : ℕ) (ps qs : List Page) (n : ℕ) → Fine (suc l) ps qs → Good l ps n → page qs n ≡ page ps n
-      → Fine (suc l) ps (set qs n (gone w (page qs n)))
+  gone-fine : (l : ℕ) (ps qs : List Page) (n : ℕ) → UndoFine (suc l) ps qs → LivePage l ps n → page qs n ≡ page ps n
+      → UndoFine (suc l) ps (set qs n (gone w (page qs n)))
   gone-fine l ps qs n f g e =
       fine-set (suc l) ps qs n (gone w (page qs n)) f (omega (arith, g .level))
       (tame-gone (page qs n) l (ap (λ (p : Page). p .level) e ∙ g .level) (f .tame n))
       (undo-gone (page qs n) (f .tame n) (ap (λ (p : Page). p .end) e ∙ g .endless)) (λ v h. old-gone v h (page qs n) (f .tame n))
 
   -- a page that may be written anew
-  pub record Spare (l : ℕ) (ps : List Page) (n : ℕ) : Type 0 where
+  pub record SpareUnseen (l : ℕ) (ps : List Page) (n : ℕ) : Type 0 where
     pub low : page ps n .level ≤ suc l
     pub nothing : back w (page ps n) ≡ free
     pub unseen : (v : ℕ) → v < w → pairsAt v (page ps n) ≡ []
@@ -165,18 +165,18 @@ module _ (least u : ℕ) where
   every-append P [] ms a b = b
   every-append P (n ∷ ns) ms a b = (a .0, every-append P ns ms (a .1) b)
 
-  filled-fine : (l : ℕ) (ps qs : List Page) (n level : ℕ) (xs : List Pair) → level ≡ suc l → Fine (suc l) ps qs → Spare l ps n
-      → Fine (suc l) ps (set qs n (filled w level xs))
+  filled-fine : (l : ℕ) (ps qs : List Page) (n level : ℕ) (xs : List Pair) → level ≡ suc l → UndoFine (suc l) ps qs → SpareUnseen l ps n
+      → UndoFine (suc l) ps (set qs n (filled w level xs))
   filled-fine l ps qs n level xs e f s =
       fine-set (suc l) ps qs n (filled w level xs) f (s .low) (subst (λ (k : ℕ). TamePage w (filled w k xs)) (sym e) (tame-filled l xs))
       (back-filled level xs ∙ sym (s .nothing) ∙ sym (undone-at (suc l) ps qs f n))
       (λ v h. old-filled v w h level xs ∙ sym (s .unseen v h) ∙ sym (f .old v h n))
 
   abbrev RebuiltFine : ℕ → List Page → Rebuilt → Type 0
-  RebuiltFine l ps (rebuilt qs news) = Fine (suc l) ps qs
+  RebuiltFine l ps (rebuilt qs news) = UndoFine (suc l) ps qs
   RebuiltFine l ps short = Unit {0}
 
-  rebuild-fine : (l level : ℕ) (ps : List Page) (rs : List Pair) (x : Parts) (ns : List ℕ) → level ≡ suc l → Fine (suc l) ps (retire w ps rs) → Every (Spare l ps) ns
+  rebuild-fine : (l level : ℕ) (ps : List Page) (rs : List Pair) (x : Parts) (ns : List ℕ) → level ≡ suc l → UndoFine (suc l) ps (retire w ps rs) → Every (SpareUnseen l ps) ns
       → RebuiltFine l ps (Rules.rebuildWith w level ps rs x ns)
   unfolding Rules.rebuildWith
   rebuild-fine l level ps rs (one x) [] e f s = tt
@@ -189,29 +189,29 @@ module _ (least u : ℕ) where
   -- the pages that may be used
   abbrev AllGood : ℕ → List Page → List Pair → Type 0
   AllGood l ps [] = Unit {0}
-  AllGood l ps (r ∷ rs) = Good l ps (r .value) × AllGood l ps rs
+  AllGood l ps (r ∷ rs) = LivePage l ps (r .value) × AllGood l ps rs
 
   spare-active : (l : ℕ) (ps : List Page) (rs : List Pair) → ((m : ℕ) → TamePage w (page ps m)) → AllGood l ps rs
-      → Every (Spare l ps) (those (λ (n : ℕ). active w (page ps n)) (map (λ (r : Pair). r .value) rs))
+      → Every (SpareUnseen l ps) (those (λ (n : ℕ). active w (page ps n)) (map (λ (r : Pair). r .value) rs))
   spare-active l ps [] t g = tt
   spare-active l ps (r ∷ rs) t g = at (active w (page ps (r .value))) refl (spare-active l ps rs t (g .1))
     where
       rest : List ℕ
       rest = those (λ (n : ℕ). active w (page ps n)) (map (λ (q : Pair). q .value) rs)
 
-      at : (b : Bool) → active w (page ps (r .value)) ≡ b → Every (Spare l ps) rest → Every (Spare l ps) (keep b (r .value) rest)
+      at : (b : Bool) → active w (page ps (r .value)) ≡ b → Every (SpareUnseen l ps) rest → Every (SpareUnseen l ps) (keep b (r .value) rest)
       at true e ih = (record { low = omega (arith, g .0 .level); nothing = rw e refl; unseen = λ v h. old-none v w h (page ps (r .value) .entries) (t (r .value) .young e) }, ih)
       at false e ih = ih
 
   spare-free : (l : ℕ) (ps : List Page) → ((m : ℕ) → TamePage w (page ps m)) → (n : ℕ) (qs : List Page) → ((i : ℕ) → page qs i ≡ page ps (n + i))
-      → Every (Spare l ps) (freeFrom n qs)
+      → Every (SpareUnseen l ps) (freeFrom n qs)
   spare-free l ps t n [] h = tt
   spare-free l ps t n (q ∷ qs) h = at (isFree q) refl (spare-free l ps t (suc n) qs (λ i. h (suc i) ∙ ap (page ps) (omega arith)))
     where
       here : q ≡ page ps n
       here = h 0 ∙ ap (page ps) (omega arith)
 
-      at : (b : Bool) → isFree q ≡ b → Every (Spare l ps) (freeFrom (suc n) qs) → Every (Spare l ps) (keep b n (freeFrom (suc n) qs))
+      at : (b : Bool) → isFree q ≡ b → Every (SpareUnseen l ps) (freeFrom (suc n) qs) → Every (SpareUnseen l ps) (keep b n (freeFrom (suc n) qs))
       at true e ih =
           let z : page ps n ≡ free = t n .zeroed (subst (λ (p : Page). isFree p ≡ true) here e) in
           (record { low = omega (arith, ap (λ (p : Page). p .level) z); nothing = ap (back w) z ∙ back-free; unseen = λ v h. ap (pairsAt v) z }, ih)
@@ -220,60 +220,60 @@ module _ (least u : ℕ) where
   page-drop : (ps : List Page) (i : ℕ) → page (drop 5 ps) i ≡ page ps (5 + i)
   page-drop ps i = getD-drop 5 ps i free
 
-  spare-usable : (l : ℕ) (ps : List Page) (rs : List Pair) → ((m : ℕ) → TamePage w (page ps m)) → AllGood l ps rs → Every (Spare l ps) (usable w ps rs)
+  spare-usable : (l : ℕ) (ps : List Page) (rs : List Pair) → ((m : ℕ) → TamePage w (page ps m)) → AllGood l ps rs → Every (SpareUnseen l ps) (usable w ps rs)
   unfolding Rules.usable
-  spare-usable l ps rs t g = every-append (Spare l ps) (those (λ (n : ℕ). active w (page ps n)) (map (λ (r : Pair). r .value) rs)) (freeOnes ps) (spare-active l ps rs t g) (spare-free l ps t 5 (drop 5 ps) (page-drop ps))
+  spare-usable l ps rs t g = every-append (SpareUnseen l ps) (those (λ (n : ℕ). active w (page ps n)) (map (λ (r : Pair). r .value) rs)) (freeOnes ps) (spare-active l ps rs t g) (spare-free l ps t 5 (drop 5 ps) (page-drop ps))
 
   -- the pages around a place on the way down
   abbrev pub Next : ℕ → List Page → ℕ → Option Pair → Type 0
   Next l ps n none = Unit {0}
-  Next l ps n (some x) = Good l ps (x .value) × (x .value ≢ n)
+  Next l ps n (some x) = LivePage l ps (x .value) × (x .value ≢ n)
 
-  pub record Beside (l : ℕ) (ps : List Page) (a : Around) : Type 0 where
-    pub own : Good l ps (a .own .value)
+  pub record AroundLives (l : ℕ) (ps : List Page) (a : Around) : Type 0 where
+    pub own : LivePage l ps (a .own .value)
     pub left : Next l ps (a .own .value) (a .left)
     pub right : Next l ps (a .own .value) (a .right)
 
   pub record GroupFine (l : ℕ) (ps : List Page) (rs : List Pair) : Type 0 where
-    pub retired : Fine (suc l) ps (retire w ps rs)
+    pub retired : UndoFine (suc l) ps (retire w ps rs)
     pub good : AllGood l ps rs
 
   -- what is shown of each outcome
   abbrev pub WorkedFine : ℕ → List Page → Worked → Type 0
-  WorkedFine l ps (settled qs) = Fine (suc l) ps qs
-  WorkedFine l ps (upward c qs) = Fine (suc l) ps qs
+  WorkedFine l ps (settled qs) = UndoFine (suc l) ps qs
+  WorkedFine l ps (upward c qs) = UndoFine (suc l) ps qs
   WorkedFine l ps lacking = Unit {0}
 
-  pub record Kept (ps qs : List Page) : Type 0 where
+  pub record UndoKept (ps qs : List Page) : Type 0 where
     pub undone : map (back w) qs ≡ map (back w) ps
     pub old : (v : ℕ) → v < w → (m : ℕ) → pairsAt v (page qs m) ≡ pairsAt v (page ps m)
 
-  keptBy : (l : ℕ) (ps qs : List Page) → Fine l ps qs → Kept ps qs
+  keptBy : (l : ℕ) (ps qs : List Page) → UndoFine l ps qs → UndoKept ps qs
   keptBy l ps qs f = record { undone = f .undone; old = f .old }
 
   abbrev pub RootedFine : List Page → Rooted → Type 0
-  RootedFine ps (stays qs) = Kept ps qs
-  RootedFine ps (moves n qs) = Kept ps qs
+  RootedFine ps (stays qs) = UndoKept ps qs
+  RootedFine ps (moves n qs) = UndoKept ps qs
   RootedFine ps lacks = Unit {0}
 
   module _ (l : ℕ) (ps : List Page) (t : (m : ℕ) → TamePage w (page ps m)) where
-    group-one : (r : Pair) → Good l ps (r .value) → GroupFine l ps (r ∷ [])
+    group-one : (r : Pair) → LivePage l ps (r .value) → GroupFine l ps (r ∷ [])
     group-one r g = record { retired = gone-fine l ps ps (r .value) (fine-refl (suc l) ps t) g refl; good = (g, tt) }
 
-    group-two : (r q : Pair) → Good l ps (r .value) → Good l ps (q .value) → q .value ≢ r .value → GroupFine l ps (r ∷ q ∷ [])
+    group-two : (r q : Pair) → LivePage l ps (r .value) → LivePage l ps (q .value) → q .value ≢ r .value → GroupFine l ps (r ∷ q ∷ [])
     group-two r q g h d = record {
       retired = gone-fine l ps _ (q .value) (gone-fine l ps ps (r .value) (fine-refl (suc l) ps t) g refl) h (getD-set-other ps (r .value) (q .value) _ free d);
       good = (g, (h, tt));
     }
 
-    group-near : (a : Around) (want : List Pair) (x y : Option Pair) → Good l ps (a .own .value) → Next l ps (a .own .value) x → Next l ps (a .own .value) y
+    group-near : (a : Around) (want : List Pair) (x y : Option Pair) → LivePage l ps (a .own .value) → Next l ps (a .own .value) x → Next l ps (a .own .value) y
         → GroupFine l ps (Rules.withNeighbour w ps a want x y .routers)
     unfolding Rules.withNeighbour
     group-near a want x (some r) g p q = group-two (a .own) r g (q .0) (q .1)
     group-near a want (some x) none g p q = group-two x (a .own) (p .0) g (λ (e : a .own .value ≡ x .value). p .1 (sym e))
     group-near a want none none g p q = group-one (a .own) g
 
-    group-fine : (b : Bool) (a : Around) (want : List Pair) → Beside l ps a → GroupFine l ps (Rules.gatherBy b w ps a want .routers)
+    group-fine : (b : Bool) (a : Around) (want : List Pair) → AroundLives l ps a → GroupFine l ps (Rules.gatherBy b w ps a want .routers)
     unfolding Rules.gatherBy
     group-fine true a want s = group-near a want (a .left) (a .right) (s .own) (s .left) (s .right)
     group-fine false a want s = group-one (a .own) (s .own)
@@ -287,22 +287,22 @@ module _ (least u : ℕ) where
     handed olds (rebuilt qs news) f = f
     handed olds short f = tt
 
-    changed-fine : (c : Change) (n : ℕ) → Good l ps n → Fine (suc l) ps (set ps n (changed w c (page ps n)))
+    changed-fine : (c : Change) (n : ℕ) → LivePage l ps n → UndoFine (suc l) ps (set ps n (changed w c (page ps n)))
     changed-fine c n g =
         fine-set (suc l) ps ps n (changed w c (page ps n)) (fine-refl (suc l) ps t) (omega (arith, g .level)) (tame-changed c (page ps n) l (g .level) (t n))
         (undo-changed c (page ps n) (t n)) (λ v h. old-changed v w h c (page ps n))
 
-    work-by : (b : Bool) (a : Around) (c : Change) → Beside l ps a → WorkedFine l ps (Rules.workBy least b w ps a c (page ps (a .own .value)))
+    work-by : (b : Bool) (a : Around) (c : Change) → AroundLives l ps a → WorkedFine l ps (Rules.workBy least b w ps a c (page ps (a .own .value)))
     unfolding Rules.workBy Rules.regroup
     work-by true a c s = changed-fine c (a .own .value) (s .own)
     work-by false a c s = handed _ _ (rebuilt-fine _ _ (s .own .level) (group-fine _ a _ s))
 
-    pub work-fine : (a : Around) (c : Change) → Beside l ps a → WorkedFine l ps (work least w ps a c)
+    pub work-fine : (a : Around) (c : Change) → AroundLives l ps a → WorkedFine l ps (work least w ps a c)
     unfolding Rules.work
     work-fine a c s = work-by _ a c s
 
     -- the root
-    topped-fine : (level : ℕ) (qs : List Page) (news : List Pair) (ns : List ℕ) → Fine (suc l) ps qs → Every (Spare l qs) ns → RootedFine ps (Climb.topped w level qs news ns)
+    topped-fine : (level : ℕ) (qs : List Page) (news : List Pair) (ns : List ℕ) → UndoFine (suc l) ps qs → Every (SpareUnseen l qs) ns → RootedFine ps (Climb.topped w level qs news ns)
     unfolding Climb.topped
     topped-fine level qs news [] f s = tt
     topped-fine level qs news (n ∷ ns) f s = record {
@@ -317,29 +317,29 @@ module _ (least u : ℕ) where
     new-root level (rebuilt qs (x ∷ [])) f = keptBy _ ps qs f
     new-root level (rebuilt qs (x ∷ y ∷ zs)) f = topped-fine level qs _ (freeOnes qs) f (spare-free l qs (f .tame) 5 (drop 5 qs) (page-drop qs))
 
-    root-stay : (b : Bool) (r : ℕ) (c : Change) → Good l ps r → RootedFine ps (Climb.rootStay least b w ps r c (page ps r))
+    root-stay : (b : Bool) (r : ℕ) (c : Change) → LivePage l ps r → RootedFine ps (Climb.rootStay least b w ps r c (page ps r))
     unfolding Climb.rootStay
     root-stay true r c g = keptBy _ ps _ (changed-fine c r g)
     root-stay false r c g = new-root _ _ (rebuilt-fine _ _ (g .level) (group-one (pair 0 r) g))
 
-    root-go : (b : Bool) (r : ℕ) (c : Change) (want : List Pair) → Good l ps r → RootedFine ps (Climb.rootGo least b w ps r c (page ps r) want)
+    root-go : (b : Bool) (r : ℕ) (c : Change) (want : List Pair) → LivePage l ps r → RootedFine ps (Climb.rootGo least b w ps r c (page ps r) want)
     unfolding Climb.rootGo
     root-go true r c [] g = root-stay _ r c g
     root-go true r c (x ∷ []) g = keptBy _ ps _ (gone-fine l ps ps r (fine-refl (suc l) ps t) g refl)
     root-go true r c (x ∷ y ∷ zs) g = root-stay _ r c g
     root-go false r c want g = root-stay _ r c g
 
-    pub root-fine : (r : ℕ) (c : Change) → Good l ps r → RootedFine ps (workRoot least w ps r c)
+    pub root-fine : (r : ℕ) (c : Change) → LivePage l ps r → RootedFine ps (workRoot least w ps r c)
     unfolding Climb.workRoot
     root-fine r c g = root-go _ r c _ g
 
   -- the way up
   abbrev pub WayGood : ℕ → List Page → ℕ → List Around → Type 0
-  WayGood l ps r [] = Good l ps r
-  WayGood l ps r (a ∷ up) = Beside l ps a × WayGood (suc l) ps r up
+  WayGood l ps r [] = LivePage l ps r
+  WayGood l ps r (a ∷ up) = AroundLives l ps a × WayGood (suc l) ps r up
 
-  module _ (l : ℕ) (ps qs : List Page) (f : Fine (suc l) ps qs) where
-    keep-good : (k n : ℕ) → l < k → Good k ps n → Good k qs n
+  module _ (l : ℕ) (ps qs : List Page) (f : UndoFine (suc l) ps qs) where
+    keep-good : (k n : ℕ) → l < k → LivePage k ps n → LivePage k qs n
     keep-good k n h g =
         let e : page qs n ≡ page ps n = f .above n (omega (arith, g .level)) in
         record { level = ap (λ (p : Page). p .level) e ∙ g .level; endless = ap (λ (p : Page). p .end) e ∙ g .endless }
@@ -348,17 +348,17 @@ module _ (least u : ℕ) where
     keep-next k n none h g = tt
     keep-next k n (some x) h g = (keep-good k (x .value) h (g .0), g .1)
 
-    keep-beside : (k : ℕ) (a : Around) → l < k → Beside k ps a → Beside k qs a
+    keep-beside : (k : ℕ) (a : Around) → l < k → AroundLives k ps a → AroundLives k qs a
     keep-beside k a h s = record { own = keep-good k _ h (s .own); left = keep-next k _ (a .left) h (s .left); right = keep-next k _ (a .right) h (s .right) }
 
     pub keep-way : (k r : ℕ) (up : List Around) → l < k → WayGood k ps r up → WayGood k qs r up
     keep-way k r [] h g = keep-good k r h g
     keep-way k r (a ∷ up) h g = (keep-beside k a h (g .0), keep-way (suc k) r up (omega arith) (g .1))
 
-  kept-trans : (ps qs rs : List Page) → Kept ps qs → Kept qs rs → Kept ps rs
+  kept-trans : (ps qs rs : List Page) → UndoKept ps qs → UndoKept qs rs → UndoKept ps rs
   kept-trans ps qs rs e f = record { undone = f .undone ∙ e .undone; old = λ v h m. f .old v h m ∙ e .old v h m }
 
-  rooted-trans : (ps qs : List Page) (x : Rooted) → Kept ps qs → RootedFine qs x → RootedFine ps x
+  rooted-trans : (ps qs : List Page) (x : Rooted) → UndoKept ps qs → RootedFine qs x → RootedFine ps x
   rooted-trans ps qs (stays rs) e f = kept-trans ps qs rs e f
   rooted-trans ps qs (moves n rs) e f = kept-trans ps qs rs e f
   rooted-trans ps qs lacks e f = tt
@@ -392,7 +392,7 @@ slot-goes w n (x ∷ xs) = at (not (eqb (x .version) w)) refl (slot-goes w n xs)
     at false e ih = ih
 
 -- what the store must be for it, which soundness gives: pages as rule 1 has them, and the way down leads over living pages, one level after the other
-pub record Ready (least : ℕ) (s : Store) (k : ℕ) : Type 0 where
+pub record UndoReady (least : ℕ) (s : Store) (k : ℕ) : Type 0 where
   pub tame : (m : ℕ) → TamePage (next s) (page (s .pages) m)
   pub leads : WayGood least (s .current) 0 (s .pages) (rootAt (s .slots) (next s)) (way s (next s) k)
 
@@ -421,6 +421,6 @@ rooted-undone least s (moves n ps) f = slotted-undone _ s _ ps (slot-goes (next 
 rooted-undone least s lacks f = tt
 
 -- An abandon after an accepted update leaves what an abandon before it leaves.
-pub update-undone : (least : ℕ) (s : Store) (k : ℕ) (c : Change) → Ready least s k → Undone s (update least s k c)
+pub update-undone : (least : ℕ) (s : Store) (k : ℕ) (c : Change) → UndoReady least s k → Undone s (update least s k c)
 unfolding Climb.update
 update-undone least s k c r = rooted-undone least s _ (climb-fine least (s .current) 0 _ _ c (s .pages) (r .tame) (r .leads))

@@ -27,11 +27,11 @@ use Rattle.model.proofs.lists.Members.{In}
 abbrev pub keysOf : List Pair → List ℕ
 keysOf xs = map (λ (x : Pair). x .key) xs
 
-pub record Alike (c d : Change) : Type 0 where
+pub record KeysAlike (c d : Change) : Type 0 where
   pub drops : c .drop ≡ d .drop
   pub takes : keysOf (c .take) ≡ keysOf (d .take)
 
-pub alike-refl : (c : Change) → Alike c c
+pub alike-refl : (c : Change) → KeysAlike c c
 alike-refl c = record { drops = refl; takes = refl }
 
 pub same-length : (xs ys : List Pair) → keysOf xs ≡ keysOf ys → length xs ≡ length ys
@@ -72,7 +72,7 @@ length-born : (w : ℕ) (xs : List Pair) (es : List Entry) → length (bornAll w
 length-born w [] es = omega arith
 length-born w (x ∷ xs) es = omega (arith, length-born w xs (enter (born w x) es), length-enter (born w x) es)
 
-module _ {c d : Change} (h : Alike c d) where
+module _ {c d : Change} (h : KeysAlike c d) where
   pub wanted-alike : (w : ℕ) (p : Page) → keysOf (wanted w c p) ≡ keysOf (wanted w d p)
   wanted-alike w p =
       let base : List ℕ → List Pair = λ ks. those (λ (x : Pair). not (has (x .key) ks)) (pairsAt w p) in
@@ -122,7 +122,7 @@ module _ (w : ℕ) (ps : List Page) (a : Around) (us vs : List Pair) (e : keysOf
   gather-alike true = near-alike (a .left) (a .right)
   gather-alike false = record { routers = refl; keys = e }
 
-pub group-alike : {c d : Change} → Alike c d → (least w : ℕ) (ps : List Page) (a : Around) → Gathered (groupAt least w ps a c) (groupAt least w ps a d)
+pub group-alike : {c d : Change} → KeysAlike c d → (least w : ℕ) (ps : List Page) (a : Around) → Gathered (groupAt least w ps a c) (groupAt least w ps a d)
 group-alike {c} {d} h least w ps a =
     let p : Page = page ps (a .own .value) in
     subst (λ (n : ℕ). Gathered (groupAt least w ps a c) (Rules.gatherBy (ltb n (2 * least)) w ps a (wanted w d p))) (count-alike h w p)
@@ -185,7 +185,7 @@ module _ (rs : List Pair) where
   those-keys f (x ∷ xs) (y ∷ ys) h t =
       keep-keys (f x) x y (those f xs) (those f ys) (t .0 .key) (those-keys f xs ys h (t .1)) ∙ ap (λ (b : Bool). keysOf (keep b y (those f ys))) (h x y (t .0))
 
-  pub exchange-alike : (xs ys : List Pair) → Twins rs xs ys → Alike (exchange rs xs) (exchange rs ys)
+  pub exchange-alike : (xs ys : List Pair) → Twins rs xs ys → KeysAlike (exchange rs xs) (exchange rs ys)
   unfolding Rules.exchange
   exchange-alike xs ys t = record {
     drops = ap keysOf (those-same (λ (r : Pair). not (any (samePair r) xs)) (λ (r : Pair). not (any (samePair r) ys)) rs (λ r i. ap not (any-to r i xs ys t)));

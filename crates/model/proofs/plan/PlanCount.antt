@@ -98,17 +98,17 @@ module _ (w : ℕ) where
   length-retire (r ∷ rs) ps = length-retire rs _ ∙ length-set ps (r .value) _
 
   -- The pages of a group: one, or two that differ, all of one level.
-  pub record Member (l : ℕ) (ps : List Page) (n : ℕ) : Type 0 where
+  pub record GroupMember (l : ℕ) (ps : List Page) (n : ℕ) : Type 0 where
     pub level : page ps n .level ≡ suc l
     pub five : 5 ≤ n
 
   pub data Pages (l : ℕ) (ps : List Page) : List Pair → Type 0 where
-    lone : {r : Pair} → Member l ps (r .value) → Pages l ps (r ∷ [])
-    twin : {r q : Pair} → Member l ps (r .value) → Member l ps (q .value) → q .value ≢ r .value → Pages l ps (r ∷ q ∷ [])
+    lone : {r : Pair} → GroupMember l ps (r .value) → Pages l ps (r ∷ [])
+    twin : {r q : Pair} → GroupMember l ps (r .value) → GroupMember l ps (q .value) → q .value ≢ r .value → Pages l ps (r ∷ q ∷ [])
 
   module _ (l : ℕ) (ps : List Page) where
     -- one page goes
-    gone-count : (qs : List Page) (n : ℕ) → page qs n ≡ page ps n → length qs ≡ length ps → Member l ps n → frees (set qs n (gone w (page qs n))) ≡ bit (active w (page ps n)) + frees qs
+    gone-count : (qs : List Page) (n : ℕ) → page qs n ≡ page ps n → length qs ≡ length ps → GroupMember l ps n → frees (set qs n (gone w (page qs n))) ≡ bit (active w (page ps n)) + frees qs
     gone-count qs n e k m =
         let level : page qs n .level ≡ suc l = ap (λ (p : Page). p .level) e ∙ m .level in
         let used : isFree (page qs n) ≡ false = ne-eqb (page qs n .level) 0 (λ (z : page qs n .level ≡ 0). omega arith) in
@@ -140,11 +140,11 @@ module _ (w : ℕ) where
     unfolding Rules.usable
     usable-count rs = length-append (actives w ps rs) (freeOnes ps)
 
-    pub member-at : {rs : List Pair} → Pages l ps rs → (n : ℕ) → In n (values rs) → Member l ps n
-    member-at (lone m) n (inl e) = subst (Member l ps) (sym e) m
+    pub member-at : {rs : List Pair} → Pages l ps rs → (n : ℕ) → In n (values rs) → GroupMember l ps n
+    member-at (lone m) n (inl e) = subst (GroupMember l ps) (sym e) m
     member-at (lone m) n (inr i) = absurd i
-    member-at (twin m k d) n (inl e) = subst (Member l ps) (sym e) m
-    member-at (twin m k d) n (inr (inl e)) = subst (Member l ps) (sym e) k
+    member-at (twin m k d) n (inl e) = subst (GroupMember l ps) (sym e) m
+    member-at (twin m k d) n (inr (inl e)) = subst (GroupMember l ps) (sym e) k
     member-at (twin m k d) n (inr (inr i)) = absurd i
 
     -- a page that a group may use is free once the group has retired

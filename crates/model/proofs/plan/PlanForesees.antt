@@ -26,16 +26,16 @@ use Rattle.model.specs.Plan
 use Rattle.model.specs.Plan.{untaken, routersTo, Planned, settles, rises, fails, planGroup, planWork, Outlook, rootFills, planRoot, planOn, planUp, outlookOf}
 use Rattle.model.proofs.lists.Members.{In, map-in}
 use Rattle.model.proofs.tree.GroupPages.{in-frees}
-use Rattle.model.proofs.older.Undo.{TamePage, Fine, Good, Next, Beside, WayGood, WorkedFine, work-fine, keep-way}
-use Rattle.model.proofs.plan.PlanCount.{frees, Member, Pages, lone, twin, member-at, usable-count, sizeOf, fills-size, Counted, rebuilt-counts}
-use Rattle.model.proofs.plan.PlanAlike.{keysOf, Alike, wanted-alike, roomy-alike, place-alike, goes-alike, Gathered, group-alike, Outside, Aside, exchange-alike, fills-alike, rootFills-alike, routers-alike}
+use Rattle.model.proofs.older.Undo.{TamePage, UndoFine, LivePage, Next, AroundLives, WayGood, WorkedFine, work-fine, keep-way}
+use Rattle.model.proofs.plan.PlanCount.{frees, GroupMember, Pages, lone, twin, member-at, usable-count, sizeOf, fills-size, Counted, rebuilt-counts}
+use Rattle.model.proofs.plan.PlanAlike.{keysOf, KeysAlike, wanted-alike, roomy-alike, place-alike, goes-alike, Gathered, group-alike, Outside, Aside, exchange-alike, fills-alike, rootFills-alike, routers-alike}
 
 -- ---- one group
 
 -- what comes of a page, and what was planned for it
 pub data Matches : Worked → Planned → Type 0 where
   in-place : {qs : List Page} → Matches (settled qs) settles
-  risen : {c′ d′ : Change} {qs : List Page} {left : ℕ} → Alike c′ d′ → frees qs ≡ left → Matches (upward c′ qs) (rises d′ left)
+  risen : {c′ d′ : Change} {qs : List Page} {left : ℕ} → KeysAlike c′ d′ → frees qs ≡ left → Matches (upward c′ qs) (rises d′ left)
   failed : Matches lacking fails
 
 module _ (w l : ℕ) (ps : List Page) {rs : List Pair} (g : Pages w l ps rs) where
@@ -69,7 +69,7 @@ module _ (w l : ℕ) (ps : List Page) {rs : List Pair} (g : Pages w l ps rs) whe
         let enough : fills least vs ≤ length (actives w ps rs) + frees ps = omega (arith, usable-count w l ps rs) in
         let left : frees qs ≡ length (actives w ps rs) + frees ps - fills least vs = omega (arith, usable-count w l ps rs) in
         rw (le-leb (fills least vs) (length (actives w ps rs) + frees ps) enough)
-        (risen (subst (λ (xs : List Pair). Alike (exchange rs xs) (exchange rs (routersTo rs (Rules.parts least vs) (getD (actives w ps rs) 0 untaken) (getD (actives w ps rs) 1 untaken)))) (sym r)
+        (risen (subst (λ (xs : List Pair). KeysAlike (exchange rs xs) (exchange rs (routersTo rs (Rules.parts least vs) (getD (actives w ps rs) 0 untaken) (getD (actives w ps rs) 1 untaken)))) (sym r)
         (exchange-alike rs _ _ (routers-alike least us vs e rs _ _ _ _ (aside 0) (aside 1)))) left)
     group-by short n =
         let need : fills least vs ≡ sizeOf (Rules.parts least us) = sym (fills-alike least us vs e) ∙ fills-size least us in
@@ -106,8 +106,8 @@ module _ (least u : ℕ) where
   abbrev w : ℕ
   w = suc u
 
-  module _ (l : ℕ) (ps : List Page) (a : Around) (s : Beside least u l ps a) (h : High a) where
-    own-member : Member w l ps (a .own .value)
+  module _ (l : ℕ) (ps : List Page) (a : Around) (s : AroundLives least u l ps a) (h : High a) where
+    own-member : GroupMember w l ps (a .own .value)
     own-member = record { level = s .own .level; five = h .own }
 
     near-pages : (want : List Pair) (x y : Option Pair) → Next least u l ps (a .own .value) x → Next least u l ps (a .own .value) y → HighNext x → HighNext y
@@ -122,7 +122,7 @@ module _ (least u : ℕ) where
     gather-pages true want = near-pages want (a .left) (a .right) (s .left) (s .right) (h .left) (h .right)
     gather-pages false want = lone own-member
 
-    module _ {c d : Change} (e : Alike c d) where
+    module _ {c d : Change} (e : KeysAlike c d) where
       level-by : (b : Bool) → Matches (Rules.workBy least b w ps a c (page ps (a .own .value))) (Plan.planBy least b w ps a d (frees ps))
       unfolding Rules.workBy Plan.planBy
       level-by true = in-place
@@ -136,8 +136,8 @@ module _ (least u : ℕ) where
 
   -- ---- what is read higher up is as it was
 
-  module _ (l : ℕ) (ps qs : List Page) (f : Fine least u (suc l) ps qs) where
-    good-same : (k n : ℕ) → l < k → Good least u k ps n → page qs n ≡ page ps n
+  module _ (l : ℕ) (ps qs : List Page) (f : UndoFine least u (suc l) ps qs) where
+    good-same : (k n : ℕ) → l < k → LivePage least u k ps n → page qs n ≡ page ps n
     good-same k n h g = f .above n (omega (arith, g .level))
 
     -- a group's pages are as they were
@@ -158,7 +158,7 @@ module _ (least u : ℕ) where
       pub is : g ≡ h
       pub same : Same (h .routers)
 
-    module _ (k : ℕ) (a : Around) (above : l < k) (s : Beside least u k ps a) where
+    module _ (k : ℕ) (a : Around) (above : l < k) (s : AroundLives least u k ps a) where
       own-same : page qs (a .own .value) ≡ page ps (a .own .value)
       own-same = good-same k (a .own .value) above (s .own)
 
@@ -190,7 +190,7 @@ module _ (least u : ℕ) where
               ap (λ (p : Page). planGroup least w qs (Rules.gatherBy (ltb (length (want p)) (2 * least)) w qs a (want p)) left) own-same
               ∙ ap (λ (g : Group). planGroup least w qs g left) (e .is) ∙ group-same _ left (e .same)
 
-    root-same : (k r : ℕ) (c : Change) (left : ℕ) → l < k → Good least u k ps r → planRoot least w qs r c left ≡ planRoot least w ps r c left
+    root-same : (k r : ℕ) (c : Change) (left : ℕ) → l < k → LivePage least u k ps r → planRoot least w qs r c left ≡ planRoot least w ps r c left
     unfolding Plan.planRoot
     root-same k r c left h g = rw (good-same k r h g)
 
@@ -208,7 +208,7 @@ module _ (least u : ℕ) where
 
   -- ---- the root
 
-  module _ (l : ℕ) (ps : List Page) (r : ℕ) (g : Good least u l ps r) (five : 5 ≤ r) (c : Change) where
+  module _ (l : ℕ) (ps : List Page) (r : ℕ) (g : LivePage least u l ps r) (five : 5 ≤ r) (c : Change) where
     abbrev here : Page
     here = page ps r
 
@@ -246,7 +246,7 @@ module _ (least u : ℕ) where
     go-by true (x ∷ y ∷ zs) = rw (ne-eqb (suc (suc (length zs))) 1 (λ (e : suc (suc (length zs)) ≡ 1). omega arith)) (stay-by (roomy least w c here))
     go-by false want = stay-by (roomy least w c here)
 
-    pub root-matches : {d : Change} → Alike c d → outlookOf (workRoot least w ps r c) ≡ planRoot least w ps r d (frees ps)
+    pub root-matches : {d : Change} → KeysAlike c d → outlookOf (workRoot least w ps r c) ≡ planRoot least w ps r d (frees ps)
     unfolding Climb.workRoot Plan.planRoot
     root-matches {d} e =
         go-by (leb 2 (here .level)) (wanted w c here)
@@ -254,7 +254,7 @@ module _ (least u : ℕ) where
 
   -- ---- the climb
 
-  pub climb-matches : (l r : ℕ) (up : List Around) (c d : Change) (ps : List Page) → ((m : ℕ) → TamePage w (page ps m)) → WayGood least u l ps r up → Highs up → 5 ≤ r → Alike c d
+  pub climb-matches : (l r : ℕ) (up : List Around) (c d : Change) (ps : List Page) → ((m : ℕ) → TamePage w (page ps m)) → WayGood least u l ps r up → Highs up → 5 ≤ r → KeysAlike c d
       → outlookOf (climb least w r up c ps) ≡ planUp least w ps r up d (frees ps)
   unfolding Climb.climb Plan.planUp
   climb-matches l r [] c d ps t g h five e = root-matches l ps r g five c e
@@ -262,7 +262,7 @@ module _ (least u : ℕ) where
       at (level-matches l ps a (g .0) (h .0) e) (work-fine least u l ps t a c (g .0)) (λ c′ d′ qs t′ g′ e′. climb-matches (suc l) r up c′ d′ qs t′ g′ (h .1) five e′)
     where
       at : {x : Worked} {p : Planned} → Matches x p → WorkedFine least u l ps x
-          → ((c′ d′ : Change) (qs : List Page) → ((m : ℕ) → TamePage w (page qs m)) → WayGood least u (suc l) qs r up → Alike c′ d′
+          → ((c′ d′ : Change) (qs : List Page) → ((m : ℕ) → TamePage w (page qs m)) → WayGood least u (suc l) qs r up → KeysAlike c′ d′
           → outlookOf (climb least w r up c′ qs) ≡ planUp least w qs r up d′ (frees qs))
           → outlookOf (goOn x (λ (c′ : Change) (qs : List Page). climb least w r up c′ qs)) ≡ planOn p (λ (d′ : Change) (n : ℕ). planUp least w ps r up d′ n)
       at in-place f ih = refl

@@ -28,7 +28,7 @@ use Rattle.model.proofs.tree.Shows.{same?}
 use Rattle.model.proofs.sound.ByRule.{Sound, GoodEntry, entry-of, used-in}
 use Rattle.model.proofs.sound.Ready.{level-used, last-is}
 use Rattle.model.proofs.tree.GroupPages.{values, in-frees}
-use Rattle.model.proofs.older.Undo.{Beside}
+use Rattle.model.proofs.older.Undo.{AroundLives}
 use Rattle.model.proofs.plan.PlanForesees.{High, gather-pages}
 use Rattle.model.proofs.plan.PlanCount.{Pages, member-at, usable-free, retire-free, length-retire, sizeOf}
 
@@ -179,14 +179,14 @@ module _ (least u l : ℕ) (ps : List Page) (a : Around) (c d : Change) (qs : Li
   handed rs (rebuilt zs news) e = (news, ap (λ (ys : List Page). rebuilt ys news) cc)
   handed rs short e = let z : _≡_ {A = ℕ} 0 1 = cc in absurd (omega arith)
 
-  level-by : (b : Bool) → Beside least u l ps a → High a → Rules.workBy least b (suc u) ps a c (page ps (a .own .value)) ≡ upward d qs → (m n : ℕ) → Freed ps qs m → Taken ps qs n → ⊥
+  level-by : (b : Bool) → AroundLives least u l ps a → High a → Rules.workBy least b (suc u) ps a c (page ps (a .own .value)) ≡ upward d qs → (m n : ℕ) → Freed ps qs m → Taken ps qs n → ⊥
   unfolding Rules.workBy Rules.regroup
   level-by true s h e = let z : _≡_ {A = ℕ} 0 1 = cc in absurd (omega arith)
   level-by false s h e =
       let (news, f) = handed _ _ e in
       never-both (suc u) l (page ps (a .own .value) .level) ps _ (s .own .level) (gather-pages least u l ps a s h _ _) least _ qs news f
 
-  pub level-once : Beside least u l ps a → High a → work least (suc u) ps a c ≡ upward d qs → (m n : ℕ) → Freed ps qs m → Taken ps qs n → ⊥
+  pub level-once : AroundLives least u l ps a → High a → work least (suc u) ps a c ≡ upward d qs → (m n : ℕ) → Freed ps qs m → Taken ps qs n → ⊥
   unfolding Rules.work
   level-once s h e = level-by _ s h e
 

@@ -21,14 +21,14 @@ use Rattle.model.specs.Sound.{sound}
 use Rattle.model.proofs.lists.Members.{holds-true}
 use Rattle.model.proofs.sound.ByRule.{Sound, from-tests, high-used}
 use Rattle.model.proofs.sound.Ready.{level-used, ready}
-use Rattle.model.proofs.older.Undo.{Good, Next, WayGood}
+use Rattle.model.proofs.older.Undo.{LivePage, Next, WayGood}
 use Rattle.model.proofs.plan.PlanAlike.{alike-refl}
 use Rattle.model.proofs.plan.PlanForesees.{HighNext, Highs, climb-matches}
 use Rattle.model.proofs.plan.PlanSlots.{slot-left}
 
 module _ (least : ℕ) (two : 2 ≤ least) (s : Store) (d : Sound least s) where
   -- "root and router page numbers run from 5"
-  good-high : (l n : ℕ) → Good least (s .current) l (s .pages) n → 5 ≤ n
+  good-high : (l n : ℕ) → LivePage least (s .current) l (s .pages) n → 5 ≤ n
   good-high l n g = high-used s n (d .front) (level-used (page (s .pages) n) l (g .level))
 
   next-high : (l n : ℕ) (x : Option Pair) → Next least (s .current) l (s .pages) n x → HighNext x

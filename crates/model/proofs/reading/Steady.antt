@@ -29,12 +29,12 @@ use Rattle.model.proofs.theorems.History.{Agrees, one-call}
 use Rattle.model.proofs.theorems.Undone.{lent-agrees}
 
 -- versions committed before stay committed, and their ways stay
-pub record Onward (s t : Store) : Type 0 where
+pub record WaysStay (s t : Store) : Type 0 where
   pub current : s .current ≤ t .current
   pub oldest : s .oldest ≤ t .oldest
   pub steady : (v : ℕ) → t .oldest ≤ v → v ≤ s .current → Alike s v t v
 
-itself : (s : Store) → Onward s s
+itself : (s : Store) → WaysStay s s
 itself s = record { current = omega arith; oldest = omega arith; steady = λ v f h. alike-self s v }
 
 module _ (least : ℕ) (four : 4 ≤ least) (b : Both) (a : Agrees least b) where
@@ -42,18 +42,18 @@ module _ (least : ℕ) (four : 4 ≤ least) (b : Both) (a : Agrees least b) wher
   s = b .store
 
   abbrev Goes : Call → Result → Type 0
-  Goes c r = Onward s (onward b c (gave r) .store)
+  Goes c r = WaysStay s (onward b c (gave r) .store)
 
   edits : (o : s .opened ≡ true) (c : Call) (r : Result) → Sounds least four s (a .is-sound) o r → Goes c r
   edits o c (refused n) f = itself s
   edits o c (done t) f = record { current = omega (arith, f .current); oldest = omega (arith, f .oldest); steady = λ v g h. f .steady v (omega (arith, f .oldest)) (omega arith) }
 
   -- an abandon leaves the committed versions
-  left-behind : s .opened ≡ true → Onward s (abandoned s)
+  left-behind : s .opened ≡ true → WaysStay s (abandoned s)
   unfolding abandoned
   left-behind o = record { current = omega arith; oldest = omega arith; steady = λ v g z. steady-kept least (omega arith) s (a .is-sound) o v g (omega arith) }
 
-  goes : (c : Call) → fits c ≡ true → Onward s (onward b c (callBy least s c) .store)
+  goes : (c : Call) → fits c ≡ true → WaysStay s (onward b c (callBy least s c) .store)
   unfolding begin commit abandon pruned
   goes begins h =
       numbered-by (Goes begins) (rule 8 (s .opened) ∷ rule 9 (leb 1048574 (s .current)) ∷ []) (done (record { current = s .current; opened = true; oldest = s .oldest; slots = s .slots; pages = s .pages })) (λ n. itself s)
@@ -74,13 +74,13 @@ module _ (least : ℕ) (four : 4 ≤ least) (b : Both) (a : Agrees least b) wher
       at (inl o) = edits o (deletes k) (delete least s k) (delete-keeps least four s (a .is-sound) o k)
       at (inr o) = delete-by (Goes (deletes k)) least s k (λ n. itself s) (λ y low z. absurd (not-both (s .opened) y o))
   goes (returns v) h =
-      returned-by least (λ (q : Came). Onward s (onward b (returns v) q .store)) four s (a .is-sound) v (λ n. itself s)
+      returned-by least (λ (q : Came). WaysStay s (onward b (returns v) q .store)) four s (a .is-sound) v (λ n. itself s)
       (λ o z t g. record { current = omega (arith, g .current); oldest = omega (arith, g .oldest); steady = λ v f h. g .steady v (omega (arith, g .oldest)) h }) (λ o z n l. left-behind o)
   goes (prunes w) h =
       prune-by (Goes (prunes w)) least s w (λ n. itself s)
       (λ e o low high. record { current = omega arith; oldest = low; steady = λ v g z. steady-pruned least (omega arith) s (a .is-sound) e o w low high v (record { from = g; upto = omega (arith, ap (λ (b : Bool). lastOf b (s .current)) o) }) })
 
-pub goes-on : (least : ℕ) → 4 ≤ least → (cs : List Call) → all fits cs ≡ true → (b : Both) → Agrees least b → Onward (b .store) (together least b cs .store)
+pub goes-on : (least : ℕ) → 4 ≤ least → (cs : List Call) → all fits cs ≡ true → (b : Both) → Agrees least b → WaysStay (b .store) (together least b cs .store)
 goes-on least four [] h b a = itself (b .store)
 goes-on least four (c ∷ cs) h b a =
     let (x, y) = all-cons fits c cs h in

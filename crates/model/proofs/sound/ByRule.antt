@@ -28,7 +28,7 @@ pub record Readable (s : Store) (v : ℕ) : Type 0 where
   pub upto : v ≤ last s
 
 -- the committed ones among them
-pub record Kept (s : Store) (v : ℕ) : Type 0 where
+pub record Committed (s : Store) (v : ℕ) : Type 0 where
   pub from : s .oldest ≤ v
   pub upto : v ≤ s .current
 
@@ -39,7 +39,7 @@ readable-of s v e = let (a, b) = neither (ltb (last s) v) (ltb v (s .oldest)) e 
 pub of-readable : (s : Store) (v : ℕ) → Readable s v → unreadable s v ≡ false
 of-readable s v r = rw (le-ltb (last s) v (r .upto), le-ltb v (s .oldest) (r .from)) refl
 
-pub kept-of : (s : Store) (v : ℕ) → beyond (s .current) (s .oldest) v ≡ false → Kept s v
+pub kept-of : (s : Store) (v : ℕ) → beyond (s .current) (s .oldest) v ≡ false → Committed s v
 kept-of s v e = let (a, b) = neither (ltb (s .current) v) (ltb v (s .oldest)) e in record { from = ltb-false v (s .oldest) b; upto = ltb-false (s .current) v a }
 
 -- a used page as rule 1 has it

@@ -33,22 +33,22 @@ module _ (least : ℕ) (two : 2 ≤ least) (s : Store) (d : Sound least s) where
 
   -- ---- "root and router page numbers run from 5 to below the page count"
 
-  pub record Numbered (n : ℕ) : Type 0 where
+  pub record PageNumbered (n : ℕ) : Type 0 where
     pub five : 5 ≤ n
     pub inside : n < length pages
 
-  pub used-number : (n : ℕ) → isFree (page pages n) ≡ false → Numbered n
+  pub used-number : (n : ℕ) → isFree (page pages n) ≡ false → PageNumbered n
   used-number n u = record { five = high-used s n (d .front) u; inside = used-in pages n u }
 
-  pub root-number : (v : ℕ) → s .oldest ≤ v → Numbered (root least two s d v)
+  pub root-number : (v : ℕ) → s .oldest ≤ v → PageNumbered (root least two s d v)
   root-number v from = used-number (root least two s d v) (root-used least two s d v from)
 
   -- the page that a live router of an index page leads to
-  pub router-number : (v : ℕ) → s .oldest ≤ v → (n l : ℕ) (x : Pair) → page pages n .level ≡ suc (suc l) → In x (pairsAt v (page pages n)) → Numbered (x .value)
+  pub router-number : (v : ℕ) → s .oldest ≤ v → (n l : ℕ) (x : Pair) → page pages n .level ≡ suc (suc l) → In x (pairsAt v (page pages n)) → PageNumbered (x .value)
   router-number v from n l x e i = used-number (x .value) (level-used (page pages (x .value)) l (child-of least two s d v from n l x e i .level))
 
   -- each page that a walk reaches
-  pub reached-number : (v : ℕ) → s .oldest ≤ v → (j m : ℕ) → Reach pages v (heightOf pages (root least two s d v)) (root least two s d v) j m → Numbered m
+  pub reached-number : (v : ℕ) → s .oldest ≤ v → (j m : ℕ) → Reach pages v (heightOf pages (root least two s d v)) (root least two s d v) j m → PageNumbered m
   reached-number v from j m r = used-number m (level-used (page pages m) j (reach-level least two s d v from (heightOf pages (root least two s d v)) (root least two s d v) j m (root-level least two s d v from) r))
 
   -- ---- "End 1,048,575 means alive": what is alive at last has no end

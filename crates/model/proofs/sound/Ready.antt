@@ -26,14 +26,14 @@ use Rattle.model.proofs.sound.Walks.{Reach, Self, reach-self, seen-reac
 use Rattle.model.proofs.older.Back.{endsWell}
 use Rattle.model.specs.Climb.{Result, refused, update}
 use Rattle.model.specs.Calls.{Rule, numbered, isSome, benchLimit, insertTests, deleteTests, rawInsert, insert, delete}
-use Rattle.model.proofs.older.Undo.{TamePage, Good, Next, Beside, WayGood, Ready, Undone, update-undone}
+use Rattle.model.proofs.older.Undo.{TamePage, LivePage, Next, AroundLives, WayGood, UndoReady, Undone, update-undone}
 use Rattle.model.proofs.tree.Edit.{leaf-insert, leaf-delete, length-enter, keep-all, dropped-one}
 use Rattle.model.proofs.tree.UpdateChanges.{Fit, leafPairs, Changed, update-changes}
 use Rattle.model.proofs.tree.Place.{byKey}
 use Rattle.model.proofs.tree.Tree.{Row, Holds, Tree, row-split}
 use Rattle.model.proofs.tree.Shows.{Tidy, Shows, Some, Touched, LastIs, HeadIs}
 use Rattle.model.proofs.tree.Climbs.{touched-tree, apart-tree}
-use Rattle.model.proofs.tree.Descend.{Found, found-in}
+use Rattle.model.proofs.tree.Descend.{RouterPlace, found-in}
 use Rattle.model.proofs.tree.Bridge.{root-passes}
 
 -- a test on the root of each slot holds of each version's root
@@ -271,16 +271,16 @@ module _ (least : ℕ) (two-or-more : 2 ≤ least) (s : Store) (d : Sound least 
         at (inl z) = absurd (omega (arith, last-is, within-of (page ps n .start) (page ps n .end) w h .1))
         at (inr z) = z
 
-    child-good : (l n : ℕ) → Child w l n → Good least (s .current) l ps n
+    child-good : (l n : ℕ) → Child w l n → LivePage least (s .current) l ps n
     child-good l n c = record { level = c .level; endless = endless n (level-used (page ps n) l (c .level)) (c .lives) }
 
     -- the way down for a key leads over living pages
     module _ (k : ℕ) where
-      next-good : (l n o : ℕ) (x : Option Pair) → ((y : Pair) → x ≡ some y → Good least (s .current) l ps (y .value) × (y .value ≢ o)) → Next least (s .current) l ps o x
+      next-good : (l n o : ℕ) (x : Option Pair) → ((y : Pair) → x ≡ some y → LivePage least (s .current) l ps (y .value) × (y .value ≢ o)) → Next least (s .current) l ps o x
       next-good l n o none h = tt
       next-good l n o (some y) h = h y refl
 
-      beside : (l lo hi n : ℕ) (zs : List Pair) (a : Around) → page ps n .level ≡ suc (suc l) → Found least w (Tree least w l ps) k lo hi (pairsAt w (page ps n)) zs a → Beside least (s .current) l ps a
+      beside : (l lo hi n : ℕ) (zs : List Pair) (a : Around) → page ps n .level ≡ suc (suc l) → RouterPlace least w (Tree least w l ps) k lo hi (pairsAt w (page ps n)) zs a → AroundLives least (s .current) l ps a
       beside l lo hi n zs a e f =
           let here = touched-tree least two-or-more w limit ps l (f .low) (f .mid) (f .low) (f .mid) (a .own .value) (f .mine) (omega arith) (omega arith) (f .here) in
           record {
@@ -316,7 +316,7 @@ module _ (least : ℕ) (two-or-more : 2 ≤ least) (s : Store) (d : Sound least 
           let f = found-in least w k (Tree least w l ps) (pairsAt w (page ps n)) lo hi zs h p q in
           good-down l (a ∷ acc) (f .low) (f .mid) (a .own .value) (f .mine) (f .here .level) (f .here .holds) (f .from) (f .upto) (beside l lo hi n zs a e f, g)
 
-    pub ready : (k : ℕ) → k < keyLimit → Ready least s k
+    pub ready : (k : ℕ) → k < keyLimit → UndoReady least s k
     ready k h = record {
       tame = tame-all;
       leads = good-down k (heightOf ps (root w)) [] 0 keyLimit (root w) (settings s w) (root-level w (now .from)) (holds-all w now) (omega arith) h

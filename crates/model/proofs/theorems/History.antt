@@ -24,7 +24,7 @@ use Rattle.model.specs.Settings.{Machine, put, edited, step, Both, onwar
 use Rattle.model.proofs.lists.Lists.{all-cons}
 use Rattle.model.proofs.lists.Members.{holds-true, true-holds, not-both, bool-cases}
 use Rattle.model.proofs.tree.Local.{applied}
-use Rattle.model.proofs.sound.ByRule.{Readable, Kept, old-current, Sound, to-tests}
+use Rattle.model.proofs.sound.ByRule.{Readable, Committed, old-current, Sound, to-tests}
 use Rattle.model.proofs.tree.UpdateChanges.{Changed}
 use Rattle.model.proofs.tree.Edit.{insert-same, delete-same}
 use Rattle.model.proofs.sound.Ready.{numbered-by, insert-by, delete-by, raw-changes, delete-changes}
@@ -177,7 +177,7 @@ module _ (least : ℕ) (four : 4 ≤ least) (b : Both) (a : Agrees least b) wher
   returns-then : (v : ℕ) → Agrees least (onward b (returns v) (returned least s v))
   returns-then v = returned-by least (λ (q : Came). Agrees least (onward b (returns v) q)) four s d v (λ n. a) whole (λ o h n l. abandoned-then o)
     where
-      whole : s .opened ≡ true → Kept s v → (t : Store) → Stepped least s t (settings s v) → Agrees least (record { store = t; machine = step m (returns v) })
+      whole : s .opened ≡ true → Committed s v → (t : Store) → Stepped least s t (settings s v) → Agrees least (record { store = t; machine = step m (returns v) })
       whole o h t g = record {
         is-sound = g .is-sound;
         current = g .current ∙ a .current;

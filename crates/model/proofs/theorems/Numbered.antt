@@ -24,7 +24,7 @@ use Rattle.model.specs.Histories.{Call, begins, commits, abandons, inser
 use Rattle.model.specs.Settings.{Machine, step, Both, onward, together, fits, Tally, nothingYet, putCount, countedBy, tallied, beginning}
 use Rattle.model.proofs.lists.Lists.{all-cons}
 use Rattle.model.proofs.lists.Members.{holds-true, true-holds, not-both, bool-cases}
-use Rattle.model.proofs.sound.ByRule.{Readable, Kept, old-current, to-tests}
+use Rattle.model.proofs.sound.ByRule.{Readable, Committed, old-current, to-tests}
 use Rattle.model.proofs.sound.Ready.{numbered-by, insert-by, delete-by}
 use Rattle.model.proofs.turning.Returned.{Stepped, way, returned-by}
 use Rattle.model.proofs.turning.Prune.{prune-by}
@@ -157,7 +157,7 @@ module _ (least : ℕ) (four : 4 ≤ least) (b : Both) (a : Agrees least b) (t :
           omega (arith, count-away (suc (m .current)) (suc (t .removed (suc (m .current)))) v (t .removed) ne, past o (deletes j) u n (λ i q. ap (λ (b′ : Bool). pick b′ (those (λ (y : Pair). not (eqb (y .key) j)) (m .shows (suc (m .current)))) (m .shows i)) (ne-eqb i (suc (m .current)) q)) refl refl refl v h ne, k .is v (omega (arith, last-open o, lu, h .from, h .upto, n .oldest, a .oldest)))
 
   -- a return's own deletes and inserts
-  returns-at : (v : ℕ) → s .opened ≡ true → Kept s v → (u : Store) → Stepped least s u (settings s v) → Next (returns v) (done u)
+  returns-at : (v : ℕ) → s .opened ≡ true → Committed s v → (u : Store) → Stepped least s u (settings s v) → Next (returns v) (done u)
   returns-at v o h u g n = record { is = λ i z. at i z (bool-cases (eqb i (suc (m .current)))) }
     where
       w : ℕ

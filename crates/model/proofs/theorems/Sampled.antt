@@ -14,22 +14,22 @@ use Rattle.model.specs.Proved.{two-levels-sound, from-elsewhere-sound}
 use Rattle.model.specs.Settings.{lent}
 use Rattle.model.proofs.lists.Members.{holds-true}
 use Rattle.model.proofs.sound.ByRule.{Sound, from-tests}
-use Rattle.model.proofs.older.Undo.{Ready}
+use Rattle.model.proofs.older.Undo.{UndoReady}
 use Rattle.model.proofs.tree.UpdateChanges.{Fit}
 use Rattle.model.proofs.sound.Ready.{ready, fit-insert, fit-delete}
 use Rattle.model.proofs.theorems.History.{Agrees}
 use Rattle.model.proofs.theorems.Undone.{lent-agrees}
 
 -- what the theorems on calls, histories, inserts and deletes ask of a store with an update open
-pub record Met (s : Store) : Type 0 where
+pub record TheoremsMet (s : Store) : Type 0 where
   pub is-open : s .opened ≡ true
   pub is-sound : Sound 4 s
   pub agrees : Agrees 4 (lent s)
-  pub to-undo : Ready 4 s 5
+  pub to-undo : UndoReady 4 s 5
   pub to-insert : Fit 4 s 5 (record { drop = []; take = pair 5 50 ∷ [] })
   pub to-delete : Fit 4 s 2 (record { drop = 2 ∷ []; take = [] })
 
-met-by : (s : Store) → T (sound 4 s) → s .opened ≡ true → lookup s 5 (next s) ≡ none → Met s
+met-by : (s : Store) → T (sound 4 s) → s .opened ≡ true → lookup s 5 (next s) ≡ none → TheoremsMet s
 met-by s sure o absent =
     let d : Sound 4 s = from-tests 4 s (holds-true (sound 4 s) sure) in
     record {
@@ -41,8 +41,8 @@ met-by s sure o absent =
       to-delete = fit-delete 4 (lit≤ tt) s d o 2 (lit≤ tt);
     }
 
-pub two-levels-meet : Met twoLevels
+pub two-levels-meet : TheoremsMet twoLevels
 two-levels-meet = met-by twoLevels two-levels-sound refl refl
 
-pub from-elsewhere-meets : Met fromElsewhere
+pub from-elsewhere-meets : TheoremsMet fromElsewhere
 from-elsewhere-meets = met-by fromElsewhere from-elsewhere-sound refl refl

@@ -27,7 +27,7 @@ use Rattle.model.proofs.lists.Lists.{both-true, both-intro, all-cons}
 use Rattle.model.proofs.tree.Place.{show-changed, show-filled}
 use Rattle.model.proofs.tree.Tree.{Row, Holds, Tree, Away, unused, frame, frame-row, row-append, row-split, row-keys, row-le}
 use Rattle.model.proofs.tree.Local.{applied, applied-between, inRange, holds-append}
-use Rattle.model.proofs.tree.Shows.{in-list, Touched, spare, inside, touch-beside, touch-above, LastIs, HeadIs, Company, Tidy, Standing, Place, Top, Way, way-left, Shows, Some, settle}
+use Rattle.model.proofs.tree.Shows.{in-list, Touched, spare, inside, touch-beside, touch-above, LastIs, HeadIs, Company, Tidy, Standing, ParentPlace, Top, Way, way-left, Shows, Some, settle}
 use Rattle.model.proofs.tree.GroupShows.{Olds, lone, twin, Moved, moved-set, moved-under, Raised, Uses, RebuiltShows, raise-by}
 use Rattle.model.proofs.tree.Numbers.{Member, Members, moved-retire, length-retire, uses-usable, apart-usable, Unlike, Frees, frees-all}
 
@@ -77,7 +77,7 @@ module _ (least : ℕ) (two-or-more : 2 ≤ least) (w : ℕ) (lim : w < alive) w
     pub is : total ≡ xs ++ (zs ++ ys)
 
   -- the pages that are rebuilt together, among the routers of their parent
-  pub record Grouped (ps : List Page) (r l : ℕ) (up : List Around) (total rs us : List Pair) : Type 0 where
+  pub record RebuiltGroup (ps : List Page) (r l : ℕ) (up : List Around) (total rs us : List Pair) : Type 0 where
     pub lo : ℕ
     pub hi : ℕ
     pub gs : List Pair
@@ -146,7 +146,7 @@ module _ (least : ℕ) (two-or-more : 2 ≤ least) (w : ℕ) (lim : w < alive) w
       short (twin r q h) = omega arith
 
   -- the parent's wanted list
-  pub made-of : (ps qs : List Page) (r l : ℕ) (up : List Around) (total rs us news : List Pair) (g : Grouped ps r l up total rs us)
+  pub made-of : (ps qs : List Page) (r l : ℕ) (up : List Around) (total rs us news : List Pair) (g : RebuiltGroup ps r l up total rs us)
       → Raised least w lim (Touched least w ps (suc l) (g .lo) (g .hi)) ps qs l (g .lo) (g .hi) rs news (g .gs)
       → wanted w (exchange rs news) (page qs (g .parent)) ≡ g .before ++ (news ++ g .after)
   unfolding Rules.exchange
@@ -159,7 +159,7 @@ module _ (least : ℕ) (two-or-more : 2 ≤ least) (w : ℕ) (lim : w < alive) w
       ∙ ap (λ (zs : List Pair). g .before ++ (zs ++ g .after)) (t .change)
 
   -- the parent's turn
-  unfoldable pub rise : (ps qs : List Page) (r l : ℕ) (up : List Around) (total rs us news : List Pair) (g : Grouped ps r l up total rs us)
+  unfoldable pub rise : (ps qs : List Page) (r l : ℕ) (up : List Around) (total rs us news : List Pair) (g : RebuiltGroup ps r l up total rs us)
       → Raised least w lim (Touched least w ps (suc l) (g .lo) (g .hi)) ps qs l (g .lo) (g .hi) rs news (g .gs)
       → Pending qs r (suc l) up (exchange rs news) total
   unfolding Rules.exchange
@@ -232,7 +232,7 @@ module _ (least : ℕ) (two-or-more : 2 ≤ least) (w : ℕ) (lim : w < alive) w
     abbrev pub want : List Pair
     want = wanted w c (page ps (p .n))
 
-    abbrev pub s : Place least w (Standing least w up (suc l)) (Way least w ps r (suc l) up) ps l (p .lo) (p .hi) (p .n) a (p .xs) (p .ys)
+    abbrev pub s : ParentPlace least w (Standing least w up (suc l)) (Way least w ps r (suc l) up) ps l (p .lo) (p .hi) (p .n) a (p .xs) (p .ys)
     s = p .way
 
     own-at : (lo hi : ℕ) → lo ≤ p .lo → p .hi ≤ hi → Member least w lim (Touched least w ps (suc l) lo hi) ps l (λ m e. spare e) (a .own .value)
@@ -245,7 +245,7 @@ module _ (least : ℕ) (two-or-more : 2 ≤ least) (w : ℕ) (lim : w < alive) w
     own-in : (lo hi : ℕ) → lo ≤ p .lo → p .hi ≤ hi → within lo hi (a .own .key) ≡ true
     own-in lo hi x y = in-one lo hi (a .own) (omega (arith, s .key)) (omega (arith, s .key, s .room))
 
-    alone : Some least w want → 2 * least ≤ suc (length want) → Grouped ps r l up total (a .own ∷ []) want
+    alone : Some least w want → 2 * least ≤ suc (length want) → RebuiltGroup ps r l up total (a .own ∷ []) want
     alone some-want enough = record {
       lo = p .lo;
       hi = p .hi;
@@ -282,7 +282,7 @@ module _ (least : ℕ) (two-or-more : 2 ≤ least) (w : ℕ) (lim : w < alive) w
     some-append [] v vs = record { first = v; others = vs; is = refl }
     some-append (u ∷ us) v vs = record { first = u; others = us ++ (v ∷ vs); is = refl }
 
-    with-right : (x : Pair) (after : List Pair) → s .after ≡ x ∷ after → Grouped ps r l up total (a .own ∷ x ∷ []) (want ++ pairsAt w (page ps (x .value)))
+    with-right : (x : Pair) (after : List Pair) → s .after ≡ x ∷ after → RebuiltGroup ps r l up total (a .own ∷ x ∷ []) (want ++ pairsAt w (page ps (x .value)))
     with-right x after e =
         let t : Row (Tree least w l ps) (s .high) (x ∷ after) (p .hi) (s .afters) = subst (λ (zs : List Pair). Row (Tree least w l ps) (s .high) zs (p .hi) (s .afters)) e (s .rights) in
         let far : t .mid ≤ s .high = row-le (Tree least w l ps) (s .high) after (t .mid) (t .others) (t .rest) in
@@ -330,7 +330,7 @@ module _ (least : ℕ) (two-or-more : 2 ≤ least) (w : ℕ) (lim : w < alive) w
               ∙ regroup-right (s .outBefore) (s .befores) (p .zs) (t .mine) (t .others) (s .outAfter);
         }
 
-    with-left : (x : Pair) (before : List Pair) → s .before ≡ before ++ (x ∷ []) → Grouped ps r l up total (x ∷ a .own ∷ []) (pairsAt w (page ps (x .value)) ++ want)
+    with-left : (x : Pair) (before : List Pair) → s .before ≡ before ++ (x ∷ []) → RebuiltGroup ps r l up total (x ∷ a .own ∷ []) (pairsAt w (page ps (x .value)) ++ want)
     with-left x before e =
         let t = row-split (Tree least w l ps) (p .lo) before (x ∷ []) (s .low) (s .befores) (subst (λ (zs : List Pair). Row (Tree least w l ps) (p .lo) zs (s .low) (s .befores)) e (s .lefts)) in
         let k = t .two in
@@ -384,7 +384,7 @@ module _ (least : ℕ) (two-or-more : 2 ≤ least) (w : ℕ) (lim : w < alive) w
         some-first us vs x xs e = record { first = x; others = xs ++ vs; is = ap (λ (zs : List Pair). zs ++ vs) e }
 
     abbrev pub GroupOf : Group → Type 0
-    GroupOf g = Grouped ps r l up total (g .routers) (g .pairs)
+    GroupOf g = RebuiltGroup ps r l up total (g .routers) (g .pairs)
 
     group-near : (x y : Option Pair) → LastIs least w (s .before) x → HeadIs least w (s .after) y → Company least w x y → GroupOf (Rules.withNeighbour w ps a want x y)
     unfolding Rules.withNeighbour
@@ -411,7 +411,7 @@ module _ (least : ℕ) (two-or-more : 2 ≤ least) (w : ℕ) (lim : w < alive) w
     flat lo hi m (spare e) = inl e
     flat lo hi m (inside e x rest q u v) = inr e
 
-    handed : (rs us : List Pair) (g : Grouped ps r l up total rs us) (x : Rebuilt)
+    handed : (rs us : List Pair) (g : RebuiltGroup ps r l up total rs us) (x : Rebuilt)
         → RebuiltShows least w lim (Touched least w ps (suc l) (g .lo) (g .hi)) ps l (g .lo) (g .hi) rs (g .gs) x → WorkedShows (Rules.handUp rs x)
     unfolding Rules.handUp
     handed rs us g (rebuilt qs news) t = rise ps qs r l up total rs us news g t

@@ -17,7 +17,7 @@ use Rattle.model.proofs.tree.Tree.{Says, Row, LeafHolds, Holds, Tree, r
 use Rattle.model.proofs.tree.Shows.{LastIs, HeadIs, Company, Tidy, Standing, Touched, inside, Way, Some}
 
 -- the place of k among routers
-pub record Found (least w : ℕ) (S : Says) (k lo hi : ℕ) (rs zs : List Pair) (a : Around) : Type 0 where
+pub record RouterPlace (least w : ℕ) (S : Says) (k lo hi : ℕ) (rs zs : List Pair) (a : Around) : Type 0 where
   pub before : List Pair
   pub after : List Pair
   pub befores : List Pair
@@ -39,7 +39,7 @@ pub record Found (least w : ℕ) (S : Says) (k lo hi : ℕ) (rs zs : List Pair) 
 
 module _ (least w k : ℕ) (S : Says) where
   found : (rest : List Pair) (x : Pair) (l : Option Pair) (before : List Pair) (bot lo hi : ℕ) (bs zs : List Pair) → LastIs least w before l → Row S lo before bot bs
-      → Row S hi (x ∷ rest) lo zs → lo ≤ k → k < hi → Found least w S k bot hi (before ++ (x ∷ rest)) (bs ++ zs) (aroundFrom k l x rest)
+      → Row S hi (x ∷ rest) lo zs → lo ≤ k → k < hi → RouterPlace least w S k bot hi (before ++ (x ∷ rest)) (bs ++ zs) (aroundFrom k l x rest)
   found [] x l before bot lo hi bs zs last lefts t p q = record {
     before = before;
     after = [];
@@ -67,8 +67,8 @@ module _ (least w k : ℕ) (S : Says) where
 
       at : (b : Bool) → leb (y .key) k ≡ b
           → ((before′ : List Pair) (bot′ lo′ hi′ : ℕ) (bs′ zs′ : List Pair) → LastIs least w before′ (some x) → Row S lo′ before′ bot′ bs′ → Row S hi′ (y ∷ ys) lo′ zs′ → lo′ ≤ k → k < hi′
-          → Found least w S k bot′ hi′ (before′ ++ (y ∷ ys)) (bs′ ++ zs′) (aroundFrom k (some x) y ys))
-          → Found least w S k bot hi (before ++ (x ∷ y ∷ ys)) (bs ++ zs)
+          → RouterPlace least w S k bot′ hi′ (before′ ++ (y ∷ ys)) (bs′ ++ zs′) (aroundFrom k (some x) y ys))
+          → RouterPlace least w S k bot hi (before ++ (x ∷ y ∷ ys)) (bs ++ zs)
           (elim b as (λ z. Around) [ true ↦ aroundFrom k (some x) y ys | false ↦ record { left = l; own = x; right = some y } ])
       at true e ih =
           let yk : y .key ≡ t .mid = t .rest .low in
@@ -115,7 +115,7 @@ module _ (least w k : ℕ) (S : Says) where
         all-of = ap (λ (us : List Pair). bs ++ us) (t .all-of);
       }
 
-  pub found-in : (rs : List Pair) (lo hi : ℕ) (zs : List Pair) → Row S hi rs lo zs → lo ≤ k → k < hi → Found least w S k lo hi rs zs (around k rs)
+  pub found-in : (rs : List Pair) (lo hi : ℕ) (zs : List Pair) → Row S hi rs lo zs → lo ≤ k → k < hi → RouterPlace least w S k lo hi rs zs (around k rs)
   found-in [] lo hi zs t p q = absurd (omega (arith, t .met))
   found-in (x ∷ rs) lo hi zs t p q = found rs x none [] lo lo hi [] zs refl (record { met = refl; nothing = refl }) t p q
 
@@ -135,7 +135,7 @@ module _ (least w k : ℕ) (ps : List Page) (r : ℕ) (tidy : (m : ℕ) → Tidy
   NodeAnchor l [] lo hi n = Unit {0}
   NodeAnchor l (a ∷ up) lo hi n = Touched least w ps (suc l) lo hi n
 
-  pub record Leads (total : List Pair) (up : List Around) : Type 0 where
+  pub record LeadsDown (total : List Pair) (up : List Around) : Type 0 where
     pub lo : ℕ
     pub hi : ℕ
     pub n : ℕ
@@ -151,7 +151,7 @@ module _ (least w k : ℕ) (ps : List Page) (r : ℕ) (tidy : (m : ℕ) → Tidy
     pub is : total ≡ xs ++ (pairsAt w (page ps n) ++ ys)
 
   pub descend : (l : ℕ) (acc : List Around) (lo hi n : ℕ) (xs ys zs total : List Pair) → Way least w ps r l acc lo hi n xs ys → page ps n .level ≡ suc l → NodeAnchor l acc lo hi n → Standing least w acc l (page ps n)
-      → Holds least w l ps lo hi (pairsAt w (page ps n)) zs → lo ≤ k → k < hi → total ≡ xs ++ (zs ++ ys) → Leads total (wayDown l ps w k n acc)
+      → Holds least w l ps lo hi (pairsAt w (page ps n)) zs → lo ≤ k → k < hi → total ≡ xs ++ (zs ++ ys) → LeadsDown total (wayDown l ps w k n acc)
   descend zero acc lo hi n xs ys zs total way e anchor stand h p q is = record {
     lo = lo;
     hi = hi;

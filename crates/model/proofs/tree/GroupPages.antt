@@ -92,7 +92,7 @@ module _ (least : ℕ) (two-or-more : 2 ≤ least) (w : ℕ) (N : ℕ) where
     went : In m (values rs) → page qs m ≡ gone w (page ps m) → Now ps qs level rs news m
     came : (xs : List Pair) → page qs m ≡ filled w level xs → Spare ps rs m → Fill level xs → In m (values news) → Now ps qs level rs news m
 
-  pub record Stands (qs : List Page) (level : ℕ) (news : List Pair) (x : Pair) : Type 0 where
+  pub record InNew (qs : List Page) (level : ℕ) (news : List Pair) (x : Pair) : Type 0 where
     pub number : ℕ
     pub pairs : List Pair
     pub wrote : page qs number ≡ filled w level pairs
@@ -101,7 +101,7 @@ module _ (least : ℕ) (two-or-more : 2 ≤ least) (w : ℕ) (N : ℕ) where
 
   pub record Redone (ps qs : List Page) (level : ℕ) (rs us news : List Pair) : Type 0 where
     pub now : (m : ℕ) → Now ps qs level rs news m
-    pub kept : (x : Pair) → In x us → Stands qs level news x
+    pub kept : (x : Pair) → In x us → InNew qs level news x
     pub long : length qs ≡ length ps
     pub kinds : all (kindOk N (suc level)) news ≡ true
     pub news-few : length news ≤ 2
@@ -234,7 +234,7 @@ module _ (least : ℕ) (two-or-more : 2 ≤ least) (w : ℕ) (N : ℕ) where
         inm : m < length R₁
         inm = subst (λ (i : ℕ). m < i) (sym (length-set R n F ∙ retired-long)) (spare-in m t)
 
-        keep-at : (x : Pair) → In x xs ⊎ In x ys → Stands (set R₁ m G) (suc l) (pair (lowKey rs) n ∷ pair (lowKey ys) m ∷ []) x
+        keep-at : (x : Pair) → In x xs ⊎ In x ys → InNew (set R₁ m G) (suc l) (pair (lowKey rs) n ∷ pair (lowKey ys) m ∷ []) x
         keep-at x (inl i) = record { number = n; pairs = xs; wrote = getD-set-other R₁ m n G free d ∙ getD-set-same R n F free inn; is-in = i; new = inl refl }
         keep-at x (inr i) = record { number = m; pairs = ys; wrote = getD-set-same R₁ m G free inm; is-in = i; new = inr (inl refl) }
 

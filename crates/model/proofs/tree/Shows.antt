@@ -111,7 +111,7 @@ module _ (least w : ℕ) where
   Standing [] l p = RootFair l p
   Standing (a ∷ up) l p = Fair least w p
 
-  pub record Place (Stand : Page → Type 0) (Outer : ℕ → ℕ → ℕ → List Pair → List Pair → Type 0) (ps : List Page) (l lo hi n : ℕ) (a : Around) (xs ys : List Pair) : Type 0 where
+  pub record ParentPlace (Stand : Page → Type 0) (Outer : ℕ → ℕ → ℕ → List Pair → List Pair → Type 0) (ps : List Page) (l lo hi n : ℕ) (a : Around) (xs ys : List Pair) : Type 0 where
     pub key : a .own .key ≡ lo
     pub value : a .own .value ≡ n
     pub room : lo < hi
@@ -146,7 +146,7 @@ module _ (least w : ℕ) where
 
   abbrev pub Way : List Page → ℕ → ℕ → List Around → ℕ → ℕ → ℕ → List Pair → List Pair → Type 0
   Way ps r l [] lo hi n xs ys = Top r lo hi n xs ys
-  Way ps r l (a ∷ up) lo hi n xs ys = Place (Standing up (suc l)) (Way ps r (suc l) up) ps l lo hi n a xs ys
+  Way ps r l (a ∷ up) lo hi n xs ys = ParentPlace (Standing up (suc l)) (Way ps r (suc l) up) ps l lo hi n a xs ys
 
   -- the way is left by changes below it
   pub way-left : (ps qs : List Page) (h tlo thi r : ℕ) → Touch ps qs h tlo thi → (up : List Around) (l lo hi n : ℕ) (xs ys : List Pair)

@@ -32,12 +32,12 @@ pub record Link (S : Says) (Rest : ℕ → List Pair → Type 0) (lo : ℕ) (r :
   pub rest : Rest mid others
   pub all-of : zs ≡ mine ++ others
 
-pub record Ended (lo hi : ℕ) (zs : List Pair) : Type 0 where
+pub record RowEnded (lo hi : ℕ) (zs : List Pair) : Type 0 where
   pub met : lo ≡ hi
   pub nothing : zs ≡ []
 
 abbrev pub Row : Says → ℕ → List Pair → ℕ → List Pair → Type 0
-Row S hi [] lo zs = Ended lo hi zs
+Row S hi [] lo zs = RowEnded lo hi zs
 Row S hi (r ∷ rs) lo zs = Link S (Row S hi rs) lo r zs
 
 -- What is said of the pairs of a page, by its low key, the next page's low key and its settings.

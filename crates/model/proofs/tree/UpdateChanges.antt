@@ -22,7 +22,7 @@ use Rattle.model.proofs.tree.Tree.{Row, LeafHolds, Holds, Tree, widen, 
 use Rattle.model.proofs.tree.Local.{applied, applied-between, inRange, all-append}
 use Rattle.model.proofs.tree.Shows.{Way, Shows, Some, Tidy}
 use Rattle.model.proofs.tree.Climbs.{Pending, Anchor, RootedShows, climb-shows, standing-lives, nearly-by}
-use Rattle.model.proofs.tree.Descend.{Leads, LeafAnchor, descend}
+use Rattle.model.proofs.tree.Descend.{LeadsDown, LeafAnchor, descend}
 
 module _ (least w : ℕ) (ps : List Page) where
   -- settings stand in their page's range
@@ -114,9 +114,9 @@ module _ (least : ℕ) (s : Store) (k : ℕ) (c : Change) (f : Fit least s k c) 
   abbrev r : ℕ
   r = rootAt (s .slots) w
 
-  pub leads : Leads least w k (s .pages) r (f .tidy) (f .many) (settings s w) (way s w k)
+  pub leads : LeadsDown least w k (s .pages) r (f .tidy) (f .many) (settings s w) (way s w k)
   leads =
-      subst (λ (l : ℕ). Leads least w k (s .pages) r (f .tidy) (f .many) (settings s w) (wayDown l (s .pages) w k r [])) (sym (height-is least w (s .pages) r (settings s w) (f .shows)))
+      subst (λ (l : ℕ). LeadsDown least w k (s .pages) r (f .tidy) (f .many) (settings s w) (wayDown l (s .pages) w k r [])) (sym (height-is least w (s .pages) r (settings s w) (f .shows)))
       (descend least w k (s .pages) r (f .tidy) (f .many) (f .shows .height) [] 0 keyLimit r [] [] (settings s w) (settings s w)
       (record { root = refl; low = refl; high = refl; no-before = refl; no-after = refl }) (f .shows .level) tt (f .shows .fair) (f .shows .holds) (omega arith) (f .key) (sym (append-nil (settings s w))))
 

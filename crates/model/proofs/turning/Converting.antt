@@ -22,16 +22,16 @@ use Rattle.model.proofs.sound.Judging.{accepted, accepted-sound}
 use Rattle.model.proofs.turning.Converted.{Upto, converted-by}
 
 -- what is known of source and target where no test holds
-pub record Passed (b t : List ℕ) : Type 0 where
+pub record TestsPassed (b t : List ℕ) : Type 0 where
   pub sound : isSound 4 b ≡ true
   pub shut : decode 4 b .opened ≡ false
   pub long : lengthOk 8 t ≡ true
 
-pub passes : (b t : List ℕ) → firstOf (convertTests b t) ≡ 0 → Passed b t
+pub passes : (b t : List ℕ) → firstOf (convertTests b t) ≡ 0 → TestsPassed b t
 passes b t e = at (ltb (length b) 5) (magicOk b) (editionOk 4 b) (lengthOk 4 b) (lengthOk 8 t) refl (isSound 4 b) refl (decode 4 b .opened) refl e
   where
     at : (x1 x2 x3 x4 x5 : Bool) → lengthOk 8 t ≡ x5 → (x6 : Bool) → isSound 4 b ≡ x6 → (x7 : Bool) → decode 4 b .opened ≡ x7
-        → firstOf (rule 1 x1 ∷ rule 2 (not x2) ∷ rule 3 (not x3) ∷ rule 1 (not x4 || not x5) ∷ rule 4 (not x6) ∷ rule 8 x7 ∷ []) ≡ 0 → Passed b t
+        → firstOf (rule 1 x1 ∷ rule 2 (not x2) ∷ rule 3 (not x3) ∷ rule 1 (not x4 || not x5) ∷ rule 4 (not x6) ∷ rule 8 x7 ∷ []) ≡ 0 → TestsPassed b t
     at true x2 x3 x4 x5 p x6 q x7 r z = absurd (omega (arith, z))
     at false false x3 x4 x5 p x6 q x7 r z = absurd (omega (arith, z))
     at false true false x4 x5 p x6 q x7 r z = absurd (omega (arith, z))
@@ -41,7 +41,7 @@ passes b t e = at (ltb (length b) 5) (magicOk b) (editionOk 4 b) (lengthOk 4 b) 
     at false true true true true p true q true r z = absurd (omega (arith, z))
     at false true true true true p true q false r z = record { sound = q; shut = r; long = p }
 
-module _ {b t : List ℕ} (p : Passed b t) where
+module _ {b t : List ℕ} (p : TestsPassed b t) where
   pub is-judged : judged 4 b .number ≡ 0
   unfolding isSound
   is-judged = eqb-true (judged 4 b .number) 0 (p .sound)
@@ -71,8 +71,8 @@ replayOf b t = replay 8 (decode 4 b) 0 (decode 4 b .current) (fresh (sizeOf 8 t)
 
 pub lent-by : (P : Outcome → Type 0) (b t : List ℕ)
     → (firstOf (convertTests b t) ≢ 0 → P (record { number = firstOf (convertTests b t); store = t }))
-    → (firstOf (convertTests b t) ≡ 0 → Passed b t → (u : Store) → Upto 8 (decode 4 b) (decode 4 b .current) u → replayOf b t ≡ reached u → P (record { number = 0; store = encode 8 u }))
-    → (firstOf (convertTests b t) ≡ 0 → Passed b t → (n : ℕ) (u : Store) → lacking n ≡ true → replayOf b t ≡ stopped n u → P (record { number = n; store = encode 8 (fresh (sizeOf 8 t)) }))
+    → (firstOf (convertTests b t) ≡ 0 → TestsPassed b t → (u : Store) → Upto 8 (decode 4 b) (decode 4 b .current) u → replayOf b t ≡ reached u → P (record { number = 0; store = encode 8 u }))
+    → (firstOf (convertTests b t) ≡ 0 → TestsPassed b t → (n : ℕ) (u : Store) → lacking n ≡ true → replayOf b t ≡ stopped n u → P (record { number = n; store = encode 8 (fresh (sizeOf 8 t)) }))
     → P (convertLent b t)
 unfolding convertLent
 lent-by P b t early whole up = at (firstOf (convertTests b t)) refl

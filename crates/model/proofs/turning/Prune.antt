@@ -116,14 +116,14 @@ module _ (least : ℕ) (two : 2 ≤ least) (s : Store) (d : Sound least s) (seco
   long-is (u ∷ us) = ap suc (long-is us)
 
   -- what becomes of a page
-  pub data Became (n : ℕ) : Type 0 where
-    freed : page ps n .end ≤ v → page qs n ≡ free → Became n
-    stays : v < page ps n .end → page qs n ≡ page ps n → Became n
+  pub data PruneBecame (n : ℕ) : Type 0 where
+    freed : page ps n .end ≤ v → page qs n ≡ free → PruneBecame n
+    stays : v < page ps n .end → page qs n ≡ page ps n → PruneBecame n
 
-  became : (n : ℕ) → Became n
+  became : (n : ℕ) → PruneBecame n
   became n = at (leb (page ps n .end) v) refl
     where
-      at : (b : Bool) → leb (page ps n .end) v ≡ b → Became n
+      at : (b : Bool) → leb (page ps n .end) v ≡ b → PruneBecame n
       at true e = freed (leb-true (page ps n .end) v e) (page-is n ∙ ap (λ (b : Bool). pick b free (page ps n)) e)
       at false e = stays (leb-false (page ps n .end) v e) (page-is n ∙ ap (λ (b : Bool). pick b free (page ps n)) e)
 
@@ -145,7 +145,7 @@ module _ (least : ℕ) (two : 2 ≤ least) (s : Store) (d : Sound least s) (seco
   pairs-kept : (u : ℕ) → v ≤ u → (n : ℕ) → pairsAt u (page qs n) ≡ pairsAt u (page ps n)
   pairs-kept u h n = at (became n) (bool-cases (isFree (page ps n)))
     where
-      at : Became n → (isFree (page ps n) ≡ true) ⊎ (isFree (page ps n) ≡ false) → pairsAt u (page qs n) ≡ pairsAt u (page ps n)
+      at : PruneBecame n → (isFree (page ps n) ≡ true) ⊎ (isFree (page ps n) ≡ false) → pairsAt u (page qs n) ≡ pairsAt u (page ps n)
       at (stays e z) b = ap (pairsAt u) z
       at (freed e z) (inl b) = ap (pairsAt u) z ∙ sym (ap (pairsAt u) (d .zeros n b))
       at (freed e z) (inr b) = ap (pairsAt u) z ∙ sym (none-live u h (page ps n .entries) (λ f i. ended-by f (entry-of least s d n b f i .sooner) (omega arith) (bool-cases (leb (f .end) v))))
@@ -153,7 +153,7 @@ module _ (least : ℕ) (two : 2 ≤ least) (s : Store) (d : Sound least s) (seco
   lives-kept : (u : ℕ) → v ≤ u → (n : ℕ) → livesAt u (page qs n) ≡ livesAt u (page ps n)
   lives-kept u h n = at (became n) (bool-cases (livesAt u (page ps n)))
     where
-      at : Became n → (livesAt u (page ps n) ≡ true) ⊎ (livesAt u (page ps n) ≡ false) → livesAt u (page qs n) ≡ livesAt u (page ps n)
+      at : PruneBecame n → (livesAt u (page ps n) ≡ true) ⊎ (livesAt u (page ps n) ≡ false) → livesAt u (page qs n) ≡ livesAt u (page ps n)
       at (stays e z) b = ap (livesAt u) z
       at (freed e z) (inl b) =
           absurd (omega (arith, within-of (page ps n .start) (page ps n .end) u (both-true (not (isFree (page ps n))) (within (page ps n .start) (page ps n .end) u) b .1) .1))
@@ -171,7 +171,7 @@ module _ (least : ℕ) (two : 2 ≤ least) (s : Store) (d : Sound least s) (seco
   stays-at : (u n : ℕ) → v ≤ u → livesAt u (page ps n) ≡ true → page qs n ≡ page ps n
   stays-at u n h l = at (became n)
     where
-      at : Became n → page qs n ≡ page ps n
+      at : PruneBecame n → page qs n ≡ page ps n
       at (stays e z) = z
       at (freed e z) =
           absurd (omega (arith, within-of (page ps n .start) (page ps n .end) u (both-true (not (isFree (page ps n))) (within (page ps n .start) (page ps n .end) u) l .1) .1))
@@ -191,7 +191,7 @@ module _ (least : ℕ) (two : 2 ≤ least) (s : Store) (d : Sound least s) (seco
   used-before : (n : ℕ) → isFree (page qs n) ≡ false → (isFree (page ps n) ≡ false) × (page qs n ≡ page ps n)
   used-before n u = at (became n)
     where
-      at : Became n → (isFree (page ps n) ≡ false) × (page qs n ≡ page ps n)
+      at : PruneBecame n → (isFree (page ps n) ≡ false) × (page qs n ≡ page ps n)
       at (freed e z) = absurd (not-both (isFree (page qs n)) (ap isFree z) u)
       at (stays e z) = (ap isFree (sym z) ∙ u, z)
 
@@ -220,7 +220,7 @@ module _ (least : ℕ) (two : 2 ≤ least) (s : Store) (d : Sound least s) (seco
               let i = both-true (inside e (page ps (e .value))) (eqb (suc (page ps (e .value) .level)) (p .level)) z .0 in
               omega (arith, leb-false (e .end) v b, leb-true (e .end) (page ps (e .value) .end) (both-true (leb (page ps (e .value) .start) (e .start)) (leb (e .end) (page ps (e .value) .end)) i .1))
 
-          by : Became (e .value) → leadsIfSpoken t p e ≡ true
+          by : PruneBecame (e .value) → leadsIfSpoken t p e ≡ true
           by (freed x y) = absurd (omega (arith, late))
           by (stays x y) = either-right (eqb (p .level) 1 || leb (e .end) v) _ (subst (λ (q : Page). (inside e q && eqb (suc (q .level)) (p .level)) ≡ true) (sym y) z)
 
@@ -261,14 +261,14 @@ module _ (least : ℕ) (two : 2 ≤ least) (s : Store) (d : Sound least s) (seco
   zeros-kept : (n : ℕ) → isFree (page qs n) ≡ true → page qs n ≡ free
   zeros-kept n h = at (became n)
     where
-      at : Became n → page qs n ≡ free
+      at : PruneBecame n → page qs n ≡ free
       at (freed e z) = z
       at (stays e z) = z ∙ d .zeros n (ap isFree (sym z) ∙ h)
 
   front-kept : (n : ℕ) → n < 5 → isFree (page qs n) ≡ true
   front-kept n h = at (became n)
     where
-      at : Became n → isFree (page qs n) ≡ true
+      at : PruneBecame n → isFree (page qs n) ≡ true
       at (freed e z) = ap isFree z
       at (stays e z) = ap isFree z ∙ d .front n h
 

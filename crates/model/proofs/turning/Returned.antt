@@ -25,7 +25,7 @@ use Rattle.model.specs.Return.{goes, comes, endOne, setOne, Ran, reached
 use Rattle.model.proofs.lists.Lists.{both-true}
 use Rattle.model.proofs.lists.Members.{true-holds}
 use Rattle.model.proofs.tree.Local.{applied}
-use Rattle.model.proofs.sound.ByRule.{Readable, Kept, kept-of, old-current, Sound, to-tests}
+use Rattle.model.proofs.sound.ByRule.{Readable, Committed, kept-of, old-current, Sound, to-tests}
 use Rattle.model.proofs.tree.Edit.{insert-same, delete-same}
 use Rattle.model.proofs.older.Undo.{Undone}
 use Rattle.model.proofs.tree.UpdateChanges.{Changed}
@@ -176,7 +176,7 @@ module _ (least : ℕ) where
 
   -- ---- a return
 
-  module _ (four : 4 ≤ least) (s : Store) (d : Sound least s) (o : s .opened ≡ true) (v : ℕ) (h : Kept s v) where
+  module _ (four : 4 ≤ least) (s : Store) (d : Sound least s) (o : s .opened ≡ true) (v : ℕ) (h : Committed s v) where
     abbrev now : List Pair
     now = settings s (next s)
 
@@ -225,8 +225,8 @@ module _ (least : ℕ) where
   -- What a return comes to: refused by its tests; done; or the abandon.
   pub returned-by : (P : Came → Type 0) → 4 ≤ least → (s : Store) → Sound least s → (v : ℕ)
       → (firstOf (returnTests (s .oldest) (s .current) (s .opened) v) ≢ 0 → P (gave (refused (firstOf (returnTests (s .oldest) (s .current) (s .opened) v)))))
-      → (s .opened ≡ true → Kept s v → (t : Store) → Stepped s t (settings s v) → P (gave (done t)))
-      → (s .opened ≡ true → Kept s v → (n : ℕ) → lacking n ≡ true → P (gaveUp n (abandoned s)))
+      → (s .opened ≡ true → Committed s v → (t : Store) → Stepped s t (settings s v) → P (gave (done t)))
+      → (s .opened ≡ true → Committed s v → (n : ℕ) → lacking n ≡ true → P (gaveUp n (abandoned s)))
       → P (returned least s v)
   unfolding returned
   returned-by P four s d v tests whole up = at (beyond (s .current) (s .oldest) v) refl (s .opened) refl tests
@@ -234,7 +234,7 @@ module _ (least : ℕ) where
       run : Ran
       run = carried least (differ (settings s (next s)) (settings s v)) s
 
-      by : (q : Ran) → s .opened ≡ true → Kept s v → Runs s (settings s v) q → P (orAbandoned q)
+      by : (q : Ran) → s .opened ≡ true → Committed s v → Runs s (settings s v) q → P (orAbandoned q)
       by (reached t) o h r = whole o h t r
       by (stopped n t) o h r =
           subst (λ (b : Bool). P (pick b (gaveUp n (abandoned t)) (gave (refused n)))) (sym (r .0)) (subst (λ (u : Store). P (gaveUp n u)) (sym (r .1)) (up o h n (r .0)))

@@ -18,7 +18,7 @@ use Rattle.model.specs.Inner.{rising}
 use Rattle.model.proofs.lists.Lists.{all-cons, both-true}
 use Rattle.model.proofs.reading.Ranges.{range-is}
 use Rattle.store.proofs.laws.Sure.{sure}
-use Rattle.walk.specs.Sure.{Readable}
+use Rattle.walk.specs.Sure.{Walkable}
 use Rattle.cursor.specs.First.{atOrAbove, leads}
 
 -- each key is above m
@@ -102,7 +102,7 @@ between-next k hi (x ∷ xs) r t h =
         ih h ∙ ap (λ (ys : List Pair). y ∷ ys) (sym (ap (λ (b : Bool). keep (b && leb (x .key) hi) x (between (y .key + 1) hi xs)) (lt-leb (y .key + 1) (x .key) (omega (arith, low, leb-false k (x .key) e)))))
 
 -- what a range finds on a sound store
-pub range-between : {l : Limits} {b : List ℕ} {v : ℕ} → Readable l b v → (lo hi : ℕ) → lo < keyLimit → rangeOf (decode (l .least) b) lo hi v ≡ between lo hi (settings (decode (l .least) b) v)
+pub range-between : {l : Limits} {b : List ℕ} {v : ℕ} → Walkable l b v → (lo hi : ℕ) → lo < keyLimit → rangeOf (decode (l .least) b) lo hi v ≡ between lo hi (settings (decode (l .least) b) v)
 range-between {l} {b} {v} r lo hi low = range-is (l .least) (omega (arith, r .edition .four)) (decode (l .least) b) (sure (r .edition) b (r .sound)) lo hi v low (r .version)
 
 -- ---- whether its keys are known, by its first setting

@@ -38,11 +38,11 @@ use Rattle.near.specs.Early.{fronted, guarded}
 use Rattle.near.proofs.laws.Early.{guard-is, guard-front-right, lookup-by}
 
 -- two stores of one length whose header and directory are the same
-pub record SameFront (least : ℕ) (b c : List ℕ) : Type 0 where
+pub record FrontAlike (least : ℕ) (b c : List ℕ) : Type 0 where
   pub long : length b ≡ length c
   pub front : (i : ℕ) → i < 320 * least → getD b i 0 ≡ getD c i 0
 
-module _ (least : ℕ) (some : 1 ≤ least) (b c : List ℕ) (s : SameFront least b c) where
+module _ (least : ℕ) (some : 1 ≤ least) (b c : List ℕ) (s : FrontAlike least b c) where
   bit-same : (k : ℕ) → k < 2560 * least → bitAt b k ≡ bitAt c k
   unfolding bitAt
   bit-same k l = ap (λ (x : ℕ). bitOf x (k % 8)) (s .front (k / 8) (omega arith))

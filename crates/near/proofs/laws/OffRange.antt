@@ -21,7 +21,7 @@ use Rattle.local.proofs.laws.Right.{front-true}
 use Rattle.tabled.proofs.laws.Here.{page-of, all-of}
 use Rattle.near.specs.Early.{guarded, badRange}
 use Rattle.near.proofs.laws.Early.{guard-front-right}
-use Rattle.near.proofs.laws.Off.{SameFront, page-same, right-same, directory-same, guard-same}
+use Rattle.near.proofs.laws.Off.{FrontAlike, page-same, right-same, directory-same, guard-same}
 use Rattle.near.specs.Crossed.{crossed}
 use Rattle.near.proofs.laws.Crossed.{kept, cross-free, cross-at, cross-not, range-by}
 
@@ -33,7 +33,7 @@ flat-same : (f g : Pair → List Pair) (xs : List Pair) → ((x : Pair) → In x
 flat-same f g [] h = refl
 flat-same f g (x ∷ xs) h = ap₂ (λ (a c : List Pair). a ++ c) (h x (inl refl)) (flat-same f g xs (λ y i. h y (inr i)))
 
-module _ (least : ℕ) (some : 1 ≤ least) (b c : List ℕ) (s : SameFront least b c) (v lo hi : ℕ) where
+module _ (least : ℕ) (some : 1 ≤ least) (b c : List ℕ) (s : FrontAlike least b c) (v lo hi : ℕ) where
   abbrev ps : List Page
   ps = decode least b .pages
 

@@ -34,7 +34,7 @@ use Rattle.store.proofs.laws.Tested.{pages-clean}
 use Rattle.store.proofs.laws.Sure.{sure, taken, whole}
 use Rattle.walk.specs.Covers.{Covers}
 use Rattle.walk.proofs.laws.Covers.{covers-starts, covers-own, covers-later}
-use Rattle.walk.specs.Sure.{Readable}
+use Rattle.walk.specs.Sure.{Walkable}
 use Rattle.walk.proofs.laws.Sure.{root-covers, size, five}
 
 -- ---- the routers that a range follows all pass, if the last at or below the key does, and every one by its own key
@@ -114,7 +114,7 @@ module _ {l : Limits} (d : Edition l) (b : List ℕ) (h : isSound (l .least) b �
 
     -- the root of a version that can be read
     module _ (u : given.Readable s v) where
-      readable : Readable l b v
+      readable : Walkable l b v
       readable = record { edition = d; sound = h; version = u }
 
       root-used : (k : ℕ) → k < keyLimit → isFree (page (s .pages) (rootAt (s .slots) v)) ≡ false

@@ -13,11 +13,11 @@ use Rattle.model.specs.Near.{rangeRight}
 use Rattle.model.proofs.lists.Lists.{both-true}
 use Rattle.store.proofs.laws.Sure.{taken, few}
 use Rattle.local.proofs.laws.Sizes.{sized}
-use Rattle.walk.specs.Sure.{Readable}
+use Rattle.walk.specs.Sure.{Walkable}
 use Rattle.tabled.specs.Here.{Reads}
 use Rattle.near.proofs.laws.Same.{range-all-right}
 
-module _ {l : Limits} {b : List ℕ} {v : ℕ} (r : Readable l b v) where
+module _ {l : Limits} {b : List ℕ} {v : ℕ} (r : Walkable l b v) where
   abbrev s : Store
   s = decode (l .least) b
 

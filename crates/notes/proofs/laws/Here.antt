@@ -16,7 +16,7 @@ use Rattle.page.specs.declared.Head.{Head}
 use Rattle.page.specs.Head.{readHead}
 use Rattle.local.specs.Local.{IsPage, headAt, levelAt, countAt, entryAt}
 use Rattle.local.proofs.laws.Sizes.{part-fits}
-use Rattle.notes.specs.Linked.{Linked, Stands, Leads}
+use Rattle.notes.specs.Linked.{Linked, EntryRoom, Leads}
 
 module _ {l : Limits} (d : Edition l) (s : List ℕ) (g : Linked (l .least) s) (n : ℕ) (k : IsPage (l .least) s n) where
   -- what a reader of the part asks
@@ -43,7 +43,7 @@ module _ {l : Limits} (d : Edition l) (s : List ℕ) (g : Linked (l .least) s) (
       pub few : h .count ≤ 40
       few = omega (arith, count-is, g .room n k, d .eight)
 
-      pub stands-here : Stands p (h .count)
+      pub stands-here : EntryRoom p (h .count)
       stands-here = record { room = omega (arith, count-is, g .room n k, part .1, d .four); long = omega (arith, part .1, d .eight) }
 
       pub entries-are : readEntries (pageOf (l .least) s n) 128 (countAt (l .least) s n) ≡ readEntries p 128 (h .count)

@@ -256,11 +256,11 @@ same-test false false f g = refl
 -- ---- the page's own keys
 
 -- what a note x of a page with the live pairs xs says of them
-pub record Says (xs : List Pair) (x : Note) : Type 0 where
+pub record NoteSays (xs : List Pair) (x : Note) : Type 0 where
   pub live : x .live ≡ length xs
   pub first : x .first ≡ firstKey xs 0
 
-low-of : (up lo hi : ℕ) (xs : List Pair) (x : Note) → Says xs x → (eqb up 0 || startsAt lo xs) ≡ true → all (λ (p : Pair). within lo hi (p .key)) xs ≡ true → lowFine up lo x ≡ true
+low-of : (up lo hi : ℕ) (xs : List Pair) (x : Note) → NoteSays xs x → (eqb up 0 || startsAt lo xs) ≡ true → all (λ (p : Pair). within lo hi (p .key)) xs ≡ true → lowFine up lo x ≡ true
 low-of up lo hi [] x d s w = rw (d .live)
 low-of zero lo hi (y ∷ xs) x d s w =
     let z : eqb (x .live) 0 ≡ false = ne-eqb (x .live) 0 (λ e. omega (arith, d .live)) in
@@ -273,7 +273,7 @@ or-true : (b : Bool) → (b || true) ≡ true
 or-true true = refl
 or-true false = refl
 
-starts-of : (up lo : ℕ) (xs : List Pair) (x : Note) → Says xs x → lowFine up lo x ≡ true → ((eqb up 0 || startsAt lo xs) ≡ true) × (lo ≤ firstKey xs lo)
+starts-of : (up lo : ℕ) (xs : List Pair) (x : Note) → NoteSays xs x → lowFine up lo x ≡ true → ((eqb up 0 || startsAt lo xs) ≡ true) × (lo ≤ firstKey xs lo)
 starts-of up lo [] x d h = (or-true (eqb up 0), omega arith)
 starts-of zero lo (y ∷ xs) x d h =
     let z : eqb (x .live) 0 ≡ false = ne-eqb (x .live) 0 (λ e. omega (arith, d .live)) in
@@ -285,7 +285,7 @@ starts-of (suc up) lo (y ∷ xs) x d h =
     (rw (eqb·suc-zero up) g, omega (arith, eqb-true (y .key) lo g))
 
 module _ (up lo hi : ℕ) (xs : List Pair) (x : Note) (under : Bool)
-    (row : (x .keys && leb (x .high) hi) ≡ (climbs xs hi && under)) (says : x .keys ≡ true → Says xs x) where
+    (row : (x .keys && leb (x .high) hi) ≡ (climbs xs hi && under)) (says : x .keys ≡ true → NoteSays xs x) where
   -- a page's own test and those of the pages below it, by its note
   abbrev own : Bool
   own = (eqb up 0 || startsAt lo xs) && all (λ (p : Pair). within lo hi (p .key)) xs && inOrder lower xs
@@ -320,10 +320,10 @@ module _ (least : ℕ) (ps : List Page) (v : ℕ) where
   row-starts : (up : ℕ) (f : ℕ → Note) (es : List Entry) (hi : ℕ) → (row least up v f nothing es .keys && leb (row least up v f nothing es .high) hi) ≡ chain up f (livesOf v es) hi
   row-starts up f es hi = row-chain least up v f es nothing hi refl ∙ ap (λ (b : Bool). b && chain up f (livesOf v es) hi) (zero-leb (firstKey (livesOf v es) hi))
 
-  row-says : (up : ℕ) (f : ℕ → Note) (es : List Entry) → row least up v f nothing es .keys ≡ true → Says (livesOf v es) (row least up v f nothing es)
+  row-says : (up : ℕ) (f : ℕ → Note) (es : List Entry) → row least up v f nothing es .keys ≡ true → NoteSays (livesOf v es) (row least up v f nothing es)
   row-says up f es k = let (a, b) = row-counts least up v f es nothing k in record { live = a ∙ omega arith; first = b }
 
-  pub note-says : (up n : ℕ) → noteAt least up ps v n .keys ≡ true → Says (pairsAt v (page ps n)) (noteAt least up ps v n)
+  pub note-says : (up n : ℕ) → noteAt least up ps v n .keys ≡ true → NoteSays (pairsAt v (page ps n)) (noteAt least up ps v n)
   unfolding noteAt
   note-says zero n k = row-says zero (λ (m : ℕ). nothing) (page ps n .entries) k
   note-says (suc up) n k = row-says (suc up) (noteAt least up ps v) (page ps n .entries) k

@@ -38,12 +38,12 @@ zero-later : (p : List ℕ) (a b : ℕ) → a ≤ b → b ≤ 128 → field p a 
 zero-later p a b h l e = zero-field p b (128 - b) (λ i x y. zero-at p a (128 - a) e i (omega arith) (omega arith))
 
 -- what the test gives
-pub record Passed (least : ℕ) (p : List ℕ) : Type 0 where
+pub record CleanPassed (least : ℕ) (p : List ℕ) : Type 0 where
   pub room : countOf least p ≤ 5 * least
   pub spare : field p (spareAt least (field p 0 4)) (128 - spareAt least (field p 0 4)) ≡ 0
   pub rest : field p (128 + 96 * countOf least p) (512 * least - (128 + 96 * countOf least p)) ≡ 0
 
-pub passed : (least : ℕ) (p : List ℕ) → cleanPage least p ≡ true → Passed least p
+pub passed : (least : ℕ) (p : List ℕ) → cleanPage least p ≡ true → CleanPassed least p
 unfolding cleanPage
 passed least p e =
     let c : ℕ = countOf least p in
@@ -61,7 +61,7 @@ spare-low least n = at (eqb n 0)
     at false = omega arith
 
 -- "free pages are all zero": the live count too
-pub free-live : (least : ℕ) (p : List ℕ) → least ≤ 8 → Passed least p → field p 0 4 ≡ 0 → liveOf least p ≡ 0
+pub free-live : (least : ℕ) (p : List ℕ) → least ≤ 8 → CleanPassed least p → field p 0 4 ≡ 0 → liveOf least p ≡ 0
 unfolding liveOf
 free-live least p eight x z =
     let a : ℕ = 44 + countBits least in
@@ -70,7 +70,7 @@ free-live least p eight x z =
     zero-field p a (liveBits least) (λ i l k. zero-at p a (128 - a) e i l (omega (arith, count-bits least eight, live-bits least)))
 
 -- the test and the right live count give the record
-pub clean-page : (least : ℕ) (p : List ℕ) → least ≤ 8 → length p ≡ 64 * least → Bytes p → Passed least p → liveOf least p ≡ liveIn least (decodePage least p .entries) → Clean least p
+pub clean-page : (least : ℕ) (p : List ℕ) → least ≤ 8 → length p ≡ 64 * least → Bytes p → CleanPassed least p → liveOf least p ≡ liveIn least (decodePage least p .entries) → Clean least p
 clean-page least p eight n b x live =
     record {
       size = n;

@@ -12,21 +12,21 @@ use Rattle.model.specs.Limits.{countBits, rootBits, oldestBits, limits, Edition
 -- ---- the widths
 
 -- a width of 5 or 6 bits that holds a page's entry count
-pub record Counts (least w : ℕ) : Type 0 where
+pub record CountWidth (least w : ℕ) : Type 0 where
   pub five : 5 ≤ w
   pub six : w ≤ 6
   pub fits : 5 * least < 2 ^ w
 
 -- a width of 9 or 10 bits that holds the number of roots
-pub record Rooted (least w : ℕ) : Type 0 where
+pub record RootWidth (least w : ℕ) : Type 0 where
   pub nine : 9 ≤ w
   pub ten : w ≤ 10
   pub fits : 64 * least < 2 ^ w
 
-pub count-bits : (least : ℕ) → least ≤ 8 → Counts least (countBits least)
+pub count-bits : (least : ℕ) → least ≤ 8 → CountWidth least (countBits least)
 count-bits least h = at (leb least 4) (leb-true least 4)
   where
-    at : (b : Bool) → (b ≡ true → least ≤ 4) → Counts least (pick b 5 6)
+    at : (b : Bool) → (b ≡ true → least ≤ 4) → CountWidth least (pick b 5 6)
     at true f = let g : least ≤ 4 = f refl in record { five = omega arith; six = omega arith; fits = omega arith }
     at false f = record { five = omega arith; six = omega arith; fits = omega arith }
 
@@ -68,10 +68,10 @@ shown-most least n = at (leb least 4)
     at true = omega arith
     at false = omega arith
 
-pub root-bits : (least : ℕ) → least ≤ 8 → Rooted least (rootBits least)
+pub root-bits : (least : ℕ) → least ≤ 8 → RootWidth least (rootBits least)
 root-bits least h = at (leb least 4) (leb-true least 4)
   where
-    at : (b : Bool) → (b ≡ true → least ≤ 4) → Rooted least (pick b 9 10)
+    at : (b : Bool) → (b ≡ true → least ≤ 4) → RootWidth least (pick b 9 10)
     at true f = let g : least ≤ 4 = f refl in record { nine = omega arith; ten = omega arith; fits = omega arith }
     at false f = record { nine = omega arith; ten = omega arith; fits = omega arith }
 
@@ -108,13 +108,13 @@ module _ {l : Limits} (d : Edition l) where
   pub counter-is : l .counter ≡ countBits (l .least)
   counter-is = ap (λ (x : Limits). x .counter) (d .all)
 
-  pub counter-counts : Counts (l .least) (l .counter)
+  pub counter-counts : CountWidth (l .least) (l .counter)
   counter-counts = rw counter-is (count-bits (l .least) (d .eight))
 
   pub rooter-is : l .rooter ≡ rootBits (l .least)
   rooter-is = ap (λ (x : Limits). x .rooter) (d .all)
 
-  pub rooter-roots : Rooted (l .least) (l .rooter)
+  pub rooter-roots : RootWidth (l .least) (l .rooter)
   rooter-roots = rw rooter-is (root-bits (l .least) (d .eight))
 
   pub aged-is : l .aged ≡ oldestBits (l .least)

@@ -15,7 +15,7 @@ use Rattle.model.specs.declared.Entry.{Entry}
 use Rattle.model.specs.Basic.{flatMap}
 use Rattle.model.specs.Field.{field, Bytes, lay, zeros, packed}
 use Rattle.model.specs.Layout.{entryParts, entryBytes, readEntry, readEntries, entriesBytes, unused, padded}
-use Rattle.page.specs.Read.{Sized}
+use Rattle.page.specs.Read.{FieldsFit}
 
 -- ---- one entry
 
@@ -27,14 +27,14 @@ pub entry-bytes : (e : Entry) → Bytes (entryBytes e)
 unfolding entryBytes
 entry-bytes e = bytes-packed 12 (entryParts e) (omega arith)
 
-entry-fit : (e : Entry) → Sized e → Fit (entryParts e)
+entry-fit : (e : Entry) → FieldsFit e → Fit (entryParts e)
 entry-fit e z = (z .key, (z .start, (z .end, (z .value, refl))))
 
-pub entry-over : (x e : Entry) → Sized e → lay (entryBytes x) 0 (entryParts e) ≡ entryBytes e
+pub entry-over : (x e : Entry) → FieldsFit e → lay (entryBytes x) 0 (entryParts e) ≡ entryBytes e
 unfolding entryBytes
 entry-over x e z = relay 12 (entryParts x) (entryParts e) refl (omega arith) (entry-fit e z)
 
-pub entry-read : (e : Entry) → Sized e → readEntry (entryBytes e) 0 ≡ e
+pub entry-read : (e : Entry) → FieldsFit e → readEntry (entryBytes e) 0 ≡ e
 unfolding entryBytes readEntry
 entry-read e z =
     let h : Shows (packed 12 (entryParts e)) 0 (entryParts e) = packed-shows 12 (entryParts e) (omega arith) (entry-fit e z) in
@@ -73,7 +73,7 @@ module _ (h z : List ℕ) (l : List Entry) (i : ℕ) (sixteen : length h ≡ 16)
   at : (a : ℕ) → 128 + 96 * i + a ≡ 8 * (length h + i * 12) + a
   at a = omega arith
 
-  pub entry-put : (e : Entry) → Sized e → lay (h ++ (entriesBytes l ++ z)) (128 + 96 * i) (entryParts e) ≡ h ++ (entriesBytes (set l i e) ++ z)
+  pub entry-put : (e : Entry) → FieldsFit e → lay (h ++ (entriesBytes l ++ z)) (128 + 96 * i) (entryParts e) ≡ h ++ (entriesBytes (set l i e) ++ z)
   entry-put e s =
       let o : 128 + 96 * i ≡ 8 * (length h + i * 12) = omega arith in
       rw (o, entries-rows l, entries-rows (set l i e)) (row-lay entryBytes unused 12 h z l i lt even (entryParts e) e (omega arith) (entry-over (getD l i unused) e s))
@@ -81,7 +81,7 @@ module _ (h z : List ℕ) (l : List Entry) (i : ℕ) (sixteen : length h ≡ 16)
   field-at : (a n : ℕ) → a + n ≤ 96 → field (h ++ (entriesBytes l ++ z)) (128 + 96 * i + a) n ≡ field (entryBytes (getD l i unused)) a n
   field-at a n le = rw (at a, entries-rows l) (row-field entryBytes unused 12 h z l i lt even a n (omega arith))
 
-  pub entry-get : Sized (getD l i unused) → readEntry (h ++ (entriesBytes l ++ z)) (128 + 96 * i) ≡ getD l i unused
+  pub entry-get : FieldsFit (getD l i unused) → readEntry (h ++ (entriesBytes l ++ z)) (128 + 96 * i) ≡ getD l i unused
   unfolding readEntry
   entry-get s =
       let o : 128 + 96 * i ≡ 128 + 96 * i + 0 = omega arith in
@@ -131,7 +131,7 @@ module _ (least : ℕ) (es : List Entry) where
           ap (λ (x : ℕ). getD (es ++ replicate n unused) x unused) e ∙ getD-append-add es (replicate n unused) (k - length es) unused ∙ blank (k - length es)
           ∙ sym (List·getD-eq-default es unused l)
 
-  pub padded-sized : ((k : ℕ) → Sized (getD es k unused)) → (k : ℕ) → Sized (getD (padded least es) k unused)
+  pub padded-sized : ((k : ℕ) → FieldsFit (getD es k unused)) → (k : ℕ) → FieldsFit (getD (padded least es) k unused)
   padded-sized h k = rw (padded-get k) (h k)
 
   -- their bytes end in zeros

@@ -13,7 +13,7 @@ use Rattle.model.specs.Limits.{countBits, liveBits}
 use Rattle.model.specs.Field.{field, bitAt, putField, Bytes, lay, zeros, packed}
 use Rattle.model.specs.Layout.{headBytes, countOf, liveOf}
 use Rattle.page.specs.declared.Head.{Head}
-use Rattle.page.proofs.laws.Editions.{Counts, count-bits, live-bits}
+use Rattle.page.proofs.laws.Editions.{CountWidth, count-bits, live-bits}
 use Rattle.page.specs.Head.{readHead, frontBytes, headOnly, putHead, putLive, HeadFits}
 use Rattle.page.proofs.laws.Head.{partsOf}
 use Rattle.page.proofs.laws.Read.{level-lt, start-lt, end-lt, count-lt, count-of}
@@ -33,7 +33,7 @@ only-fit : (least : ℕ) (h : Head) → HeadFits least h → Fit (headOnly least
 only-fit least h f = (f .level, (f .count, (f .start, (f .end, refl))))
 
 module _ (least : ℕ) (eight : least ≤ 8) where
-  width : Counts least (countBits least)
+  width : CountWidth least (countBits least)
   width = count-bits least eight
 
   short : liveBits least ≤ 6
@@ -117,7 +117,7 @@ module _ (least : ℕ) (eight : least ≤ 8) where
   head-read h n f z y =
       let t : List ℕ = packed 16 (partsOf least h n) in
       let lt : length t ≡ 16 = length-packed 16 (partsOf least h n) in
-      let w : Counts least (countBits least) = width in
+      let w : CountWidth least (countBits least) = width in
       let s : Shows t 0 (partsOf least h n) = front-shows h n z y in
       let o : 4 + countBits least + 20 ≡ 24 + countBits least = omega arith in
       let a : field (t ++ f) 0 4 ≡ h .level = field-left t f 0 4 (omega arith) ∙ s .0 in
@@ -141,7 +141,7 @@ module _ (least : ℕ) (eight : least ≤ 8) where
       let h : Head = readHead least p in
       let n : ℕ = liveOf least p in
       let t : List ℕ = take 16 (drop 0 p) in
-      let w : Counts least (countBits least) = width in
+      let w : CountWidth least (countBits least) = width in
       let k : liveBits least ≤ 6 = short in
       let at : (a n : ℕ) → a + n ≤ 128 → field t a n ≡ field p a n
       = λ a n l. field-part p 0 16 a n l ∙ ap (λ (y : ℕ). field p y n) (omega arith) in

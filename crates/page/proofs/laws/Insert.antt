@@ -16,7 +16,7 @@ use Rattle.model.proofs.tree.Local.{those-append}
 use Rattle.model.proofs.plan.PlanSizes.{few-those}
 use Rattle.page.specs.declared.Head.{Head}
 use Rattle.page.specs.Head.{readHead, putHead, putLive, HeadFits}
-use Rattle.page.specs.Read.{Sized}
+use Rattle.page.specs.Read.{FieldsFit}
 use Rattle.page.proofs.laws.Read.{sized-unused, sized-entries, length-entries, count-of, entries-of, level-of, start-of, end-of}
 use Rattle.page.proofs.laws.Editions.{count-bits, shown-add, shown-most}
 use Rattle.page.proofs.laws.Front.{read-fits}
@@ -51,7 +51,7 @@ insert-next (suc i) k e [] h = rw (add-one k)
 insert-next (suc i) zero e (x ∷ l) h = absurd (omega arith)
 insert-next (suc i) (suc k) e (x ∷ l) h = let q : suc k + 1 ≡ suc (k + 1) = omega arith in rw q (insert-next i k e l (omega arith))
 
-pub insert-sized : (i : ℕ) (e : Entry) (l : List Entry) → Sized e → ((k : ℕ) → Sized (getD l k unused)) → (k : ℕ) → Sized (getD (insertAt i e l) k unused)
+pub insert-sized : (i : ℕ) (e : Entry) (l : List Entry) → FieldsFit e → ((k : ℕ) → FieldsFit (getD l k unused)) → (k : ℕ) → FieldsFit (getD (insertAt i e l) k unused)
 unfolding insertAt
 insert-sized zero e l z h zero = z
 insert-sized zero e l z h (suc k) = h k
@@ -60,14 +60,14 @@ insert-sized (suc i) e [] z h (suc k) = sized-unused
 insert-sized (suc i) e (x ∷ l) z h zero = h 0
 insert-sized (suc i) e (x ∷ l) z h (suc k) = insert-sized i e l z (λ j. h (suc j)) k
 
-module _ (least : ℕ) (four : 4 ≤ least) (eight : least ≤ 8) (p : List ℕ) (x : Exact least p) (i : ℕ) (e : Entry) (room : countOf least p < 5 * least) (le : i ≤ countOf least p) (z : Sized e) where
+module _ (least : ℕ) (four : 4 ≤ least) (eight : least ≤ 8) (p : List ℕ) (x : Exact least p) (i : ℕ) (e : Entry) (room : countOf least p < 5 * least) (le : i ≤ countOf least p) (z : FieldsFit e) where
   abbrev pub wanted : List Entry
   wanted = insertAt i e (entriesIn least p)
 
   pub wanted-length : length wanted ≡ countOf least p + 1
   wanted-length = length-insert i e (entriesIn least p) ∙ ap (λ (n : ℕ). n + 1) (count least four eight p x)
 
-  pub wanted-sized : (k : ℕ) → Sized (getD wanted k unused)
+  pub wanted-sized : (k : ℕ) → FieldsFit (getD wanted k unused)
   wanted-sized = insert-sized i e (entriesIn least p) z (sized-entries p 128 (countOf least p))
 
   pub insert-start : p ≡ staged least p (take i wanted)

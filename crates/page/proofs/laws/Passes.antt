@@ -19,7 +19,7 @@ use Rattle.model.specs.Page.{Page}
 use Rattle.model.specs.Layout.{entryBytes, entriesBytes, headBytes, padded, encodePage, liveIn, liveOf}
 use Rattle.model.specs.Clean.{cleanPage, spareAt}
 use Rattle.page.specs.declared.Head.{Head}
-use Rattle.page.proofs.laws.Editions.{Counts, count-bits, live-bits}
+use Rattle.page.proofs.laws.Editions.{CountWidth, count-bits, live-bits}
 use Rattle.page.specs.Head.{readHead, headOf, frontBytes}
 use Rattle.page.proofs.laws.Head.{partsOf}
 use Rattle.page.proofs.laws.Entries.{entry-bytes, entries-length, padded-bytes}
@@ -65,7 +65,7 @@ module _ (least : ℕ) (four : 4 ≤ least) (eight : least ≤ 8) (p : Page) whe
         let a : ℕ = 44 + countBits least + 0 in
         let s : List ℕ = encodePage least p in
         let m : ℕ = 44 + countBits least + liveBits least in
-        let w : Counts least (countBits least) = count-bits least eight in
+        let w : CountWidth least (countBits least) = count-bits least eight in
         let k : liveBits least ≤ 6 = live-bits least in
         let l : liveOf least s ≡ 0 = encode-live least four eight p v ∙ ap (liveIn least) e ∙ live-none least in
         zero-field s a (128 - a) λ i h g. ⊎-elim

@@ -8,7 +8,7 @@ use Rattle.bits.proofs.laws.Laws.{field-lt}
 use Rattle.model.specs.Limits.{countBits, liveBits}
 use Rattle.model.specs.Layout.{readEntry, readEntries, countOf, liveOf, decodePage, unused}
 use Rattle.page.specs.Head.{readHead}
-use Rattle.page.specs.Read.{Sized}
+use Rattle.page.specs.Read.{FieldsFit}
 
 -- ---- the page's fields, by its front
 
@@ -53,11 +53,11 @@ module _ (least : ℕ) (p : List ℕ) where
   unfolding liveOf
   live-lt = field-lt p (44 + countBits least) (liveBits least)
 
-pub read-sized : (s : List ℕ) (o : ℕ) → Sized (readEntry s o)
+pub read-sized : (s : List ℕ) (o : ℕ) → FieldsFit (readEntry s o)
 unfolding readEntry
 read-sized s o = record { key = field-lt s o 24; start = field-lt s (o + 24) 20; end = field-lt s (o + 44) 20; value = field-lt s (o + 64) 32 }
 
-pub sized-unused : Sized unused
+pub sized-unused : FieldsFit unused
 sized-unused = omega arith
 
 pub length-entries : (s : List ℕ) (o n : ℕ) → length (readEntries s o n) ≡ n
@@ -65,7 +65,7 @@ unfolding readEntries
 length-entries s o zero = refl
 length-entries s o (suc n) = ap suc (length-entries s (o + 96) n)
 
-pub sized-entries : (s : List ℕ) (o n k : ℕ) → Sized (getD (readEntries s o n) k unused)
+pub sized-entries : (s : List ℕ) (o n k : ℕ) → FieldsFit (getD (readEntries s o n) k unused)
 unfolding readEntries
 sized-entries s o zero k = sized-unused
 sized-entries s o (suc n) zero = read-sized s o

@@ -11,7 +11,7 @@ use Rattle.model.specs.Page.{Page}
 use Rattle.model.specs.Layout.{entryParts, readEntry, readEntries, unused, padded, decodePage, countOf, liveOf, liveIn}
 use Rattle.page.specs.declared.Head.{Head}
 use Rattle.page.specs.Head.{readHead, frontBytes, putHead, HeadFits}
-use Rattle.page.specs.Read.{Sized}
+use Rattle.page.specs.Read.{FieldsFit}
 use Rattle.page.proofs.laws.Read.{sized-unused, sized-entries, length-entries, entries-of, count-of, live-lt}
 use Rattle.page.proofs.laws.Entries.{entry-put, entry-get, length-padded, padded-get}
 use Rattle.page.proofs.laws.Front.{head-length, head-put, read-fits}
@@ -81,7 +81,7 @@ module _ (least : ℕ) (four : 4 ≤ least) (eight : least ≤ 8) (p : List ℕ)
       ∙ ap (λ (n : ℕ). frontBytes least (readHead least p) n ++ bodyBytes least (padded least (decodePage least p .entries))) (sym (exact-live least four eight p x))
       ∙ ap (λ (y : List Entry). frontBytes least (readHead least p) (liveOf least p) ++ bodyBytes least y) (ap (padded least) e ∙ sym own)
 
-  pub staged-put : (out : List Entry) (e : Entry) → length out < 5 * least → Sized e
+  pub staged-put : (out : List Entry) (e : Entry) → length out < 5 * least → FieldsFit e
       → lay (staged least p out) (128 + 96 * length out) (entryParts e) ≡ staged least p (out ++ e ∷ [])
   unfolding staged hd
   staged-put out e lt z =

@@ -9,7 +9,7 @@ use Rattle.model.specs.Field.{field, putField, lay}
 use Rattle.model.specs.Layout.{entryParts, readEntry}
 use Rattle.bits.proofs.laws.Laws.{field-lt, field-split}
 use Rattle.bits.proofs.laws.Whole.{put-split}
-use Rattle.page.specs.Read.{Sized}
+use Rattle.page.specs.Read.{FieldsFit}
 
 -- ---- read
 
@@ -49,7 +49,7 @@ module _ (p : List ℕ) (o : ℕ) where
 
 -- ---- written
 
-module _ (p : List ℕ) (o : ℕ) (e : Entry) (z : Sized e) where
+module _ (p : List ℕ) (o : ℕ) (e : Entry) (z : FieldsFit e) where
   abbrev one : ℕ
   one = e .key * 256 + e .start / 4096
 

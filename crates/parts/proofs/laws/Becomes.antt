@@ -21,22 +21,22 @@ use Rattle.store.proofs.laws.Set.{page-set}
 use Rattle.edit.specs.Fill.{nil, Fitting}
 use Rattle.gather.specs.declared.Gather.{Gather}
 use Rattle.gather.specs.Gather.{Good}
-use Rattle.parts.specs.Kept.{Kept, Inside, pagesOf}
+use Rattle.parts.specs.Kept.{ExactBytes, Inside, pagesOf}
 use Rattle.parts.specs.Becomes.{Becomes}
 
 -- ---- one step after the other
 
-pub stays : {l : Limits} {b : List ℕ} → Kept l b → Becomes l b b (pagesOf l b)
+pub stays : {l : Limits} {b : List ℕ} → ExactBytes l b → Becomes l b b (pagesOf l b)
 stays k = record { is = sym (k .same); holds = k .holds; long = refl }
 
-module _ {l : Limits} {b b′ : List ℕ} {ps : List Page} (k : Kept l b) (d : Becomes l b b′ ps) where
+module _ {l : Limits} {b b′ : List ℕ} {ps : List Page} (k : ExactBytes l b) (d : Becomes l b b′ ps) where
   pub shows : decode (l .least) b′ ≡ withPages (decode (l .least) b) ps
   shows = ap (decode (l .least)) (d .is) ∙ decode-encoded (l .least) (k .edition .four) (k .edition .eight) (withPages (decode (l .least) b) ps) (d .holds)
 
   pub pages-are : pagesOf l b′ ≡ ps
   pages-are = ap (λ (s : Store). s .pages) shows
 
-  pub kept-after : Kept l b′
+  pub kept-after : ExactBytes l b′
   kept-after = record {
     edition = k .edition;
     holds = rw shows (d .holds);
@@ -64,7 +64,7 @@ take-set [] (suc m) n q h = refl
 take-set (p ∷ ps) (suc m) zero q h = absurd (omega arith)
 take-set (p ∷ ps) (suc m) (suc n) q h = ap (λ (xs : List Page). p ∷ xs) (take-set ps m n q (omega arith))
 
-module _ {l : Limits} {b : List ℕ} (k : Kept l b) {n : ℕ} (i : Inside l b n) (q : Page) (v : Valid (l .least) q) where
+module _ {l : Limits} {b : List ℕ} (k : ExactBytes l b) {n : ℕ} (i : Inside l b n) (q : Page) (v : Valid (l .least) q) where
   abbrev ps : List Page
   ps = pagesOf l b
 

@@ -25,11 +25,11 @@ use Rattle.edit.specs.declared.Change as code
 use Rattle.edit.specs.Change.{changeOf}
 use Rattle.gather.specs.Kept.{Counted, Fits}
 use Rattle.gather.proofs.laws.Kept.{takes-few}
-use Rattle.parts.specs.Kept.{pagesOf, Kept, Inside}
+use Rattle.parts.specs.Kept.{pagesOf, ExactBytes, Inside}
 
 -- a sound store's bytes
 module _ {l : Limits} (d : Edition l) (b : List ℕ) (h : isSound (l .least) b ≡ true) where
-  pub kept-sound : Bytes b → Kept l b
+  pub kept-sound : Bytes b → ExactBytes l b
   kept-sound z = record { edition = d; holds = held d b h z; same = same-bytes d b h z; most = sure d b h .short }
 
   -- a page that is not free is one of them
@@ -38,7 +38,7 @@ module _ {l : Limits} (d : Edition l) (b : List ℕ) (h : isSound (l .least) b �
       let used : isFree (page (pagesOf l b) n) ≡ false = level-used (page (pagesOf l b) n) up e in
       record { low = high-used (decode (l .least) b) n (sure d b h .front) used; high = used-in (pagesOf l b) n used }
 
-module _ {l : Limits} {b : List ℕ} (k : Kept l b) where
+module _ {l : Limits} {b : List ℕ} (k : ExactBytes l b) where
   abbrev s : Store
   s = decode (l .least) b
 

@@ -27,16 +27,16 @@ use Rattle.plain.proofs.laws.Items.{from-step, from-end}
 use Rattle.plain.specs.Scan.{sameFound}
 use Rattle.plain.proofs.laws.Scan.{same-found}
 use Rattle.plain.specs.Tell.{toldAs, toldWith}
-use Rattle.plain.specs.Lived.{Sooner, Change, Until, shown}
+use Rattle.plain.specs.Lived.{Sooner, ItemStill, Until, shown}
 
-pub change-not : (e : Entry) (k v r : ℕ) → v < r → (e .key ≡ k → ⊥) → Change e k v r r
+pub change-not : (e : Entry) (k v r : ℕ) → v < r → (e .key ≡ k → ⊥) → ItemStill e k v r r
 change-not e k v r h n = record {
   below = omega arith;
   above = h;
   still = λ w x y. ap (λ (b : Bool). b && liveAt w e) (ne-eqb (e .key) k n) ∙ sym (ap (λ (b : Bool). b && liveAt v e) (ne-eqb (e .key) k n));
 }
 
-pub change-own : (e : Entry) (k v r p q : ℕ) → Sooner v r (e .start) p → Sooner v p (e .end) q → Change e k v r q
+pub change-own : (e : Entry) (k v r p q : ℕ) → Sooner v r (e .start) p → Sooner v p (e .end) q → ItemStill e k v r q
 change-own e k v r p q a b = record {
   below = omega (arith, a .below, b .below);
   above = b .above;
@@ -55,7 +55,7 @@ module _ (ns : List ℕ) (n k v r : ℕ) where
   pub until-none : v < r → Until v r (λ (w : ℕ). valueAt k w (from ns n n)) r
   until-none h = record { below = omega arith; above = h; still = λ w x y. ap (valueAt k w) (from-end ns n n (omega arith)) ∙ sym (ap (valueAt k v) (from-end ns n n (omega arith))) }
 
-  pub until-more : (i : ℕ) → i < n → (p : ℕ) → Until v r (λ (w : ℕ). valueAt k w (from ns (i + 1) n)) p → (e : Entry) → e ≡ item ns i → (q : ℕ) → Change e k v p q → Until v r (λ (w : ℕ). valueAt k w (from ns i n)) q
+  pub until-more : (i : ℕ) → i < n → (p : ℕ) → Until v r (λ (w : ℕ). valueAt k w (from ns (i + 1) n)) p → (e : Entry) → e ≡ item ns i → (q : ℕ) → ItemStill e k v p q → Until v r (λ (w : ℕ). valueAt k w (from ns i n)) q
   until-more i h p u e is q c = record {
     below = omega (arith, u .below, c .below);
     above = c .above;

@@ -17,7 +17,7 @@ use Rattle.plain.specs.declared.items.Found.{Found}
 use Rattle.plain.specs.Plain.{valueAt, sameValue, keys, differs}
 use Rattle.plain.specs.Items.{foundOf, item, from}
 use Rattle.plain.proofs.laws.Items.{value-on}
-use Rattle.plain.specs.Scan.{Lower, Skips, sameFound}
+use Rattle.plain.specs.Scan.{Lower, SkipsKeys, sameFound}
 
 silent : (b c : Bool) → b ≡ false → (b && c) ≡ false
 silent b c h = ap (λ (d : Bool). d && c) h
@@ -104,7 +104,7 @@ saying u v es k = saysOf k (valueAt k u es) (valueAt k v es)
 pub differs-told : (u v : ℕ) (es : List Entry) → differs u v es ≡ told (saying u v es) 0 keys
 differs-told u v es = let e : keys - 0 ≡ keys = omega arith in rw e refl
 
-pub saying-skip : (a r u v : ℕ) (es : List Entry) → Skips a r u v es → told (saying u v es) a keys ≡ told (saying u v es) r keys
+pub saying-skip : (a r u v : ℕ) (es : List Entry) → SkipsKeys a r u v es → told (saying u v es) a keys ≡ told (saying u v es) r keys
 saying-skip a r u v es s = told-skip (saying u v es) a r keys (s .behind) (λ k x y. ap₂ (saysOf k) (s .old k x y) (s .new k x y))
 
 says-same : (k : ℕ) (o p : Option ℕ) → sameValue o p ≡ true → saysOf k o p ≡ []

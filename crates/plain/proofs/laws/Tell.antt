@@ -21,7 +21,7 @@ use Rattle.model.specs.Lent.{Listed, listed}
 use Rattle.plain.specs.declared.items.Found.{Found}
 use Rattle.plain.specs.Plain.{Plain, unreadable, valueAt, setting, settings, keys, differs, range, difference}
 use Rattle.plain.specs.Items.{foundOf}
-use Rattle.plain.specs.Scan.{Skips, sameFound}
+use Rattle.plain.specs.Scan.{SkipsKeys, sameFound}
 use Rattle.plain.proofs.laws.Scan.{told, told-end, told-step, told-skip, saying, keys-limit}
 use Rattle.plain.specs.Tell.{settingBy, kindBy, deltaBy, toldAs, badRange, toldWith}
 
@@ -41,7 +41,7 @@ delta-found k (some x) (some y) = refl
 abbrev pub showing : ℕ → List Entry → ℕ → List Pair
 showing v es k = setting k (valueAt k v es)
 
-pub showing-skip : (a r hi v : ℕ) (es : List Entry) → Skips a r v v es → told (showing v es) a (suc hi) ≡ told (showing v es) r (suc hi)
+pub showing-skip : (a r hi v : ℕ) (es : List Entry) → SkipsKeys a r v v es → told (showing v es) a (suc hi) ≡ told (showing v es) r (suc hi)
 showing-skip a r hi v es s = told-skip (showing v es) a r (suc hi) (s .behind) (λ k x y. ap (setting k) (s .old k x y))
 
 pub showing-step : (k hi v : ℕ) (es : List Entry) → k ≤ hi → (a : Found) → a ≡ foundOf (valueAt k v es) → told (showing v es) k (suc hi) ≡ settingBy k a ++ told (showing v es) (k + 1) (suc hi)

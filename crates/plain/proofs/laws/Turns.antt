@@ -21,7 +21,7 @@ use Rattle.plain.specs.Laid.{laid}
 use Rattle.plain.proofs.laws.Laid.{length-laid, from-behind, from-length}
 use Rattle.plain.specs.Sweep.{fate, swept}
 use Rattle.plain.proofs.laws.Sweep.{swept-ended, swept-few, swept-read}
-use Rattle.plain.specs.Scan.{Skips, sameFound}
+use Rattle.plain.specs.Scan.{SkipsKeys, sameFound}
 use Rattle.plain.proofs.laws.Scan.{same-found, keys-limit}
 use Rattle.plain.specs.Calls.{Room}
 use Rattle.plain.proofs.laws.Calls.{given, return-done}
@@ -121,7 +121,7 @@ pub record Turning (f : ℕ → List Entry → List Entry) (ns : List ℕ) (n : 
   pub same : length ns′ ≡ length ns
 
 module _ (f : ℕ → List Entry → List Entry) (w v : ℕ) (silent : (k : ℕ) (es : List Entry) → valueAt k w es ≡ none → valueAt k v es ≡ none → f k es ≡ es) (ns : List ℕ) (n : ℕ) where
-  pub turning-start : Lent n ns → (k : ℕ) → Skips 0 k w v (from ns 0 n) → Turning f ns n ns n k
+  pub turning-start : Lent n ns → (k : ℕ) → SkipsKeys 0 k w v (from ns 0 n) → Turning f ns n ns n k
   turning-start l k s = record {
     within = s .within;
     whole = turn-start f (from ns 0 n) ∙ turn-skip f (from ns 0 n) 0 k (s .behind) (s .within) (λ j x y. silent j (from ns 0 n) (s .old j x y) (s .new j x y));
@@ -129,7 +129,7 @@ module _ (f : ℕ → List Entry → List Entry) (w v : ℕ) (silent : (k : ℕ)
     same = refl;
   }
 
-  pub turning-on : (ns′ : List ℕ) (m k : ℕ) → k < keyLimit → Turning f ns n ns′ m k → (ns″ : List ℕ) (r : ℕ) → Turned (f k) ns′ m ns″ r → (j : ℕ) → Skips (k + 1) j w v (from ns″ 0 r) → Turning f ns n ns″ r j
+  pub turning-on : (ns′ : List ℕ) (m k : ℕ) → k < keyLimit → Turning f ns n ns′ m k → (ns″ : List ℕ) (r : ℕ) → Turned (f k) ns′ m ns″ r → (j : ℕ) → SkipsKeys (k + 1) j w v (from ns″ 0 r) → Turning f ns n ns″ r j
   turning-on ns′ m k h t ns″ r u j s = record {
     within = s .within;
     whole = t .whole ∙ turn-step f k (from ns′ 0 m) h ∙ ap (turning f (k + 1)) (sym (u .items)) ∙ turn-skip f (from ns″ 0 r) (k + 1) j (s .behind) (s .within) (λ i x y. silent i (from ns″ 0 r) (s .old i x y) (s .new i x y));

@@ -26,7 +26,7 @@ use Rattle.model.specs.Layout.{decode}
 use Rattle.model.specs.Near.{startsBy}
 use Rattle.walk.specs.Covers.{Covers}
 use Rattle.walk.proofs.laws.Covers.{covers-starts, covers-own, covers-later, covers-root}
-use Rattle.walk.specs.Sure.{Readable}
+use Rattle.walk.specs.Sure.{Walkable}
 use Rattle.store.proofs.laws.Sure.{sure}
 use Rattle.model.proofs.sound.Ready.{level-used}
 use Rattle.parts.specs.Kept.{Inside, pagesOf}
@@ -133,7 +133,7 @@ unfolding aroundOf
 own-is a = refl
 
 -- the routers of a page that a walk comes to lead to pages of the store
-module _ {l : Limits} {b : List ℕ} {w : ℕ} (r : Readable l b w) (up n k : ℕ) (c : Covers (l .least) w (pagesOf l b) (suc up) n k) where
+module _ {l : Limits} {b : List ℕ} {w : ℕ} (r : Walkable l b w) (up n k : ℕ) (c : Covers (l .least) w (pagesOf l b) (suc up) n k) where
   router : (x : Pair) → In x (pairsAt w (page (pagesOf l b) n)) × Fitting x → Router l b x
   router x (i, f) =
       record { inside = inside-used (r .edition) b (r .sound) (x .value) up (covers-later (l .least) w (pagesOf l b) up n k c x i .level); fits = f }
@@ -149,14 +149,14 @@ some-live k (x ∷ xs) e = omega arith
 
 module _ (l : Limits) (b : List ℕ) (w k root : ℕ) where
   -- page `at` is come to, `up` levels above the leaves, by n places
-  pub record Going (xs : List Around) (up n at : ℕ) : Type 0 where
+  pub record WayCome (xs : List Around) (up n at : ℕ) : Type 0 where
     pub size : length xs ≡ 8
     pub few : n + up ≤ 6
     pub covers : Covers (l .least) w (pagesOf l b) up at k
     pub placed : (j : ℕ) → j < n → Placed l b (getD xs j nowhere)
     pub ups : walk.way (decode (l .least) b) w k ≡ walk.wayDown up (pagesOf l b) w k at (upsOf xs n)
 
-  module _ (r : Readable l b w) (low : k < walk.keyLimit) (is : root ≡ walk.rootAt (decode (l .least) b .slots) w) where
+  module _ (r : Walkable l b w) (low : k < walk.keyLimit) (is : root ≡ walk.rootAt (decode (l .least) b .slots) w) where
     root-covers : Covers (l .least) w (pagesOf l b) (walk.heightOf (pagesOf l b) root) root k
     root-covers = rw is (covers-root (l .least) (omega (arith, r .edition .four)) (decode (l .least) b) (sure (r .edition) b (r .sound)) w k (r .version) low)
 
@@ -166,7 +166,7 @@ module _ (l : Limits) (b : List ℕ) (w k root : ℕ) where
     pub root-level : page (pagesOf l b) root .level ≡ suc (walk.heightOf (pagesOf l b) root)
     root-level = root-covers .level
 
-    pub going-start : (up : ℕ) → suc up ≡ page (pagesOf l b) root .level → Going (replicate 8 nowhere) up 0 root
+    pub going-start : (up : ℕ) → suc up ≡ page (pagesOf l b) root .level → WayCome (replicate 8 nowhere) up 0 root
     unfolding upsOf
     going-start up e =
         let h : up ≡ walk.heightOf (pagesOf l b) root = omega (arith, root-level) in
@@ -179,7 +179,7 @@ module _ (l : Limits) (b : List ℕ) (w k root : ℕ) where
           ups = rw (h, is);
         }
 
-    pub going-end : (xs : List Around) (up n at : ℕ) → up ≤ 0 → Going xs up n at → Leads l b w k (record { root = root; list = xs; n = n })
+    pub going-end : (xs : List Around) (up n at : ℕ) → up ≤ 0 → WayCome xs up n at → Leads l b w k (record { root = root; list = xs; n = n })
     going-end xs up n at h g =
         let e : up ≡ 0 = omega arith in
         record {
@@ -188,7 +188,7 @@ module _ (l : Limits) (b : List ℕ) (w k root : ℕ) where
           ups = sym (g .ups ∙ rw e);
         }
 
-    module _ (xs : List Around) (up n at : ℕ) (some : 0 < up) (g : Going xs up n at) where
+    module _ (xs : List Around) (up n at : ℕ) (some : 0 < up) (g : WayCome xs up n at) where
       covers-suc : Covers (l .least) w (pagesOf l b) (suc (up - 1)) at k
       covers-suc = let e : suc (up - 1) ≡ up = omega arith in rw e (g .covers)
 
@@ -199,7 +199,7 @@ module _ (l : Limits) (b : List ℕ) (w k root : ℕ) where
       going-live = some-live k (pairsAt w (page (pagesOf l b) at)) (covers-starts (l .least) w (pagesOf l b) (up - 1) at k covers-suc)
 
       pub going-step : (a : Around) → aroundOf a ≡ walk.around k (pairsAt w (page (pagesOf l b) at)) → Among (pairsAt w (page (pagesOf l b) at)) a
-          → Going (set xs n a) (up - 1) (n + 1) (a .own .value)
+          → WayCome (set xs n a) (up - 1) (n + 1) (a .own .value)
       going-step a e m =
           let lt : n < length xs = omega (arith, g .size, g .few) in
           let own : aroundOf a .own .value ≡ a .own .value = own-is a in

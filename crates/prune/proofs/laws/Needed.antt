@@ -11,11 +11,11 @@ use Rattle.model.specs.Calls.{needed}
 use Rattle.prune.specs.Needed.{Needed}
 
 -- up to place k none is
-pub record Past (v : ℕ) (xs : List Slot) (k : ℕ) : Type 0 where
+pub record NoneNeeded (v : ℕ) (xs : List Slot) (k : ℕ) : Type 0 where
   pub inside : k < length xs
   pub is : needed v xs ≡ needed v (drop k xs)
 
-pub past-start : (v : ℕ) (xs : List Slot) → 0 < length xs → Past v xs 0
+pub past-start : (v : ℕ) (xs : List Slot) → 0 < length xs → NoneNeeded v xs 0
 past-start v xs h = record { inside = h; is = refl }
 
 one-past : (v : ℕ) (xs : List Slot) (k : ℕ) → suc k < length xs → getD xs (suc k) noSlot .version ≤ v → needed v (drop k xs) ≡ needed v (drop (suc k) xs)
@@ -37,8 +37,8 @@ last-one v (x ∷ []) (suc k) h le = absurd (omega arith)
 last-one v (x ∷ y ∷ xs) zero h le = absurd (omega arith)
 last-one v (x ∷ y ∷ xs) (suc k) h le = last-one v (y ∷ xs) k (omega arith) (omega arith)
 
-module _ (v : ℕ) (xs : List Slot) (k : ℕ) (p : Past v xs k) where
-  pub past-more : k + 1 < length xs → getD xs (k + 1) noSlot .version ≤ v → Past v xs (k + 1)
+module _ (v : ℕ) (xs : List Slot) (k : ℕ) (p : NoneNeeded v xs k) where
+  pub past-more : k + 1 < length xs → getD xs (k + 1) noSlot .version ≤ v → NoneNeeded v xs (k + 1)
   past-more h le =
       let e : k + 1 ≡ suc k = omega arith in
       let q : getD xs (suc k) noSlot .version ≤ v = rw (← e) le in

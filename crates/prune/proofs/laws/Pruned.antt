@@ -20,17 +20,17 @@ use Rattle.store.proofs.laws.Set.{page-set, holds-page}
 use Rattle.prune.proofs.laws.Pages.{partly, partly-start, partly-step, partly-end, partly-length, valid-pruned}
 
 -- pages below n of the store are pruned
-pub record Pruned (least : ℕ) (s : Store) (v n : ℕ) (b : List ℕ) : Type 0 where
+pub record PrunedBelow (least : ℕ) (s : Store) (v n : ℕ) (b : List ℕ) : Type 0 where
   pub bytes : b ≡ encode least (withPages s (partly v n (s .pages)))
   pub holds : Holds least (withPages s (partly v n (s .pages)))
 
 module _ (least : ℕ) (four : 4 ≤ least) (eight : least ≤ 8) (s : Store) (v : ℕ) where
-  pub pruned-start : (b : List ℕ) → b ≡ encode least s → Holds least s → Pruned least s v 5 b
+  pub pruned-start : (b : List ℕ) → b ≡ encode least s → Holds least s → PrunedBelow least s v 5 b
   pruned-start b e h =
       let q : s .pages ≡ partly v 5 (s .pages) = partly-start v (s .pages) (h .front) in
       record { bytes = e ∙ ap (λ (ps : List Page). encode least (withPages s ps)) q; holds = subst (λ (ps : List Page). Holds least (withPages s ps)) q h }
 
-  module _ (n : ℕ) (b : List ℕ) (u : Pruned least s v n b) where
+  module _ (n : ℕ) (b : List ℕ) (u : PrunedBelow least s v n b) where
     abbrev now : Store
     now = withPages s (partly v n (s .pages))
 
@@ -63,7 +63,7 @@ module _ (least : ℕ) (four : 4 ≤ least) (eight : least ≤ 8) (s : Store) (v
       pub pruned-exact : Exact least (pageOf least b n)
       pruned-exact = rw part-is (encode-exact least four eight here valid)
 
-      pub pruned-step : (c : List ℕ) → c ≡ withPage least b n (encodePage least (prunedPage v (decodePage least (pageOf least b n)))) → Pruned least s v (n + 1) c
+      pub pruned-step : (c : List ℕ) → c ≡ withPage least b n (encodePage least (prunedPage v (decodePage least (pageOf least b n)))) → PrunedBelow least s v (n + 1) c
       unfolding here
       pruned-step c e =
           let q : Page = prunedPage v (page (partly v n (s .pages)) n) in

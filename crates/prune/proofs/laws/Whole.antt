@@ -32,14 +32,14 @@ use Rattle.store.proofs.laws.Inside.{bytesOf, encode-of, header-in}
 use Rattle.store.specs.Set.{withPages, withSlots}
 use Rattle.store.proofs.laws.Set.{slot-set, holds-slots}
 use Rattle.store.proofs.laws.Sure.{sure}
-use Rattle.turn.specs.Turned.{Kept}
+use Rattle.turn.specs.Turned.{HeadedBytes}
 use Rattle.prune.proofs.laws.Pages.{free-pruned, frees, valid-pruned}
 use Rattle.prune.specs.Shift.{shifted}
 use Rattle.prune.proofs.laws.Shift.{stage, stage-start, stage-length, stage-step, stage-end, shifted-directory}
 use Rattle.prune.specs.Needed.{Needed}
 
 -- bytes of a store that can be held are exactly its own
-pub kept-encoded : (least : ℕ) → 4 ≤ least → least ≤ 8 → (s : Store) → Holds least s → (b : List ℕ) → b ≡ encode least s → Kept least b
+pub kept-encoded : (least : ℕ) → 4 ≤ least → least ≤ 8 → (s : Store) → Holds least s → (b : List ℕ) → b ≡ encode least s → HeadedBytes least b
 kept-encoded least four eight s h b e =
     let d : decode least b ≡ s = ap (decode least) e ∙ decode-encoded least four eight s h in
     record {
@@ -53,7 +53,7 @@ held-is least four eight s h b e = ap (decode least) e ∙ decode-encoded least 
 
 -- ---- what bytes that are kept give to a reading of slots
 
-module _ {l : Limits} (d : Edition l) (b : List ℕ) (k : Kept (l .least) b) where
+module _ {l : Limits} (d : Edition l) (b : List ℕ) (k : HeadedBytes (l .least) b) where
   abbrev at : Store
   at = decode (l .least) b
 
@@ -109,7 +109,7 @@ module _ (least : ℕ) (four : 4 ≤ least) (eight : least ≤ 8) (s : Store) (k
     abbrev now : Store
     now = withSlots s (stage k i (s .slots))
 
-    pub shifted-kept : Kept least b
+    pub shifted-kept : HeadedBytes least b
     shifted-kept = kept-encoded least four eight now (u .holds) b (u .bytes)
 
     held : decode least b ≡ now
@@ -161,7 +161,7 @@ some-slot old (x ∷ xs) e = omega arith
 pub oldest-fits : (least v : ℕ) → 4 < least → v < 2 ^ 20 → v < 2 ^ oldestBits least
 oldest-fits least v h low = rw (lt-leb least 4 h) low
 
-module _ {l : Limits} (d : Edition l) (two : 4 < l .least) (b : List ℕ) (h : isSound (l .least) b ≡ true) (k : Kept (l .least) b) (v : ℕ) (upto : v ≤ decode (l .least) b .current) where
+module _ {l : Limits} (d : Edition l) (two : 4 < l .least) (b : List ℕ) (h : isSound (l .least) b ≡ true) (k : HeadedBytes (l .least) b) (v : ℕ) (upto : v ≤ decode (l .least) b .current) where
   abbrev least : ℕ
   least = l .least
 
@@ -194,7 +194,7 @@ module _ {l : Limits} (d : Edition l) (two : 4 < l .least) (b : List ℕ) (h : i
 
   -- ---- pages pruned
   module _ (b1 : List ℕ) (e1 : b1 ≡ encode (l .least) (withPages (decode (l .least) b) (map (prunedPage v) (decode (l .least) b .pages)))) where
-    pub pages-kept : Kept (l .least) b1
+    pub pages-kept : HeadedBytes (l .least) b1
     pages-kept = kept-encoded least (d .four) (d .eight) s1 held1 b1 e1
 
     is1 : decode least b1 ≡ s1

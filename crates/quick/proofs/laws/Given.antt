@@ -14,14 +14,14 @@ use Rattle.model.specs.Clean.{clean}
 use Rattle.local.specs.Local.{Sized, Ruled, levelAt, countAt}
 use Rattle.local.proofs.laws.Ruled.{ruled, order}
 use Rattle.local.proofs.laws.Linked.{child-lower}
-use Rattle.quick.specs.Good.{Good}
+use Rattle.quick.specs.Good.{QuickGood}
 
 -- a free page has no entries
 none : (p : List ℕ) (k : ℕ) → k ≡ 0 → inOrder before (readEntries p 128 k) ≡ true
 unfolding readEntries
 none p k e = ap (λ (n : ℕ). inOrder before (readEntries p 128 n)) e
 
-pub good : (least : ℕ) (s : List ℕ) (size : ℕ) → Sized least s size → clean least s ≡ true → rule3 (decode least s) ≡ true → Good least s
+pub good : (least : ℕ) (s : List ℕ) (size : ℕ) → Sized least s size → clean least s ≡ true → rule3 (decode least s) ≡ true → QuickGood least s
 good least s size z one three =
     let r : Ruled least s = ruled least s size z one in
     record {

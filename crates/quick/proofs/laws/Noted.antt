@@ -7,9 +7,9 @@ use Rattle.model.specs.Store.{Store}
 use Rattle.model.specs.Sound.{rule4, rule5}
 use Rattle.spans.specs.Quick.{spansMet, slotsFine, quick}
 use Rattle.notes.proofs.laws.Six.{quick-by}
-use Rattle.quick.specs.Noted.{Ruled}
+use Rattle.quick.specs.Noted.{ThreeRules}
 
-module _ (least : ℕ) (s : Store) (h : Ruled least s) where
+module _ (least : ℕ) (s : Store) (h : ThreeRules least s) where
   by : quick least s ≡ (spansMet s 5 (drop 5 (s .pages)) && slotsFine least (s .oldest) (s .pages) (s .slots) && (rule4 s && rule5 least s))
   by = quick-by least (h .two) s (h .first) (h .second) (h .third)
 

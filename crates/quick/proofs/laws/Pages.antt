@@ -23,7 +23,7 @@ use Rattle.bits.proofs.laws.Put.{less}
 use Rattle.store.proofs.laws.Read.{behind}
 use Rattle.local.specs.Local.{IsPage}
 use Rattle.notes.proofs.laws.Here.{level-is, entries-are}
-use Rattle.quick.specs.Good.{Good}
+use Rattle.quick.specs.Good.{QuickGood}
 use Rattle.quick.specs.Routers.{entriesAt}
 use Rattle.quick.specs.Pages.{ownFine, atLevel}
 
@@ -44,7 +44,7 @@ module _ (least old : ℕ) (ps : List Page) (es : List Entry) where
   pub children-index : (k up : ℕ) → k ≡ up + 2 → childrenFine least old ps k es ≡ routersFine least old up ps es
   children-index k up z = let q : up + 2 ≡ suc (suc up) = omega arith in ap (λ (x : ℕ). childrenFine least old ps x es) (z ∙ q)
 
-module _ {l : Limits} (d : Edition l) (s : List ℕ) (g : Good (l .least) s) (n : ℕ) (k : IsPage (l .least) s n) (p : List ℕ) (part : (p ≡ pageOf (l .least) s n) × (length p ≡ 64 * l .least)) (h : Head) (front : h ≡ readHead (l .least) p) (old : ℕ) where
+module _ {l : Limits} (d : Edition l) (s : List ℕ) (g : QuickGood (l .least) s) (n : ℕ) (k : IsPage (l .least) s n) (p : List ℕ) (part : (p ≡ pageOf (l .least) s n) × (length p ≡ 64 * l .least)) (h : Head) (front : h ≡ readHead (l .least) p) (old : ℕ) where
   abbrev ps : List Page
   ps = decode (l .least) s .pages
 
@@ -106,7 +106,7 @@ module _ (least old : ℕ) (ps : List Page) where
       at (inl h) = rw (lt-ltb (x .level) 1 h, eq-eqb (x .level) 0 (omega arith))
       at (inr h) = rw (le-ltb (x .level) 1 h)
 
-module _ (least old : ℕ) (ps : List Page) (s : List ℕ) (g : Good least s) where
+module _ (least old : ℕ) (ps : List Page) (s : List ℕ) (g : QuickGood least s) where
   pub level-start : (n m : ℕ) → 5 ≤ n → m ≤ sizeOf least s - n → all (ownFine least old ps) (readPages least s n m) ≡ all (belowLevel 8 least old ps) (readPages least s n m)
   unfolding readPages
   level-start n zero a b = refl

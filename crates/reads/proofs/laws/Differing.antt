@@ -16,7 +16,7 @@ use Rattle.model.specs.Told.{toldBy}
 use Rattle.model.specs.Differ.{differ, deltaNumbers, eitherUnreadable, difference}
 use Rattle.model.proofs.sound.ByRule.{readable-of}
 use Rattle.model.proofs.lists.Members.{neither}
-use Rattle.walk.specs.Sure.{Readable}
+use Rattle.walk.specs.Sure.{Walkable}
 use Rattle.reads.specs.Guard.{guarded}
 use Rattle.reads.proofs.laws.Guard.{refused-by, goes-by, chain-number, by-guard, guard-sound, guard-chain}
 use Rattle.reads.specs.Differing.{differing}
@@ -73,8 +73,8 @@ module _ {l : Limits} (d : Edition l) (b : List ℕ) (u v : ℕ) (z : guarded (l
   both-read : (unreadable (decode (l .least) b) u ≡ false) × (unreadable (decode (l .least) b) v ≡ false)
   both-read = neither (unreadable (decode (l .least) b) u) (unreadable (decode (l .least) b) v) (no-six (eitherUnreadable (decode (l .least) b) u v) (guard-chain (l .least) b (differing u v) z))
 
-  pub reads-old : Readable l b u
+  pub reads-old : Walkable l b u
   reads-old = record { edition = d; sound = guard-sound (l .least) b (differing u v) z; version = readable-of (decode (l .least) b) u (both-read .0) }
 
-  pub reads-new : Readable l b v
+  pub reads-new : Walkable l b v
   reads-new = record { edition = d; sound = guard-sound (l .least) b (differing u v) z; version = readable-of (decode (l .least) b) v (both-read .1) }

@@ -18,7 +18,7 @@ use Rattle.model.specs.Told.{toldBy}
 use Rattle.model.specs.Visited.{pageNumber, visits}
 use Rattle.model.specs.Lent.{judgedFirst, Listed, listed, visitsLent}
 use Rattle.model.proofs.sound.ByRule.{readable-of}
-use Rattle.walk.specs.Sure.{Readable}
+use Rattle.walk.specs.Sure.{Walkable}
 use Rattle.reads.specs.Guard.{guarded}
 use Rattle.reads.proofs.laws.Guard.{refused-by, goes-by, chain-number, by-guard, guard-sound, guard-chain}
 use Rattle.reads.specs.Reading.{reading}
@@ -79,7 +79,7 @@ none-holds false true e = absurd (omega arith)
 none-holds false false e = (refl, refl)
 
 module _ {l : Limits} (d : Edition l) (b : List ℕ) (bad : Bool) (v : ℕ) (z : guarded (l .least) b (reading bad v) ≡ 0) where
-  pub reads : Readable l b v
+  pub reads : Walkable l b v
   reads = record {
     edition = d;
     sound = guard-sound (l .least) b (reading bad v) z;

@@ -14,7 +14,7 @@ use Rattle.model.specs.Layout.{readHeader, decode}
 use Rattle.model.specs.Judged.{judged}
 use Rattle.model.specs.State.{stateOf, untold}
 use Rattle.model.specs.Lent.{judgedFirst, stateLent}
-use Rattle.parts.specs.Kept.{Kept, pagesOf}
+use Rattle.parts.specs.Kept.{ExactBytes, pagesOf}
 use Rattle.parts.proofs.laws.Kept.{header-is}
 use Rattle.update.proofs.laws.Foreseen.{free-few}
 use Rattle.reads.proofs.laws.Guard.{refused-by, goes-by}
@@ -30,7 +30,7 @@ module _ (least : ℕ) (b : List ℕ) (n : ℕ) (e : n ≡ judged least b .numbe
   pub state-done : n ≡ 0 → stateOf least (decode least b) ≡ stateLent least b
   state-done z = goes-by n untold (stateOf least (decode least b)) z ∙ state-by
 
-module _ {l : Limits} {b : List ℕ} (k : Kept l b) where
+module _ {l : Limits} {b : List ℕ} (k : ExactBytes l b) where
   -- 4,096 pages at the most
   pub free-fits : length (freeOnes (pagesOf l b)) < 2 ^ 32
   free-fits = omega (arith, free-few (pagesOf l b), k .most)

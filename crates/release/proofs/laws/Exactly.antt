@@ -26,7 +26,7 @@ use Rattle.model.proofs.reading.Lookups.{lookup-is, settings-rise, settings-low
 use Rattle.model.proofs.reading.Same.{same-equal, equal-same, finds-equal}
 use Rattle.release.specs.Settled.{isValue, has, settled, leafSettled}
 use Rattle.release.proofs.laws.Settled.{settledFrom}
-use Rattle.release.proofs.laws.Leaves.{Alive, found-alive, alive-found}
+use Rattle.release.proofs.laws.Leaves.{LeafAlive, found-alive, alive-found}
 
 less : (m c : ℕ) → m ≤ suc c → (m ≡ suc c → ⊥) → m ≤ c
 less m c p n = omega arith
@@ -98,7 +98,7 @@ module _ (least : ℕ) (two : 2 ≤ least) (s : Store) (d : Sound least s) (o : 
     back : (k z : ℕ) → find k (settings s (next s)) ≡ some z → find k (settings s (s .current)) ≡ some z
     back k z f = by (found-alive least two s d (next s) (reads (next s) (omega arith) (omega arith) .from) k z f)
       where
-        by : Alive s (next s) k z → find k (settings s (s .current)) ≡ some z
+        by : LeafAlive s (next s) k z → find k (settings s (s .current)) ≡ some z
         by a = subst (λ (y : ℕ). find k (settings s (s .current)) ≡ some y) (a .value) (subst (λ (y : ℕ). find y (settings s (s .current)) ≡ some (a .entry .value)) (a .key) (at (eqb (a .entry .start) (next s)) refl))
           where
             g : GoodEntry s (page (s .pages) (a .number)) (a .entry)
@@ -118,7 +118,7 @@ module _ (least : ℕ) (two : 2 ≤ least) (s : Store) (d : Sound least s) (o : 
     on : (k z : ℕ) → find k (settings s (s .current)) ≡ some z → find k (settings s (next s)) ≡ some z
     on k z f = by (found-alive least two s d (s .current) (reads (s .current) (omega arith) (omega arith) .from) k z f)
       where
-        by : Alive s (s .current) k z → find k (settings s (next s)) ≡ some z
+        by : LeafAlive s (s .current) k z → find k (settings s (next s)) ≡ some z
         by a = subst (λ (y : ℕ). find k (settings s (next s)) ≡ some y) (a .value) (subst (λ (y : ℕ). find y (settings s (next s)) ≡ some (a .entry .value)) (a .key) (at (eqb (a .entry .end) (next s)) refl))
           where
             g : GoodEntry s (page (s .pages) (a .number)) (a .entry)

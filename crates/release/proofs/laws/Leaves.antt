@@ -63,7 +63,7 @@ module _ (ps : List Page) (v : ℕ) where
       (m, inr (record { router = y; is-in = j; rest = r }), o)
 
 -- an entry alive at v in a leaf
-pub record Alive (s : Store) (v k z : ℕ) : Type 0 where
+pub record LeafAlive (s : Store) (v k z : ℕ) : Type 0 where
   pub number : ℕ
   pub leaf : page (s .pages) number .level ≡ 1
   pub entry : Entry
@@ -76,7 +76,7 @@ module _ (least : ℕ) (two : 2 ≤ least) (s : Store) (d : Sound least s) where
   abbrev height : ℕ → ℕ
   height v = heightOf (s .pages) (rootAt (s .slots) v)
 
-  pub found-alive : (v : ℕ) → s .oldest ≤ v → (k z : ℕ) → find k (settings s v) ≡ some z → Alive s v k z
+  pub found-alive : (v : ℕ) → s .oldest ≤ v → (k z : ℕ) → find k (settings s v) ≡ some z → LeafAlive s v k z
   found-alive v from k z h =
       let (m, r, i) = shown-leaf (s .pages) v (height v) (rootAt (s .slots) v) (pair k z) (find-in k z (settings s v) h) in
       let g = shown-by v (page (s .pages) m) (pair k z) i in

@@ -19,7 +19,7 @@ use Rattle.store.proofs.laws.Read.{count-pages}
 use Rattle.store.proofs.laws.Exactly.{header-of}
 use Rattle.model.proofs.sound.ByRule.{old-current}
 use Rattle.store.proofs.laws.Sure.{sure, whole, exact}
-use Rattle.walk.specs.Sure.{Readable}
+use Rattle.walk.specs.Sure.{Walkable}
 use Rattle.release.specs.Settled.{has, settled}
 use Rattle.release.proofs.laws.Settled.{settledFrom}
 use Rattle.release.proofs.laws.Exactly.{settled-unchanged}
@@ -33,7 +33,7 @@ module _ {l : Limits} {b : List ℕ} {c : ℕ} (o : Opened l b c) where
   last-is = ap (λ (q : Bool). lastOf q (decode (l .least) b .current)) (o .opened) ∙ ap suc (o .current)
 
   -- both versions can be read
-  pub reads-upto : (v : ℕ) → c ≤ v → v ≤ c + 1 → Readable l b v
+  pub reads-upto : (v : ℕ) → c ≤ v → v ≤ c + 1 → Walkable l b v
   reads-upto v g h = record { edition = o .edition; sound = o .sound; version = omega (arith, last-is, o .current, old-current (l .least) (decode (l .least) b) (sure (o .edition) b (o .sound) .old-low)) }
 
   next-is : next (decode (l .least) b) ≡ c + 1

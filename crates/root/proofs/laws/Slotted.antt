@@ -27,7 +27,7 @@ use Rattle.store.proofs.laws.Holds.{slot-encoded}
 use Rattle.store.specs.Set.{withSlots}
 use Rattle.store.proofs.laws.Set.{slot-set, slot-add}
 use Rattle.store.proofs.laws.Sure.{sure}
-use Rattle.parts.specs.Kept.{Kept, Inside}
+use Rattle.parts.specs.Kept.{ExactBytes, Inside}
 use Rattle.parts.proofs.laws.Kept.{header-is}
 use Rattle.parts.specs.Becomes.{Becomes}
 use Rattle.parts.proofs.laws.Becomes.{shows}
@@ -45,7 +45,7 @@ slotted-sound {l} d b h o =
     record { some = some-slot (decode (l .least) b .oldest) (slotsOf l b) (z .begins); rises = z .rises; upto = rw e at (z .upto); low = omega (arith, z .last-low) }
 
 -- pages that change leave the slots as they are
-pub slotted-after : {l : Limits} {b b′ : List ℕ} {ps : List Page} → Kept l b → Becomes l b b′ ps → Slotted l b → Slotted l b′
+pub slotted-after : {l : Limits} {b b′ : List ℕ} {ps : List Page} → ExactBytes l b → Becomes l b b′ ps → Slotted l b → Slotted l b′
 slotted-after k d z =
     let e = sym (shows k d) in
     record {
@@ -57,7 +57,7 @@ slotted-after k d z =
 
 -- ---- in the bytes
 
-module _ {l : Limits} {b : List ℕ} (k : Kept l b) where
+module _ {l : Limits} {b : List ℕ} (k : ExactBytes l b) where
   pub roots-are : readHeader (l .least) b .roots ≡ length (slotsOf l b)
   roots-are = ap (λ (h : Header). h .roots) (header-is k)
 
@@ -69,7 +69,7 @@ module _ {l : Limits} {b : List ℕ} (k : Kept l b) where
       ap (λ (x : List ℕ). readSlot x (512 * l .least + 32 * i)) (sym (k .same))
       ∙ slot-encoded (l .least) (k .edition .four) (k .edition .eight) (decode (l .least) b) (k .holds) i h
 
-module _ {l : Limits} {b : List ℕ} (k : Kept l b) (z : Slotted l b) where
+module _ {l : Limits} {b : List ℕ} (k : ExactBytes l b) (z : Slotted l b) where
   last-place : length (slotsOf l b) ≡ suc (length (slotsOf l b) - 1)
   last-place = omega (arith, z .some)
 

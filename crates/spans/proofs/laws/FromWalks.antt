@@ -44,16 +44,16 @@ keys-range lo hi us h x i = within-of lo hi (x .key) (all-in (λ (y : Pair). wit
 
 module _ (least v : ℕ) (ps : List Page) where
   -- a router in its row: its page's low key is its own, and its page's high key is at most any later one's
-  pub record Placed (l hi : ℕ) (rs : List Pair) (x : Pair) : Type 0 where
+  pub record RouterPlaced (l hi : ℕ) (rs : List Pair) (x : Pair) : Type 0 where
     pub mid : ℕ
     pub xs : List Pair
     pub tree : Tree least v l ps (x .key) mid (x .value) xs
     pub upto : mid ≤ hi
     pub next : (y : Pair) → In y rs → x .key < y .key → mid ≤ y .key
 
-  pub place : (l hi : ℕ) (rs : List Pair) (lo : ℕ) (zs : List Pair) → Row (Tree least v l ps) hi rs lo zs → (x : Pair) → In x rs → Placed l hi rs x
+  pub place : (l hi : ℕ) (rs : List Pair) (lo : ℕ) (zs : List Pair) → Row (Tree least v l ps) hi rs lo zs → (x : Pair) → In x rs → RouterPlaced l hi rs x
   place l hi [] lo zs t x i = absurd i
-  place l hi (r ∷ rs) lo zs t x (inl e) = subst (Placed l hi (r ∷ rs)) (sym e) (record {
+  place l hi (r ∷ rs) lo zs t x (inl e) = subst (RouterPlaced l hi (r ∷ rs)) (sym e) (record {
     mid = t .mid;
     xs = t .mine;
     tree = subst (λ (k : ℕ). Tree least v l ps k (t .mid) (r .value) (t .mine)) (sym (t .low)) (t .here);
@@ -66,7 +66,7 @@ module _ (least v : ℕ) (ps : List Page) where
       after y (inr z) q = keys-range (t .mid) hi rs (row-keys (Tree least v l ps) hi rs (t .mid) (t .others) (t .rest)) y z .0
   place l hi (r ∷ rs) lo zs t x (inr i) = at (place l hi rs (t .mid) (t .others) (t .rest) x i)
     where
-      at : Placed l hi rs x → Placed l hi (r ∷ rs) x
+      at : RouterPlaced l hi rs x → RouterPlaced l hi (r ∷ rs) x
       at p = record { mid = p .mid; xs = p .xs; tree = p .tree; upto = p .upto; next = after }
         where
           after : (y : Pair) → In y (r ∷ rs) → x .key < y .key → p .mid ≤ y .key
@@ -163,7 +163,7 @@ module _ (least : ℕ) (two : 2 ≤ least) (s : Store) (d : Front least s)
     router-node : (e : Entry) → In e (page ps n .entries) → (v : ℕ) → s .oldest ≤ v → Alive v e → Node least v ps (suc up) n
     router-node e i v from a = node-at v n (suc up) from (router-low e i v a) l (lives-with least two s d v from n e used i a)
 
-    router-place : (e : Entry) (i : In e (page ps n .entries)) (v : ℕ) (from : s .oldest ≤ v) (a : Alive v e) → Placed least v ps up (router-node e i v from a .hi) (pairsAt v (page ps n)) (pairOf e)
+    router-place : (e : Entry) (i : In e (page ps n .entries)) (v : ℕ) (from : s .oldest ≤ v) (a : Alive v e) → RouterPlaced least v ps up (router-node e i v from a .hi) (pairsAt v (page ps n)) (pairOf e)
     router-place e i v from a = let g = router-node e i v from a in place least v ps up (g .hi) (pairsAt v (page ps n)) (g .lo) (g .zs) (g .holds) (pairOf e) (of-shows v (page ps n .entries) e i a)
 
     router-fine : (e : Entry) → In e (page ps n .entries) → s .oldest < e .end → fineOver least (e .key) (max (s .oldest) (e .start)) (e .end) (page ps (e .value)) ≡ true

@@ -56,19 +56,19 @@ module _ (least : ℕ) (two : 2 ≤ least) (s : Store) (d : Front least s) where
 
   -- ---- where a router leads
 
-  pub record Leads (up : ℕ) (e : Entry) : Type 0 where
+  pub record RouterLeads (up : ℕ) (e : Entry) : Type 0 where
     pub level : page ps (e .value) .level ≡ suc up
     pub later : page ps (e .value) .start ≤ e .start
     pub sooner : e .end ≤ page ps (e .value) .end
 
-  pub leads-of : (n up : ℕ) (e : Entry) → page ps n .level ≡ suc (suc up) → In e (page ps n .entries) → s .oldest < e .end → Leads up e
+  pub leads-of : (n up : ℕ) (e : Entry) → page ps n .level ≡ suc (suc up) → In e (page ps n .entries) → s .oldest < e .end → RouterLeads up e
   leads-of n up e l i kept = at (either-true (eqb (page ps n .level) 1 || leb (e .end) (s .oldest)) _ (entry-at n (level-used (page ps n) (suc up) l) e i .leads))
     where
       not-out : (eqb (page ps n .level) 1 ≡ true) ⊎ (leb (e .end) (s .oldest) ≡ true) → ⊥
       not-out (inl z) = omega (arith, eqb-true (page ps n .level) 1 z)
       not-out (inr z) = omega (arith, leb-true (e .end) (s .oldest) z)
 
-      at : ((eqb (page ps n .level) 1 || leb (e .end) (s .oldest)) ≡ true) ⊎ ((inside e (page ps (e .value)) && eqb (suc (page ps (e .value) .level)) (page ps n .level)) ≡ true) → Leads up e
+      at : ((eqb (page ps n .level) 1 || leb (e .end) (s .oldest)) ≡ true) ⊎ ((inside e (page ps (e .value)) && eqb (suc (page ps (e .value) .level)) (page ps n .level)) ≡ true) → RouterLeads up e
       at (inl z) = absurd (not-out (either-true (eqb (page ps n .level) 1) (leb (e .end) (s .oldest)) z))
       at (inr z) =
           let (i, f) = both-true (inside e (page ps (e .value))) (eqb (suc (page ps (e .value) .level)) (page ps n .level)) z in

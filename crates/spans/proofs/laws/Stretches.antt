@@ -38,13 +38,13 @@ pub of-alive : (v : ℕ) (e : Entry) → Alive v e → liveAt v e ≡ true
 of-alive v e a = both-intro _ _ (le-leb (e .start) v (a .from)) (lt-ltb v (e .end) (a .upto))
 
 -- an entry's pair is alive with it
-pub record Shows (v : ℕ) (es : List Entry) (x : Pair) : Type 0 where
+pub record LivePair (v : ℕ) (es : List Entry) (x : Pair) : Type 0 where
   pub entry : Entry
   pub is-in : In entry es
   pub live : Alive v entry
   pub is : x ≡ pairOf entry
 
-pub shows-of : (v : ℕ) (es : List Entry) (x : Pair) → In x (livePairs v es) → Shows v es x
+pub shows-of : (v : ℕ) (es : List Entry) (x : Pair) → In x (livePairs v es) → LivePair v es x
 shows-of v es x i =
     let (e, j, q) = in-map pairOf x (those (liveAt v) es) i in
     let (l, k) = in-those (liveAt v) e es j in
@@ -65,14 +65,14 @@ given-meets a b v e t p q l h = at (either-true (not (meets a b e)) t h)
     at (inr x) = x
 
 -- an entry that meets a stretch does so from here up to there
-pub record Met (a b : ℕ) (e : Entry) : Type 0 where
+pub record EntryMeets (a b : ℕ) (e : Entry) : Type 0 where
   pub low : a ≤ max a (e .start)
   pub from : e .start ≤ max a (e .start)
   pub room : max a (e .start) < min b (e .end)
   pub high : min b (e .end) ≤ b
   pub upto : min b (e .end) ≤ e .end
 
-pub to-meets : (a b : ℕ) (e : Entry) (t : Bool) → (Met a b e → t ≡ true) → (not (meets a b e) || t) ≡ true
+pub to-meets : (a b : ℕ) (e : Entry) (t : Bool) → (EntryMeets a b e → t ≡ true) → (not (meets a b e) || t) ≡ true
 to-meets a b e t f = at (bool-cases (meets a b e))
   where
     at : (meets a b e ≡ true) ⊎ (meets a b e ≡ false) → (not (meets a b e) || t) ≡ true

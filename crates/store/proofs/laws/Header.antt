@@ -15,7 +15,7 @@ use Rattle.model.specs.Basic.{pick}
 use Rattle.model.specs.Limits.{rootBits, oldestBits, editionOf}
 use Rattle.model.specs.Field.{field, Part, Bytes, lay, zeros, packed}
 use Rattle.model.specs.Layout.{bit, headerParts, headerBytes, readHeader}
-use Rattle.page.proofs.laws.Editions.{Rooted, root-bits, Aged, oldest-bits}
+use Rattle.page.proofs.laws.Editions.{RootWidth, root-bits, Aged, oldest-bits}
 use Rattle.store.proofs.laws.Read.{pages-lt, current-lt, roots-lt, oldest-lt}
 use Rattle.store.specs.Header.{namedBy, valueParts, putHeader, HeaderFits}
 
@@ -53,7 +53,7 @@ unfolding headerBytes
 header-length least h = length-packed (64 * least) (headerParts least h)
 
 module _ (least : ℕ) (four : 4 ≤ least) (eight : least ≤ 8) where
-  width : Rooted least (rootBits least)
+  width : RootWidth least (rootBits least)
   width = root-bits least eight
 
   age : Aged (oldestBits least)
@@ -105,7 +105,7 @@ module _ (least : ℕ) (four : 4 ≤ least) (eight : least ≤ 8) where
   header-read h f z =
       let t : List ℕ = packed (64 * least) (headerParts least h) in
       let n : length t ≡ 64 * least = length-packed (64 * least) (headerParts least h) in
-      let w : Rooted least (rootBits least) = width in
+      let w : RootWidth least (rootBits least) = width in
       let s : Shows t 0 (headerParts least h) = header-shows h z in
       let v = s .1 .1 .1 .1 .1 in
       let a : field (t ++ f) 40 13 ≡ h .pages = field-left t f 40 13 (omega arith) ∙ v .0 in
@@ -123,7 +123,7 @@ module _ (least : ℕ) (four : 4 ≤ least) (eight : least ≤ 8) where
   header-part s b len names e =
       let h : Header = readHeader least s in
       let t : List ℕ = take (64 * least) (drop 0 s) in
-      let w : Rooted least (rootBits least) = width in
+      let w : RootWidth least (rootBits least) = width in
       let g : Aged (oldestBits least) = age in
       let at : (a n : ℕ) → a + n ≤ 512 * least → field t a n ≡ field s a n
       = λ a n l. field-part s 0 (64 * least) a n (omega arith) ∙ ap (λ (y : ℕ). field s y n) (omega arith) in

@@ -21,7 +21,7 @@ use Rattle.walk.specs.Live.{live}
 use Rattle.walk.specs.Scan.{Stands, from, Owns}
 use Rattle.walk.specs.Below.{later}
 use Rattle.walk.proofs.laws.Below.{followed-through}
-use Rattle.walk.specs.Sure.{Inside}
+use Rattle.walk.specs.Sure.{PageStands}
 use Rattle.tabled.proofs.laws.Inside.{right-inside}
 use Rattle.tabled.specs.Across.{rightFrom}
 use Rattle.tabled.proofs.laws.Across.{across-on}
@@ -47,7 +47,7 @@ module _ (least : ℕ) (b : List ℕ) (v hi at n : ℕ) where
   starts-of (suc up) z c = all-of up c .0
 
 module _ {l : Limits} {b : List ℕ} (r : Reads l b) (v hi up n k : ℕ) (c : rangeRight (l .least) b v up hi k n ≡ true) where
-  pub here-inside : Inside (l .least) b n
+  pub here-inside : PageStands (l .least) b n
   here-inside = right-inside (r .edition) b (sizeOf (l .least) b) (r .sized) up n (page-of (l .least) b v hi k n up c)
 
   module _ (p : List ℕ) (h : Head) (e : p ≡ pageOf (l .least) b n) (f : h ≡ readHead (l .least) p) where

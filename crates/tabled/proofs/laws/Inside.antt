@@ -30,7 +30,7 @@ use Rattle.model.specs.Near.{pageRight}
 use Rattle.local.proofs.laws.Right.{page-low, page-far}
 use Rattle.walk.specs.Live.{live}
 use Rattle.walk.proofs.laws.Scan.{from-start}
-use Rattle.walk.specs.Sure.{Inside}
+use Rattle.walk.specs.Sure.{PageStands}
 
 module _ {l : Limits} (d : Edition l) (b : List ℕ) (size : ℕ) (z : Sized (l .least) b size) (up n : ℕ) (e : pageRight (l .least) b (suc up) n ≡ true) where
   abbrev least : ℕ
@@ -68,7 +68,7 @@ module _ {l : Limits} (d : Edition l) (b : List ℕ) (size : ℕ) (z : Sized (l 
   entries-are : q .entries ≡ readEntries p 128 (readHead least p .count)
   entries-are = ap (λ (x : Page). x .entries) page-is ∙ entries-of least p
 
-  pub right-inside : Inside least b n
+  pub right-inside : PageStands least b n
   right-inside =
       let c : ℕ = readHead least p .count in
       let part : n * (64 * least) + 64 * least ≤ length b = part-fits least (d .four) b n below in
@@ -82,6 +82,6 @@ module _ {l : Limits} (d : Edition l) (b : List ℕ) (size : ℕ) (z : Sized (l 
         pairs = λ v. ap (live v) (entries-are ∙ from-start p c);
       }
 
-pub level-inside : {l : Limits} (d : Edition l) (b : List ℕ) (size : ℕ) → Sized (l .least) b size → (level n : ℕ) → 0 < level → pageRight (l .least) b level n ≡ true → Inside (l .least) b n
+pub level-inside : {l : Limits} (d : Edition l) (b : List ℕ) (size : ℕ) → Sized (l .least) b size → (level n : ℕ) → 0 < level → pageRight (l .least) b level n ≡ true → PageStands (l .least) b n
 level-inside d b size z zero n h e = absurd (omega arith)
 level-inside d b size z (suc up) n h e = right-inside d b size z up n e

@@ -36,7 +36,7 @@ use Rattle.edit.proofs.laws.Left.{valid-back}
 use Rattle.turn.proofs.laws.Partly.{free-back, frees}
 use Rattle.turn.specs.Slotted.{lastPlace, Cleared}
 use Rattle.turn.proofs.laws.Slotted.{last-apart, other, last-goes, last-stays}
-use Rattle.turn.specs.Turned.{Kept}
+use Rattle.turn.specs.Turned.{HeadedBytes}
 use Rattle.turn.proofs.laws.Turned.{dropped}
 
 take-map : {A B : Type 0} (f : A → B) (n : ℕ) (xs : List A) → take n (map f xs) ≡ map f (take n xs)
@@ -61,14 +61,14 @@ some-slot : (old : ℕ) (xs : List Slot) → firstVersion old xs ≤ old → 0 <
 some-slot old [] e = absurd (omega arith)
 some-slot old (x ∷ xs) e = omega arith
 
-module _ {l : Limits} (d : Edition l) (b : List ℕ) (h : isSound (l .least) b ≡ true) (k : Kept (l .least) b) where
+module _ {l : Limits} (d : Edition l) (b : List ℕ) (h : isSound (l .least) b ≡ true) (k : HeadedBytes (l .least) b) where
   roots-are : readHeader (l .least) b .roots ≡ length (decode (l .least) b .slots)
   roots-are = sym (ap (λ (x : Header). x .roots) (k .header))
 
   pub some-roots : 0 < readHeader (l .least) b .roots
   some-roots = omega (arith, roots-are, some-slot (decode (l .least) b .oldest) (decode (l .least) b .slots) (sure d b h .begins))
 
-module _ {l : Limits} (d : Edition l) (b : List ℕ) (h : isSound (l .least) b ≡ true) (k : Kept (l .least) b) (o : decode (l .least) b .opened ≡ true)
+module _ {l : Limits} (d : Edition l) (b : List ℕ) (h : isSound (l .least) b ≡ true) (k : HeadedBytes (l .least) b) (o : decode (l .least) b .opened ≡ true)
     (w : ℕ) (e : w ≡ next (decode (l .least) b)) (low : w < 2 ^ 20) where
   abbrev least : ℕ
   least = l .least

@@ -27,9 +27,9 @@ use Rattle.store.proofs.laws.Holds.{header-holds}
 use Rattle.store.proofs.laws.Inside.{bytesOf, encode-of, header-in, slot-in, directory-drop}
 use Rattle.store.specs.Set.{withSlots, withState}
 use Rattle.store.proofs.laws.Set.{state-set}
-use Rattle.turn.specs.Turned.{begun, Kept}
+use Rattle.turn.specs.Turned.{begun, HeadedBytes}
 
-module _ (least : ℕ) (four : 4 ≤ least) (eight : least ≤ 8) (b : List ℕ) (k : Kept least b) where
+module _ (least : ℕ) (four : 4 ≤ least) (eight : least ≤ 8) (b : List ℕ) (k : HeadedBytes least b) where
   turned : (c : ℕ) (o : Bool) → c < 2 ^ 20 → putHeader least b (withFlag (withVersion (headerOf (decode least b)) c) o) ≡ encode least (withState (decode least b) c o)
   turned c o low = ap (λ (x : List ℕ). putHeader least x (headerOf (withState (decode least b) c o))) (sym (k .same)) ∙ state-set least four eight (decode least b) (k .holds) c o low
 
@@ -68,7 +68,7 @@ current-last true n = omega arith
 current-last false n = omega arith
 
 module _ {l : Limits} (d : Edition l) (b : List ℕ) (h : isSound (l .least) b ≡ true) where
-  pub kept : Bytes b → Kept (l .least) b
+  pub kept : Bytes b → HeadedBytes (l .least) b
   kept y =
       record { same = same-bytes d b h y; holds = held d b h y; header = header-of (l .least) (d .four) (d .eight) b (sizeOf (l .least) b) (exact d b h y) }
 

@@ -20,7 +20,7 @@ use Rattle.store.specs.Set.{withPages, withSlots}
 use Rattle.edit.specs.declared.Change as code
 use Rattle.edit.specs.Change.{changeOf}
 use Rattle.gather.specs.Kept.{Fits}
-use Rattle.parts.specs.Kept.{Kept, Inside, pagesOf}
+use Rattle.parts.specs.Kept.{ExactBytes, Inside, pagesOf}
 use Rattle.parts.specs.Becomes.{Becomes}
 use Rattle.parts.proofs.laws.Becomes.{shows, kept-after, inside-after}
 use Rattle.plan.specs.declared.Way.{Way}
@@ -58,7 +58,7 @@ not-done n d = at (refused n) (d .is)
     at : (r : Result) → r ≡ done (d .store) → Unrefused r
     at r e = rw e tt
 
-module _ {l : Limits} {b b′ : List ℕ} (k : Kept l b) (become : Becomes l b b′ (pagesOf l b′)) where
+module _ {l : Limits} {b b′ : List ℕ} (k : ExactBytes l b) (become : Becomes l b b′ (pagesOf l b′)) where
   abbrev least : ℕ
   least = l .least
 

@@ -19,11 +19,11 @@ use Rattle.model.proofs.sound.ByRule.{Sound, old-current}
 use Rattle.model.proofs.sound.Ready.{ready}
 use Rattle.model.proofs.plan.PlanSound.{plan-refused, plan-done}
 use Rattle.store.proofs.laws.Sure.{sure}
-use Rattle.walk.specs.Sure.{Readable}
+use Rattle.walk.specs.Sure.{Walkable}
 use Rattle.edit.specs.declared.Change as code
 use Rattle.edit.specs.Change.{changeOf}
 use Rattle.gather.specs.Kept.{Fits}
-use Rattle.parts.specs.Kept.{Kept, pagesOf}
+use Rattle.parts.specs.Kept.{ExactBytes, pagesOf}
 use Rattle.parts.proofs.laws.Kept.{kept-sound}
 use Rattle.plan.specs.declared.Way as plan-code
 use Rattle.plan.specs.Plan.{upsOf}
@@ -52,7 +52,7 @@ module _ {l : Limits} {b : List ℕ} {k : ℕ} (u : Begun l b k) where
   two : 2 ≤ l .least
   two = omega (arith, u .edition .four)
 
-  pub kept : Kept l b
+  pub kept : ExactBytes l b
   kept = kept-sound (u .edition) b (u .sound) (u .bytes)
 
   pub slots : Slotted l b
@@ -62,7 +62,7 @@ module _ {l : Limits} {b : List ℕ} {k : ℕ} (u : Begun l b k) where
     pub low : w < 2 ^ 20
     low = omega (arith, slots .low)
 
-    pub readable : Readable l b w
+    pub readable : Walkable l b w
     readable =
         let q : last (decode (l .least) b) ≡ next (decode (l .least) b) = ap (λ (x : Bool). lastOf x (decode (l .least) b .current)) (u .opened) in
         record { edition = u .edition; sound = u .sound; version = omega (arith, old-current (l .least) (decode (l .least) b) (sure (u .edition) b (u .sound) .old-low)) }

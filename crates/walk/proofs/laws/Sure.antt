@@ -24,7 +24,7 @@ use Rattle.walk.specs.Live.{live}
 use Rattle.walk.specs.Covers.{Covers}
 use Rattle.walk.proofs.laws.Covers.{covers-root}
 use Rattle.walk.proofs.laws.Scan.{from-start}
-use Rattle.walk.specs.Sure.{Inside, Readable}
+use Rattle.walk.specs.Sure.{PageStands, Walkable}
 
 module _ {l : Limits} (d : Edition l) (b : List ℕ) (h : isSound (l .least) b ≡ true) where
   -- a page that is not free is one of them, with its entries as rule 1 has them
@@ -44,7 +44,7 @@ module _ {l : Limits} (d : Edition l) (b : List ℕ) (h : isSound (l .least) b �
     entries-are : page (decode (l .least) b .pages) n .entries ≡ readEntries (pageOf (l .least) b n) 128 (readHead (l .least) (pageOf (l .least) b n) .count)
     entries-are = ap (λ (p : Page). p .entries) page-is ∙ entries-of (l .least) (pageOf (l .least) b n)
 
-    pub inside : Inside (l .least) b n
+    pub inside : PageStands (l .least) b n
     inside =
         let p : List ℕ = pageOf (l .least) b n in
         let c : ℕ = readHead (l .least) p .count in
@@ -60,10 +60,10 @@ module _ {l : Limits} (d : Edition l) (b : List ℕ) (h : isSound (l .least) b �
         }
 
 -- the pages of a walk
-module _ {l : Limits} {b : List ℕ} {v : ℕ} (r : Readable l b v) where
+module _ {l : Limits} {b : List ℕ} {v : ℕ} (r : Walkable l b v) where
   pub root-covers : (k : ℕ) → k < keyLimit
       → Covers (l .least) v (decode (l .least) b .pages) (heightOf (decode (l .least) b .pages) (rootAt (decode (l .least) b .slots) v)) (rootAt (decode (l .least) b .slots) v) k
   root-covers k h = covers-root (l .least) (omega (arith, r .edition .four)) (decode (l .least) b) (sure (r .edition) b (r .sound)) v k (r .version) h
 
-  pub covers-inside : (up n k : ℕ) → Covers (l .least) v (decode (l .least) b .pages) up n k → Inside (l .least) b n
+  pub covers-inside : (up n k : ℕ) → Covers (l .least) v (decode (l .least) b .pages) up n k → PageStands (l .least) b n
   covers-inside up n k c = inside (r .edition) b (r .sound) n up (c .level)

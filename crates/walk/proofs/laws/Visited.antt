@@ -23,7 +23,7 @@ use Rattle.store.proofs.laws.Sure.{whole, sure}
 use Rattle.walk.specs.Counted.{withList}
 use Rattle.walk.specs.Covers.{Covers}
 use Rattle.walk.proofs.laws.Covers.{covers-own}
-use Rattle.walk.specs.Sure.{Readable}
+use Rattle.walk.specs.Sure.{Walkable}
 use Rattle.walk.proofs.laws.Sure.{size, root-covers}
 
 module _ (ns ms : List ℕ) where
@@ -58,11 +58,11 @@ module _ (s : Store) (k v : ℕ) (ns : List ℕ) (up : ℕ) (e : up ≡ heightOf
 -- ---- one page after the other
 
 -- a page's number has 32 bits
-pub covers-number : {l : Limits} {b : List ℕ} {v : ℕ} → Readable l b v → (up n k : ℕ) → Covers (l .least) v (decode (l .least) b .pages) up n k → n < 2 ^ 32
+pub covers-number : {l : Limits} {b : List ℕ} {v : ℕ} → Walkable l b v → (up n k : ℕ) → Covers (l .least) v (decode (l .least) b .pages) up n k → n < 2 ^ 32
 covers-number {l} {b} r up n k c = omega (arith, size (r .edition) b (r .sound) n up (c .level), whole (r .edition) b (r .sound) .most)
 
 -- no root stands more than six levels above the leaves
-pub root-height : {l : Limits} {b : List ℕ} {v : ℕ} → Readable l b v → heightOf (decode (l .least) b .pages) (rootAt (decode (l .least) b .slots) v) ≤ 6
+pub root-height : {l : Limits} {b : List ℕ} {v : ℕ} → Walkable l b v → heightOf (decode (l .least) b .pages) (rootAt (decode (l .least) b .slots) v) ≤ 6
 root-height {l} {b} {v} r =
     let s : Store = decode (l .least) b in
     let n : ℕ = rootAt (s .slots) v in

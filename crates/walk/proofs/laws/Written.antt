@@ -9,7 +9,7 @@ use lib.Seq.{sets, length-sets, sets-eq}
 use Rattle.model.specs.Basic.{flatMap}
 use Rattle.model.specs.declared.Pair.{Pair}
 use Rattle.model.specs.Calls.{pairNumbers}
-use Rattle.walk.specs.Written.{numbers, written, Space, Gathers}
+use Rattle.walk.specs.Written.{numbers, written, PairSpace, PairGathers}
 
 pub length-numbers : (xs : List Pair) → length (numbers xs) ≡ 2 * length xs
 length-numbers [] = refl
@@ -64,41 +64,41 @@ unfolding written
 written-not ns xs = refl
 
 -- where they are only counted no room is wanted
-pub none-room : {ns : List ℕ} {xs : List Pair} → length xs ≤ 2 ^ 40 → Space false ns 0 xs
+pub none-room : {ns : List ℕ} {xs : List Pair} → length xs ≤ 2 ^ 40 → PairSpace false ns 0 xs
 none-room h = record { few = omega arith; room = λ e. absurd (let z : _≡_ {A = ℕ} 0 1 = cc in omega arith) }
 
-module _ {w : Bool} {ns : List ℕ} {k : ℕ} (xs ys : List Pair) (s : Space w ns k (xs ++ ys)) where
-  pub space-front : Space w ns k xs
+module _ {w : Bool} {ns : List ℕ} {k : ℕ} (xs ys : List Pair) (s : PairSpace w ns k (xs ++ ys)) where
+  pub space-front : PairSpace w ns k xs
   space-front = record { few = omega (arith, s .few, length-append xs ys); room = λ e. omega (arith, s .room e, length-append xs ys) }
 
-  pub space-rest : (ns′ : List ℕ) → length ns′ ≡ length ns → Space w ns′ (k + length xs) ys
+  pub space-rest : (ns′ : List ℕ) → length ns′ ≡ length ns → PairSpace w ns′ (k + length xs) ys
   space-rest ns′ l = record { few = omega (arith, s .few, length-append xs ys); room = λ e. omega (arith, s .room e, length-append xs ys, l) }
 
-pub gathers-append : {w : Bool} {ns ns1 ns2 : List ℕ} {k k1 k2 : ℕ} {xs ys : List Pair} → Gathers w ns ns1 k k1 xs → Gathers w ns1 ns2 k1 k2 ys → Gathers w ns ns2 k k2 (xs ++ ys)
+pub gathers-append : {w : Bool} {ns ns1 ns2 : List ℕ} {k k1 k2 : ℕ} {xs ys : List Pair} → PairGathers w ns ns1 k k1 xs → PairGathers w ns1 ns2 k1 k2 ys → PairGathers w ns ns2 k k2 (xs ++ ys)
 gathers-append {w} {ns} {k = k} {xs = xs} {ys = ys} a b = record {
   count = omega (arith, a .count, b .count, length-append xs ys);
   list = b .list ∙ rw (a .list, a .count) (sym (written-append w ns k xs ys));
 }
 
-pub gathers-length : {w : Bool} {ns ns1 : List ℕ} {k k1 : ℕ} {xs : List Pair} → Gathers w ns ns1 k k1 xs → length ns1 ≡ length ns
+pub gathers-length : {w : Bool} {ns ns1 : List ℕ} {k k1 : ℕ} {xs : List Pair} → PairGathers w ns ns1 k k1 xs → length ns1 ≡ length ns
 gathers-length {w} {ns} {k = k} {xs = xs} g = ap (λ (zs : List ℕ). length zs) (g .list) ∙ length-written w ns k xs
 
-pub gathers-space : {w : Bool} {ns ns1 : List ℕ} {k k1 : ℕ} (xs ys : List Pair) → Space w ns k (xs ++ ys) → Gathers w ns ns1 k k1 xs → Space w ns1 k1 ys
+pub gathers-space : {w : Bool} {ns ns1 : List ℕ} {k k1 : ℕ} (xs ys : List Pair) → PairSpace w ns k (xs ++ ys) → PairGathers w ns ns1 k k1 xs → PairSpace w ns1 k1 ys
 gathers-space {w} {ns} {ns1} {k} {k1} xs ys s g = rw (g .count) (space-rest xs ys s ns1 (gathers-length g))
 
 -- what a loop that gathers has: what is left of the whole, behind the first k, with the list as it is now
-pub record Gathering (w : Bool) (ns₀ ns : List ℕ) (k₀ k : ℕ) (whole left : List Pair) : Type 0 where
+pub record PairGathering (w : Bool) (ns₀ ns : List ℕ) (k₀ k : ℕ) (whole left : List Pair) : Type 0 where
   pub count : k₀ + length whole ≡ k + length left
   pub list : written w ns₀ k₀ whole ≡ written w ns k left
   pub same : length ns ≡ length ns₀
-  pub space : Space w ns k left
+  pub space : PairSpace w ns k left
 
-pub gather-start : {w : Bool} {ns : List ℕ} {k : ℕ} {xs : List Pair} → Space w ns k xs → Gathering w ns ns k k xs xs
+pub gather-start : {w : Bool} {ns : List ℕ} {k : ℕ} {xs : List Pair} → PairSpace w ns k xs → PairGathering w ns ns k k xs xs
 gather-start s = record { count = refl; list = refl; same = refl; space = s }
 
 module _ {w : Bool} {ns₀ ns : List ℕ} {k₀ k : ℕ} {whole : List Pair} where
   -- the first of what is left is written
-  pub gather-step : (xs ys : List Pair) → Gathering w ns₀ ns k₀ k whole (xs ++ ys) → (ns′ : List ℕ) (k′ : ℕ) → Gathers w ns ns′ k k′ xs → Gathering w ns₀ ns′ k₀ k′ whole ys
+  pub gather-step : (xs ys : List Pair) → PairGathering w ns₀ ns k₀ k whole (xs ++ ys) → (ns′ : List ℕ) (k′ : ℕ) → PairGathers w ns ns′ k k′ xs → PairGathering w ns₀ ns′ k₀ k′ whole ys
   gather-step xs ys g ns′ k′ r = record {
     count = omega (arith, g .count, r .count, length-append xs ys);
     list = g .list ∙ written-append w ns k xs ys ∙ rw (r .list, r .count);
@@ -106,8 +106,8 @@ module _ {w : Bool} {ns₀ ns : List ℕ} {k₀ k : ℕ} {whole : List Pair} whe
     space = gathers-space xs ys (g .space) r;
   }
 
-  pub gather-same : {xs ys : List Pair} → xs ≡ ys → Gathering w ns₀ ns k₀ k whole xs → Gathering w ns₀ ns k₀ k whole ys
+  pub gather-same : {xs ys : List Pair} → xs ≡ ys → PairGathering w ns₀ ns k₀ k whole xs → PairGathering w ns₀ ns k₀ k whole ys
   gather-same e g = rw e at g
 
-  pub gather-end : Gathering w ns₀ ns k₀ k whole [] → Gathers w ns₀ ns k₀ k whole
+  pub gather-end : PairGathering w ns₀ ns k₀ k whole [] → PairGathers w ns₀ ns k₀ k whole
   gather-end g = record { count = omega (arith, g .count); list = sym (g .list ∙ written-none w ns k) }

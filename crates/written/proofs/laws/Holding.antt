@@ -20,7 +20,7 @@ use Rattle.model.specs.Layout.{unused, noSlot}
 use Rattle.model.proofs.lists.Lists.{both-true}
 use Rattle.model.proofs.lists.Members.{all-at, in-getD, bool-cases}
 use Rattle.model.proofs.sound.ByRule.{Sound, Span, span-of, GoodEntry, entry-of}
-use Rattle.page.specs.Read.{Sized}
+use Rattle.page.specs.Read.{FieldsFit}
 use Rattle.page.proofs.laws.Read.{sized-unused}
 use Rattle.page.specs.Exact.{Valid}
 use Rattle.page.proofs.laws.Exact.{valid-free}
@@ -56,10 +56,10 @@ module _ (least : ℕ) (s : Store) (d : Sound least s) where
       at true e = omega (arith, ltb-true n 4294967296 (both-true (leb 1 start) (ltb n 4294967296) e .1))
       at false e = omega (arith, page-number n e)
 
-  entry-sized : (n : ℕ) → isFree (page (s .pages) n) ≡ false → (k : ℕ) → Sized (getD (page (s .pages) n .entries) k unused)
+  entry-sized : (n : ℕ) → isFree (page (s .pages) n) ≡ false → (k : ℕ) → FieldsFit (getD (page (s .pages) n .entries) k unused)
   entry-sized n used k = ⊎-elim here (λ (l : length (page (s .pages) n .entries) ≤ k). rw (List·getD-eq-default (page (s .pages) n .entries) unused {n = k} l) sized-unused) (less k (length (page (s .pages) n .entries)))
     where
-      here : k < length (page (s .pages) n .entries) → Sized (getD (page (s .pages) n .entries) k unused)
+      here : k < length (page (s .pages) n .entries) → FieldsFit (getD (page (s .pages) n .entries) k unused)
       here l =
           let e : Entry = getD (page (s .pages) n .entries) k unused in
           let g : GoodEntry s (page (s .pages) n) e = entry-of least s d n used e (in-getD unused (page (s .pages) n .entries) k l) in

@@ -3,7 +3,7 @@ use Prim.Native.Nat.{_+_, _*_, _-_, _<_, _≤_}
 use mathlib.Core.Path.{_≡_, refl, _∙_}
 use lib.ListN.{length}
 use native.Mathlib.Omega.{arith}
-use Rattle.console.specs.Obeys.{storeIn, Upto}
+use Rattle.console.specs.Obeys.{storeIn, PieceUpto}
 use Rattle.console.proofs.Telling.{from-here, from-part, moves-on, one-more}
 use borrow.Author.Needs.{needs}
 use Rattle.console.proofs.filling.fill.Statement.{statement}
@@ -12,7 +12,7 @@ use Rattle.console.proofs.filling.fill.Tie as tie
 abbrev Inv-loop : tie.InvT-loop
 Inv-loop pages bytes₀ list₀ piece out₀ h₀ p₀ used₀ len₀ bytes list out h p used len =
     (length bytes ≡ length bytes₀) × (length list ≡ length list₀) × (length out ≡ length out₀) × (len ≤ 110462 * used)
-    × Upto h₀ (storeIn bytes₀ p₀) piece bytes out (record { held = h; pages = p; used = used; len = len })
+    × PieceUpto h₀ (storeIn bytes₀ p₀) piece bytes out (record { held = h; pages = p; used = used; len = len })
 
 abbrev μ-loop : tie.MeasureT-loop
 μ-loop pages bytes₀ list₀ piece out₀ h₀ p₀ used₀ len₀ bytes list out h p used len = length piece - used

@@ -5,14 +5,14 @@ use lib.ListN.{length, take, drop}
 use lib.Seq.{length-take-le}
 use native.Mathlib.Omega.{arith}
 use Rattle.console.specs.Obeys.{storeIn}
-use Rattle.console.proofs.Passing.{Going, set-out, length-part, part-moves, filled-part, go-on, arrive}
+use Rattle.console.proofs.Passing.{PieceGoing, set-out, length-part, part-moves, filled-part, go-on, arrive}
 use borrow.Author.Needs.{needs}
 use Rattle.console.proofs.serving.pass.Statement.{statement}
 use Rattle.console.proofs.serving.pass.Tie as tie
 
 abbrev Inv-loop : tie.InvT-loop
 Inv-loop pages bytes₀ list₀ piece out₀ h₀ p₀ at₀ went₀ bytes list out h p at went =
-    (length bytes ≡ length bytes₀) × (length list ≡ length list₀) × (length out ≡ length out₀) × Going h₀ (storeIn bytes₀ p₀) piece bytes h p at
+    (length bytes ≡ length bytes₀) × (length list ≡ length list₀) × (length out ≡ length out₀) × PieceGoing h₀ (storeIn bytes₀ p₀) piece bytes h p at
 
 abbrev μ-loop : tie.MeasureT-loop
 μ-loop pages bytes₀ list₀ piece out₀ h₀ p₀ at₀ went₀ bytes list out h p at went = length piece - at

@@ -3,7 +3,7 @@ use mathlib.Core.Bool.{true}
 use native.Mathlib.Omega.{arith}
 use borrow.Author.Tests.{not-true, not-false}
 use Rattle.model.specs.Layout.{decode, readEntries}
-use Rattle.page.specs.Read.{Sized}
+use Rattle.page.specs.Read.{FieldsFit}
 use Rattle.page.proofs.laws.Read.{read-sized}
 use Rattle.notes.specs.declared.Note.{Note}
 use Rattle.notes.specs.Notes.{nothing, noteAt, row}
@@ -171,7 +171,7 @@ visit-entry-at-requires : (t : ℕ) → visit-lts.Need-entry-at-requires (visit-
 visit-entry-at-requires t c κs = let a = c .before .before .before .before .before .before .before .args in let r = c .before .before .before .before .before .before .before .pre .1 in let k = stands-here (r .0) (a .s .now) (r .1) (a .n) (r .2) (c .before .before .before .before .part .result .now) (c .before .before .before .before .part .ensures) (c .before .before .before .head-of .result) (c .before .before .before .head-of .ensures) in (omega (arith, k .room, c .loop-test .taken), k .long)
 
 visit-next-requires : (t : ℕ) → visit-lts.Need-next-requires (visit-claims t) (visit-at t) visit.Post visit-Inv-loop visit-μ-loop
-visit-next-requires t c κs = let a = c .before .before .before .before .before .before .before .before .before .args in let r = c .before .before .before .before .before .before .before .before .before .pre .1 in let z = subst Sized (sym (c .before .entry-at .ensures)) (read-sized (c .before .before .before .before .before .before .part .result .now) (128 + 96 * c .before .before .before .loop .i)) in (
+visit-next-requires t c κs = let a = c .before .before .before .before .before .before .before .before .before .args in let r = c .before .before .before .before .before .before .before .before .before .pre .1 in let z = subst FieldsFit (sym (c .before .entry-at .ensures)) (read-sized (c .before .before .before .before .before .before .part .result .now) (128 + 96 * c .before .before .before .loop .i)) in (
   omega (arith, c .before .before .before .before .before .before .before .before .before .pre .0),
   (
     r .0,

@@ -2,7 +2,7 @@ use mathlib.Core.Path.{ap, sym, _∙_}
 use native.Mathlib.Omega.{arith}
 use borrow.Author.Tests.{not-true, not-false, eq-eqb, ne-eqb}
 use Rattle.page.specs.declared.Head.{Head}
-use Rattle.notes.specs.Linked.{Stands}
+use Rattle.notes.specs.Linked.{EntryRoom}
 use Rattle.quick.proofs.laws.Part.{fine-by}
 use Rattle.quick.proofs.part.fine_over.Statement.{statement}
 use Rattle.quick.proofs.part.fine_over.Tie as tie
@@ -10,7 +10,7 @@ use Rattle.quick.proofs.part.fine_over.Tie as tie
 head-of-requires : tie.Need-head-of-requires
 head-of-requires c κs = (c .before .pre .0, omega (arith, c .before .pre .1, c .before .pre .0 .four), omega (arith, c .before .pre .1, c .before .pre .0 .eight))
 
-stands : (c : tie.After-head-of) → Stands (c .before .before .args .page .now) (c .head-of .result .count)
+stands : (c : tie.After-head-of) → EntryRoom (c .before .before .args .page .now) (c .head-of .result .count)
 stands c =
     let r = c .before .before .pre in
     record {
