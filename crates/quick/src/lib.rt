@@ -1,6 +1,6 @@
 // Sound or not, found quickly: no walk, and no version by version, so that a million commits cost no more than none.
 //
-// The tests are those of model/specs/Quick, which are rules 4 to 6 where rules 1 to 3 hold (model/proofs/Quick, `quick-rules`). Which
+// The tests are those of spans/specs/Quick, which are rules 4 to 6 where rules 1 to 3 hold (spans/proofs/laws/Quick, `quick-rules`). Which
 // rule is broken is for `judge`: here the number of check is given, and no more.
 mod entry;
 mod pages;
@@ -35,7 +35,7 @@ pub(crate) fn wide(x: u32) -> usize
     x as usize
 }
 
-// The sums and the slots: rule 6, once rules 4 and 5 hold (notes/specs/Six, `six-by`). Each is one pass over the store.
+// The sums and the slots: rule 6, once rules 4 and 5 hold (notes/proofs/laws/Six, `six-by`). Each is one pass over the store.
 pub fn led(s: &[u8], l: Limits) -> bool
     requires { ⌜ Edition l × QuickGood (l .least) (now s) × GoodSlots (l .least) (now s) ⌝ }
     ensures { λ r. ⌜ r ≡ (spansMet (decode (l .least) (now (s .entry))) 5 (drop 5 (decode (l .least) (now (s .entry)) .pages)) && slotsFine (l .least) (decode (l .least) (now (s .entry)) .oldest) (decode (l .least) (now (s .entry)) .pages) (decode (l .least) (now (s .entry)) .slots)) ⌝ }

@@ -25,11 +25,11 @@ use Rattle.model.proofs.sound.ByRule.{Front, front-of, span-of, numbers, livesA
 use Rattle.model.proofs.sound.Quiet.{QuietPage, Quiet, seen-still, reached-still}
 use Rattle.model.proofs.tree.Bridge.{passesAt}
 use Rattle.model.proofs.sound.Walks.{reach-self}
+use Rattle.spans.proofs.laws.ToWalks
+use Rattle.spans.proofs.laws.FromWalks
 use Rattle.spans.proofs.laws.RulesGive.{entry-at, root, height, root-used}
 use Rattle.spans.proofs.laws.OneWay.{Reached}
 use Rattle.spans.proofs.laws.AddedUp.{reached-number, number-reached, reached-as, met-at, at-met}
-use Rattle.spans.proofs.laws.ToWalks
-use Rattle.spans.proofs.laws.FromWalks
 
 -- two tests that imply each other are one
 same-test : (a b : Bool) → (a ≡ true → b ≡ true) → (b ≡ true → a ≡ true) → a ≡ b
