@@ -4,18 +4,17 @@ use Prim.Native.Nat.{ℕ, _+_, _*_, _≤_}
 use mathlib.Core.Bool.{Bool, true, false, _&&_}
 use mathlib.Core.Path.{_≡_, refl, ap, _∙_}
 use mathlib.Core.List.{List}
-use lib.Dec.{eqb, leb, ltb}
+use lib.Dec.{eqb, leb}
 use lib.ListN.{length, getD}
 use borrow.Author.Tests.{le-ltb}
 use Rattle.model.specs.Basic.{pick}
 use Rattle.model.specs.Calls.{Ranged}
-use Rattle.model.specs.declared.Looked.{Looked}
 use Rattle.model.specs.declared.Looked.the-variants.{Refused}
-use Rattle.model.specs.Lent.{Listed, listed}
-use Rattle.model.specs.Ended.{Asked, toFresh, toFreshSecond, toCheck, toState, toOpen, toCommit, toAbandon, toInsert, toDelete, toReturn, toPrune, toLookup, toRange, toVisits, toDifference, toLife}
+use Rattle.model.specs.Lent.{listed}
+use Rattle.model.specs.Ended.{toFresh, toFreshSecond, toCheck, toState, toOpen, toCommit, toAbandon, toInsert, toDelete, toReturn, toPrune, toLookup, toRange, toVisits, toDifference, toLife}
 use Rattle.plain.specs.Plain.{Plain, Given, begin, insert, delete, commit, abandon, return, prune, lookup, range, difference, life}
-use Rattle.plain.specs.Guard.{stateOf, longest, isState, isLent, readPlain, refusing, guarded, lacks, fitted, ownInserts}
-use Rattle.auditor.specs.Engine.{Plainly, ofGiven, ofLooked, ofListed}
+use Rattle.plain.specs.Guard.{stateOf, longest, isState, isLent, readPlain, refusing, guarded, fitted, ownInserts}
+use Rattle.auditor.specs.Engine.{ofGiven, ofLooked, ofListed}
 use Rattle.auditor.specs.Linked.{Linked}
 
 both : (b c : Bool) → (b && c) ≡ true → b ≡ true

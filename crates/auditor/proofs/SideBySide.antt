@@ -5,47 +5,44 @@ use native.Mathlib.Omega.{arith}
 use mathlib.Core.Bool.{Bool, true, false, _&&_, _||_, not}
 use mathlib.Core.Option.{Option, none, some}
 use mathlib.Core.Path.{_≡_, refl, ap, ap₂, sym, _∙_, subst}
-use mathlib.Core.Logic.{_⊎_, inl, inr}
-use mathlib.Core.List.{List, [], _∷_, _++_, map}
+use mathlib.Core.Logic.{inl, inr}
+use mathlib.Core.List.{List, [], _∷_, map}
 use lib.Dec.{leb, ltb, eqb}
 use lib.ListN.{length, length-append}
-use borrow.Author.Tests.{leb-true, leb-false, ltb-true, ltb-false, eqb-true, not-false}
+use borrow.Author.Tests.{leb-false, ltb-false, not-false}
 use Rattle.model.specs.Basic.{pick, those, keep, all, isEmpty}
 use Rattle.model.specs.declared.Pair.{Pair}
 use Rattle.model.specs.declared.Entry.{Entry}
 use Rattle.model.specs.declared.Delta.{Delta}
-use Rattle.model.specs.declared.Stretch.{Stretch}
-use Rattle.model.specs.declared.Looked.{Looked}
-use Rattle.model.specs.Entry.{pair, born, endThose, liveAt}
+use Rattle.model.specs.Entry.{pair, born, liveAt}
 use Rattle.model.specs.Limits.{editionOf}
-use Rattle.model.specs.Store.{Store, fresh, lastOf}
+use Rattle.model.specs.Store.{fresh, lastOf}
 use Rattle.model.specs.Store as store
 use Rattle.model.specs.Walk.{keyLimit, find, between}
 use Rattle.model.specs.Walk as walk
 use Rattle.model.specs.Layout.{encode}
-use Rattle.model.specs.Calls.{isSome, Rule, rule, firstOf, beyond, insertTests, deleteTests, pruneTests, benchLimit, revived, restoredEntries, lookedNumber, lookedFound, lookedValue, lookedAt, lookedBy, Ranged, rangedBy}
-use Rattle.model.specs.Layout.{bit}
+use Rattle.model.specs.Calls.{isSome, Rule, rule, firstOf, beyond, insertTests, deleteTests, pruneTests, benchLimit, revived, restoredEntries, lookedAt, lookedBy, Ranged, rangedBy}
 use Rattle.model.specs.Inner.{rising}
 use Rattle.model.specs.Told.{toldBy}
 use Rattle.model.specs.Differ.{differ, deltaNumbers}
 use Rattle.model.specs.Life.{lifeOf, stretchNumbers}
 use Rattle.model.specs.Return.{returnTests, comes, lacking}
-use Rattle.model.specs.Histories.{Call, begins, commits, abandons, inserts, deletes, returns, prunes}
+use Rattle.model.specs.Histories.{begins, commits, abandons, inserts, deletes, returns, prunes}
 use Rattle.model.specs.Settings.{Machine, start, step}
 use Rattle.model.specs.Lent.{Listed, listed}
 use Rattle.model.specs.Editions.{leastOf}
 use Rattle.model.specs.Sound.{sound}
 use Rattle.model.specs.Ended as calls
 use Rattle.model.specs.Ended.{Asked, Ended, ended, toFresh, toFreshSecond, toCheck, toState, toOpen, toCommit, toAbandon, toInsert, toDelete, toReturn, toPrune, toLookup, toRange, toVisits, toDifference, toLife}
-use Rattle.model.proofs.Lists.{both-intro, all-cons, shorter}
-use Rattle.model.proofs.Members.{true-holds}
-use Rattle.model.proofs.Given.{to-tests}
-use Rattle.model.proofs.Turns.{fresh-sound}
-use Rattle.model.proofs.Editions.{edition-four}
-use Rattle.model.proofs.Same.{same-none}
-use Rattle.model.proofs.Lives.{life-ext}
+use Rattle.model.proofs.lists.Lists.{both-intro, all-cons, shorter}
+use Rattle.model.proofs.lists.Members.{true-holds}
+use Rattle.model.proofs.sound.ByRule.{to-tests}
+use Rattle.model.proofs.turning.Turns.{fresh-sound}
+use Rattle.model.proofs.theorems.Editions.{edition-four}
+use Rattle.model.proofs.reading.Same.{same-none}
+use Rattle.model.proofs.reading.Lives.{life-ext}
 use Rattle.promises.specs.Accepts.{storeOf, OfEdition}
-use Rattle.promises.specs.Runs.{Turn, turned, Kind, making, changing, reading, kindOf, givesUp, notMaking, fitting, each}
+use Rattle.promises.specs.Runs.{Turn, turned, Kind, changing, reading, kindOf, givesUp, notMaking, fitting, each}
 use Rattle.promises.specs.Beside.{Beside, whenDone, stepped, undone, onward, fromFresh}
 use Rattle.promises.specs.Answers.{Answers, Gives, lastIn, lookupTests, rangeTests, differenceTests, lifeTests, openTests, endTests, commitTests, lookedIn, rangedFrom, toldFrom, livedIn, aliveIn, unchangedIn}
 use Rattle.promises.proofs.Agreed.{Agreed, fresh-agreed, one-turn}
@@ -55,9 +52,9 @@ use Rattle.plain.specs.Plain.{Plain, empty, valueAt, settings, differs, setKey,
 use Rattle.plain.proofs.Keys.{settings-are, differs-are}
 use Rattle.plain.proofs.Values.{kept-shorter}
 use Rattle.plain.proofs.Backs.{back-few}
-use Rattle.plain.proofs.Shows.{Shows, shows-start, shows-begins, shows-commits, shows-abandons, shows-inserts, shows-deletes, shows-returns, shows-prunes}
-use Rattle.auditor.specs.Engine.{has, Plainly, ofGiven, ofListed, plainly}
-use Rattle.auditor.specs.SideBySide.{Equal, OneCall, followed, insertsBy, acceptedIn, Fits, EachCall, SideBySide}
+use Rattle.plain.proofs.Shows.{ItemsShow, shows-start, shows-begins, shows-commits, shows-abandons, shows-inserts, shows-deletes, shows-returns, shows-prunes}
+use Rattle.auditor.specs.Engine.{has, ofGiven, ofListed, plainly}
+use Rattle.auditor.specs.SideBySide.{Equal, OneCall, followed, insertsBy, acceptedIn, FitsRoom, EachCall, SideBySide}
 
 -- ---- the plain store beside the machine
 
@@ -68,7 +65,7 @@ plainBy d m es = record { current = m .current; opened = m .opened; oldest = m .
 record Follows (d : ℕ) (m : Machine) (p : Plain) : Type 0 where
   pub items : List Entry
   pub is : p ≡ plainBy d m items
-  pub shows : Shows m items
+  pub shows : ItemsShow m items
 
 -- ---- the first test that holds
 
@@ -192,7 +189,7 @@ restored-shorter w (e ∷ es) = at (eqb (e .start) w) (restored-shorter w es)
 
 -- ---- one call, by the machine beside the tree
 
-module _ (x : Beside) (a : Agreed x) (es : List Entry) (s : Shows (x .machine) es) where
+module _ (x : Beside) (a : Agreed x) (es : List Entry) (s : ItemsShow (x .machine) es) where
   abbrev m : Machine
   m = x .machine
 
@@ -582,7 +579,7 @@ module _ (x : Beside) (a : Agreed x) (es : List Entry) (s : Shows (x .machine) e
 
 -- ---- one after another
 
-fits-by : (d : ℕ) (m : Machine) (es : List Entry) → Shows m es → (room : ℕ) → length es ≤ room → Fits room (plainBy d m es)
+fits-by : (d : ℕ) (m : Machine) (es : List Entry) → ItemsShow m es → (room : ℕ) → length es ≤ room → FitsRoom room (plainBy d m es)
 fits-by d m es s room h = record { items = h; version = at (m .opened) (s .low) }
   where
     at : (b : Bool) → lastOf b (m .current) ≤ 1048574 → m .current ≤ 1048574
@@ -615,7 +612,7 @@ same-edition x a t fit own =
 each-call : (ts : List Turn) → each fitting ts ≡ true → all (λ (t : Turn). has (t .call)) ts ≡ true → (x : Beside) → Agreed x → (p : Plain) → Follows (editionOf (leastOf (x .bytes))) (x .machine) p
     → (room : ℕ) → length (p .items) + acceptedIn (x .bytes) ts ≤ room → EachCall room (x .bytes) p ts
 each-call [] f h x a p follows room fits =
-    subst (λ (q : Plain). length (q .items) + 0 ≤ room → Fits room q) (sym (follows .is))
+    subst (λ (q : Plain). length (q .items) + 0 ≤ room → FitsRoom room q) (sym (follows .is))
     (λ i. fits-by (editionOf (leastOf (x .bytes))) (x .machine) (follows .items) (follows .shows) room (omega (arith, i))) fits
 each-call (t ∷ ts) f h x a p follows room fits =
     let (fit, fits-on) = all-cons (λ (u : Turn). fitting (kindOf (u .call))) t ts f in

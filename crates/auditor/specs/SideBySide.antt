@@ -16,7 +16,7 @@ use Rattle.model.specs.Layout.{encode}
 use Rattle.model.specs.Differ.{differ}
 use Rattle.model.specs.Return.{comes, lacking}
 use Rattle.model.specs.Histories.{begins, commits, abandons, inserts, deletes, returns, prunes}
-use Rattle.model.specs.Ended.{Asked, Ended}
+use Rattle.model.specs.Ended.{Ended}
 use Rattle.promises.specs.Accepts.{storeOf, OfEdition}
 use Rattle.promises.specs.Runs.{Turn, turned, Kind, making, changing, reading, kindOf, givesUp, fitting, each}
 use Rattle.promises.specs.Beside.{whenDone}
@@ -66,13 +66,13 @@ acceptedIn b (t ∷ ts) = accepted b t + acceptedIn (turned b t .store) ts
 
 -- what the functions of crate plain ask of a lent list that has room for so many items (Items' Held): after an insert or a return too, so that
 -- the room is never outgrown
-pub record Fits (room : ℕ) (p : Plain) : Type 0 where
+pub record FitsRoom (room : ℕ) (p : Plain) : Type 0 where
   pub items : length (p .items) ≤ room
   pub version : p .current ≤ 1048574
 
 abbrev pub EachCall : ℕ → List ℕ → Plain → List Turn → Type 0
-EachCall room b p [] = Fits room p
-EachCall room b p (t ∷ ts) = Fits room p × OneCall b p t × EachCall room (turned b t .store) (followed (turned b t .number) p t) ts
+EachCall room b p [] = FitsRoom room p
+EachCall room b p (t ∷ ts) = FitsRoom room p × OneCall b p t × EachCall room (turned b t .store) (followed (turned b t .number) p t) ts
 
 abbrev pub SideBySide : Type 0
 SideBySide = (least : ℕ) → OfEdition least → (n : ℕ) → 6 ≤ n → n ≤ 4096 → (ts : List Turn) → each fitting ts ≡ true → all (λ (t : Turn). has (t .call)) ts ≡ true

@@ -1,5 +1,2 @@
-pub mod Due
-pub mod Single
 pub mod Going
 pub mod Pass
-pub mod Both

@@ -8,7 +8,7 @@ ghost use Rattle.model.specs.Walk.{keyLimit, lookup};
 ghost use Rattle.model.specs.Layout.{decode};
 ghost use Rattle.model.specs.Calls.{isSome};
 ghost use Rattle.model.specs.Lent.{leaving, insertLent, deleteLent};
-ghost use Rattle.walk.specs.Sure.{Readable};
+ghost use Rattle.walk.specs.Sure.{Walkable};
 ghost use Rattle.reads.specs.Guard.{guarded, Sure};
 ghost use Rattle.changes.specs.Updating.{updating, limitOf, against};
 
@@ -17,7 +17,7 @@ const BENCH: u32 = 16776960;
 
 // Whether a key is alive at version w.
 fn is_alive(s: &[u8], l: Limits, key: u32, w: u32) -> bool
-    requires { ⌜ Readable l (now s) w × (key < keyLimit) ⌝ }
+    requires { ⌜ Walkable l (now s) w × (key < keyLimit) ⌝ }
     ensures { λ r. ⌜ r ≡ isSome (lookup (decode (l .least) (now (s .entry))) key w) ⌝ }
 {
     match walk::lookup(s, l, key, w) {

@@ -1,3 +1,2 @@
-pub mod Rebuild
 pub mod Work
 pub mod Climb

@@ -11,7 +11,7 @@ ghost use Rattle.model.specs.Rules.{retire, usable, parts, rebuilt, rebuild};
 ghost use Rattle.model.specs.Needs.{fills};
 ghost use Rattle.model.specs.Plan.{routersTo};
 ghost use Rattle.gather.specs.Gather.{pairsIn};
-ghost use Rattle.parts.specs.Kept.{Kept, Inside, pagesOf};
+ghost use Rattle.parts.specs.Kept.{ExactBytes, Inside, pagesOf};
 ghost use Rattle.parts.specs.Becomes.{Becomes};
 ghost use Rattle.group.specs.Group.{routersOf, groupOf, Routed, Grouped};
 ghost use Rattle.group.specs.Numbers.{Numbered};
@@ -19,7 +19,7 @@ ghost use Rattle.group.specs.Numbers.{Numbered};
 // "An active page left over is freed and zeroed. Inactive pages gathered [..] are killed": all of them go, and the pages used are
 // filled after.
 fn retire(s: &mut [u8], l: Limits, w: u32, rs: Routers)
-    requires { ⌜ Kept l (now s) × Routed l (now s) rs × (w < 2 ^ 20) ⌝ }
+    requires { ⌜ ExactBytes l (now s) × Routed l (now s) rs × (w < 2 ^ 20) ⌝ }
     ensures { λ _. ⌜ Becomes l (now (s .entry)) (now (s .exit)) (retire w (pagesOf l (now (s .entry))) (routersOf rs)) ⌝ }
 {
     parts::go_in(s, l, crate::wide(rs.first.value), w);
@@ -30,7 +30,7 @@ fn retire(s: &mut [u8], l: Limits, w: u32, rs: Routers)
 
 // "Up to 16 gathered entries fill one page".
 fn one_page(s: &mut [u8], l: Limits, w: u32, level: u32, g: Group, to: usize)
-    requires { ⌜ Kept l (now s) × Grouped l (now s) g × (w < 2 ^ 20) × (level < 2 ^ 4) × Inside l (now s) to × (g .all .n ≤ 4 * l .least) ⌝ }
+    requires { ⌜ ExactBytes l (now s) × Grouped l (now s) g × (w < 2 ^ 20) × (level < 2 ^ 4) × Inside l (now s) to × (g .all .n ≤ 4 * l .least) ⌝ }
     ensures { λ _. ⌜ Becomes l (now (s .entry)) (now (s .exit)) (set (retire w (pagesOf l (now (s .entry))) (routersOf (g .routers))) to (filled w level (pairsIn (g .all)))) ⌝ }
 {
     retire(s, l, w, g.routers);
@@ -40,7 +40,7 @@ fn one_page(s: &mut [u8], l: Limits, w: u32, level: u32, g: Group, to: usize)
 
 // "more fill two, the lower taking the odd one"
 fn two_pages(s: &mut [u8], l: Limits, w: u32, level: u32, g: Group, to: usize, next: usize)
-    requires { ⌜ Kept l (now s) × Grouped l (now s) g × (w < 2 ^ 20) × (level < 2 ^ 4) × Inside l (now s) to × Inside l (now s) next ⌝ }
+    requires { ⌜ ExactBytes l (now s) × Grouped l (now s) g × (w < 2 ^ 20) × (level < 2 ^ 4) × Inside l (now s) to × Inside l (now s) next ⌝ }
     ensures { λ _. ⌜ Becomes l (now (s .entry)) (now (s .exit)) (set (set (retire w (pagesOf l (now (s .entry))) (routersOf (g .routers))) to (filled w level (take ((g .all .n + 1) / 2) (pairsIn (g .all))))) next (filled w level (drop ((g .all .n + 1) / 2) (pairsIn (g .all))))) ⌝ }
 {
     retire(s, l, w, g.routers);
@@ -53,7 +53,7 @@ fn two_pages(s: &mut [u8], l: Limits, w: u32, level: u32, g: Group, to: usize, n
 
 // A group is rebuilt into the pages u, of which there are enough.
 pub fn rebuild(s: &mut [u8], l: Limits, w: u32, level: u32, g: Group, u: Numbers)
-    requires { ⌜ Kept l (now s) × Grouped l (now s) g × (w < 2 ^ 20) × (level < 2 ^ 4) × Numbered u (take 2 (usable w (pagesOf l (now s)) (routersOf (g .routers)))) × (fills (l .least) (pairsIn (g .all)) ≤ u .n) ⌝ }
+    requires { ⌜ ExactBytes l (now s) × Grouped l (now s) g × (w < 2 ^ 20) × (level < 2 ^ 4) × Numbered u (take 2 (usable w (pagesOf l (now s)) (routersOf (g .routers)))) × (fills (l .least) (pairsIn (g .all)) ≤ u .n) ⌝ }
     ensures { λ _. ⌜ (rebuild (l .least) w level (pagesOf l (now (s .entry))) (groupOf g) ≡ rebuilt (pagesOf l (now (s .exit))) (routersTo (routersOf (g .routers)) (parts (l .least) (pairsIn (g .all))) (u .first) (u .second))) × Becomes l (now (s .entry)) (now (s .exit)) (pagesOf l (now (s .exit))) ⌝ }
 {
     let all = g.all;

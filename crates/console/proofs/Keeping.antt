@@ -1,10 +1,9 @@
 -- The store in the front of the program's bytes, lent to a call and given back. Assumes nothing.
-use Prim.Native.Nat.{ℕ, _*_, _/_, _%_, _<_, _≤_}
+use Prim.Native.Nat.{ℕ, _*_, _%_, _<_, _≤_}
 use mathlib.Core.Path.{_≡_, refl, ap, sym, subst, _∙_}
-use mathlib.Core.Bool.{Bool, true, false, _&&_}
+use mathlib.Core.Bool.{true}
 use mathlib.Core.List.{List, [], _∷_, _++_}
-use lib.Dec.{leb}
-use lib.ListN.{length, take, drop}
+use lib.ListN.{length, take}
 use lib.Seq.{take-at, length-take-le}
 use native.Mathlib.Omega.{arith}
 use borrow.Author.Tests.{le-leb, lt-leb}
@@ -12,7 +11,7 @@ use Rattle.model.specs.Store.{fresh}
 use Rattle.model.specs.Layout.{sizeOf, encode}
 use Rattle.model.specs.Judged.{isSound, lengthOk}
 use Rattle.model.specs.Lent.{Outcome, leaving, freshLent}
-use Rattle.store.specs.Answers.{length-rest, done-store}
+use Rattle.store.proofs.laws.Answers.{length-rest, done-store}
 use Rattle.lines.specs.declared.Answer.{Answer}
 use Rattle.lines.specs.declared.Answer.the-variants.{Done, Refused}
 use Rattle.lines.specs.Session.{Said, answered, outcome, stored, settings}

@@ -17,7 +17,7 @@ use Rattle.model.specs.Calls.{Ranged, rule, firstOf, rangedIn, rangedBy}
 use Rattle.model.specs.Lent.{Listed, listed, rangeLent}
 use Rattle.walk.specs.declared.Counted.{Counted}
 use Rattle.walk.specs.Counted.{withList}
-use Rattle.walk.specs.Written.{length-numbers}
+use Rattle.walk.proofs.laws.Written.{length-numbers}
 use Rattle.lines.specs.declared.Answer.the-variants.{Refused, Count}
 use Rattle.lines.specs.declared.Command.the-variants.{Range}
 use Rattle.lines.specs.Session as Session

@@ -14,7 +14,6 @@ use Rattle.lines.specs.declared.Command.the-variants.{Store, Open, Insert, Dele
 use Rattle.lines.specs.Answers.{textOf, Put}
 use Rattle.lines.specs.Session.{Said, outcome, looked, settings, stored, said}
 use Rattle.console.specs.declared.Reply.{Reply}
-use Rattle.console.specs.declared.Obeyed.{Obeyed}
 use Rattle.console.specs.Obeys.{storeIn, Sure, Single, Replies, Obeys, heardSaid}
 use Rattle.console.proofs.Keeping.{alone}
 use Rattle.console.proofs.Settings.{put-none}

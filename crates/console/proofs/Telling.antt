@@ -2,7 +2,7 @@
 use Prim.Native.Nat.{ℕ, _+_, _-_, _<_, _≤_}
 use native.Mathlib.Omega.{arith}
 use mathlib.Core.Path.{_≡_, refl, ap, sym, subst, _∙_}
-use mathlib.Core.List.{List, [], _∷_, _++_, append-nil, append-assoc}
+use mathlib.Core.List.{List, [], _++_, append-nil, append-assoc}
 use lib.ListN.{length, take, drop, length-append, length-drop}
 use lib.Seq.{take-at, take-all, drop-drop, length-take-le}
 use Rattle.model.specs.Basic.{flatMap}
@@ -11,14 +11,13 @@ use Rattle.lines.specs.declared.Heard.the-variants.{Whole, Nothing}
 use Rattle.lines.specs.declared.Line.{Line}
 use Rattle.lines.specs.declared.Held.{Held}
 use Rattle.lines.specs.declared.Taken.{Taken}
-use Rattle.lines.specs.Answers.{textOf, laid, Put}
+use Rattle.lines.specs.Answers.{textOf, Put}
 use Rattle.lines.specs.Reading.{reading, readOn, told, lastOf, heardLines, Hears}
 use Rattle.lines.proofs.Steps.{tells, reads-on}
-use Rattle.lines.proofs.Laying.{length-laid}
-use Rattle.lines.specs.Session.{said, writes, after}
+use Rattle.lines.specs.Session.{writes, after}
 use Rattle.console.specs.declared.Obeyed.{Obeyed}
 use Rattle.console.specs.declared.Filled.{Filled}
-use Rattle.console.specs.Obeys.{storeIn, Sure, heardSaid, Obeys, Upto, Ends}
+use Rattle.console.specs.Obeys.{storeIn, Sure, heardSaid, Obeys, PieceUpto, LastWritten}
 
 pub writes-heard : (b : List ℕ) (h : Heard) (ls : List Line) → writes 4 b (heardLines h ++ ls) ≡ flatMap textOf (heardSaid b h .answers) ++ writes 4 (heardSaid b h .store) ls
 unfolding writes
@@ -39,7 +38,7 @@ take-put {d} {d'} {t} {at} {r} p h =
 -- ---- before the first line of a piece
 
 pub from-here : (h : Held) (bytes : List ℕ) (pages : ℕ) (piece out : List ℕ) → h .len ≤ 81 → pages ≤ 256 → Sure bytes pages
-    → Upto h (storeIn bytes pages) piece bytes out (record { held = h; pages = pages; used = 0; len = 0 })
+    → PieceUpto h (storeIn bytes pages) piece bytes out (record { held = h; pages = pages; used = 0; len = 0 })
 from-here h bytes pages piece out room few s = record {
   written = refl;
   store = refl;
@@ -62,7 +61,7 @@ moves-on piece used k l = (k .moves (omega (arith, length-drop used piece)), ome
 
 -- ---- one line more
 
-module _ {h₀ : Held} {b piece bytes out : List ℕ} {f : Filled} (u : Upto h₀ b piece bytes out f) {t : Taken} (k : Hears (f .held) (drop (f .used) piece) t)
+module _ {h₀ : Held} {b piece bytes out : List ℕ} {f : Filled} (u : PieceUpto h₀ b piece bytes out f) {t : Taken} (k : Hears (f .held) (drop (f .used) piece) t)
     {bytes' out' : List ℕ} {o : Obeyed} (a : Obeys (heardSaid (storeIn bytes (f .pages)) (t .heard)) bytes' out (f .len) out' o) where
   abbrev rest : List ℕ
   rest = drop (f .used + t .used) piece
@@ -95,7 +94,7 @@ module _ {h₀ : Held} {b piece bytes out : List ℕ} {f : Filled} (u : Upto h�
       ∙ after-heard (storeIn bytes (f .pages)) (t .heard) left
       ∙ ap (λ (x : List ℕ). after 4 x left) (sym (a .store))
 
-  pub one-more : o .at ≤ length out' → Upto h₀ b piece bytes' out' (record { held = t .held; pages = o .pages; used = f .used + t .used; len = o .at })
+  pub one-more : o .at ≤ length out' → PieceUpto h₀ b piece bytes' out' (record { held = t .held; pages = o .pages; used = f .used + t .used; len = o .at })
   one-more len = record {
     written = written;
     store = store;
@@ -114,7 +113,7 @@ nothing : (t c : List ℕ) → t ++ writes 4 c [] ≡ t
 unfolding writes
 nothing t c = append-nil t
 
-pub ended : {h : Held} {b bytes d d' : List ℕ} {o : Obeyed} (x : Heard) → x ≡ lastOf (reading h) → Obeys (heardSaid b x) bytes d 0 d' o → o .at ≤ length d' → Ends h b d' (o .at)
+pub ended : {h : Held} {b bytes d d' : List ℕ} {o : Obeyed} (x : Heard) → x ≡ lastOf (reading h) → Obeys (heardSaid b x) bytes d 0 d' o → o .at ≤ length d' → LastWritten h b d' (o .at)
 ended {h} {b} {bytes} {d} {d'} {o} x e a len = record {
   written =
       ap (λ (y : Heard). writes 4 b (heardLines y)) (sym e)

@@ -1,8 +1,8 @@
 -- However the input comes in pieces, what is handed to standard output is what is to be written for it: `runs`. Assumes nothing.
 use Prim.Native.Nat.{ℕ}
-use mathlib.Core.Path.{_≡_, refl, ap, ap₂, sym, subst, _∙_}
+use mathlib.Core.Path.{_≡_, refl, ap, ap₂, sym, _∙_}
 use mathlib.Core.List.{List, [], _∷_, _++_, append-assoc, flatten}
-use lib.ListN.{take, drop}
+use lib.ListN.{take}
 use Rattle.model.specs.Basic.{flatMap}
 use Rattle.lines.specs.declared.Held.{Held}
 use Rattle.lines.specs.declared.Line.{Line}
@@ -10,7 +10,6 @@ use Rattle.lines.specs.Answers.{textOf}
 use Rattle.lines.specs.Reading.{Reading, start, reading, readOn, told, toldAll}
 use Rattle.lines.specs.Session.{said, writes, after, written}
 use Rattle.lines.proofs.Streams.{streams}
-use Rattle.console.specs.Obeys.{storeIn, Upto, Ends}
 use Rattle.console.specs.Runs.{Passes, used-up, filled, Serves, ends, passes}
 
 -- lines and then more lines

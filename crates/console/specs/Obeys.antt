@@ -59,7 +59,7 @@ heardSaid b Nothing = record { store = b; answers = [] }
 
 -- Of a piece of the input: what is to be written for its lines, the store after them and the line that is being read then are what
 -- stands in the buffer, and what is left for the bytes not used.
-pub record Upto (h : Held) (b piece bytes out : List ℕ) (r : Filled) : Type 0 where
+pub record PieceUpto (h : Held) (b piece bytes out : List ℕ) (r : Filled) : Type 0 where
   pub written : writes 4 b (told (reading h) piece) ≡ take (r .len) out ++ writes 4 (storeIn bytes (r .pages)) (told (reading (r .held)) (drop (r .used) piece))
   pub store : after 4 b (told (reading h) piece) ≡ after 4 (storeIn bytes (r .pages)) (told (reading (r .held)) (drop (r .used) piece))
   pub read : readOn (reading h) piece ≡ readOn (reading (r .held)) (drop (r .used) piece)
@@ -80,6 +80,6 @@ pub record Passed (h : Held) (b piece bytes : List ℕ) (r : Kept) : Type 0 wher
   pub sure : Sure bytes (r .pages)
 
 -- "its newline (which the last may lack)"
-pub record Ends (h : Held) (b out : List ℕ) (len : ℕ) : Type 0 where
+pub record LastWritten (h : Held) (b out : List ℕ) (len : ℕ) : Type 0 where
   pub written : writes 4 b (heardLines (lastOf (reading h))) ≡ take len out
   pub room : len ≤ length out

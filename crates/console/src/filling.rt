@@ -2,7 +2,7 @@
 ghost use mathlib.Core.Path.{_≡_};
 ghost use Prim.Native.Nat.{_+_, _^_, _<_, _≤_};
 ghost use lib.ListN.{length};
-ghost use Rattle.console.specs.Obeys.{storeIn, Sure, Upto, Ends};
+ghost use Rattle.console.specs.Obeys.{storeIn, Sure, PieceUpto, LastWritten};
 use crate::Filled;
 use crate::obeying::answer;
 use lines::Held;
@@ -21,7 +21,7 @@ pub(crate) fn fill(
     requires { ⌜ (pages ≤ 256) × (length (now bytes) ≡ 65536) × (length (now list) ≡ 10040) × Sure (now bytes) pages ⌝ }
     requires { ⌜ (held .len ≤ 81) × (held .before + length (now piece) + 1 < 2 ^ 64) ⌝ }
     requires { ⌜ 110462 ≤ length (now out) ⌝ }
-    ensures { λ r. ⌜ Upto held (storeIn (now (bytes .entry)) pages) (now (piece .entry)) (now (bytes .exit)) (now (out .exit)) r ⌝ }
+    ensures { λ r. ⌜ PieceUpto held (storeIn (now (bytes .entry)) pages) (now (piece .entry)) (now (bytes .exit)) (now (out .exit)) r ⌝ }
     ensures { λ r. ⌜ (0 < length (now (piece .entry)) → 0 < r .used) ⌝ }
 {
     let mut h = held;
@@ -59,7 +59,7 @@ pub(crate) fn end(
     requires { ⌜ (pages ≤ 256) × (length (now bytes) ≡ 65536) × (length (now list) ≡ 10040) × Sure (now bytes) pages ⌝ }
     requires { ⌜ (held .len ≤ 81) × (held .before + 1 < 2 ^ 64) ⌝ }
     requires { ⌜ 110462 ≤ length (now out) ⌝ }
-    ensures { λ r. ⌜ Ends held (storeIn (now (bytes .entry)) pages) (now (out .exit)) r ⌝ }
+    ensures { λ r. ⌜ LastWritten held (storeIn (now (bytes .entry)) pages) (now (out .exit)) r ⌝ }
 {
     let heard = lines::last(held);
     let o = answer(heard, pages, bytes, list, out, 0);

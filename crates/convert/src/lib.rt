@@ -16,11 +16,11 @@ ghost use Rattle.model.specs.Walk.{settings, keyLimit};
 ghost use Rattle.model.specs.Layout.{decode};
 ghost use Rattle.model.specs.Return.{carried};
 ghost use Rattle.model.specs.Convert.{replayed, replay};
-ghost use Rattle.walk.specs.Sure.{Readable};
+ghost use Rattle.walk.specs.Sure.{Walkable};
 ghost use Rattle.differ.specs.Merge.{told, Onward};
 ghost use Rattle.differ.specs.Listing.{between, leftOf};
 ghost use Rattle.back.specs.Pass.{passed};
-ghost use Rattle.convert.specs.Ready.{Ready, shown, Went};
+ghost use Rattle.convert.specs.Ready.{UpdateOpen, shown, Went};
 ghost use Rattle.convert.specs.Due.{Due};
 ghost use Rattle.convert.specs.Version.{Replaying, Replayed};
 
@@ -29,7 +29,7 @@ const KEYS: u32 = 16777216;
 
 // The delete that a difference asks for: of what is removed (1) or has another value (2).
 fn end_one(t: &mut [u8], l: Limits, d: Delta) -> u32
-    requires { ⌜ Ready l (now t) × Due false (shown l (now t)) (told d) ⌝ }
+    requires { ⌜ UpdateOpen l (now t) × Due false (shown l (now t)) (told d) ⌝ }
     ensures { λ r. ⌜ Went l (now (t .exit)) r (passed false (l .least) (told d) (decode (l .least) (now (t .entry)))) ⌝ }
 {
     if d.kind == 0 {
@@ -43,7 +43,7 @@ fn end_one(t: &mut [u8], l: Limits, d: Delta) -> u32
 
 // The insert that it asks for: of what is added (0), or has another value and is deleted by then (2).
 fn set_one(t: &mut [u8], l: Limits, d: Delta) -> u32
-    requires { ⌜ Ready l (now t) × Due true (shown l (now t)) (told d) ⌝ }
+    requires { ⌜ UpdateOpen l (now t) × Due true (shown l (now t)) (told d) ⌝ }
     ensures { λ r. ⌜ Went l (now (t .exit)) r (passed true (l .least) (told d) (decode (l .least) (now (t .entry)))) ⌝ }
 {
     if d.kind == 1 {
@@ -57,7 +57,7 @@ fn set_one(t: &mut [u8], l: Limits, d: Delta) -> u32
 
 // One of them.
 fn act(t: &mut [u8], l: Limits, d: Delta, insert: bool) -> u32
-    requires { ⌜ Ready l (now t) × Due insert (shown l (now t)) (told d) ⌝ }
+    requires { ⌜ UpdateOpen l (now t) × Due insert (shown l (now t)) (told d) ⌝ }
     ensures { λ r. ⌜ Went l (now (t .exit)) r (passed insert (l .least) (told d) (decode (l .least) (now (t .entry)))) ⌝ }
 {
     if insert {
@@ -69,7 +69,7 @@ fn act(t: &mut [u8], l: Limits, d: Delta, insert: bool) -> u32
 // The key from which a pass goes on: leaves that show the same at both versions are passed over. It is asked once for each leaf that does
 // not, which ends at `high`.
 fn onward(s: &[u8], k: Limits, u: u32, v: u32, key: u32, high: u32) -> Gap
-    requires { ⌜ Readable k (now s) u × Readable k (now s) v × (key ≤ keyLimit) ⌝ }
+    requires { ⌜ Walkable k (now s) u × Walkable k (now s) v × (key ≤ keyLimit) ⌝ }
     ensures { λ r. ⌜ Onward key (r .key) × (leftOf k (now (s .entry)) u v key ≡ leftOf k (now (s .entry)) u v (r .key)) ⌝ }
 {
     if key < high {
@@ -81,7 +81,7 @@ fn onward(s: &[u8], k: Limits, u: u32, v: u32, key: u32, high: u32) -> Gap
 // The deletes, or the inserts, that the source's differences from version u to version v ask of the target, in rising key order, to the
 // first that is refused.
 fn pass(s: &[u8], k: Limits, t: &mut [u8], l: Limits, u: u32, v: u32, insert: bool) -> u32
-    requires { ⌜ Readable k (now s) u × Readable k (now s) v × Ready l (now t) × Due insert (shown l (now t)) (between k (now s) u v) ⌝ }
+    requires { ⌜ Walkable k (now s) u × Walkable k (now s) v × UpdateOpen l (now t) × Due insert (shown l (now t)) (between k (now s) u v) ⌝ }
     ensures { λ r. ⌜ Went l (now (t .exit)) r (passed insert (l .least) (between k (now (s .entry)) u v) (decode (l .least) (now (t .entry)))) ⌝ }
 {
     let mut key = 0;
@@ -101,7 +101,7 @@ fn pass(s: &[u8], k: Limits, t: &mut [u8], l: Limits, u: u32, v: u32, insert: bo
 
 // Both passes, to the first step that is refused.
 fn carry(s: &[u8], k: Limits, t: &mut [u8], l: Limits, u: u32, v: u32) -> u32
-    requires { ⌜ Readable k (now s) u × Readable k (now s) v × Ready l (now t) × (shown l (now t) ≡ settings (decode (k .least) (now s)) u) ⌝ }
+    requires { ⌜ Walkable k (now s) u × Walkable k (now s) v × UpdateOpen l (now t) × (shown l (now t) ≡ settings (decode (k .least) (now s)) u) ⌝ }
     ensures { λ r. ⌜ Went l (now (t .exit)) r (carried (l .least) (between k (now (s .entry)) u v) (decode (l .least) (now (t .entry)))) ⌝ }
 {
     let n = pass(s, k, t, l, u, v, false);

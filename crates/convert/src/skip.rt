@@ -12,7 +12,7 @@ ghost use Rattle.model.specs.Judged.{isSound};
 ghost use Rattle.model.specs.Convert.{replay};
 ghost use Rattle.local.specs.Local.{slotAt};
 ghost use Rattle.model.specs.Inner.{Out};
-ghost use Rattle.notes.specs.Ready.{Sooner, QuietSlots};
+ghost use Rattle.notes.specs.Ready.{BehindUpto, QuietSlots};
 ghost use Rattle.convert.specs.Version.{Replaying};
 ghost use Rattle.convert.specs.Skip.{moved, Still, Skipped};
 
@@ -25,7 +25,7 @@ fn wide(x: u32) -> usize
 // A version up to r such that no slot has one before it and behind v.
 fn slots_change(s: &[u8], k: Limits, h: Header, v: u32, r: u32) -> u32
     requires { ⌜ Edition k × (isSound (k .least) (now s) ≡ true) × (h ≡ readHeader (k .least) (now s)) × (v < r) ⌝ }
-    ensures { λ q. ⌜ Sooner v r q × QuietSlots (k .least) (now (s .entry)) h v q ⌝ }
+    ensures { λ q. ⌜ BehindUpto v r q × QuietSlots (k .least) (now (s .entry)) h v q ⌝ }
 {
     let roots = wide(h.roots);
     let mut q = r;
@@ -41,7 +41,7 @@ fn slots_change(s: &[u8], k: Limits, h: Header, v: u32, r: u32) -> u32
 // A version up to r such that nothing starts or ends before it and behind v.
 fn next_change(s: &[u8], k: Limits, v: u32, r: u32) -> u32
     requires { ⌜ Edition k × (isSound (k .least) (now s) ≡ true) × (v < r) ⌝ }
-    ensures { λ q. ⌜ Sooner v r q × Still (k .least) (now (s .entry)) v q ⌝ }
+    ensures { λ q. ⌜ BehindUpto v r q × Still (k .least) (now (s .entry)) v q ⌝ }
 {
     let h = store::header(s, k);
     let size = store::size(s, k);

@@ -1,4 +1,3 @@
 pub mod First
 pub mod Reaches
 pub mod Leaf
-pub mod Stretch

@@ -8,7 +8,7 @@ ghost use Rattle.model.specs.Page.{pairsAt};
 ghost use Rattle.model.specs.Store.{page};
 ghost use Rattle.model.specs.Walk.{settings, keyLimit};
 ghost use Rattle.model.specs.Layout.{decode};
-ghost use Rattle.walk.specs.Sure.{Readable};
+ghost use Rattle.walk.specs.Sure.{Walkable};
 ghost use Rattle.cursor.specs.First.{atOrAbove, leads};
 ghost use Rattle.cursor.specs.Leaf.{Below};
 
@@ -29,7 +29,7 @@ fn wide(x: u32) -> usize
 
 // One page further down, from a page `up` levels above the leaves.
 fn step(s: &[u8], l: Limits, v: u32, key: u32, u: Under, up: usize) -> Under
-    requires { ⌜ Readable l (now s) v × Below l (now s) v up key u × (0 < up) ⌝ }
+    requires { ⌜ Walkable l (now s) v × Below l (now s) v up key u × (0 < up) ⌝ }
     ensures { λ r. ⌜ Below l (now (s .entry)) v (up - 1) key r ⌝ }
 {
     let p = store::part(s, l, u.page);
@@ -51,7 +51,7 @@ fn step(s: &[u8], l: Limits, v: u32, key: u32, u: Under, up: usize) -> Under
 
 // The leaf for a key.
 pub fn leaf_for(s: &[u8], l: Limits, v: u32, key: u32) -> Under
-    requires { ⌜ Readable l (now s) v × (key < keyLimit) ⌝ }
+    requires { ⌜ Walkable l (now s) v × (key < keyLimit) ⌝ }
     ensures { λ r. ⌜ Below l (now (s .entry)) v 0 key r ⌝ }
 {
     let n = walk::root_at(s, l, v);
@@ -69,7 +69,7 @@ pub fn leaf_for(s: &[u8], l: Limits, v: u32, key: u32) -> Under
 
 // The first setting of a leaf at or above a key.
 fn first_in(s: &[u8], l: Limits, v: u32, key: u32, u: Under) -> Pair
-    requires { ⌜ Readable l (now s) v × Below l (now s) v 0 key u ⌝ }
+    requires { ⌜ Walkable l (now s) v × Below l (now s) v 0 key u ⌝ }
     ensures { λ r. ⌜ r ≡ leads (atOrAbove key (pairsAt v (page (decode (l .least) (now (s .entry)) .pages) (u .page)))) ⌝ }
 {
     let p = store::part(s, l, u.page);
@@ -90,7 +90,7 @@ fn first_in(s: &[u8], l: Limits, v: u32, key: u32, u: Under) -> Pair
 
 // The first setting of a version at or above a key; with the key 16,777,216 where there is none.
 pub fn first_from(s: &[u8], l: Limits, v: u32, low: u32) -> Pair
-    requires { ⌜ Readable l (now s) v ⌝ }
+    requires { ⌜ Walkable l (now s) v ⌝ }
     ensures { λ r. ⌜ r ≡ leads (atOrAbove low (settings (decode (l .least) (now (s .entry))) v)) ⌝ }
 {
     let mut key = low;

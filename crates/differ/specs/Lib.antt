@@ -1,8 +1,5 @@
-pub mod Append
 pub mod Merge
 pub mod Listing
 pub mod Side
 pub mod Quiet
 pub mod Leaves
-pub mod Past
-pub mod Halfway

@@ -9,7 +9,7 @@ ghost use mathlib.Core.List.{[]};
 ghost use Prim.Native.Nat.{_+_, _≤_};
 ghost use lib.Dec.{eqb};
 ghost use Rattle.walk.specs.Scan.{Stands, from};
-ghost use Rattle.walk.specs.Sure.{Readable};
+ghost use Rattle.walk.specs.Sure.{Walkable};
 ghost use Rattle.cursor.specs.First.{atOrAbove};
 ghost use Rattle.cursor.specs.Leaf.{Below};
 ghost use Rattle.differ.specs.Listing.{deltas};
@@ -134,7 +134,7 @@ fn same(page: &[u8], n: usize, a: Ask, x: usize, y: usize) -> bool
 
 // Whether the leaves of a stretch are such a page: nothing differs there.
 pub fn alike(s: &[u8], l: Limits, a: Ask, x: Under, y: Under) -> bool
-    requires { ⌜ Readable l (now s) (a .old) × Readable l (now s) (a .new) × Below l (now s) (a .old) 0 (a .low) x × Below l (now s) (a .new) 0 (a .low) y ⌝ }
+    requires { ⌜ Walkable l (now s) (a .old) × Walkable l (now s) (a .new) × Below l (now s) (a .old) 0 (a .low) x × Below l (now s) (a .new) 0 (a .low) y ⌝ }
     ensures { λ r. ⌜ (r ≡ true → inLeaves l (now (s .entry)) a x y ≡ []) ⌝ }
 {
     let p = store::part(s, l, x.page);
@@ -152,7 +152,7 @@ pub fn tell(
     list: &mut [u32],
     found: usize,
 ) -> usize
-    requires { ⌜ Readable l (now s) (a .old) × Readable l (now s) (a .new) × Below l (now s) (a .old) 0 (a .low) x × Below l (now s) (a .new) 0 (a .low) y × Space deltas (a .write) (now list) found (inLeaves l (now s) a x y) ⌝ }
+    requires { ⌜ Walkable l (now s) (a .old) × Walkable l (now s) (a .new) × Below l (now s) (a .old) 0 (a .low) x × Below l (now s) (a .new) 0 (a .low) y × Space deltas (a .write) (now list) found (inLeaves l (now s) a x y) ⌝ }
     ensures { λ r. ⌜ Gathers deltas (a .write) (now (list .entry)) (now (list .exit)) found r (inLeaves l (now (s .entry)) a x y) ⌝ }
 {
     let p = store::part(s, l, x.page);

@@ -18,7 +18,7 @@ ghost use Rattle.model.specs.Differ.{deltaNumbers};
 ghost use Rattle.model.specs.Lent.{listed};
 ghost use Rattle.model.specs.Telling.{Space, Gathers};
 ghost use Rattle.walk.specs.Counted.{withList};
-ghost use Rattle.walk.specs.Sure.{Readable};
+ghost use Rattle.walk.specs.Sure.{Walkable};
 ghost use Rattle.differ.specs.Merge.{Onward};
 ghost use Rattle.differ.specs.Listing.{deltas, between, leftOf, nextOf};
 
@@ -27,7 +27,7 @@ const KEYS: u32 = 16777216;
 
 // What the cursors of versions u and v say of the first key at or above a key that either has.
 pub fn next(s: &[u8], l: Limits, u: u32, v: u32, key: u32) -> Delta
-    requires { ⌜ Readable l (now s) u × Readable l (now s) v ⌝ }
+    requires { ⌜ Walkable l (now s) u × Walkable l (now s) v ⌝ }
     ensures { λ r. ⌜ r ≡ nextOf l (now (s .entry)) u v key ⌝ }
 {
     let x = cursor::first_from(s, l, u, key);
@@ -54,7 +54,7 @@ pub struct Gap {
 // The first key at or above a key at which the leaves for it are not one page that shows the same at both versions: nothing differs before
 // it. Each step ends where the first of two leaves does.
 pub fn past(s: &[u8], l: Limits, u: u32, v: u32, from: u32) -> Gap
-    requires { ⌜ Readable l (now s) u × Readable l (now s) v × (from ≤ keyLimit) ⌝ }
+    requires { ⌜ Walkable l (now s) u × Walkable l (now s) v × (from ≤ keyLimit) ⌝ }
     ensures { λ r. ⌜ Onward from (r .key) × (leftOf l (now (s .entry)) u v from ≡ leftOf l (now (s .entry)) u v (r .key)) ⌝ }
 {
     let mut key = from;
@@ -80,7 +80,7 @@ pub fn past(s: &[u8], l: Limits, u: u32, v: u32, from: u32) -> Gap
 // What differs from version u to version v, into a list or only counted; gives how many differences there are. Each step ends where the
 // first of two leaves does, so there are at most as many as the two versions have leaves.
 fn tell(s: &[u8], l: Limits, u: u32, v: u32, list: &mut [u32], write: bool) -> usize
-    requires { ⌜ Readable l (now s) u × Readable l (now s) v × Space deltas write (now list) 0 (between l (now s) u v) ⌝ }
+    requires { ⌜ Walkable l (now s) u × Walkable l (now s) v × Space deltas write (now list) 0 (between l (now s) u v) ⌝ }
     ensures { λ r. ⌜ Gathers deltas write (now (list .entry)) (now (list .exit)) 0 r (between l (now (s .entry)) u v) ⌝ }
 {
     let mut found = 0;
@@ -105,7 +105,7 @@ fn tell(s: &[u8], l: Limits, u: u32, v: u32, list: &mut [u32], write: bool) -> u
 // What differs from version u to version v of a sound store: the count, and key, kind, old value and new value of each in the
 // caller's list. They are counted before any is written, so that 14 leaves the list untouched.
 pub fn difference(s: &[u8], l: Limits, u: u32, v: u32, list: &mut [u32]) -> Counted
-    requires { ⌜ Readable l (now s) u × Readable l (now s) v ⌝ }
+    requires { ⌜ Walkable l (now s) u × Walkable l (now s) v ⌝ }
     ensures { λ r. ⌜ withList r (now (list .exit)) ≡ listed (now (list .entry)) (toldBy deltaNumbers 4 0 (length (now (list .entry))) (between l (now (s .entry)) u v)) ⌝ }
 {
     let found = tell(s, l, u, v, list, false);

@@ -2,7 +2,5 @@ pub mod Fate
 pub mod Sift
 pub mod Same
 pub mod Place
-pub mod Valid
 pub mod Change
 pub mod Fill
-pub mod Left

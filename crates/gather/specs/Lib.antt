@@ -1,4 +1,3 @@
 pub mod Gather
 pub mod Place
 pub mod Kept
-pub mod Tests

@@ -1,3 +1,2 @@
 pub mod Group
 pub mod Numbers
-pub mod Exchange

@@ -17,7 +17,7 @@ ghost use Rattle.model.specs.Needs.{takesInPlace};
 ghost use Rattle.edit.specs.Change.{changeOf};
 ghost use Rattle.gather.specs.Gather.{Good, pairsIn};
 ghost use Rattle.gather.specs.Kept.{Fits};
-ghost use Rattle.parts.specs.Kept.{Kept, Inside, pagesOf};
+ghost use Rattle.parts.specs.Kept.{ExactBytes, Inside, pagesOf};
 ghost use Rattle.group.specs.Group.{aroundOf, groupOf, Placed, Grouped};
 
 mod parent;
@@ -65,7 +65,7 @@ pub(crate) fn wide(x: u32) -> usize
 
 // "A page takes its change in place if it then has at most 20 entries, dead ones counted, and [..] has at least 4 live."
 pub fn takes_in_place(s: &[u8], l: Limits, n: usize, w: u32, c: Change) -> bool
-    requires { ⌜ Kept l (now s) × Inside l (now s) n × Fits c ⌝ }
+    requires { ⌜ ExactBytes l (now s) × Inside l (now s) n × Fits c ⌝ }
     ensures { λ r. ⌜ r ≡ takesInPlace (l .least) w (changeOf c) (page (pagesOf l (now (s .entry))) n) ⌝ }
 {
     if !parts::has_room(s, l, n, w, c) {
@@ -76,7 +76,7 @@ pub fn takes_in_place(s: &[u8], l: Limits, n: usize, w: u32, c: Change) -> bool
 
 // "First of all, an index root whose wanted list is one router goes".
 pub fn goes(s: &[u8], l: Limits, n: usize, live: usize) -> bool
-    requires { ⌜ Kept l (now s) × Inside l (now s) n ⌝ }
+    requires { ⌜ ExactBytes l (now s) × Inside l (now s) n ⌝ }
     ensures { λ r. ⌜ r ≡ (leb 2 (page (pagesOf l (now (s .entry))) n .level) && eqb live 1) ⌝ }
 {
     edit::both(2 <= parts::level_of(s, l, n), live == 1)
@@ -85,7 +85,7 @@ pub fn goes(s: &[u8], l: Limits, n: usize, live: usize) -> bool
 // "Gather the wanted list. If the page isn't the root and the list has under 8, add the live entries of its neighbour under the same
 // parent: the right one, else the left."
 pub fn gathered(s: &[u8], l: Limits, w: u32, a: Around, want: Gather) -> Group
-    requires { ⌜ Kept l (now s) × Placed l (now s) a × Good want × (want .n < 7 * l .least) ⌝ }
+    requires { ⌜ ExactBytes l (now s) × Placed l (now s) a × Good want × (want .n < 7 * l .least) ⌝ }
     ensures { λ r. ⌜ Grouped l (now (s .entry)) r × (groupOf r ≡ gatherBy (ltb (length (pairsIn want)) (2 * l .least)) w (pagesOf l (now (s .entry))) (aroundOf a) (pairsIn want)) ⌝ }
 {
     let own = a.own;

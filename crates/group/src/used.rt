@@ -10,7 +10,7 @@ ghost use Rattle.model.specs.Basic.{keep};
 ghost use Rattle.model.specs.Rules.{usable};
 ghost use Rattle.model.specs.Store.{freeOnes};
 ghost use Rattle.model.specs.Needs.{actives};
-ghost use Rattle.parts.specs.Kept.{Kept, pagesOf};
+ghost use Rattle.parts.specs.Kept.{ExactBytes, pagesOf};
 ghost use Rattle.group.specs.Group.{routersOf, Routed};
 ghost use Rattle.group.specs.Numbers.{Numbered, numbersOf};
 
@@ -48,7 +48,7 @@ fn chosen(a: bool, x: usize, b: bool, y: usize) -> Numbers
 
 // "the active ones among those gathered, left first"
 pub fn active_ones(s: &[u8], l: Limits, w: u32, rs: Routers) -> Numbers
-    requires { ⌜ Kept l (now s) × Routed l (now s) rs ⌝ }
+    requires { ⌜ ExactBytes l (now s) × Routed l (now s) rs ⌝ }
     ensures { λ r. ⌜ Numbered r (actives w (pagesOf l (now (s .entry))) (routersOf rs)) ⌝ }
 {
     let x = crate::wide(rs.first.value);
@@ -60,7 +60,7 @@ pub fn active_ones(s: &[u8], l: Limits, w: u32, rs: Routers) -> Numbers
 
 // The lowest two free pages.
 fn free_ones(s: &[u8], l: Limits, size: usize) -> Numbers
-    requires { ⌜ Kept l (now s) × (size ≡ length (pagesOf l (now s))) ⌝ }
+    requires { ⌜ ExactBytes l (now s) × (size ≡ length (pagesOf l (now s))) ⌝ }
     ensures { λ r. ⌜ Numbered r (take 2 (freeOnes (pagesOf l (now (s .entry))))) ⌝ }
 {
     let x = parts::first_free(s, l, 5, size);
@@ -87,7 +87,7 @@ fn first_two(u: Numbers, f: Numbers) -> Numbers
 
 // "The pages used are the active ones among those gathered, left first, then the lowest free pages": the first two of them.
 pub fn usable(s: &[u8], l: Limits, w: u32, rs: Routers, size: usize) -> Numbers
-    requires { ⌜ Kept l (now s) × Routed l (now s) rs × (size ≡ length (pagesOf l (now s))) ⌝ }
+    requires { ⌜ ExactBytes l (now s) × Routed l (now s) rs × (size ≡ length (pagesOf l (now s))) ⌝ }
     ensures { λ r. ⌜ Numbered r (take 2 (usable w (pagesOf l (now (s .entry))) (routersOf rs))) ⌝ }
 {
     first_two(active_ones(s, l, w, rs), free_ones(s, l, size))

@@ -1,13 +1,2 @@
 pub mod Pending
-pub mod Tests
-pub mod Stretch
-pub mod Live
-pub mod Walking
-pub mod Taking
-pub mod Steps
 pub mod Versions
-pub mod Quiet
-pub mod Marked
-pub mod Rules
-pub mod Judge
-pub mod Named

@@ -5,13 +5,13 @@ ghost use Prim.Native.Nat.{_*_, _≤_, _<_};
 ghost use lib.ListN.{length};
 ghost use Rattle.model.specs.Limits.{Edition};
 ghost use Rattle.page.specs.Head.{readHead};
-ghost use Rattle.notes.specs.Ready.{Sooner};
+ghost use Rattle.notes.specs.Ready.{BehindUpto};
 ghost use Rattle.judge.specs.Versions.{QuietPart};
 
 // A version up to r such that nothing of the page starts or ends before it and behind v. For a single version nothing is read.
 pub fn page_change(page: &[u8], l: Limits, v: u32, r: u32) -> u32
     requires { ⌜ Edition l × (length (now page) ≡ 64 * l .least) × (readHead (l .least) (now page) .count ≤ 5 * l .least) × (v < r) ⌝ }
-    ensures { λ q. ⌜ Sooner v r q × QuietPart (l .least) (now (page .entry)) v q ⌝ }
+    ensures { λ q. ⌜ BehindUpto v r q × QuietPart (l .least) (now (page .entry)) v q ⌝ }
 {
     if r - v == 1 {
         return r;

@@ -10,7 +10,7 @@ ghost use Rattle.model.specs.Basic.{pick};
 ghost use Rattle.model.specs.Entry.{liveAt};
 ghost use Rattle.model.specs.Sound.{fewest};
 ghost use Rattle.model.specs.Layout.{readEntry};
-ghost use Rattle.judge.specs.Pending.{Next, pairsFrom, openOk, stepOk};
+ghost use Rattle.judge.specs.Pending.{NextLive, pairsFrom, openOk, stepOk};
 
 // "A span runs from start up to but not including end."
 fn is_live(e: Entry, v: u32) -> bool
@@ -25,7 +25,7 @@ fn is_live(e: Entry, v: u32) -> bool
 // The place of the first live entry from i on, or n.
 pub(crate) fn next_live(page: &[u8], v: u32, i: usize, n: usize) -> usize
     requires { ⌜ (16 + 12 * n ≤ length (now page)) × (length (now page) ≤ 2 ^ 40) × (i ≤ n) ⌝ }
-    ensures { λ r. ⌜ Next (now (page .entry)) v i n r ⌝ }
+    ensures { λ r. ⌜ NextLive (now (page .entry)) v i n r ⌝ }
 {
     let mut k = i;
     while k < n {

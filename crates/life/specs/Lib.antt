@@ -1,3 +1,2 @@
 pub mod Still
-pub mod Way
 pub mod Lived

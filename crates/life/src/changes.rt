@@ -14,7 +14,7 @@ ghost use Rattle.model.specs.Layout.{decode};
 ghost use Rattle.model.specs.Judged.{isSound};
 ghost use Rattle.walk.specs.Live.{live};
 ghost use Rattle.walk.specs.Scan.{Stands, from};
-ghost use Rattle.walk.specs.Sure.{Inside, Readable};
+ghost use Rattle.walk.specs.Sure.{PageStands, Walkable};
 ghost use Rattle.life.specs.Still.{Until, Sooner};
 
 fn wide(x: u32) -> usize
@@ -54,7 +54,7 @@ fn page_until(page: &[u8], n: usize, v: u32, r: u32) -> u32
 
 // Page n of a store shows the same from v up to here.
 fn shown_until(s: &[u8], l: Limits, n: usize, v: u32, r: u32) -> u32
-    requires { ⌜ Edition l × Inside (l .least) (now s) n × (length (now s) ≤ 2 ^ 40) × (v < r) ⌝ }
+    requires { ⌜ Edition l × PageStands (l .least) (now s) n × (length (now s) ≤ 2 ^ 40) × (v < r) ⌝ }
     ensures { λ q. ⌜ Until v r (λ w. pairsAt w (page (decode (l .least) (now (s .entry)) .pages) n)) q ⌝ }
 {
     let p = store::part(s, l, n);
@@ -81,7 +81,7 @@ fn root_until(s: &[u8], l: Limits, v: u32, r: u32) -> u32
 
 // Lookups of a key answer the same from v up to here: on the way down each page shows the same.
 pub fn answer_until(s: &[u8], l: Limits, key: u32, v: u32, r: u32) -> u32
-    requires { ⌜ Readable l (now s) v × (key < keyLimit) × (v < r) ⌝ }
+    requires { ⌜ Walkable l (now s) v × (key < keyLimit) × (v < r) ⌝ }
     ensures { λ q. ⌜ Until v r (lookup (decode (l .least) (now (s .entry))) key) q ⌝ }
 {
     let mut q = root_until(s, l, v, r);

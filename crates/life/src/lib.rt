@@ -25,7 +25,7 @@ ghost use Rattle.model.specs.Lent.{listed};
 ghost use Rattle.model.specs.Inner.{Lasts};
 ghost use Rattle.model.specs.Telling.{written, Space, Gathers};
 ghost use Rattle.walk.specs.Counted.{withList};
-ghost use Rattle.walk.specs.Sure.{Readable};
+ghost use Rattle.walk.specs.Sure.{Walkable};
 ghost use Rattle.life.specs.Lived.{stretches, isValue, isAbsent, sameAs, shown};
 
 // "End 1,048,575 means alive."
@@ -64,7 +64,7 @@ fn same(a: Looked, b: Looked) -> bool
 
 // The first version behind v at which a lookup answers otherwise than at v, or the first behind c.
 fn change_after(s: &[u8], l: Limits, key: u32, v: u32, c: u32, was: Looked) -> u32
-    requires { ⌜ Readable l (now s) c × (key < keyLimit) × (decode (l .least) (now s) .oldest ≤ v) × (v ≤ c) × (was ≡ lookedAt (lookup (decode (l .least) (now s)) key v)) ⌝ }
+    requires { ⌜ Walkable l (now s) c × (key < keyLimit) × (decode (l .least) (now s) .oldest ≤ v) × (v ≤ c) × (was ≡ lookedAt (lookup (decode (l .least) (now s)) key v)) ⌝ }
     ensures { λ r. ⌜ Lasts c (lookup (decode (l .least) (now (s .entry))) key) v r ⌝ }
 {
     let mut u = changes::answer_until(s, l, key, v, c + 1);
@@ -121,7 +121,7 @@ fn tell(list: &mut [u32], k: usize, v: u32, e: u32, answer: Looked, write: bool)
 
 // The stretches from version old up to version c, into a list or only counted; gives how many there are.
 fn tell_all(s: &[u8], l: Limits, key: u32, old: u32, c: u32, list: &mut [u32], write: bool) -> usize
-    requires { ⌜ Readable l (now s) c × (key < keyLimit) × Space stretches write (now list) 0 (lifeOf old c (lookup (decode (l .least) (now s)) key)) × (decode (l .least) (now s) .oldest ≤ old) × (old ≤ c) ⌝ }
+    requires { ⌜ Walkable l (now s) c × (key < keyLimit) × Space stretches write (now list) 0 (lifeOf old c (lookup (decode (l .least) (now s)) key)) × (decode (l .least) (now s) .oldest ≤ old) × (old ≤ c) ⌝ }
     ensures { λ n. ⌜ Gathers stretches write (now (list .entry)) (now (list .exit)) 0 n (lifeOf old c (lookup (decode (l .least) (now (s .entry))) key)) ⌝ }
 {
     let mut found = 0;

@@ -97,14 +97,14 @@ inputs-hold = refl
 
 -- ---- answers
 
-pub record Written : Type 0 where
+pub record AnswerText : Type 0 where
   pub answer : Answer
   pub text : String
 
-abbrev writes : Answer → String → Written
+abbrev writes : Answer → String → AnswerText
 writes a t = record { answer = a; text = t }
 
-abbrev pub answers : List Written
+abbrev pub answers : List AnswerText
 answers =
     writes Done "ok\n"
     ∷ writes (Refused 6) "refused 6\n"
@@ -119,7 +119,7 @@ answers =
     ∷ writes BadLine "bad line\n"
     ∷ []
 
-pub answers-hold : map (λ (w : Written). textOf (w .answer)) answers ≡ map (λ (w : Written). ascii (w .text)) answers
+pub answers-hold : map (λ (w : AnswerText). textOf (w .answer)) answers ≡ map (λ (w : AnswerText). ascii (w .text)) answers
 unfolding decimalWithin
 answers-hold = refl
 

@@ -1,129 +1,15 @@
--- Rule 8 as the code tests it. Assumes nothing.
-use Prim.Native.Nat.{ℕ, zero, suc, _+_, _*_, _-_, _<_, _≤_}
-use mathlib.Core.Bool.{Bool, true, false, _&&_, _||_}
-use mathlib.Core.Path.{_≡_, refl, ap, sym, _∙_, subst}
-use mathlib.Core.List.{List, [], _∷_}
-use native.Mathlib.Omega.{arith}
-use lib.Dec.{leb, eqb}
-use lib.ListN.{length, length-append}
-use borrow.Author.Tests.{eq-eqb, ne-eqb, le-leb, lt-leb}
-use Rattle.model.specs.Basic.{all, those, pick, inOrder}
-use Rattle.model.specs.declared.Entry.{Entry}
-use Rattle.model.specs.Limits.{liveShown}
-use Rattle.model.specs.Field.{field}
-use Rattle.model.specs.Entry.{liveAt, before}
-use Rattle.model.specs.Page.{Page, isFree}
-use Rattle.model.specs.Store.{last}
-use Rattle.model.specs.Sound.{pageFine, pageOk, zeroed, spanOk, entryOk}
-use Rattle.model.specs.Layout.{lives, liveOf, pageOf, readEntry, readEntries, readPages, decodePage, decode, sizeOf}
-use Rattle.model.specs.Clean.{clean}
-use Rattle.model.specs.Counted.{countedPage, countedPages, rule8}
-use Rattle.model.proofs.Lists.{both-true}
-use Rattle.model.proofs.Local.{those-append}
-use Rattle.model.proofs.PlanSizes.{few-those}
-use Rattle.model.proofs.Counted.{those-last}
-use Rattle.page.specs.Head.{readHead}
-use Rattle.page.specs.Read.{level-of, entries-of, entries-step, entries-end}
-use Rattle.page.specs.Insert.{liveOne}
-use Rattle.local.specs.Local.{Sized, IsPage}
-use Rattle.local.specs.Ruled.{fine, last-low}
-
--- ---- the entries of a page that live, from place i on
-
-abbrev pub liveFrom : List ℕ → ℕ → ℕ → ℕ
-liveFrom p i n = length (those lives (readEntries p (128 + 96 * i) (n - i)))
-
-live-cons : (e : Entry) (es : List Entry) → length (those lives (e ∷ es)) ≡ liveOne e + length (those lives es)
-live-cons e es = ap length (those-append lives (e ∷ []) es) ∙ length-append (those lives (e ∷ [])) (those lives es)
-
-pub live-most : (e : Entry) → liveOne e ≤ 1
-live-most e = few-those lives (e ∷ [])
-
-pub live-start : (p : List ℕ) (n : ℕ) → length (those lives (readEntries p 128 n)) ≡ liveFrom p 0 n
-live-start p n = let e : n - 0 ≡ n = omega arith in let f : 128 + 96 * 0 ≡ 128 = omega arith in rw (e, f)
-
-pub live-step : (p : List ℕ) (i n : ℕ) → i < n → liveFrom p i n ≡ liveOne (readEntry p (128 + 96 * i)) + liveFrom p (i + 1) n
-live-step p i n h = ap (λ (es : List Entry). length (those lives es)) (entries-step p i n h) ∙ live-cons (readEntry p (128 + 96 * i)) (readEntries p (128 + 96 * (i + 1)) (n - (i + 1)))
-
-pub live-end : (p : List ℕ) (i n : ℕ) → n ≤ i → liveFrom p i n ≡ 0
-live-end p i n h = ap (λ (es : List Entry). length (those lives es)) (entries-end p (128 + 96 * i) i n h)
+-- Rule 8 as the code tests it.
+use Prim.Native.Nat.{ℕ}
+use mathlib.Core.Bool.{Bool, _||_}
+use mathlib.Core.List.{List}
+use lib.Dec.{eqb}
+use lib.ListN.{length}
+use Rattle.model.specs.Basic.{those}
+use Rattle.model.specs.Page.{isFree}
+use Rattle.model.specs.Layout.{lives, liveOf, decodePage}
 
 -- ---- a page
 
 -- in an edition that has a live count
 unfoldable pub countOk : ℕ → List ℕ → Bool
 countOk least p = isFree (decodePage least p) || eqb (liveOf least p) (length (those lives (decodePage least p .entries)))
-
-pub count-free : (least : ℕ) (p : List ℕ) → readHead least p .level ≡ 0 → countOk least p ≡ true
-unfolding countOk
-count-free least p e = rw (level-of least p, e)
-
-pub count-used : (least : ℕ) (p : List ℕ) → (readHead least p .level ≡ 0 → ⊥) → countOk least p ≡ eqb (liveOf least p) (length (those lives (readEntries p 128 (readHead least p .count))))
-unfolding countOk
-count-used least p e = rw (level-of least p, ne-eqb (readHead least p .level) 0 e, entries-of least p)
-
--- so many pages from page n on
-unfoldable pub countsOk : ℕ → List ℕ → ℕ → ℕ → Bool
-countsOk least s n zero = true
-countsOk least s n (suc k) = countOk least (pageOf least s n) && countsOk least s (n + 1) k
-
-pub counts-step : (least : ℕ) (s : List ℕ) (n m : ℕ) → n < m → countsOk least s n (m - n) ≡ (countOk least (pageOf least s n) && countsOk least s (n + 1) (m - (n + 1)))
-unfolding countsOk
-counts-step least s n m h = let e : m - n ≡ suc (m - (n + 1)) = omega arith in rw e
-
-pub counts-end : (least : ℕ) (s : List ℕ) (n m : ℕ) → m ≤ n → countsOk least s n (m - n) ≡ true
-unfolding countsOk
-counts-end least s n m h = let e : m - n ≡ 0 = omega arith in rw e
-
--- ---- no bits for it: nothing to be wrong
-
-or-true : (b : Bool) → (b || true) ≡ true
-or-true true = refl
-or-true false = refl
-
-none-page : (least v : ℕ) (p : List ℕ) → least ≤ 4 → countedPage least v p ≡ true
-unfolding countedPage liveOf field
-none-page least v p h = rw (le-leb least 4 h) (or-true (isFree (decodePage least p)))
-
-none-pages : (least v : ℕ) (s : List ℕ) (n k : ℕ) → least ≤ 4 → countedPages least v s n k ≡ true
-unfolding countedPages
-none-pages least v s n zero h = refl
-none-pages least v s n (suc k) h = rw (none-page least v (pageOf least s n) h) (none-pages least v s (n + 1) k h)
-
-pub eighth-none : (least : ℕ) (s : List ℕ) → least ≤ 4 → rule8 least s ≡ true
-unfolding rule8
-eighth-none least s h = none-pages least (last (decode least s)) s 5 (sizeOf least s - 5) h
-
--- ---- six bits: the entries alive at last are those that live
-
-some-page : (least v size : ℕ) (p : List ℕ) → 4 < least → v ≤ 1048574 → pageFine least v size (decodePage least p) ≡ true → countedPage least v p ≡ countOk least p
-unfolding countedPage countOk
-some-page least v size p h low fine = at (isFree q) refl
-  where
-    q : Page
-    q = decodePage least p
-
-    shown : (n : ℕ) → liveShown least n ≡ n
-    shown n = rw (lt-leb least 4 h)
-
-    same : isFree q ≡ false → those (liveAt v) (q .entries) ≡ those lives (q .entries)
-    same u =
-        let ok : pageOk least v size q ≡ true = subst (λ (b : Bool). pick b (zeroed q) (pageOk least v size q) ≡ true) u fine in
-        those-last v size (q .level) low (q .entries)
-        (both-true (leb (q .level) 7 && leb (length (q .entries)) (5 * least) && spanOk v (q .start) (q .end) && inOrder before (q .entries)) (all (entryOk v size (q .level)) (q .entries)) ok .1)
-
-    at : (f : Bool) → isFree q ≡ f → (f || eqb (liveOf least p) (liveShown least (length (those (liveAt v) (q .entries))))) ≡ (f || eqb (liveOf least p) (length (those lives (q .entries))))
-    at true u = refl
-    at false u = ap (eqb (liveOf least p)) (shown (length (those (liveAt v) (q .entries))) ∙ ap length (same u))
-
-some-pages : (least v : ℕ) (s : List ℕ) (n k : ℕ) → ((m : ℕ) → n ≤ m → m < n + k → countedPage least v (pageOf least s m) ≡ countOk least (pageOf least s m)) → countedPages least v s n k ≡ countsOk least s n k
-unfolding countedPages countsOk
-some-pages least v s n zero f = refl
-some-pages least v s n (suc k) f = rw (f n (omega arith) (omega arith), some-pages least v s (n + 1) k (λ m l h. f m (omega arith) (omega arith)))
-
-pub eighth-some : (least : ℕ) (s : List ℕ) (size : ℕ) → Sized least s size → clean least s ≡ true → 4 < least → rule8 least s ≡ countsOk least s 5 (size - 5)
-unfolding rule8
-eighth-some least s size z one h =
-    let v : ℕ = last (decode least s) in
-    some-pages least v s 5 (sizeOf least s - 5) (λ m l k. some-page least v size (pageOf least s m) h (last-low least s size z one) (fine least s size z one m (l, omega arith)))
-    ∙ ap (λ (n : ℕ). countsOk least s 5 (n - 5)) (z .is)

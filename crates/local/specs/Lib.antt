@@ -1,13 +1,7 @@
 pub mod Local
-pub mod Sizes
-pub mod Loops
-pub mod Pages
 pub mod First
-pub mod Ruled
 pub mod Second
-pub mod Third
 pub mod Seventh
-pub mod Linked
 pub mod Eighth
 pub mod Front
 pub mod Right

@@ -1,9 +1,9 @@
--- What rules 1 to 3 ask of bytes, as the code tests it, and what rule 1 gives. Assumes nothing.
+-- What rules 1 to 3 ask of bytes, as the code tests it, and what rule 1 gives.
 use Prim.Native.Nat.{ℕ, _+_, _*_, _^_, _<_, _≤_}
 use mathlib.Core.Bool.{Bool, _&&_, _||_, not}
 use mathlib.Core.Path.{_≡_}
 use mathlib.Core.List.{List}
-use lib.Dec.{leb, eqb}
+use lib.Dec.{leb}
 use lib.ListN.{length}
 use Rattle.model.specs.Basic.{all, inOrder}
 use Rattle.model.specs.declared.Entry.{Entry}
@@ -92,10 +92,6 @@ linkOk t p e = liesWell t p e
 -- an entry's span lies in that of the page with the front h
 abbrev pub lies : Head → Entry → Bool
 lies h e = leb (h .start) (e .start) && leb (e .end) (h .end)
-
--- the same by the page's front h and the front c of the page below
-unfoldable pub linkBy : Head → Head → Entry → Bool
-linkBy h c e = lies h e && (eqb (h .level) 1 || (lies c e && eqb (c .level + 1) (h .level)))
 
 -- the entries of a page, unless it is free
 unfoldable pub linksOk : Store → Page → Bool

@@ -3,7 +3,7 @@ use model::Entry;
 ghost use mathlib.Core.Path.{_≡_};
 ghost use Rattle.model.specs.Entry.{before};
 ghost use Rattle.model.specs.Sound.{spanOk, isPage, entryOk};
-ghost use Rattle.page.specs.Read.{Sized as SizedEntry};
+ghost use Rattle.page.specs.Read.{FieldsFit as SizedEntry};
 
 // "starts are at most last; each end is at most last, or alive; every span is non-empty"
 pub(crate) fn span_ok(last: u32, a: u32, b: u32) -> bool

@@ -22,7 +22,6 @@ pub mod Field
 pub mod Layout
 pub mod State
 pub mod Clean
-pub mod Quick
 pub mod Counted
 pub mod Inner
 pub mod Judged

@@ -3,7 +3,7 @@
 -- take, and how many pages are free by then. Which free page is taken makes no difference higher up: what a page does there follows
 -- from its routers' low keys and from how many there are. So a count does, where a map of the free pages would do too, and in a router
 -- to a page yet to be taken stands 0, the number of no router.
--- That the plan foresees what `update` runs into: `plan-foresees` in proofs/PlanSound.
+-- That the plan foresees what `update` runs into: `plan-foresees` in model/proofs/plan/PlanSound.
 -- Assumes nothing.
 use Prim.Native.Nat.{ℕ, _+_, _*_, _-_}
 use mathlib.Core.Bool.{Bool, true, false, _||_}

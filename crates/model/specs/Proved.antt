@@ -28,8 +28,7 @@ use Rattle.model.specs.Return
 use Rattle.model.specs.GoingBack.{goingBack}
 use Rattle.model.specs.Vectors.{freshBytes, freshSecondBytes, entryForty, fortyBytes, fortyPage, fortyHead, fortySecondHead}
 use Rattle.model.specs.Figures.{Figure, made, figures}
-use Rattle.model.specs.Quick
-use Rattle.model.specs.Pruned.{toPruned, toReused, both, prunedFacts, outside, young, kept}
+use Rattle.model.specs.Pruned.{toPruned, toReused, leavesSound, prunedFacts, outside, young, kept}
 use Rattle.model.specs.Samples.{twoLevels, fromElsewhere, served, visited, visitedPages, states, statesTold}
 use Rattle.model.specs.Differ
 use Rattle.model.specs.Signed.{asked, answered, signed, byHand}
@@ -167,8 +166,8 @@ pub pruned-facts : T prunedFacts
 unfolding calling
 pruned-facts = tt
 
-pub pruned-sound : T (all both (toPruned ∷ toReused ∷ []))
-unfolding calling judging Quick.quickSound Quick.quick
+pub pruned-sound : T (all leavesSound (toPruned ∷ toReused ∷ []))
+unfolding calling judging
 pruned-sound = tt
 
 -- an expired router outside its page's span, in a page of the open version, and one that is not expired

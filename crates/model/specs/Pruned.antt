@@ -1,7 +1,6 @@
 -- Prunes in edition 2. One replayed: pages 5 and 7 ended by version 2, are freed and used again in version 3, while page 8 keeps the router
 -- to page 7 whose span ended at 2. A key's value is the key and 100.
 -- Assumes nothing.
-use Prim.Native.Nat.{ℕ}
 use mathlib.Core.Bool.{Bool, true, _&&_}
 use mathlib.Core.List.{List, [], _∷_, _++_, map}
 use lib.ListN.{replicate}
@@ -13,7 +12,6 @@ use Rattle.model.specs.Page.{free}
 use Rattle.model.specs.Figures.{to, each, leaf, index, slot}
 use Rattle.model.specs.Store.{Store, fresh}
 use Rattle.model.specs.Sound.{sound}
-use Rattle.model.specs.Quick.{quickSound}
 use Rattle.model.specs.Histories.{Call, begins, commits, abandons, prunes, After, runOn}
 use Rattle.model.specs.Table.{insertKey}
 use Rattle.model.specs.Replay.{allOf, gives, slots, leads, span, freed, live, looks}
@@ -32,8 +30,8 @@ toReused = toPruned ++ (begins ∷ map insertKey (count 63 21))
 abbrev pub at : List Call → After
 at cs = runOn 8 (fresh 12) cs
 
-abbrev pub both : List Call → Bool
-both cs = sound 8 (at cs .store) && quickSound 8 (at cs .store)
+abbrev pub leavesSound : List Call → Bool
+leavesSound cs = sound 8 (at cs .store)
 
 abbrev pub prunedFacts : Bool
 prunedFacts =

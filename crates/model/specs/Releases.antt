@@ -1,6 +1,5 @@
 -- 2026-05, "an empty release is no release": commits that are refused by 15, and commits that are not. A key's value is the key and 100.
 -- Assumes nothing.
-use Prim.Native.Nat.{ℕ}
 use mathlib.Core.List.{List, [], _∷_, _++_}
 use Rattle.model.specs.Histories.{Call, commits, begins, abandons, inserts, deletes, from}
 use Rattle.model.specs.declared.Looked.the-variants.{Value, Refused}

@@ -2,7 +2,7 @@
 use model::Limits;
 use model::Looked;
 ghost use Prim.Native.Nat.{_<_};
-ghost use Rattle.walk.specs.Sure.{Readable};
+ghost use Rattle.walk.specs.Sure.{Walkable};
 
 fn value_of(r: Looked) -> u64
     ensures { λ n. ⌜ n < 4294967296 ⌝ }
@@ -16,7 +16,7 @@ fn value_of(r: Looked) -> u64
 
 // The sum, modulo 2^32, of what n lookups find: of the key `from` and of every `step`th behind it, modulo the number of keys.
 fn look_on(s: &[u8], l: Limits, from: u32, step: u32, n: u32, v: u32) -> u64
-    requires { ⌜ Readable l (now s) v ⌝ }
+    requires { ⌜ Walkable l (now s) v ⌝ }
 {
     let mut key = from % 16777216;
     let stride = step % 16777216;

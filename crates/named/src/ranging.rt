@@ -9,11 +9,11 @@ ghost use Rattle.model.specs.Layout.{decode};
 ghost use Rattle.model.specs.Limits.{Edition};
 ghost use Rattle.model.specs.Named.{allKnown, rangeNamedBy, rangeNamed};
 ghost use Rattle.walk.specs.Counted.{withList};
-ghost use Rattle.walk.specs.Sure.{Readable};
+ghost use Rattle.walk.specs.Sure.{Walkable};
 
 // Whether each setting from low to high at a version has a known key. Each step goes on behind a setting of a sound store, whose keys rise.
 fn all_known(s: &[u8], l: Limits, table: &[u32], low: u32, high: u32, v: u32) -> bool
-    requires { ⌜ Readable l (now s) v × (low < keyLimit) × (high < keyLimit) ⌝ }
+    requires { ⌜ Walkable l (now s) v × (low < keyLimit) × (high < keyLimit) ⌝ }
     ensures { λ r. ⌜ r ≡ allKnown (now (table .entry)) (rangeOf (decode (l .least) (now (s .entry))) low high v) ⌝ }
 {
     let mut key = low;

@@ -13,7 +13,7 @@ ghost use Rattle.model.specs.Near.{startsBy};
 ghost use Rattle.model.specs.Calls.{lookedAt};
 ghost use Rattle.local.specs.Local.{Sized};
 ghost use Rattle.local.specs.Right.{Known};
-ghost use Rattle.walk.specs.Sure.{Fronted, Inside};
+ghost use Rattle.walk.specs.Sure.{Fronted, PageStands};
 ghost use Rattle.near.specs.Down.{walked};
 
 // The level of page n; 0 also where there is no such page.
@@ -33,7 +33,7 @@ pub(crate) fn level_at(s: &[u8], l: Limits, size: usize, n: usize) -> u32
 
 // The value of a key at v in page n, a leaf.
 fn value_in(s: &[u8], l: Limits, n: usize, v: u32, key: u32) -> Looked
-    requires { ⌜ Edition l × Inside (l .least) (now s) n × (length (now s) ≤ 2 ^ 40) ⌝ }
+    requires { ⌜ Edition l × PageStands (l .least) (now s) n × (length (now s) ≤ 2 ^ 40) ⌝ }
     ensures { λ r. ⌜ r ≡ lookedAt (find key (pairsAt v (page (decode (l .least) (now (s .entry)) .pages) n))) ⌝ }
 {
     let p = store::part(s, l, n);

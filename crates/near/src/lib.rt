@@ -21,8 +21,8 @@ ghost use Rattle.model.specs.Near.{rangeRight};
 ghost use Rattle.model.specs.Calls.{rangedBy};
 ghost use Rattle.model.specs.Lent.{listed, lookupLent, rangeLent};
 ghost use Rattle.local.specs.Right.{Known};
-ghost use Rattle.walk.specs.Sure.{Fronted, Readable};
-ghost use Rattle.walk.specs.Written.{Space, Gathers};
+ghost use Rattle.walk.specs.Sure.{Fronted, Walkable};
+ghost use Rattle.walk.specs.Written.{PairSpace, PairGathers};
 ghost use Rattle.walk.specs.Counted.{withList};
 ghost use Rattle.tabled.specs.Here.{Reads};
 ghost use Rattle.near.specs.Crossed.{crossed};
@@ -39,8 +39,8 @@ fn gather(
     list: &mut [u32],
     found: usize,
 ) -> usize
-    requires { ⌜ Reads l (now s) × (rangeRight (l .least) (now s) (q .version) up (q .high) at n ≡ true) × Space (q .write) (now list) found (rangeBelow up (decode (l .least) (now s) .pages) (q .version) (q .low) (q .high) at n) ⌝ }
-    ensures { λ r. ⌜ Gathers (q .write) (now (list .entry)) (now (list .exit)) found r (rangeBelow up (decode (l .least) (now (s .entry)) .pages) (q .version) (q .low) (q .high) at n) ⌝ }
+    requires { ⌜ Reads l (now s) × (rangeRight (l .least) (now s) (q .version) up (q .high) at n ≡ true) × PairSpace (q .write) (now list) found (rangeBelow up (decode (l .least) (now s) .pages) (q .version) (q .low) (q .high) at n) ⌝ }
+    ensures { λ r. ⌜ PairGathers (q .write) (now (list .entry)) (now (list .exit)) found r (rangeBelow up (decode (l .least) (now (s .entry)) .pages) (q .version) (q .low) (q .high) at n) ⌝ }
 {
     let p = store::part(s, l, n);
     let h = page::head_of(p, l);
@@ -102,7 +102,7 @@ fn fill(
 
 // A range on a sound store, whose walk is right as it stands.
 pub fn sound_range(s: &[u8], l: Limits, low: u32, high: u32, v: u32, list: &mut [u32]) -> Counted
-    requires { ⌜ Readable l (now s) v × (low < keyLimit) ⌝ }
+    requires { ⌜ Walkable l (now s) v × (low < keyLimit) ⌝ }
     ensures { λ r. ⌜ withList r (now (list .exit)) ≡ listed (now (list .entry)) (rangedBy 0 (length (now (list .entry))) (rangeOf (decode (l .least) (now (s .entry))) low high v)) ⌝ }
 {
     let root = walk::root_at(s, l, v);

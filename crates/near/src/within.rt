@@ -7,7 +7,7 @@ ghost use lib.ListN.{length};
 ghost use Rattle.model.specs.Limits.{Edition};
 ghost use Rattle.model.specs.Near.{rangeRight};
 ghost use Rattle.local.specs.Right.{Known};
-ghost use Rattle.near.specs.Within.{Answers};
+ghost use Rattle.near.specs.Within.{NearRight};
 
 // What was found with so many visits left. Where none is left it says nothing: whoever asked must ask in another way.
 pub(crate) struct Within {
@@ -27,7 +27,7 @@ pub(crate) fn range_right(
     left: usize,
 ) -> Within
     requires { ⌜ Edition l × Known (l .least) (now s) (q .size) (q .last) × (length (now s) ≤ 2 ^ 40) × (0 < level) ⌝ }
-    ensures { λ r. ⌜ Answers (left - 1) (rangeRight (l .least) (now (s .entry)) (q .version) (pred level) (q .high) at n) r ⌝ }
+    ensures { λ r. ⌜ NearRight (left - 1) (rangeRight (l .least) (now (s .entry)) (q .version) (pred level) (q .high) at n) r ⌝ }
 {
     if left == 0 {
         return Within {

@@ -1,13 +1,7 @@
 pub mod Notes
-pub mod Laws
-pub mod Means
-pub mod Versions
 pub mod Linked
-pub mod Here
 pub mod Kept
 pub mod Ready
 pub mod Pass
 pub mod Over
 pub mod Both
-pub mod Six
-pub mod Given

@@ -1,12 +1,6 @@
-pub mod Editions
 pub mod Head
 pub mod Read
-pub mod Words
-pub mod Entries
-pub mod Front
 pub mod Exact
-pub mod Clean
 pub mod Over
 pub mod Stage
 pub mod Insert
-pub mod Passes

@@ -8,7 +8,7 @@ ghost use Rattle.model.specs.Limits.{Edition, liveShown};
 ghost use Rattle.model.specs.Field.{lay, zeros};
 ghost use Rattle.model.specs.Layout.{entryParts, readEntry, countOf, liveOf, encodePage, decodePage};
 ghost use Rattle.page.specs.Head.{readHead, putHead, putLive, HeadFits, frontBy, putFront, FrontFits};
-ghost use Rattle.page.specs.Read.{Sized};
+ghost use Rattle.page.specs.Read.{FieldsFit};
 ghost use Rattle.page.specs.Exact.{Exact, encodeWith};
 ghost use Rattle.page.specs.Stage.{blanked};
 ghost use Rattle.page.specs.Insert.{withEntry, liveOne};
@@ -168,7 +168,7 @@ fn second_of(start: u64, end: u64) -> u64
 
 // Writes entry i of a page, by the same words.
 pub fn put_entry(page: &mut [u8], i: usize, e: Entry)
-    requires { ⌜ (16 + 12 * i + 12 ≤ length (now page)) × (length (now page) ≤ 2 ^ 40) × Sized e ⌝ }
+    requires { ⌜ (16 + 12 * i + 12 ≤ length (now page)) × (length (now page) ≤ 2 ^ 40) × FieldsFit e ⌝ }
     ensures { λ _. ⌜ now (page .exit) ≡ lay (now (page .entry)) (128 + 96 * i) (entryParts e) ⌝ }
 {
     let o = 128 + 96 * i;
@@ -202,7 +202,7 @@ pub fn blank(page: &mut [u8], j: usize, n: usize)
 
 // Puts e at place i of a page with room: those from i on move up by one. The live count is left as it was.
 fn slip_in(page: &mut [u8], l: Limits, i: usize, e: Entry)
-    requires { ⌜ Edition l × Exact (l .least) (now page) × (countOf (l .least) (now page) < 5 * l .least) × (i ≤ countOf (l .least) (now page)) × Sized e ⌝ }
+    requires { ⌜ Edition l × Exact (l .least) (now page) × (countOf (l .least) (now page) < 5 * l .least) × (i ≤ countOf (l .least) (now page)) × FieldsFit e ⌝ }
     ensures { λ _. ⌜ now (page .exit) ≡ encodeWith (l .least) (withEntry i e (decodePage (l .least) (now (page .entry)))) (liveOf (l .least) (now (page .entry))) ⌝ }
 {
     let h = head_of(page, l);
@@ -231,7 +231,7 @@ fn slip_in(page: &mut [u8], l: Limits, i: usize, e: Entry)
 
 // Inserts e at place i of a page with room, in place.
 pub fn insert_entry(page: &mut [u8], l: Limits, i: usize, e: Entry)
-    requires { ⌜ Edition l × Exact (l .least) (now page) × (countOf (l .least) (now page) < 5 * l .least) × (i ≤ countOf (l .least) (now page)) × Sized e ⌝ }
+    requires { ⌜ Edition l × Exact (l .least) (now page) × (countOf (l .least) (now page) < 5 * l .least) × (i ≤ countOf (l .least) (now page)) × FieldsFit e ⌝ }
     ensures { λ _. ⌜ now (page .exit) ≡ encodePage (l .least) (withEntry i e (decodePage (l .least) (now (page .entry)))) ⌝ }
 {
     let live = live_of(page, l);

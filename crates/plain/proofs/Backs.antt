@@ -17,10 +17,10 @@ use Rattle.model.specs.Entry.{pair, alive, liveAt, born}
 use Rattle.model.specs.Walk.{keyLimit}
 use Rattle.model.specs.Differ.{saysOf}
 use Rattle.model.specs.Return.{comes}
-use Rattle.model.proofs.Lists.{shorter}
-use Rattle.plain.specs.Plain.{valueAt, setKey, endKey, sameValue, endOther, setAs, setMissing, inTurn, backTo, keys, differs}
+use Rattle.model.proofs.lists.Lists.{shorter}
+use Rattle.plain.specs.Plain.{valueAt, endKey, sameValue, endOther, setAs, setMissing, inTurn, backTo, keys, differs}
 use Rattle.plain.proofs.Values.{orElse, set-older, set-own, set-other, end-older, end-own, end-other}
-use Rattle.plain.specs.Scan.{keys-limit}
+use Rattle.plain.proofs.laws.Scan.{keys-limit}
 
 -- a number for each key, added up
 abbrev sum : (ℕ → ℕ) → List ℕ → ℕ

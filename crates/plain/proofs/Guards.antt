@@ -5,29 +5,31 @@ use native.Mathlib.Omega.{arith}
 use mathlib.Core.Bool.{Bool, true, false, _&&_, _||_, not}
 use mathlib.Core.Option.{Option, none, some}
 use mathlib.Core.Path.{_≡_, refl, ap, ap₂, sym, _∙_, subst}
-use mathlib.Core.List.{List, [], _∷_, _++_}
+use mathlib.Core.List.{List, [], _∷_}
 use lib.Dec.{leb, ltb, eqb}
 use lib.ListN.{length, getD, length-append}
-use borrow.Author.Tests.{le-leb, lt-leb, lt-ltb, le-ltb, leb-true, leb-false, ltb-false, eqb-true}
+use borrow.Author.Tests.{le-leb, lt-leb, leb-true, ltb-false, eqb-true}
 use Rattle.model.specs.Basic.{pick, those, count, isEmpty}
 use Rattle.model.specs.declared.Entry.{Entry}
 use Rattle.model.specs.declared.Delta.{Delta}
 use Rattle.model.specs.Entry.{alive, born, pair}
 use Rattle.model.specs.Layout.{bit}
-use Rattle.model.specs.Store.{lastOf}
 use Rattle.model.specs.Walk.{keyLimit}
 use Rattle.model.specs.Calls.{isSome, rule, firstOf, beyond, benchLimit, insertTests, deleteTests, pruneTests, restoredEntries}
 use Rattle.model.specs.Return.{comes, returnTests}
 use Rattle.plain.specs.declared.State.{State}
 use Rattle.plain.specs.declared.Left.{Left}
 use Rattle.plain.specs.declared.items.Found.{Found}
-use Rattle.plain.specs.Plain.{Plain, Given, next, keys, valueAt, differs, unless, standing, holding, setKey, endKey, backTo, keptFrom, pruned, begin, insert, delete, commit, abandon, return, prune}
-use Rattle.plain.specs.Items.{Lent, Held, foundOf, from, plainOf}
-use Rattle.plain.specs.Laid.{from-length}
-use Rattle.plain.specs.Sweep.{fate, outliving, swept-ended, swept-undone, swept-outliving, swept-few}
+use Rattle.plain.specs.Plain.{Plain, Given, next, keys, valueAt, differs, unless, standing, holding, setKey, endKey, backTo, pruned, begin, insert, delete, commit, abandon, return, prune}
+use Rattle.plain.specs.Items.{ItemsHeld, foundOf, plainOf}
+use Rattle.plain.proofs.laws.Laid.{from-length}
+use Rattle.plain.specs.Sweep.{fate, outliving}
+use Rattle.plain.proofs.laws.Sweep.{swept-ended, swept-undone, swept-outliving, swept-few}
 use Rattle.plain.specs.Calls.{givenBy, Room, Opens}
-use Rattle.plain.specs.Scan.{told, saying, sameFound}
-use Rattle.plain.specs.Tell.{deltaBy, kindBy, saying-step}
+use Rattle.plain.specs.Scan.{sameFound}
+use Rattle.plain.proofs.laws.Scan.{told, saying}
+use Rattle.plain.specs.Tell.{deltaBy}
+use Rattle.plain.proofs.laws.Tell.{saying-step}
 use Rattle.plain.specs.Guard.{stateOf, stateNumbers, areVersions, isEdition, isState, longest, isLent, readPlain, leftLent, refusing, guarded, lacks, fitted, ownInserts, comesBy}
 use Rattle.plain.proofs.Backs.{those-append, back-few}
 
@@ -116,7 +118,7 @@ module _ (ns ms : List ℕ) (e : isLent ns ms ≡ true) where
       let g = both (versions ms) (old-edition ms (leb (getD ms 3 0) (getD ms 0 0))) (f .0) in
       leb-true (getD ms 0 0 + getD ms 1 0) 1048574 (both (leb (getD ms 1 0) 1) (leb (getD ms 0 0 + getD ms 1 0) 1048574) (g .0) .1)
 
-  pub held : Held (stateOf ms) ns
+  pub held : ItemsHeld (stateOf ms) ns
   held = record {
     version = omega (arith, lent-version);
     lent = record { room = lent-fits .1; short = omega (arith, lent-fits .0) };
@@ -281,8 +283,8 @@ module _ (p : Plain) (v : ℕ) where
 -- ---- on what is lent: s is the state as the code has it
 
 module _ (ns ms : List ℕ) (lent : isLent ns ms ≡ true) (s : State) (is : s ≡ stateOf ms) where
-  pub own-held : Held s ns
-  own-held = subst (λ (t : State). Held t ns) (sym is) (held ns ms lent)
+  pub own-held : ItemsHeld s ns
+  own-held = subst (λ (t : State). ItemsHeld t ns) (sym is) (held ns ms lent)
 
   abbrev own : Plain
   own = plainOf s ns

@@ -4,11 +4,11 @@
 use Prim.Native.Nat.{ℕ, zero, suc, _+_, _-_, _≤_, _<_}
 use native.Mathlib.Omega.{arith}
 use mathlib.Core.Bool.{Bool, true, false, _&&_}
-use mathlib.Core.Option.{Option, none, some}
+use mathlib.Core.Option.{some}
 use mathlib.Core.Path.{_≡_, refl, ap, ap₂, sym, _∙_, subst}
 use mathlib.Core.List.{List, [], _∷_, _++_}
 use lib.Dec.{leb, ltb, eqb}
-use borrow.Author.Tests.{leb-true, ltb-true, lt-ltb, le-leb, eqb-true, eqb-false, eq-eqb, ne-eqb}
+use borrow.Author.Tests.{leb-true, ltb-true, lt-ltb, le-leb, eqb-true, eqb-false, ne-eqb}
 use Rattle.model.specs.Basic.{pick, those, keep, all, inOrder, flatMap, count}
 use Rattle.model.specs.declared.Pair.{Pair}
 use Rattle.model.specs.declared.Entry.{Entry}
@@ -16,12 +16,12 @@ use Rattle.model.specs.declared.Delta.{Delta}
 use Rattle.model.specs.Entry.{pair}
 use Rattle.model.specs.Walk.{keyLimit, find, between}
 use Rattle.model.specs.Inner.{rising}
-use Rattle.model.specs.Differ.{differ, of, saysOf}
-use Rattle.model.proofs.Lists.{both-true, both-intro, all-cons}
-use Rattle.model.proofs.Members.{all-implies}
-use Rattle.model.proofs.Differs.{keys-so, in-order, says}
+use Rattle.model.specs.Differ.{differ, saysOf}
+use Rattle.model.proofs.lists.Lists.{both-true, both-intro, all-cons}
+use Rattle.model.proofs.lists.Members.{all-implies}
+use Rattle.model.proofs.reading.Differs.{keys-so, in-order, says}
 use Rattle.plain.specs.Plain.{valueAt, setting, settings, keys, differs}
-use Rattle.plain.specs.Scan.{keys-limit}
+use Rattle.plain.proofs.laws.Scan.{keys-limit}
 
 module _ {A : Type 0} (key : A → ℕ) where
   -- those of one key

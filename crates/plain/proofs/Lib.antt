@@ -1,3 +1,4 @@
+pub mod laws
 pub mod Values
 pub mod Keys
 pub mod Backs

@@ -1,15 +1,15 @@
 -- The items beside the machine of plain settings (model's Settings): at every version from the oldest up to the last they say the same, and each accepted call
 -- hands that on.
 -- Assumes nothing.
-use Prim.Native.Nat.{ℕ, suc, _+_, _≤_, _<_}
+use Prim.Native.Nat.{ℕ, suc, _≤_, _<_}
 use native.Mathlib.Omega.{arith}
 use mathlib.Core.Bool.{Bool, true, false, _&&_, _||_, not}
 use mathlib.Core.Option.{Option, none, some}
 use mathlib.Core.Path.{_≡_, refl, ap, ap₂, sym, _∙_, subst}
 use mathlib.Core.Logic.{_⊎_, inl, inr}
-use mathlib.Core.List.{List, [], _∷_, _++_, map}
+use mathlib.Core.List.{List, [], _∷_, map}
 use lib.Dec.{leb, ltb, eqb}
-use borrow.Author.Tests.{leb-true, leb-false, ltb-true, ltb-false, lt-ltb, le-ltb, le-leb, lt-leb, eqb-true, eqb-false, eq-eqb, ne-eqb}
+use borrow.Author.Tests.{leb-true, lt-ltb, le-ltb, le-leb, eqb-true, eqb-false, eq-eqb, ne-eqb}
 use Rattle.model.specs.Basic.{pick, those, keep, all, count}
 use Rattle.model.specs.declared.Pair.{Pair}
 use Rattle.model.specs.declared.Entry.{Entry}
@@ -18,9 +18,9 @@ use Rattle.model.specs.Store.{lastOf}
 use Rattle.model.specs.Walk.{keyLimit, find}
 use Rattle.model.specs.Calls.{revived, restoredEntries}
 use Rattle.model.specs.Histories.{begins, commits, abandons, inserts, deletes, returns, prunes}
-use Rattle.model.specs.Settings.{Machine, start, put, edited, step}
-use Rattle.model.proofs.Lists.{both-true, both-intro, all-cons}
-use Rattle.model.proofs.Members.{either-true, either-left, either-right}
+use Rattle.model.specs.Settings.{Machine, start, put, step}
+use Rattle.model.proofs.lists.Lists.{both-true, both-intro, all-cons}
+use Rattle.model.proofs.lists.Members.{either-true, either-left, either-right}
 use Rattle.plain.specs.Plain.{valueAt, setKey, endKey, keptFrom, sameValue, endOther, setAs, setMissing, inTurn, backTo, keys}
 use Rattle.plain.proofs.Values.{set-older, set-own, set-other, end-older, end-own, end-other, restored-older, kept-later}
 use Rattle.plain.proofs.Backs.{back-older, back-now}
@@ -194,17 +194,17 @@ small-without k (u ∷ us) s = let (a, b) = all-cons (λ (y : Pair). ltb (y .key
 abbrev lastIn : Machine → ℕ
 lastIn m = lastOf (m .opened) (m .current)
 
-pub record Shows (m : Machine) (es : List Entry) : Type 0 where
+pub record ItemsShow (m : Machine) (es : List Entry) : Type 0 where
   pub low : lastIn m ≤ 1048574
   pub old : m .oldest ≤ m .current
   pub spans : Spans (lastIn m) es
   pub keys-small : (v : ℕ) → v ≤ lastIn m → small (m .shows v) ≡ true
   pub shows : (k v : ℕ) → k < keyLimit → m .oldest ≤ v → v ≤ lastIn m → valueAt k v es ≡ find k (m .shows v)
 
-pub shows-start : Shows start []
+pub shows-start : ItemsShow start []
 shows-start = record { low = omega arith; old = omega arith; spans = refl; keys-small = λ v h. refl; shows = λ k v low f h. refl }
 
-module _ (m : Machine) (es : List Entry) (s : Shows m es) where
+module _ (m : Machine) (es : List Entry) (s : ItemsShow m es) where
   abbrev w : ℕ
   w = suc (m .current)
 
@@ -224,7 +224,7 @@ module _ (m : Machine) (es : List Entry) (s : Shows m es) where
     put-shows k v low h true e = ap (λ (n : ℕ). valueAt k n fs) (eqb-true v w e) ∙ now k low
     put-shows k v low h false e = h (eqb-false v w e)
 
-    edits : m .opened ≡ true → Spans w fs → ((k v : ℕ) → v < w → valueAt k v fs ≡ valueAt k v es) → Shows (record { current = m .current; opened = m .opened; oldest = m .oldest; shows = put w us (m .shows) }) fs
+    edits : m .opened ≡ true → Spans w fs → ((k v : ℕ) → v < w → valueAt k v fs ≡ valueAt k v es) → ItemsShow (record { current = m .current; opened = m .opened; oldest = m .oldest; shows = put w us (m .shows) }) fs
     edits o spans older = record {
       low = s .low;
       old = s .old;
@@ -233,7 +233,7 @@ module _ (m : Machine) (es : List Entry) (s : Shows m es) where
       shows = λ k v low f h. put-shows k v low (λ n. older k v (omega (arith, n, h, open-last o)) ∙ s .shows k v low f h) (eqb v w) refl;
     }
 
-  pub shows-begins : m .opened ≡ false → m .current < 1048574 → Shows (step m begins) es
+  pub shows-begins : m .opened ≡ false → m .current < 1048574 → ItemsShow (step m begins) es
   shows-begins o h = record {
     low = omega arith;
     old = s .old;
@@ -257,7 +257,7 @@ module _ (m : Machine) (es : List Entry) (s : Shows m es) where
       here : (k : ℕ) → k < keyLimit → valueAt k w es ≡ find k (m .shows (m .current))
       here k low = value-begun k (m .current) h es spans-c ∙ s .shows k (m .current) low (s .old) at-current
 
-  pub shows-commits : m .opened ≡ true → Shows (step m commits) es
+  pub shows-commits : m .opened ≡ true → ItemsShow (step m commits) es
   shows-commits o = record {
     low = subst (λ (n : ℕ). n ≤ 1048574) (open-last o) (s .low);
     old = omega (arith, s .old);
@@ -266,7 +266,7 @@ module _ (m : Machine) (es : List Entry) (s : Shows m es) where
     shows = λ k v low f h. s .shows k v low f (omega (arith, open-last o));
   }
 
-  pub shows-abandons : m .opened ≡ true → Shows (step m abandons) (restoredEntries w es)
+  pub shows-abandons : m .opened ≡ true → ItemsShow (step m abandons) (restoredEntries w es)
   shows-abandons o = record {
     low = omega (arith, s .low, open-last o);
     old = s .old;
@@ -276,7 +276,7 @@ module _ (m : Machine) (es : List Entry) (s : Shows m es) where
   }
 
   -- versions below v are not shown any more
-  pub shows-prunes : (v : ℕ) → m .oldest ≤ v → v ≤ m .current → Shows (step m (prunes v)) (keptFrom v es)
+  pub shows-prunes : (v : ℕ) → m .oldest ≤ v → v ≤ m .current → ItemsShow (step m (prunes v)) (keptFrom v es)
   shows-prunes v h i = record {
     low = s .low;
     old = i;
@@ -298,7 +298,7 @@ module _ (m : Machine) (es : List Entry) (s : Shows m es) where
     high : w < alive
     high = omega (arith, s .low, open-last o)
 
-    pub shows-inserts : (k x : ℕ) → k < keyLimit → find k (m .shows w) ≡ none → Shows (step m (inserts k x)) (setKey w k x es)
+    pub shows-inserts : (k x : ℕ) → k < keyLimit → find k (m .shows w) ≡ none → ItemsShow (step m (inserts k x)) (setKey w k x es)
     shows-inserts k x low absent =
         edits (enterPair (pair k x) (m .shows w)) (setKey w k x es) (small-enter k x low (m .shows w) (s .keys-small w at-w)) (λ j i. at j i (eqb k j) refl) o (spans-set w k x es spans-w)
         (λ j v h. set-older w k x j v h es)
@@ -311,7 +311,7 @@ module _ (m : Machine) (es : List Entry) (s : Shows m es) where
         at j i false e =
             set-other w k x j w (eqb-false k j e) es ∙ s .shows j w i old-w at-w ∙ sym (find-enter k x j (m .shows w) absent ∙ ap (λ (c : Bool). pick c (some x) (find j (m .shows w))) e)
 
-    pub shows-deletes : (k : ℕ) → Shows (step m (deletes k)) (endKey w k es)
+    pub shows-deletes : (k : ℕ) → ItemsShow (step m (deletes k)) (endKey w k es)
     shows-deletes k =
         edits (without k (m .shows w)) (endKey w k es) (small-without k (m .shows w) (s .keys-small w at-w)) (λ j i. at j i (eqb k j) refl) o (spans-end w k es spans-w) (λ j v h. end-older w k j v h es)
       where
@@ -321,7 +321,7 @@ module _ (m : Machine) (es : List Entry) (s : Shows m es) where
             ap (λ (n : ℕ). valueAt n w (endKey w k es)) (sym same) ∙ end-own w k es ∙ sym (find-without k (m .shows w)) ∙ ap (λ (n : ℕ). find n (without k (m .shows w))) same
         at j i false e = let n = eqb-false k j e in end-other w k j w n es ∙ s .shows j w i old-w at-w ∙ sym (find-others k j n (m .shows w))
 
-    pub shows-returns : (v : ℕ) → m .oldest ≤ v → v ≤ m .current → Shows (step m (returns v)) (backTo w v es)
+    pub shows-returns : (v : ℕ) → m .oldest ≤ v → v ≤ m .current → ItemsShow (step m (returns v)) (backTo w v es)
     shows-returns v f h =
         edits (m .shows v) (backTo w v es) (s .keys-small v (omega (arith, open-last o)))
         (λ k low. back-now w v (omega arith) high es k low ∙ s .shows k v low f (omega (arith, open-last o))) o (spans-back w v es spans-w)

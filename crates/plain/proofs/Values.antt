@@ -1,6 +1,6 @@
 -- What an append, an end, an abandon and a prune do to the value of a key at a version.
 -- Assumes nothing.
-use Prim.Native.Nat.{ℕ, suc, _≤_, _<_}
+use Prim.Native.Nat.{ℕ, _≤_, _<_}
 use native.Mathlib.Omega.{arith}
 use mathlib.Core.Bool.{Bool, true, false, _&&_, not}
 use mathlib.Core.Option.{Option, none, some}
@@ -8,12 +8,12 @@ use mathlib.Core.Path.{_≡_, refl, ap, ap₂, sym, _∙_}
 use mathlib.Core.List.{List, [], _∷_, _++_, map}
 use lib.Dec.{leb, ltb, eqb}
 use lib.ListN.{length}
-use borrow.Author.Tests.{leb-true, ltb-true, ltb-false, lt-ltb, le-ltb, lt-leb, le-leb, eqb-true, eq-eqb, ne-eqb}
+use borrow.Author.Tests.{ltb-true, ltb-false, lt-ltb, le-ltb, lt-leb, le-leb, eqb-true, eq-eqb, ne-eqb}
 use Rattle.model.specs.Basic.{pick, those, keep}
 use Rattle.model.specs.declared.Entry.{Entry}
-use Rattle.model.specs.Entry.{pair, alive, liveAt, born, endedAt, endOne, endThose}
-use Rattle.model.specs.Calls.{revivedEnd, revived, restoredEntries}
-use Rattle.model.proofs.Lists.{both-true}
+use Rattle.model.specs.Entry.{pair, alive, liveAt, born, endOne}
+use Rattle.model.specs.Calls.{revived, restoredEntries}
+use Rattle.model.proofs.lists.Lists.{both-true}
 use Rattle.plain.specs.Plain.{valueAt, setKey, endKey, keptFrom}
 
 -- the first of two values, or else the second

@@ -10,7 +10,7 @@ ghost use Rattle.model.specs.Layout.{bit};
 ghost use Rattle.model.specs.Calls.{firstOf, isSome, insertTests};
 ghost use Rattle.model.specs.Return.{returnTests};
 ghost use Rattle.plain.specs.Plain.{valueAt};
-ghost use Rattle.plain.specs.Items.{plainOf, from, Held};
+ghost use Rattle.plain.specs.Items.{plainOf, from, ItemsHeld};
 ghost use Rattle.plain.specs.Guard.{stateOf, stateNumbers, areVersions, isEdition, isState, isLent, lacks, ownInserts};
 
 // Four numbers for as many items as a state counts to.
@@ -104,7 +104,7 @@ pub fn keep(state: &mut [u32; 5], r: Left) -> u32
 
 // Whether an insert would be done, and the list has not the room for its item.
 pub fn insert_lacks(items: &[u32], s: State, key: u32) -> bool
-    requires { ⌜ Held s (now items) ⌝ }
+    requires { ⌜ ItemsHeld s (now items) ⌝ }
     ensures { λ r. ⌜ r ≡ lacks (now (items .entry)) (s .count + 1) (firstOf (insertTests key (s .opened) (isSome (valueAt key (suc (s .current)) (from (now (items .entry)) 0 (s .count)))))) ⌝ }
 {
     if BENCH <= key {
@@ -122,7 +122,7 @@ pub fn insert_lacks(items: &[u32], s: State, key: u32) -> bool
 
 // Whether a return would be done, and the list has not the room for its inserts.
 pub fn return_lacks(items: &[u32], s: State, v: u32) -> bool
-    requires { ⌜ Held s (now items) ⌝ }
+    requires { ⌜ ItemsHeld s (now items) ⌝ }
     ensures { λ r. ⌜ r ≡ lacks (now (items .entry)) (s .count + ownInserts (plainOf s (now (items .entry))) v) (firstOf (returnTests (s .oldest) (s .current) (s .opened) v)) ⌝ }
 {
     if s.uncommitted(v) {

@@ -18,7 +18,7 @@ ghost use Rattle.model.specs.Store.{lastOf};
 ghost use Rattle.model.specs.Calls.{beyond};
 ghost use Rattle.model.specs.Lent.{listed};
 ghost use Rattle.plain.specs.Plain.{insert, delete, commit, abandon, return, prune, lookup, range, difference, life};
-ghost use Rattle.plain.specs.Items.{plainOf, Held};
+ghost use Rattle.plain.specs.Items.{plainOf, ItemsHeld};
 ghost use Rattle.plain.specs.Tell.{toldAs, toldWith, badRange};
 ghost use Rattle.plain.specs.Calls.{givenBy, leftWith, Room, Opens};
 
@@ -142,7 +142,7 @@ pub fn open(s: State) -> Left
 }
 
 pub fn insert(items: &mut [u32], s: State, key: u32, value: u32) -> Left
-    requires { ⌜ Held s (now items) × Room (insert (plainOf s (now items)) key value) (now items) ⌝ }
+    requires { ⌜ ItemsHeld s (now items) × Room (insert (plainOf s (now items)) key value) (now items) ⌝ }
     ensures { λ r. ⌜ givenBy r (now (items .exit)) ≡ insert (plainOf s (now (items .entry))) key value ⌝ }
 {
     if BENCH <= key {
@@ -167,7 +167,7 @@ pub fn insert(items: &mut [u32], s: State, key: u32, value: u32) -> Left
 }
 
 pub fn delete(items: &mut [u32], s: State, key: u32) -> Left
-    requires { ⌜ Held s (now items) ⌝ }
+    requires { ⌜ ItemsHeld s (now items) ⌝ }
     ensures { λ r. ⌜ givenBy r (now (items .exit)) ≡ delete (plainOf s (now (items .entry))) key ⌝ }
 {
     if KEYS <= key {
@@ -186,7 +186,7 @@ pub fn delete(items: &mut [u32], s: State, key: u32) -> Left
 }
 
 pub fn abandon(items: &mut [u32], s: State) -> Left
-    requires { ⌜ Held s (now items) ⌝ }
+    requires { ⌜ ItemsHeld s (now items) ⌝ }
     ensures { λ r. ⌜ givenBy r (now (items .exit)) ≡ abandon (plainOf s (now (items .entry))) ⌝ }
 {
     if !s.opened {
@@ -207,7 +207,7 @@ pub fn abandon(items: &mut [u32], s: State) -> Left
 
 // 15 where nothing differs from the current version.
 pub fn commit(items: &[u32], s: State) -> Left
-    requires { ⌜ Held s (now items) ⌝ }
+    requires { ⌜ ItemsHeld s (now items) ⌝ }
     ensures { λ r. ⌜ givenBy r (now (items .entry)) ≡ commit (plainOf s (now (items .entry))) ⌝ }
 {
     if !s.opened {
@@ -230,7 +230,7 @@ pub fn commit(items: &[u32], s: State) -> Left
 }
 
 pub fn return_to(items: &mut [u32], s: State, v: u32) -> Left
-    requires { ⌜ Held s (now items) × Room (return (plainOf s (now items)) v) (now items) ⌝ }
+    requires { ⌜ ItemsHeld s (now items) × Room (return (plainOf s (now items)) v) (now items) ⌝ }
     ensures { λ r. ⌜ givenBy r (now (items .exit)) ≡ return (plainOf s (now (items .entry))) v ⌝ }
 {
     if s.uncommitted(v) {
@@ -247,7 +247,7 @@ pub fn return_to(items: &mut [u32], s: State, v: u32) -> Left
 
 // What ended at or before v goes.
 pub fn prune(items: &mut [u32], s: State, v: u32) -> Left
-    requires { ⌜ Held s (now items) ⌝ }
+    requires { ⌜ ItemsHeld s (now items) ⌝ }
     ensures { λ r. ⌜ givenBy r (now (items .exit)) ≡ prune (plainOf s (now (items .entry))) v ⌝ }
 {
     if s.edition == 1 {
@@ -273,7 +273,7 @@ pub fn prune(items: &mut [u32], s: State, v: u32) -> Left
 }
 
 pub fn lookup(items: &[u32], s: State, key: u32, v: u32) -> Looked
-    requires { ⌜ Held s (now items) ⌝ }
+    requires { ⌜ ItemsHeld s (now items) ⌝ }
     ensures { λ r. ⌜ r ≡ lookup (plainOf s (now (items .entry))) key v ⌝ }
 {
     if KEYS <= key {
@@ -304,7 +304,7 @@ fn bad_range(low: u32, high: u32) -> bool
 
 // The settings are counted before any is written, so that 14 leaves the list untouched.
 pub fn range(items: &[u32], s: State, low: u32, high: u32, v: u32, list: &mut [u32]) -> Told
-    requires { ⌜ Held s (now items) ⌝ }
+    requires { ⌜ ItemsHeld s (now items) ⌝ }
     ensures { λ r. ⌜ toldWith r (now (list .exit)) ≡ listed (now (list .entry)) (range (plainOf s (now (items .entry))) low high v (length (now (list .entry)))) ⌝ }
 {
     if bad_range(low, high) {
@@ -322,7 +322,7 @@ pub fn range(items: &[u32], s: State, low: u32, high: u32, v: u32, list: &mut [u
 }
 
 pub fn difference(items: &[u32], s: State, u: u32, v: u32, list: &mut [u32]) -> Told
-    requires { ⌜ Held s (now items) ⌝ }
+    requires { ⌜ ItemsHeld s (now items) ⌝ }
     ensures { λ r. ⌜ toldWith r (now (list .exit)) ≡ listed (now (list .entry)) (difference (plainOf s (now (items .entry))) u v (length (now (list .entry)))) ⌝ }
 {
     if s.unreadable(u) {
@@ -341,7 +341,7 @@ pub fn difference(items: &[u32], s: State, u: u32, v: u32, list: &mut [u32]) -> 
 
 // The life of a key from the oldest version on; "an open update is not shown".
 pub fn life_of(items: &[u32], s: State, key: u32, list: &mut [u32]) -> Told
-    requires { ⌜ Held s (now items) ⌝ }
+    requires { ⌜ ItemsHeld s (now items) ⌝ }
     ensures { λ r. ⌜ toldWith r (now (list .exit)) ≡ listed (now (list .entry)) (life (plainOf s (now (items .entry))) key (length (now (list .entry)))) ⌝ }
 {
     if KEYS <= key {

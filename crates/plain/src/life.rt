@@ -17,7 +17,7 @@ ghost use Rattle.model.specs.Inner.{Lasts};
 ghost use Rattle.model.specs.Telling.{written, Space, Gathers};
 ghost use Rattle.plain.specs.Plain.{valueAt};
 ghost use Rattle.plain.specs.Items.{from, foundOf};
-ghost use Rattle.plain.specs.Lived.{stretches, Sooner, Change, Until, shown};
+ghost use Rattle.plain.specs.Lived.{stretches, Sooner, ItemStill, Until, shown};
 
 // r, or x where it stands between v and r.
 fn sooner(v: u32, r: u32, x: u32) -> u32
@@ -36,7 +36,7 @@ fn sooner(v: u32, r: u32, x: u32) -> u32
 // r, or where the item starts or ends before r, behind v, if it is the key's.
 fn change_of(e: Entry, key: u32, v: u32, r: u32) -> u32
     requires { ⌜ v < r ⌝ }
-    ensures { λ q. ⌜ Change e key v r q ⌝ }
+    ensures { λ q. ⌜ ItemStill e key v r q ⌝ }
 {
     if e.key != key {
         return r;

@@ -10,7 +10,7 @@ ghost use Rattle.model.specs.Basic.{isEmpty};
 ghost use Rattle.model.specs.Walk.{keyLimit};
 ghost use Rattle.plain.specs.Plain.{differs};
 ghost use Rattle.plain.specs.Items.{from};
-ghost use Rattle.plain.specs.Scan.{Lower, Skips, sameFound};
+ghost use Rattle.plain.specs.Scan.{Lower, SkipsKeys, sameFound};
 
 // The item's key, where it is from a on and below r, and the item is alive at u or at v; else r.
 fn lower(e: Entry, a: u32, r: u32, u: u32, v: u32) -> u32
@@ -35,7 +35,7 @@ fn lower(e: Entry, a: u32, r: u32, u: u32, v: u32) -> u32
 // The lowest key from a on that has a value at u or at v, or KEYS.
 pub fn next_key(items: &[u32], n: usize, a: u32, u: u32, v: u32) -> u32
     requires { ⌜ (4 * n ≤ length (now items)) × (a ≤ keyLimit) ⌝ }
-    ensures { λ r. ⌜ Skips a r u v (from (now (items .entry)) 0 n) ⌝ }
+    ensures { λ r. ⌜ SkipsKeys a r u v (from (now (items .entry)) 0 n) ⌝ }
 {
     let mut r = KEYS;
     let mut i = 0;

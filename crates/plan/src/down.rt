@@ -11,8 +11,8 @@ ghost use Rattle.model.specs.Walk.{keyLimit, around};
 ghost use Rattle.model.specs.Page.{pairsAt};
 ghost use Rattle.model.specs.Store.{page};
 ghost use Rattle.gather.specs.Gather.{Good, pairsIn};
-ghost use Rattle.parts.specs.Kept.{Kept, Inside, pagesOf};
-ghost use Rattle.walk.specs.Sure.{Readable};
+ghost use Rattle.parts.specs.Kept.{ExactBytes, Inside, pagesOf};
+ghost use Rattle.walk.specs.Sure.{Walkable};
 ghost use Rattle.group.specs.Group.{aroundOf};
 ghost use Rattle.plan.specs.Way.{Among, placeAt, Leads};
 
@@ -65,7 +65,7 @@ fn around_in(g: Gather, key: u32) -> Around
 
 // The place of a key among the routers of page n alive at w.
 fn place_below(s: &[u8], l: Limits, n: usize, w: u32, key: u32) -> Around
-    requires { ⌜ Kept l (now s) × Inside l (now s) n × (0 < length (pairsAt w (page (pagesOf l (now s)) n))) ⌝ }
+    requires { ⌜ ExactBytes l (now s) × Inside l (now s) n × (0 < length (pairsAt w (page (pagesOf l (now s)) n))) ⌝ }
     ensures { λ r. ⌜ (aroundOf r ≡ around key (pairsAt w (page (pagesOf l (now (s .entry))) n))) × Among (pairsAt w (page (pagesOf l (now (s .entry))) n)) r ⌝ }
 {
     around_in(parts::live_of(s, l, n, w), key)
@@ -73,7 +73,7 @@ fn place_below(s: &[u8], l: Limits, n: usize, w: u32, key: u32) -> Around
 
 // The way down to the leaf for a key at version w.
 pub fn way_to(s: &[u8], l: Limits, w: u32, key: u32) -> Way
-    requires { ⌜ Readable l (now s) w × (key < keyLimit) ⌝ }
+    requires { ⌜ Walkable l (now s) w × (key < keyLimit) ⌝ }
     ensures { λ r. ⌜ Leads l (now (s .entry)) w key r ⌝ }
 {
     let no = Pair { key: 0, value: 0 };

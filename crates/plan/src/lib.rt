@@ -22,7 +22,7 @@ ghost use Rattle.model.specs.Plan.{planGroup, planWork, planRoot, planUp, rootB
 ghost use Rattle.edit.specs.Change.{changeOf, one};
 ghost use Rattle.gather.specs.Kept.{Fits};
 ghost use Rattle.gather.specs.Gather.{Lists};
-ghost use Rattle.parts.specs.Kept.{Kept, Inside, pagesOf};
+ghost use Rattle.parts.specs.Kept.{ExactBytes, Inside, pagesOf};
 ghost use Rattle.group.specs.Group.{aroundOf, groupOf, Placed, Grouped};
 ghost use Rattle.plan.specs.Plan.{plannedOf, PlannedFits, outlookOf, upsOf, Led};
 
@@ -56,7 +56,7 @@ pub(crate) fn wide(x: u32) -> usize
 
 // A group is rebuilt: "An active page left over is freed", and a page needed beyond the active ones is taken from the free ones.
 fn plan_group(s: &[u8], l: Limits, w: u32, g: Group, left: usize) -> Planned
-    requires { ⌜ Kept l (now s) × Grouped l (now s) g × (left ≤ 2 ^ 20) ⌝ }
+    requires { ⌜ ExactBytes l (now s) × Grouped l (now s) g × (left ≤ 2 ^ 20) ⌝ }
     ensures { λ r. ⌜ (plannedOf r ≡ planGroup (l .least) w (pagesOf l (now (s .entry))) (groupOf g) left) × PlannedFits left r ⌝ }
 {
     let u = group::active_ones(s, l, w, g.routers);
@@ -71,7 +71,7 @@ fn plan_group(s: &[u8], l: Limits, w: u32, g: Group, left: usize) -> Planned
 
 // One page that is not the root.
 fn plan_level(s: &[u8], l: Limits, w: u32, a: Around, c: Change, left: usize) -> Planned
-    requires { ⌜ Kept l (now s) × Placed l (now s) a × Fits c × (left ≤ 2 ^ 20) ⌝ }
+    requires { ⌜ ExactBytes l (now s) × Placed l (now s) a × Fits c × (left ≤ 2 ^ 20) ⌝ }
     ensures { λ r. ⌜ (plannedOf r ≡ planWork (l .least) w (pagesOf l (now (s .entry))) (aroundOf a) (changeOf c) left) × PlannedFits left r ⌝ }
 {
     let n = wide(a.own.value);
@@ -98,7 +98,7 @@ fn one(yes: bool) -> usize
 
 // The root.
 fn plan_root(s: &[u8], l: Limits, w: u32, n: usize, c: Change, left: usize) -> Outlook
-    requires { ⌜ Kept l (now s) × Inside l (now s) n × Fits c × (left ≤ 2 ^ 20) ⌝ }
+    requires { ⌜ ExactBytes l (now s) × Inside l (now s) n × Fits c × (left ≤ 2 ^ 20) ⌝ }
     ensures { λ r. ⌜ outlookOf r ≡ planRoot (l .least) w (pagesOf l (now (s .entry))) n (changeOf c) left ⌝ }
 {
     let want = parts::wanted_of(s, l, n, w, c);
@@ -116,7 +116,7 @@ fn plan_root(s: &[u8], l: Limits, w: u32, n: usize, c: Change, left: usize) -> O
 
 // "Work goes from the leaf up."
 pub fn plan_up(s: &[u8], l: Limits, w: u32, way: Way, c: Change, left: usize) -> Outlook
-    requires { ⌜ Kept l (now s) × Led l (now s) way × Fits c × (left ≤ 4096) ⌝ }
+    requires { ⌜ ExactBytes l (now s) × Led l (now s) way × Fits c × (left ≤ 4096) ⌝ }
     ensures { λ r. ⌜ outlookOf r ≡ planUp (l .least) w (pagesOf l (now (s .entry))) (way .root) (upsOf (way .list) (way .n)) (changeOf c) left ⌝ }
 {
     let list = way.list;

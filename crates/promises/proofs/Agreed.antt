@@ -20,15 +20,15 @@ use Rattle.model.specs.Settings
 use Rattle.model.specs.Settings.{Machine, Both, beginning, Tally, nothingYet, countedBy}
 use Rattle.model.specs.Lent.{Outcome, leftBy, freshLent}
 use Rattle.model.specs.Ended.{Asked, Ended, ofOutcome, ended}
-use Rattle.model.proofs.Lists.{all-cons}
-use Rattle.model.proofs.Members.{true-holds}
-use Rattle.model.proofs.Given.{to-tests}
-use Rattle.model.proofs.Turns.{fresh-sound}
-use Rattle.model.proofs.History.{Agrees, one-call, fresh-agrees}
-use Rattle.model.proofs.Undone.{lent-agrees}
-use Rattle.model.proofs.Numbered.{Counts, one-count}
-use Rattle.model.proofs.Editions.{edition-four}
-use Rattle.store.specs.Tested.{whole-length}
+use Rattle.model.proofs.lists.Lists.{all-cons}
+use Rattle.model.proofs.lists.Members.{true-holds}
+use Rattle.model.proofs.sound.ByRule.{to-tests}
+use Rattle.model.proofs.turning.Turns.{fresh-sound}
+use Rattle.model.proofs.theorems.History.{Agrees, one-call, fresh-agrees}
+use Rattle.model.proofs.theorems.Undone.{lent-agrees}
+use Rattle.model.proofs.theorems.Numbered.{Counts, one-count}
+use Rattle.model.proofs.theorems.Editions.{edition-four}
+use Rattle.store.proofs.laws.Tested.{whole-length}
 use Rattle.promises.specs.Accepts.{Accepts, storeOf, OfEdition, Written}
 use Rattle.promises.specs.Runs.{Turn, Kind, making, changing, kindOf, asks, fitting, each}
 use Rattle.promises.specs.Beside.{Beside, whenDone, stepped, undone, talliedBy, onward, along, fromFresh, fromLent}

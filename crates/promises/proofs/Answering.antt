@@ -8,7 +8,7 @@ use mathlib.Core.Option.{Option}
 use mathlib.Core.List.{List, [], _∷_}
 use lib.Dec.{leb, ltb}
 use lib.ListN.{length}
-use borrow.Author.Tests.{leb-false, ltb-false}
+use borrow.Author.Tests.{leb-false}
 use Rattle.model.specs.Basic.{inOrder}
 use Rattle.model.specs.declared.Pair.{Pair}
 use Rattle.model.specs.Store.{Store, next, last, lastOf}
@@ -16,7 +16,7 @@ use Rattle.model.specs.Walk.{keyLimit, find, lookup, settings, between, rangeOf
 use Rattle.model.specs.Editions.{leastOf}
 use Rattle.model.specs.Calls
 use Rattle.model.specs.Same.{samePairs}
-use Rattle.model.specs.Calls.{unchanged, isSome, rule, benchLimit, beyond, unreadable, insertTests, deleteTests, pruneTests, firstOf, lookedBy, rangedBy, get, range}
+use Rattle.model.specs.Calls.{unchanged, isSome, rule, benchLimit, unreadable, insertTests, deleteTests, pruneTests, firstOf, lookedBy, rangedBy, get, range}
 use Rattle.model.specs.Told
 use Rattle.model.specs.Told.{toldBy}
 use Rattle.model.specs.Differ
@@ -30,13 +30,13 @@ use Rattle.model.specs.Histories.{begins, commits, abandons, inserts, deletes, 
 use Rattle.model.specs.Settings.{Machine}
 use Rattle.model.specs.Lent.{listed}
 use Rattle.model.specs.Ended.{toInsert, toDelete, toReturn, toLookup, toRange, toLife, toDifference, ofLooked, ofListed, ended, toState, ofState, Ended}
-use Rattle.model.proofs.Given.{Readable, readable-of, old-current}
-use Rattle.model.proofs.Lives.{life-ext}
-use Rattle.model.proofs.Lookups.{lookup-is, settings-rise}
-use Rattle.model.proofs.Ranges.{range-is}
+use Rattle.model.proofs.sound.ByRule.{Readable, readable-of, old-current}
+use Rattle.model.proofs.reading.Lives.{life-ext}
+use Rattle.model.proofs.reading.Lookups.{lookup-is, settings-rise}
+use Rattle.model.proofs.reading.Ranges.{range-is}
 use Rattle.promises.specs.Accepts.{storeOf}
 use Rattle.promises.specs.Beside.{Beside}
-use Rattle.promises.specs.Answers.{lastIn, lookupTests, rangeTests, differenceTests, openTests, endTests, commitTests, lookedIn, rangedFrom, livedIn, toldFrom, aliveIn, unchangedIn, Gives, Answers, lifeTests, Stands}
+use Rattle.promises.specs.Answers.{lastIn, lookupTests, rangeTests, differenceTests, openTests, endTests, commitTests, lookedIn, rangedFrom, livedIn, toldFrom, aliveIn, unchangedIn, Gives, Answers, lifeTests, StateTells}
 use Rattle.promises.proofs.High.{begin-number, commit-number, abandon-number, insert-number, delete-number, return-number, prune-number}
 use Rattle.promises.proofs.Known.{four}
 use Rattle.promises.proofs.Lending.{change-number}
@@ -147,9 +147,9 @@ module _ (x : Beside) (a : Agreed x) where
 
   -- ---- the state
 
-  state-answers : (ns : List ℕ) → Stands m (ended toState (x .bytes) ns)
+  state-answers : (ns : List ℕ) → StateTells m (ended toState (x .bytes) ns)
   unfolding State.stateOf
-  state-answers ns = subst (λ (e : Ended). Stands m e) (sym (ap (ofState (x .bytes) ns) (state-lent (x .bytes) (a .accepted))))
+  state-answers ns = subst (λ (e : Ended). StateTells m e) (sym (ap (ofState (x .bytes) ns) (state-lent (x .bytes) (a .accepted))))
       (record { number = refl; current = a .agrees .current; opened = ap bit (a .agrees .opened); oldest = a .agrees .oldest })
 
   -- ---- numbers

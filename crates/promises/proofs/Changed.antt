@@ -16,7 +16,7 @@ use Rattle.model.specs.Calls.{rule, firstOf, benchLimit, insertTests, deleteTes
 use Rattle.model.specs.Settings.{Machine, edited, put}
 use Rattle.model.specs.Ended.{toInsert, toDelete, ended}
 use Rattle.model.specs.Editions.{leastOf}
-use Rattle.model.proofs.Given.{old-current}
+use Rattle.model.proofs.sound.ByRule.{old-current}
 use Rattle.promises.specs.Accepts.{Accepts, storeOf}
 use Rattle.promises.specs.Runs.{Turn, kindOf, fitting}
 use Rattle.promises.specs.Beside.{whenDone, stepped, undone, onward, fromLent}

@@ -19,10 +19,10 @@ use Rattle.model.specs.Sound.{isPage, spanOk, entryOk, pageOk, rule2}
 use Rattle.model.specs.Layout.{pageOf, decode}
 use Rattle.model.specs.Clean.{cleanPage, cleanFront}
 use Rattle.model.specs.Near.{frontRight, pageRight, startsBy, downRight, rangeRight, fromRoot}
-use Rattle.model.proofs.Lists.{both-true, all-cons}
-use Rattle.model.proofs.Members.{not-both}
-use Rattle.walk.specs.Live.{above}
-use Rattle.tabled.specs.Starts.{none-above}
+use Rattle.model.proofs.lists.Lists.{both-true, all-cons}
+use Rattle.model.proofs.lists.Members.{not-both}
+use Rattle.walk.proofs.laws.Live.{above}
+use Rattle.tabled.proofs.laws.Starts.{none-above}
 use Rattle.promises.specs.Near.{Some, Each, FrontWrong, Breaks, OtherLevel, NoRouter, WrongDown, WrongAcross, WrongFrom}
 
 -- ---- tests that fail

@@ -18,18 +18,17 @@ use Rattle.model.specs.Calls.{rule, firstOf, get, range}
 use Rattle.model.specs.Differ.{difference}
 use Rattle.model.specs.Life.{lived}
 use Rattle.model.specs.Return.{Ran, reached, stopped, lacking}
-use Rattle.model.specs.Lent.{Outcome, Listed, judgedFirst, listed, freshLent, lookupLent, rangeLent, differenceLent, lifeLent}
-use Rattle.model.specs.Editions.{leastOf}
+use Rattle.model.specs.Lent.{Outcome, judgedFirst, listed, freshLent, lookupLent, rangeLent, differenceLent, lifeLent}
 use Rattle.model.specs.Any.{judgedAny, lookupAny, rangeAny, differenceAny, lifeAny}
 use Rattle.model.specs.Convert.{convertTests, convertLent}
-use Rattle.model.proofs.Given.{Sound, Readable}
-use Rattle.model.proofs.Stops.{lacking-is}
-use Rattle.model.proofs.Editions.{Lends, accepted-lent, goes-at}
-use Rattle.model.proofs.Converted.{Upto}
-use Rattle.model.proofs.Converting.{Passed, is-judged, source-sound, source-whole, lent-by}
-use Rattle.model.proofs.Readings.{get-same, range-same, difference-same, life-same}
-use Rattle.near.specs.Same.{lookup-same, range-same as range-lent-same}
-use Rattle.written.specs.Encoded.{encoded-accepted, encoded-held}
+use Rattle.model.proofs.sound.ByRule.{Readable}
+use Rattle.model.proofs.kept.Stops.{lacking-is}
+use Rattle.model.proofs.theorems.Editions.{Lends, accepted-lent, goes-at}
+use Rattle.model.proofs.turning.Converted.{Upto}
+use Rattle.model.proofs.turning.Converting.{TestsPassed, is-judged, source-sound, source-whole, lent-by}
+use Rattle.model.proofs.reading.Readings.{get-same, range-same, difference-same, life-same}
+use Rattle.near.proofs.laws.Same.{lookup-same, range-same as range-lent-same}
+use Rattle.written.proofs.laws.Encoded.{encoded-accepted, encoded-held}
 use Rattle.promises.specs.Converts.{replayOf, Numbers, Converted, Emptied, Lacks, Converts}
 
 -- ---- readings of accepted bytes of one edition
@@ -68,7 +67,7 @@ module _ (least : ℕ) (four : 4 ≤ least) (eight : least ≤ 8) (b : List ℕ)
 
 -- ---- done
 
-module _ (b t : List ℕ) (p : Passed b t) (u : Store) (r : Upto 8 (decode 4 b) (decode 4 b .current) u) where
+module _ (b t : List ℕ) (p : TestsPassed b t) (u : Store) (r : Upto 8 (decode 4 b) (decode 4 b .current) u) where
   abbrev made : List ℕ
   made = encode 8 u
 
@@ -130,7 +129,7 @@ converted-done : (b t : List ℕ) → convertLent b t .number ≡ 0 → Converte
 converted-done b t =
     lent-by (λ (o : Outcome). o .number ≡ 0 → Converted b (o .store)) b t (λ z e. absurd (z e)) (λ z p u r q e. whole b t p u r) (λ z p n u l q e. absurd (none n l e))
 
-fresh-is : (b t : List ℕ) → Passed b t → Emptied t (encode 8 (fresh (sizeOf 8 t)))
+fresh-is : (b t : List ℕ) → TestsPassed b t → Emptied t (encode 8 (fresh (sizeOf 8 t)))
 unfolding freshLent
 fresh-is b t p = record { made = rw (p .long); fresh = rw (p .long) }
 

@@ -12,7 +12,7 @@ use Rattle.model.specs.Basic.{all, flatMap}
 use Rattle.model.specs.declared.Pair.{Pair}
 use Rattle.model.specs.declared.Delta.{Delta}
 use Rattle.model.specs.Entry.{within}
-use Rattle.model.specs.Store.{Store, last}
+use Rattle.model.specs.Store.{Store}
 use Rattle.model.specs.Walk.{keyLimit, find, lookup, settings}
 use Rattle.model.specs.Editions.{leastOf}
 use Rattle.model.specs.Any.{differenceAny}
@@ -24,17 +24,17 @@ use Rattle.model.specs.Differ.{differ, saysOf, deltaNumbers, difference}
 use Rattle.model.specs.Lent.{Listed, listed}
 use Rattle.model.specs.Ended.{ofListed}
 use Rattle.model.specs.Inner.{rising}
-use Rattle.model.proofs.Given as stands
-use Rattle.model.proofs.Given.{Sound, from-tests, of-readable}
-use Rattle.model.proofs.Members.{holds-true}
-use Rattle.model.proofs.Lists.{both-true, both-intro, all-cons}
-use Rattle.model.proofs.Local.{inRange}
-use Rattle.model.proofs.Lookups.{lookup-is, settings-rise, settings-low}
-use Rattle.model.proofs.Alike.{alike-settings}
-use Rattle.model.proofs.Differs as lists
+use Rattle.model.proofs.sound.ByRule as stands
+use Rattle.model.proofs.sound.ByRule.{Sound, from-tests, of-readable}
+use Rattle.model.proofs.lists.Members.{holds-true}
+use Rattle.model.proofs.lists.Lists.{both-true, both-intro, all-cons}
+use Rattle.model.proofs.tree.Local.{inRange}
+use Rattle.model.proofs.reading.Lookups.{lookup-is, settings-rise, settings-low}
+use Rattle.model.proofs.reading.Alike.{alike-settings}
+use Rattle.model.proofs.reading.Differs as lists
 use Rattle.promises.specs.Accepts.{storeOf}
 use Rattle.promises.specs.Runs.{runBytes}
-use Rattle.promises.specs.Differences.{differences, Readable, Given, DifferenceGiven, Says, DifferenceSays, DifferenceNone, DifferenceExchanged, DifferenceStays}
+use Rattle.promises.specs.Differences.{differences, BothReadable, DeltasGiven, DifferenceGiven, Says, DifferenceSays, DifferenceNone, DifferenceExchanged, DifferenceStays}
 use Rattle.promises.proofs.Known.{four}
 use Rattle.promises.proofs.Lending.{held-sound}
 use Rattle.promises.proofs.Sounding.{difference-lent}
@@ -70,7 +70,7 @@ low-all (x ∷ xs) i =
     let (here, rest) = all-cons (λ (y : Pair). within 0 keyLimit (y .key)) x xs i in
     both-intro (ltb (x .key) keyLimit) _ (both-true (leb 0 (x .key)) (ltb (x .key) keyLimit) here .1) (low-all xs rest)
 
-module _ (b : List ℕ) (u v : ℕ) (r : Readable b u v) where
+module _ (b : List ℕ) (u v : ℕ) (r : BothReadable b u v) where
   abbrev s : Store
   s = storeOf b
 
@@ -83,7 +83,7 @@ module _ (b : List ℕ) (u v : ℕ) (r : Readable b u v) where
   call-is : (ns : List ℕ) → differenceAny b u v ns ≡ listed ns (toldBy deltaNumbers 4 0 (length ns) (differences (storeOf b) u v))
   call-is ns = difference-lent b (r .accepted) u v ns ∙ ap (listed ns) (read-both (storeOf b) u v (length ns) old new)
 
-  given : Given b u v (differences (storeOf b) u v)
+  given : DeltasGiven b u v (differences (storeOf b) u v)
   given = record {
     room = λ ns h. ap (ofListed b) (call-is ns ∙ told-all ns (differences (storeOf b) u v) h);
     short = λ ns h. ap (ofListed b) (call-is ns ∙ told-short ns (differences (storeOf b) u v) h);
@@ -149,8 +149,8 @@ difference-stays b ok ts f m u v p i q j ns =
     let oldV = stays.old b ok ts f m v q j in
     let newU = stays.new b ok ts f m u p i in
     let newV = stays.new b ok ts f m v q j in
-    let now : Readable b u v = record { accepted = ok; old-kept = oldU .from; old = oldU .upto; new-kept = oldV .from; new = oldV .upto } in
-    let then : Readable b′ u v = record { accepted = later b ok ts f m .accepts; old-kept = newU .from; old = newU .upto; new-kept = newV .from; new = newV .upto } in
+    let now : BothReadable b u v = record { accepted = ok; old-kept = oldU .from; old = oldU .upto; new-kept = oldV .from; new = oldV .upto } in
+    let then : BothReadable b′ u v = record { accepted = later b ok ts f m .accepts; old-kept = newU .from; old = newU .upto; new-kept = newV .from; new = newV .upto } in
     let same : differenceAny b′ u v ns ≡ differenceAny b u v ns =
     call-is b′ u v then ns
     ∙ ap₂ (λ (us ws : List Pair). listed ns (toldBy deltaNumbers 4 0 (length ns) (differ us ws))) (alike-settings (storeOf b) u t u (view b ok ts f m u p i)) (alike-settings (storeOf b) v t v (view b ok ts f m v q j))

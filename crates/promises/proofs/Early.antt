@@ -13,7 +13,7 @@ use Rattle.model.specs.Basic.{pick}
 use Rattle.model.specs.Judged.{magicOk, editionOk, judged}
 use Rattle.model.specs.Editions.{byEdition, lentNumber, leastOf}
 use Rattle.model.specs.Ended.{Asked, Ended, ended, endedBy, makes}
-use Rattle.model.proofs.Editions.{ended-goes, ended-refuses}
+use Rattle.model.proofs.theorems.Editions.{ended-goes, ended-refuses}
 use Rattle.promises.specs.Accepts.{Accepts}
 use Rattle.promises.specs.Demand1.{editionKnown}
 use Rattle.promises.proofs.Known.{known, judged-by, accepts-by}

@@ -11,16 +11,16 @@ use Rattle.model.specs.Layout.{sizeOf, encode, decode}
 use Rattle.model.specs.Clean.{cleanFront, cleanPages, clean}
 use Rattle.model.specs.Sound.{sound, rule1}
 use Rattle.model.specs.Editions.{leastOf}
-use Rattle.model.proofs.Lists.{both-true}
-use Rattle.model.proofs.Members.{holds-true, true-holds}
-use Rattle.model.proofs.Given.{Sound, from-tests}
-use Rattle.model.proofs.Judging.{Accepted}
-use Rattle.model.proofs.Editions.{edition-four, edition-eight}
-use Rattle.store.specs.Exactly.{encode-decode}
-use Rattle.store.specs.Tested.{whole-length, exactly}
-use Rattle.store.specs.Counted.{counted}
-use Rattle.written.specs.Encoded.{encoded-accepted, encoded-are-bytes, encoded-held}
-use Rattle.promises.specs.Accepts.{Accepts, storeOf, OfEdition, Written, Exact}
+use Rattle.model.proofs.lists.Lists.{both-true}
+use Rattle.model.proofs.lists.Members.{holds-true, true-holds}
+use Rattle.model.proofs.sound.ByRule.{Sound, from-tests}
+use Rattle.model.proofs.sound.Judging.{Accepted}
+use Rattle.model.proofs.theorems.Editions.{edition-four, edition-eight}
+use Rattle.store.proofs.laws.Exactly.{encode-decode}
+use Rattle.store.proofs.laws.Tested.{whole-length, exactly}
+use Rattle.store.proofs.laws.Counted.{counted}
+use Rattle.written.proofs.laws.Encoded.{encoded-accepted, encoded-are-bytes, encoded-held}
+use Rattle.promises.specs.Accepts.{Accepts, storeOf, OfEdition, Written, SoundBytes}
 use Rattle.promises.proofs.Known.{four, eight, taken, of-edition}
 
 clean-is : (least : ℕ) (b : List ℕ) → (cleanFront least b && (cleanPages least b 5 (sizeOf least b - 5) && rule1 least (decode least b))) ≡ clean least b
@@ -42,7 +42,7 @@ encoded-sound least e s sure =
     }
 
 -- Accepted bytes are those of a sound store.
-pub accepted : (b : List ℕ) → Bytes b → Accepts b → Exact b
+pub accepted : (b : List ℕ) → Bytes b → Accepts b → SoundBytes b
 accepted b bytes ok =
     let l : ℕ = leastOf b in
     let a : Accepted (leastOf b) b = taken b ok in

@@ -28,9 +28,9 @@ use Rattle.model.specs.Replay.{gives, keys, holding}
 use Rattle.model.specs.Table.{twenty, twentyOne, deleteFrom, reopened, table}
 use Rattle.model.specs.Ended.{Asked, toOpen, toInsert, toLookup, toRange, Ended, ofLooked, ended}
 use Rattle.model.specs.Editions.{leastOf}
-use Rattle.model.proofs.Given.{old-current}
-use Rattle.model.proofs.Members.{not-both, in-getD}
-use Rattle.model.proofs.Fits.{numbered-by, is-none}
+use Rattle.model.proofs.sound.ByRule.{old-current}
+use Rattle.model.proofs.lists.Members.{not-both, in-getD}
+use Rattle.model.proofs.sound.Ready.{numbered-by, is-none}
 use Rattle.promises.specs.Accepts.{Accepts, storeOf}
 use Rattle.promises.specs.Runs.{Turn}
 use Rattle.promises.specs.Beside.{Beside, whenDone, onward, fromLent}

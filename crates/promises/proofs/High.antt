@@ -3,7 +3,7 @@
 use Prim.Native.Nat.{ℕ, zero, suc, _≤_}
 use native.Mathlib.Omega.{arith}
 use mathlib.Core.Bool.{Bool, true, false, _||_, not}
-use mathlib.Core.Path.{_≡_, refl, ap, ap₂, sym, subst}
+use mathlib.Core.Path.{_≡_, refl, ap₂, sym, subst}
 use mathlib.Core.Logic.{inl, inr, _≢_}
 use mathlib.Core.List.{List, [], _∷_}
 use lib.Dec.{leb}
@@ -20,9 +20,9 @@ use Rattle.model.specs.Differ.{differ}
 use Rattle.model.specs.Return
 use Rattle.model.specs.Return.{goes, comes, setTests, endOne, setOne, Ran, reached, stopped, orStopped, through, andOn, carried, Came, gave, gaveUp, lacking, orAbandoned, returnTests, unless, returned}
 use Rattle.model.specs.Histories.{Call, begins, commits, abandons, inserts, deletes, returns, prunes, callBy}
-use Rattle.model.proofs.Given.{Sound, Kept}
-use Rattle.model.proofs.Stops.{lacking-is, Ends, update-ends}
-use Rattle.model.proofs.Returned.{returned-by}
+use Rattle.model.proofs.sound.ByRule.{Sound, Committed}
+use Rattle.model.proofs.kept.Stops.{lacking-is, Ends, update-ends}
+use Rattle.model.proofs.turning.Returned.{returned-by}
 use Rattle.promises.specs.Runs.{changing, givesUp}
 use Rattle.promises.specs.Answers.{openTests, endTests, commitTests, Gives}
 
@@ -277,7 +277,7 @@ module _ (least : ℕ) (s : Store) where
       (update-ends least s k (deleting k))
 
 -- where no test of a return holds
-pub return-free : (s : Store) (v : ℕ) → s .opened ≡ true → Kept s v → firstOf (returnTests (s .oldest) (s .current) (s .opened) v) ≡ 0
+pub return-free : (s : Store) (v : ℕ) → s .opened ≡ true → Committed s v → firstOf (returnTests (s .oldest) (s .current) (s .opened) v) ≡ 0
 return-free s v o h = ap₂ (λ (x y : Bool). firstOf (Calls.rule 6 x ∷ Calls.rule 7 (not y) ∷ [])) (ap₂ _||_ (le-ltb (s .current) v (h .upto)) (le-ltb v (s .oldest) (h .from))) o
 
 pub return-number : (least : ℕ) → 4 ≤ least → (s : Store) → Sound least s → (v : ℕ) → Gives (firstOf (returnTests (s .oldest) (s .current) (s .opened) v)) (numberBy (returned least s v))

@@ -11,7 +11,7 @@ use borrow.Author.Tests.{not-true}
 use lib.ListN.{length}
 use Rattle.model.specs.Basic.{pick}
 use Rattle.model.specs.declared.Verdict.{Verdict}
-use Rattle.model.specs.Store.{Store, last}
+use Rattle.model.specs.Store.{Store}
 use Rattle.model.specs.Walk.{keyLimit, settings, lookupVisits}
 use Rattle.model.specs.Sound.{sound}
 use Rattle.model.specs.Layout.{encode, decode}
@@ -37,12 +37,12 @@ use Rattle.model.specs.Histories.{begins, commits, abandons, inserts, deletes, 
 use Rattle.model.specs.Lent
 use Rattle.model.specs.Lent.{left, leftBy, leaving, judgedFirst, listed, freshLent, returnLent, pruneLent, lifeLent, differenceLent, visitsLent, stateLent}
 use Rattle.model.specs.Ended.{Asked, toFresh, toFreshSecond, toCheck, toOpen, toCommit, toAbandon, toInsert, toDelete, toReturn, toPrune, toLookup, toRange, toLife, toDifference, toVisits, Ended, ofOutcome, ended, endedBy, makes, toState}
-use Rattle.model.proofs.Lists.{both-true, both-intro}
-use Rattle.model.proofs.Members.{bool-cases, not-both}
-use Rattle.model.proofs.Judging.{unbroken, unbroken-all, whole, broken-none}
-use Rattle.model.proofs.Lacking.{judged-low}
-use Rattle.model.proofs.Unique.{refused as leaves}
-use Rattle.model.proofs.Editions.{ended-goes, ended-refuses}
+use Rattle.model.proofs.lists.Lists.{both-true, both-intro}
+use Rattle.model.proofs.lists.Members.{bool-cases, not-both}
+use Rattle.model.proofs.sound.Judging.{unbroken, unbroken-all, whole, broken-none}
+use Rattle.model.proofs.plan.Lacking.{judged-low}
+use Rattle.model.proofs.theorems.Unique.{refused as leaves}
+use Rattle.model.proofs.theorems.Editions.{ended-goes, ended-refuses}
 use Rattle.promises.specs.Accepts.{Accepts, storeOf}
 use Rattle.promises.specs.Demand1.{FirstNumbers, editionKnown, judgesAll, Judges, TurnedAway, Untrusted, OneForm, Made, FreshMade}
 use Rattle.promises.proofs.High.{High, HighBy, call-high}

@@ -15,15 +15,15 @@ use Rattle.model.specs.Store.{Store, next, last, lastOf, fresh}
 use Rattle.model.specs.Walk.{lookup}
 use Rattle.model.specs.Editions.{leastOf}
 use Rattle.model.specs.Calls.{isSome, rule, benchLimit, insertTests, firstOf, insert, beyond}
-use Rattle.model.proofs.Given.{old-current}
-use Rattle.model.proofs.Members.{neither}
+use Rattle.model.proofs.sound.ByRule.{old-current}
+use Rattle.model.proofs.lists.Members.{neither}
 use Rattle.model.specs.Return.{returnTests}
 use Rattle.model.specs.Histories.{Call, begins, commits, abandons, inserts, deletes, returns, prunes}
 use Rattle.model.specs.Settings.{Machine, start, step, put}
 use Rattle.model.specs.Ended.{Asked, toInsert, toDelete, toReturn, ended}
-use Rattle.model.proofs.Lists.{all-cons}
-use Rattle.model.proofs.Members.{In, all-in, all-by, in-those}
-use Rattle.model.proofs.Fitted.{entered-in}
+use Rattle.model.proofs.lists.Lists.{all-cons}
+use Rattle.model.proofs.lists.Members.{In, all-in, all-by, in-those}
+use Rattle.model.proofs.kept.OnePage.{entered-in}
 use Rattle.promises.specs.Accepts.{storeOf}
 use Rattle.promises.specs.Runs.{Turn, Kind, making, changing, reading, kindOf, asks, fitting, givesUp, each}
 use Rattle.promises.specs.Beside.{Beside, whenDone, stepped, undone, onward, along, fromFresh, fromLent}

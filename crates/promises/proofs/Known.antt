@@ -10,8 +10,8 @@ use Rattle.model.specs.Editions.{lentNumber, leastOf}
 use Rattle.model.specs.Any
 use Rattle.model.specs.Any.{judgedAny}
 use Rattle.model.specs.Ended.{Asked, ended, endedBy, makes}
-use Rattle.model.proofs.Judging.{Accepted, accepted}
-use Rattle.model.proofs.Editions.{goes, refuses, edition-four, edition-eight, least-is, ended-goes, Lends, accepted-lent, accepts-any}
+use Rattle.model.proofs.sound.Judging.{Accepted, accepted}
+use Rattle.model.proofs.theorems.Editions.{goes, refuses, edition-four, edition-eight, least-is, ended-goes, Lends, accepted-lent, accepts-any}
 use Rattle.promises.specs.Accepts.{Accepts, OfEdition}
 
 module _ (b : List ℕ) where

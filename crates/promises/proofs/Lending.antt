@@ -23,12 +23,12 @@ use Rattle.model.specs.Settings
 use Rattle.model.specs.Lent
 use Rattle.model.specs.Lent.{Outcome, left, leftBy, leaving, judgedFirst, freshLent, returnLent, pruneLent}
 use Rattle.model.specs.Ended.{Asked, toFresh, toFreshSecond, toCheck, toOpen, toCommit, toAbandon, toInsert, toDelete, toReturn, toPrune, toLookup, toRange, toLife, toDifference, toVisits, Ended, ofOutcome, ended, endedBy, makes, toState}
-use Rattle.model.proofs.Members.{true-holds}
-use Rattle.model.proofs.Given.{to-tests}
-use Rattle.model.proofs.Turns.{fresh-sound}
-use Rattle.model.proofs.Theorems.{call-sound}
-use Rattle.model.proofs.Editions.{edition-four, least-is}
-use Rattle.store.specs.Tested.{whole-length}
+use Rattle.model.proofs.lists.Members.{true-holds}
+use Rattle.model.proofs.sound.ByRule.{to-tests}
+use Rattle.model.proofs.turning.Turns.{fresh-sound}
+use Rattle.model.proofs.theorems.Theorems.{call-sound}
+use Rattle.model.proofs.theorems.Editions.{edition-four, least-is}
+use Rattle.store.proofs.laws.Tested.{whole-length}
 use Rattle.promises.specs.Accepts.{Accepts, storeOf, OfEdition, Written}
 use Rattle.promises.specs.Runs.{making, changing, reading, kindOf, asks, fitting}
 use Rattle.promises.proofs.High.{numberBy}

@@ -32,14 +32,14 @@ use Rattle.model.specs.Lent.{Listed, listed}
 use Rattle.model.specs.Any.{lookupAny, lifeAny}
 use Rattle.model.specs.Ended.{toCommit, toLife, ofListed, ended}
 use Rattle.model.specs.Telling.{Shape}
-use Rattle.model.proofs.Lists.{all-cons, both-intro}
-use Rattle.model.proofs.Given.{Readable, of-readable, old-current}
-use Rattle.model.proofs.Judging.{accepted-sound}
-use Rattle.model.proofs.Alike.{alike-lookup}
-use Rattle.model.proofs.History.{many-calls}
-use Rattle.model.proofs.Undone.{lent-agrees}
-use Rattle.model.proofs.Lives.{life-ext}
-use Rattle.model.proofs.Telling.{length-numbers}
+use Rattle.model.proofs.lists.Lists.{all-cons, both-intro}
+use Rattle.model.proofs.sound.ByRule.{Readable, of-readable, old-current}
+use Rattle.model.proofs.sound.Judging.{accepted-sound}
+use Rattle.model.proofs.reading.Alike.{alike-lookup}
+use Rattle.model.proofs.theorems.History.{many-calls}
+use Rattle.model.proofs.theorems.Undone.{lent-agrees}
+use Rattle.model.proofs.reading.Lives.{life-ext}
+use Rattle.model.proofs.reading.Telling.{length-numbers}
 use Rattle.promises.specs.Accepts.{Accepts, storeOf}
 use Rattle.promises.specs.Runs.{Turn, runBytes, Kind, making, changing, reading, kindOf, notMaking, uncommitting, each}
 use Rattle.promises.specs.Views.{SaysSame}

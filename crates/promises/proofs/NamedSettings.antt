@@ -11,7 +11,7 @@ use mathlib.Core.List.{List, [], _∷_, _++_}
 use lib.Dec.{leb, ltb, eqb}
 use lib.ListN.{length, drop}
 use lib.Ieee.{binary32, nanBits}
-use borrow.Author.Tests.{le-leb, lt-leb, le-ltb, ltb-false, leb-false, eqb-true, eq-eqb, ne-eqb}
+use borrow.Author.Tests.{le-leb, lt-leb, le-ltb, leb-false, eqb-true, eq-eqb, ne-eqb}
 use Rattle.model.specs.Basic.{all, keep, pick, those, flatMap}
 use Rattle.model.specs.declared.Pair.{Pair}
 use Rattle.model.specs.declared.Looked.the-variants.{Refused}
@@ -34,15 +34,15 @@ use Rattle.model.specs.Histories.{begins, commits, abandons, inserts, deletes}
 use Rattle.model.specs.Ended.{Asked, toFresh, toFreshSecond, toCheck, toOpen, toCommit, toAbandon, toInsert, toDelete, toReturn, toPrune, toLookup, toRange, toVisits, toDifference, toLife, Ended, ended, Untouched, ofOutcome, ofLooked, ofListed, toState}
 use Rattle.model.specs.Kinds.{admits, knownIn, allowed, unknown}
 use Rattle.model.specs.Named.{before, insertNamed, deleteNamed, lookupNamed, allKnown, barred, rangeNamedBy, rangeNamed, ByName, byOpen, byCommit, byAbandon, byInsert, byDelete, byLookup, byRange, endedNamed}
-use Rattle.model.proofs.Given.{Readable, readable-of, of-readable}
-use Rattle.model.proofs.Lists.{all-cons, both-intro}
-use Rattle.model.proofs.Members.{bool-cases, not-both, In, all-in, all-by, in-those, those-in}
-use Rattle.model.proofs.Fitted.{entered-in}
-use Rattle.model.proofs.Judging.{accepted, accepted-sound}
-use Rattle.model.proofs.Ranges.{range-is}
-use Rattle.model.proofs.Editions.{goes, refuses, ended-goes}
-use Rattle.model.proofs.Unique as one
-use Rattle.kinds.specs.Floats.{no-nan}
+use Rattle.model.proofs.sound.ByRule.{Readable, readable-of, of-readable}
+use Rattle.model.proofs.lists.Lists.{all-cons, both-intro}
+use Rattle.model.proofs.lists.Members.{bool-cases, not-both, In, all-in, all-by, in-those, those-in}
+use Rattle.model.proofs.kept.OnePage.{entered-in}
+use Rattle.model.proofs.sound.Judging.{accepted, accepted-sound}
+use Rattle.model.proofs.reading.Ranges.{range-is}
+use Rattle.model.proofs.theorems.Editions.{goes, refuses, ended-goes}
+use Rattle.model.proofs.theorems.Unique as one
+use Rattle.kinds.proofs.laws.Floats.{no-nan}
 use Rattle.promises.specs.Accepts.{Accepts, storeOf}
 use Rattle.promises.specs.Runs.{Turn, turned, runBytes, kindOf, fitting, each}
 use Rattle.promises.specs.Beside.{Beside, whenDone, onward, along, fromFresh}

@@ -26,7 +26,7 @@ use Rattle.model.specs.Lent.{Listed, listed, lookupLent, rangeLent}
 use Rattle.model.specs.Any
 use Rattle.model.specs.Any.{lookupAny, rangeAny}
 use Rattle.model.specs.Ended.{toLookup, toRange, Ended, ended, endedBy, ofLooked, ofListed}
-use Rattle.model.proofs.Editions.{ended-goes}
+use Rattle.model.proofs.theorems.Editions.{ended-goes}
 use Rattle.promises.specs.Accepts.{storeOf}
 use Rattle.promises.specs.Demand1.{editionKnown}
 use Rattle.promises.specs.Near.{FrontWrong, WrongDown, WrongAcross, WrongFrom, ReadingNumbers, LookupJudges, RangeJudges}

@@ -9,7 +9,7 @@ use mathlib.Core.List.{List, [], _∷_, _++_}
 use lib.Dec.{ltb, eqb}
 use lib.ListN.{length, getD, take, length-take}
 use lib.Seq.{ext-getD, getD-take}
-use Rattle.bits.specs.Laws.{field-ext}
+use Rattle.bits.proofs.laws.Laws.{field-ext}
 use Rattle.model.specs.Basic.{pick, flatMap, eqList}
 use Rattle.model.specs.Field.{bitOf, bitAt}
 use Rattle.model.specs.Limits.{editionOf}
@@ -26,9 +26,9 @@ use Rattle.model.specs.Lent.{Listed, lookupLent, rangeLent}
 use Rattle.model.specs.Any
 use Rattle.model.specs.Any.{lookupAny, rangeAny}
 use Rattle.model.specs.Ended.{ofLooked, ofListed}
-use Rattle.model.proofs.Members.{In}
-use Rattle.near.specs.Off as near
-use Rattle.near.specs.OffRange as across
+use Rattle.model.proofs.lists.Members.{In}
+use Rattle.near.proofs.laws.Off as near
+use Rattle.near.proofs.laws.OffRange as across
 use Rattle.promises.specs.Accepts.{storeOf}
 use Rattle.promises.specs.Near.{Each, SameFront, SamePages, OffTheWalk}
 use Rattle.promises.proofs.Known.{four}
@@ -56,7 +56,7 @@ module _ (least : ℕ) (some : 1 ≤ least) (b c : List ℕ) (s : SameFront leas
   abbrev same : ℕ → Type 0
   same n = pageOf least b n ≡ pageOf least c n
 
-  front : near.SameFront least b c
+  front : near.FrontAlike least b c
   front = record {
     long = s .long;
     front = λ i l. sym (getD-take (320 * least) b i 0 l) ∙ ap (λ (x : List ℕ). getD x i 0) (s .front) ∙ getD-take (320 * least) c i 0 l;
@@ -114,7 +114,7 @@ module _ (least : ℕ) (some : 1 ≤ least) (b c : List ℕ) (s : SameFront leas
 -- ---- of the calls: the same front names the same edition
 
 module _ (b c : List ℕ) (s : SameFront (leastOf b) b c) where
-  near-front : near.SameFront (leastOf b) b c
+  near-front : near.FrontAlike (leastOf b) b c
   near-front = front (leastOf b) (some-least b) b c s
 
   bit-same : (k : ℕ) → k < 40 → bitAt b k ≡ bitAt c k

@@ -14,8 +14,8 @@ use Rattle.model.specs.Histories.{Call, callBy, after}
 use Rattle.model.specs.Settings
 use Rattle.model.specs.Settings.{Both, together}
 use Rattle.model.specs.Ended.{Asked, ended}
-use Rattle.model.proofs.Lists.{both-true, all-cons, both-intro}
-use Rattle.model.proofs.Members.{not-both}
+use Rattle.model.proofs.lists.Lists.{both-true, all-cons, both-intro}
+use Rattle.model.proofs.lists.Members.{not-both}
 use Rattle.promises.specs.Accepts.{Accepts, storeOf}
 use Rattle.promises.specs.Runs.{Turn, turned, runBytes, Kind, making, changing, reading, kindOf, asks, notMaking, fitting, givesUp, staying, inside, each}
 use Rattle.promises.proofs.High.{numberBy, Stopping, call-stops}

@@ -14,10 +14,10 @@ use Rattle.model.specs.Return.{Came, gave, gaveUp}
 use Rattle.model.specs.Histories.{callBy, after}
 use Rattle.model.specs.Lent.{Outcome, leftBy, freshLent}
 use Rattle.model.specs.Ended.{Asked, toInsert, toDelete, Ended, ended}
-use Rattle.model.proofs.Editions.{ended-at}
-use Rattle.model.proofs.OldPrograms as old
-use Rattle.model.proofs.Unique as one
-use Rattle.model.proofs.Lacking as lacks
+use Rattle.model.proofs.theorems.Editions.{ended-at}
+use Rattle.model.proofs.theorems.OldPrograms as old
+use Rattle.model.proofs.theorems.Unique as one
+use Rattle.model.proofs.plan.Lacking as lacks
 use Rattle.promises.specs.Accepts.{Accepts, storeOf}
 use Rattle.promises.specs.Runs.{making, changing, reading, kindOf}
 use Rattle.promises.specs.Way.{ruledOf}

@@ -7,25 +7,24 @@ use mathlib.Core.Logic.{_⊎_, inl, inr, _≢_}
 use mathlib.Core.List.{List, [], _∷_, map}
 use lib.Dec.{leb, ltb}
 use lib.ListN.{getD, List·getD-map}
-use borrow.Author.Tests.{leb-true, leb-false, le-leb, lt-leb, le-ltb, lt-ltb}
+use borrow.Author.Tests.{leb-false, le-leb, lt-leb, le-ltb, lt-ltb}
 use Rattle.model.specs.Basic.{pick}
 use Rattle.model.specs.declared.Slot.{Slot}
-use Rattle.model.specs.declared.Looked.{Looked}
 use Rattle.model.specs.Page.{Page, free}
 use Rattle.model.specs.Store.{Store, page, last, lastOf}
 use Rattle.model.specs.Walk.{keyLimit}
 use Rattle.model.specs.Layout.{encode}
 use Rattle.model.specs.Editions.{leastOf, lentNumber}
-use Rattle.model.specs.Climb.{done, refused}
+use Rattle.model.specs.Climb.{done}
 use Rattle.model.specs.Calls
 use Rattle.model.specs.Calls.{rule, firstOf, numbered, beyond, unreadable, pruneTests, prunedPage, needed, pruned, prune, lookedBy, lookedNumber}
 use Rattle.model.specs.Return.{Came, gave}
 use Rattle.model.specs.Histories.{prunes, callBy, after}
 use Rattle.model.specs.Lent
 use Rattle.model.specs.Lent.{leftBy, leaving}
-use Rattle.model.specs.Ended.{toPrune, toLookup, Ended, ofOutcome, ofLooked, ended, endedBy}
-use Rattle.model.proofs.Given.{kept-of, old-current}
-use Rattle.model.proofs.Editions.{least-is, ended-goes, ended-refuses}
+use Rattle.model.specs.Ended.{toPrune, toLookup, Ended, ofOutcome, ended}
+use Rattle.model.proofs.sound.ByRule.{kept-of}
+use Rattle.model.proofs.theorems.Editions.{least-is, ended-goes, ended-refuses}
 use Rattle.promises.specs.Accepts.{Accepts, storeOf}
 use Rattle.promises.specs.Runs.{Turn}
 use Rattle.promises.specs.Beside.{fromLent}

@@ -9,7 +9,7 @@ use mathlib.Core.Logic.{_⊎_, inl, inr}
 use mathlib.Core.List.{List, [], _∷_}
 use lib.Dec.{leb, ltb, eqb}
 use lib.ListN.{length, getD}
-use borrow.Author.Tests.{ltb-true, ltb-false, lt-ltb, le-ltb, lt-leb, eq-eqb, ne-eqb}
+use borrow.Author.Tests.{ltb-true, ltb-false, lt-ltb, lt-leb, eq-eqb, ne-eqb}
 use Rattle.model.specs.Basic.{those, isEmpty}
 use Rattle.model.specs.declared.Pair.{Pair}
 use Rattle.model.specs.declared.Delta.{Delta}
@@ -23,18 +23,18 @@ use Rattle.model.specs.Calls.{isSome, unchanged, rule, benchLimit, firstOf, loo
 use Rattle.model.specs.Histories.{commits}
 use Rattle.model.specs.Settings.{Machine, edited}
 use Rattle.model.specs.Ended.{toCommit, toInsert, toDelete, toLookup, toDifference, Ended, ofLooked, ended}
-use Rattle.model.proofs.Given.{of-readable, old-current}
-use Rattle.model.proofs.Lists.{both-true}
-use Rattle.model.proofs.Members.{not-both}
-use Rattle.model.proofs.Lookups.{settings-rise, settings-low}
-use Rattle.model.proofs.Same.{same-equal, equal-same, same-none, finds-equal, enter-undone}
-use Rattle.model.proofs.Unique.{refused}
+use Rattle.model.proofs.sound.ByRule.{of-readable, old-current}
+use Rattle.model.proofs.lists.Lists.{both-true}
+use Rattle.model.proofs.lists.Members.{not-both}
+use Rattle.model.proofs.reading.Lookups.{settings-rise, settings-low}
+use Rattle.model.proofs.reading.Same.{same-equal, equal-same, same-none, finds-equal, enter-undone}
+use Rattle.model.proofs.theorems.Unique.{refused}
 use Rattle.promises.specs.Accepts.{Accepts, storeOf}
 use Rattle.promises.specs.Beside.{Beside, whenDone, onward, fromLent}
 use Rattle.promises.specs.Answers.{commitTests, aliveIn, unchangedIn, Gives}
 use Rattle.promises.specs.Views.{SaysSame}
-use Rattle.promises.specs.Differences.{Readable, differences}
-use Rattle.promises.specs.Releases.{Opened, Equal, Commits, NothingDiffers, EmptyReleases}
+use Rattle.promises.specs.Differences.{BothReadable, differences}
+use Rattle.promises.specs.Releases.{OpenAccepted, Equal, Commits, NothingDiffers, EmptyReleases}
 use Rattle.promises.proofs.High.{commit-number}
 use Rattle.promises.proofs.Known.{four}
 use Rattle.promises.proofs.Judges.{zero-accepts, late-accepts}
@@ -104,7 +104,7 @@ answer-tells none (some y) e = absurd (omega (arith, ap (λ (xs : List ℕ). get
 answer-tells (some x) none e = absurd (omega (arith, ap (λ (xs : List ℕ). getD xs 0 0) e))
 answer-tells (some x) (some y) e = ap some (ap (λ (xs : List ℕ). getD xs 1 0) e)
 
-module _ (b : List ℕ) (o : Opened b) where
+module _ (b : List ℕ) (o : OpenAccepted b) where
   abbrev t : Store
   t = storeOf b
 
@@ -158,7 +158,7 @@ counted-none : (ds : List Delta) → length ds ≡ 0 → isEmpty ds ≡ true
 counted-none [] e = refl
 counted-none (d ∷ ds) e = absurd (omega arith)
 
-module _ (b : List ℕ) (o : Opened b) (ms : List ℕ) where
+module _ (b : List ℕ) (o : OpenAccepted b) (ms : List ℕ) where
   abbrev z : Store
   z = storeOf b
 
@@ -168,7 +168,7 @@ module _ (b : List ℕ) (o : Opened b) (ms : List ℕ) where
   kept-below : z .oldest ≤ z .current
   kept-below = old-current (leastOf b) z (lent-agreed b (o .accepted) .agrees .is-sound .old-low)
 
-  reads : Readable b (z .current) (next z)
+  reads : BothReadable b (z .current) (next z)
   reads = record { accepted = o .accepted; old-kept = kept-below; old = omega (arith, upto); new-kept = omega (arith, kept-below); new = omega (arith, upto) }
 
   abbrev ds : List Delta

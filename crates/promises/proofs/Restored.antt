@@ -14,9 +14,9 @@ use Rattle.model.specs.Basic.{pick}
 use Rattle.model.specs.Histories.{Call, begins, commits, abandons, inserts, deletes, returns, prunes}
 use Rattle.model.specs.Settings.{Machine, step, isInside, lent, together}
 use Rattle.model.specs.Ended.{toOpen, toAbandon, ended}
-use Rattle.model.proofs.Lists.{both-true, both-intro, all-cons}
-use Rattle.model.proofs.Members.{true-holds, not-both}
-use Rattle.model.proofs.Undone.{abandoned-update}
+use Rattle.model.proofs.lists.Lists.{both-true, both-intro, all-cons}
+use Rattle.model.proofs.lists.Members.{true-holds, not-both}
+use Rattle.model.proofs.theorems.Undone.{abandoned-update}
 use Rattle.promises.specs.Accepts.{Accepts, storeOf}
 use Rattle.promises.specs.Runs.{Turn, turned, runBytes, Kind, making, changing, reading, kindOf, notMaking, fitting, staying, inside, each}
 use Rattle.promises.specs.Demand3.{opening, abandoning, Restored, Abandoned}

@@ -6,7 +6,6 @@ use mathlib.Core.Bool.{Bool, true, false, not}
 use mathlib.Core.Path.{_≡_, refl, ap, ap₂, sym, _∙_, subst}
 use mathlib.Core.Logic.{_⊎_, inl, inr}
 use mathlib.Core.List.{List, [], _∷_, _++_}
-use lib.Dec.{ltb}
 use lib.ListN.{length, drop}
 use Rattle.model.specs.Basic.{flatMap}
 use Rattle.model.specs.Field.{Bytes}
@@ -26,13 +25,13 @@ use Rattle.model.specs.Return.{carried, Came, gave, lacking, orAbandoned, unles
 use Rattle.model.specs.Histories.{abandons, returns, after}
 use Rattle.model.specs.Lent.{left, leftBy}
 use Rattle.model.specs.Ended.{toAbandon, toReturn, toDifference, Ended, ofOutcome, ended}
-use Rattle.model.proofs.Members.{holds-true}
-use Rattle.model.proofs.Given.{Sound, from-tests, Kept}
-use Rattle.model.proofs.Lookups.{settings-rise}
-use Rattle.model.proofs.Alike.{alike-settings}
-use Rattle.model.proofs.Differs.{none-differs}
-use Rattle.model.proofs.Stops.{lacking-is}
-use Rattle.model.proofs.Returned.{Stepped, returned-by}
+use Rattle.model.proofs.lists.Members.{holds-true}
+use Rattle.model.proofs.sound.ByRule.{Sound, from-tests, Committed}
+use Rattle.model.proofs.reading.Lookups.{settings-rise}
+use Rattle.model.proofs.reading.Alike.{alike-settings}
+use Rattle.model.proofs.reading.Differs.{none-differs}
+use Rattle.model.proofs.kept.Stops.{lacking-is}
+use Rattle.model.proofs.turning.Returned.{Stepped, returned-by}
 use Rattle.promises.specs.Accepts.{Accepts, storeOf}
 use Rattle.promises.specs.Runs.{Turn, turned, runBytes}
 use Rattle.promises.specs.Beside.{fromLent}
@@ -50,9 +49,9 @@ use Rattle.promises.proofs.Differences.{difference-given}
 use Rattle.promises.proofs.Restored as restored
 
 -- a return that is done, on a store
-pub record Whole (least : ℕ) (s : Store) (v : ℕ) (q : Came) : Type 0 where
+pub record DoneReturn (least : ℕ) (s : Store) (v : ℕ) (q : Came) : Type 0 where
   pub opened : s .opened ≡ true
-  pub committed : Kept s v
+  pub committed : Committed s v
   pub left-so : Store
   pub is : q ≡ gave (done left-so)
   pub stepped : Stepped least s left-so (settings s v)
@@ -76,9 +75,9 @@ module _ (b : List ℕ) (ok : Accepts b) (v : ℕ) (ns : List ℕ) where
       at (inl z) = omega arith
       at (inr z) = omega arith
 
-  whole : numberBy (returned (leastOf b) (storeOf b) v) ≡ 0 → Whole (leastOf b) (storeOf b) v (returned (leastOf b) (storeOf b) v)
+  whole : numberBy (returned (leastOf b) (storeOf b) v) ≡ 0 → DoneReturn (leastOf b) (storeOf b) v (returned (leastOf b) (storeOf b) v)
   whole =
-      returned-by (leastOf b) (λ (q : Came). numberBy q ≡ 0 → Whole (leastOf b) (storeOf b) v q) (four b) (storeOf b) sure v (λ n e. absurd (n e))
+      returned-by (leastOf b) (λ (q : Came). numberBy q ≡ 0 → DoneReturn (leastOf b) (storeOf b) v q) (four b) (storeOf b) sure v (λ n e. absurd (n e))
       (λ o h t g e. record { opened = o; committed = h; left-so = t; is = refl; stepped = g }) (λ o h n l e. absurd (never n 0 l e))
 
   early : (x y : Bool) → Stops (firstOf (rule 6 x ∷ rule 7 y ∷ [])) → ⊥
@@ -120,7 +119,7 @@ module _ (b : List ℕ) (ok : Accepts b) (v : ℕ) (ns : List ℕ) where
   b′ = ended (toReturn v) b ns .store
 
   module _ (e : ended (toReturn v) b ns .number ≡ 0) where
-    pub w : Whole (leastOf b) (storeOf b) v (returned (leastOf b) (storeOf b) v)
+    pub w : DoneReturn (leastOf b) (storeOf b) v (returned (leastOf b) (storeOf b) v)
     w = whole (sym (change-number b ok (returns v) ns) ∙ e)
 
     pub holds : storeOf (ended (toReturn v) b ns .store) ≡ w .left-so
@@ -180,7 +179,7 @@ module _ (b : List ℕ) (ok : Accepts b) (v : ℕ) (ns : List ℕ) where
 
   -- ---- nothing to do
 
-  module _ (o : storeOf b .opened ≡ true) (h : Kept (storeOf b) v) (same : settings (storeOf b) (next (storeOf b)) ≡ settings (storeOf b) v) where
+  module _ (o : storeOf b .opened ≡ true) (h : Committed (storeOf b) v) (same : settings (storeOf b) (next (storeOf b)) ≡ settings (storeOf b) v) where
     returned-same : returned (leastOf b) (storeOf b) v ≡ gave (done (storeOf b))
     unfolding Return.returned Return.carried Return.through
     returned-same =

@@ -8,7 +8,7 @@ use mathlib.Core.Logic.{_≢_}
 use mathlib.Core.List.{List, [], _∷_}
 use lib.Dec.{leb, ltb}
 use lib.ListN.{length}
-use borrow.Author.Tests.{ltb-false, le-ltb}
+use borrow.Author.Tests.{le-ltb}
 use Rattle.model.specs.declared.Pair.{Pair}
 use Rattle.model.specs.Store.{last}
 use Rattle.model.specs.Walk.{keyLimit, settings, between}
@@ -16,9 +16,9 @@ use Rattle.model.specs.Calls
 use Rattle.model.specs.Calls.{rule, firstOf, unreadable}
 use Rattle.model.specs.Editions.{leastOf}
 use Rattle.model.specs.Ended.{Ended}
-use Rattle.model.proofs.Most.{settings-most}
-use Rattle.model.proofs.Given.{readable-of}
-use Rattle.model.proofs.PlanSizes.{few-those}
+use Rattle.model.proofs.sound.Most.{settings-most}
+use Rattle.model.proofs.sound.ByRule.{readable-of}
+use Rattle.model.proofs.plan.PlanSizes.{few-those}
 use Rattle.promises.specs.Accepts.{Accepts, storeOf}
 use Rattle.promises.specs.Beside.{fromLent}
 use Rattle.promises.specs.Room.{NoRangeOutgrows}

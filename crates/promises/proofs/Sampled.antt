@@ -20,10 +20,10 @@ use Rattle.model.specs.Settings.{start, step}
 use Rattle.model.specs.Ended.{toCheck, toOpen, toCommit, toInsert, toDelete, toLookup, toRange, toLife, toVisits, toReturn, Asked, Ended, ended}
 use Rattle.model.specs.Samples.{twoLevels, fromElsewhere}
 use Rattle.model.specs.Proved.{two-levels-sound, from-elsewhere-sound}
-use Rattle.model.proofs.Members.{true-holds}
-use Rattle.model.proofs.Given.{to-tests}
-use Rattle.model.proofs.Turns.{fresh-sound}
-use Rattle.model.proofs.Editions.{edition-four}
+use Rattle.model.proofs.lists.Members.{true-holds}
+use Rattle.model.proofs.sound.ByRule.{to-tests}
+use Rattle.model.proofs.turning.Turns.{fresh-sound}
+use Rattle.model.proofs.theorems.Editions.{edition-four}
 use Rattle.promises.specs.Accepts.{Accepts, storeOf, OfEdition, Written}
 use Rattle.promises.specs.Runs.{Turn, turned, changing, notMaking, fitting, staying, inside, each}
 use Rattle.promises.specs.Beside.{whenDone, onward, fromFresh}

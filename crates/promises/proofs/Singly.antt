@@ -1,6 +1,6 @@
 -- A return that is done leaves the bytes that its deletes and inserts leave as single calls.
 -- Assumes nothing.
-use Prim.Native.Nat.{ℕ, _≤_, _<_}
+use Prim.Native.Nat.{ℕ, _<_}
 use native.Mathlib.Omega.{arith}
 use mathlib.Core.Bool.{Bool, true, false, not}
 use mathlib.Core.Path.{_≡_, refl, ap, ap₂, sym, _∙_}
@@ -25,16 +25,16 @@ use Rattle.model.specs.Histories.{Call, inserts, deletes, returns, callBy}
 use Rattle.model.specs.Settings
 use Rattle.model.specs.Settings.{Both, together, lent}
 use Rattle.model.specs.Ended.{toReturn, ended}
-use Rattle.model.proofs.Lists.{all-cons, both-true, both-intro}
-use Rattle.model.proofs.Members.{holds-true}
-use Rattle.model.proofs.Given.{Sound, from-tests, Kept}
-use Rattle.model.proofs.Lookups.{settings-rise}
-use Rattle.model.proofs.Differs.{keys-so}
-use Rattle.model.proofs.Small.{small}
-use Rattle.model.proofs.Remade
-use Rattle.model.proofs.Remade.{all-those}
-use Rattle.model.proofs.Returned.{way}
-use Rattle.model.proofs.Undone.{together-append}
+use Rattle.model.proofs.lists.Lists.{all-cons, both-true, both-intro}
+use Rattle.model.proofs.lists.Members.{holds-true}
+use Rattle.model.proofs.sound.ByRule.{Sound, from-tests, Committed}
+use Rattle.model.proofs.reading.Lookups.{settings-rise}
+use Rattle.model.proofs.reading.Differs.{keys-so}
+use Rattle.model.proofs.sound.Small.{small}
+use Rattle.model.proofs.turning.Remade
+use Rattle.model.proofs.turning.Remade.{all-those}
+use Rattle.model.proofs.turning.Returned.{way}
+use Rattle.model.proofs.theorems.Undone.{together-append}
 use Rattle.promises.specs.Accepts.{Accepts, storeOf}
 use Rattle.promises.specs.Runs.{Turn, runBytes, Kind, kindOf, asks, notMaking, fitting, each}
 use Rattle.promises.specs.Replayed.{turnOf}
@@ -140,7 +140,7 @@ module _ (b : List ℕ) (bytes : Bytes b) (ok : Accepts b) (v : ℕ) (ns : List 
   open-last : last (storeOf b) ≡ next (storeOf b)
   open-last = ap (λ (o : Bool). lastOf o (storeOf b .current)) (w b ok v ns e .opened)
 
-  committed : Kept (storeOf b) v
+  committed : Committed (storeOf b) v
   committed = w b ok v ns e .committed
 
   lows : all below ds ≡ true

@@ -22,8 +22,8 @@ use Rattle.model.specs.Lent.{judgedFirst, Listed, listed, lookupLent, rangeLent
 use Rattle.model.specs.Any
 use Rattle.model.specs.Any.{lookupAny, rangeAny, visitsAny, differenceAny, lifeAny, stateAny}
 use Rattle.model.specs.Ended.{ofLooked, ofListed}
-use Rattle.model.proofs.Editions.{goes}
-use Rattle.near.specs.Same.{lookup-same, range-same}
+use Rattle.model.proofs.theorems.Editions.{goes}
+use Rattle.near.proofs.laws.Same.{lookup-same, range-same}
 use Rattle.promises.specs.Accepts.{Accepts, storeOf}
 use Rattle.promises.specs.Near.{SoundSame}
 use Rattle.promises.proofs.Known.{four, eight, known, judged-by}

@@ -7,15 +7,14 @@ use mathlib.Core.Path.{_≡_, refl, ap, sym, _∙_}
 use mathlib.Core.Logic.{_↔_}
 use mathlib.Core.List.{List}
 use lib.ListN.{length}
-use Rattle.model.specs.Layout.{sizeOf}
 use Rattle.model.specs.State
 use Rattle.model.specs.State.{stateOf}
 use Rattle.model.specs.Calls.{firstOf}
 use Rattle.model.specs.Editions.{leastOf}
 use Rattle.model.specs.Ended.{toAbandon, ended, ofState}
-use Rattle.model.proofs.Members.{not-both}
-use Rattle.store.specs.Read.{count-pages}
-use Rattle.store.specs.Tested.{Whole, whole-length}
+use Rattle.store.proofs.laws.Read.{count-pages}
+use Rattle.store.specs.Tested.{Whole}
+use Rattle.store.proofs.laws.Tested.{whole-length}
 use Rattle.promises.specs.Accepts.{Accepts, storeOf}
 use Rattle.promises.specs.Beside.{fromLent}
 use Rattle.promises.specs.Answers.{endTests, Answers}

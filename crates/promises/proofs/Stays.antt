@@ -24,11 +24,11 @@ use Rattle.model.specs.Settings.{lent, together}
 use Rattle.model.specs.Lent.{Listed, listed}
 use Rattle.model.specs.Any.{lookupAny, rangeAny, visitsAny}
 use Rattle.model.specs.Ended.{ofLooked, ofListed}
-use Rattle.model.proofs.Given.{Readable, of-readable}
-use Rattle.model.proofs.Alike.{Alike, alike-lookup, alike-visits, alike-range, alike-range-visits}
-use Rattle.model.proofs.Visits.{pages-told}
-use Rattle.model.proofs.Undone.{lent-agrees}
-use Rattle.model.proofs.Steady.{Onward, goes-on}
+use Rattle.model.proofs.sound.ByRule.{Readable, of-readable}
+use Rattle.model.proofs.reading.Alike.{Alike, alike-lookup, alike-visits, alike-range, alike-range-visits}
+use Rattle.model.proofs.reading.Visits.{pages-told}
+use Rattle.model.proofs.theorems.Undone.{lent-agrees}
+use Rattle.model.proofs.reading.Steady.{WaysStay, goes-on}
 use Rattle.promises.specs.Accepts.{Accepts, storeOf}
 use Rattle.promises.specs.Runs.{Turn, runBytes, notMaking, fitting, each}
 use Rattle.promises.specs.Views.{SameView, SameAnswers}
@@ -82,9 +82,9 @@ module _ (b : List ℕ) (ok : Accepts b) (ts : List Turn) (f : each fitting ts �
   pub later : Leaves (leastOf b) b (together (leastOf b) (lent (storeOf b)) (callsOf ts) .store) (runBytes b ts)
   later = ran (leastOf b) ts m f b ok refl (lent (storeOf b)) refl
 
-  pub goes : Onward (storeOf b) (storeOf (runBytes b ts))
+  pub goes : WaysStay (storeOf b) (storeOf (runBytes b ts))
   goes =
-      subst (Onward (storeOf b)) (sym (later .holds))
+      subst (WaysStay (storeOf b)) (sym (later .holds))
       (goes-on (leastOf b) (four b) (callsOf ts) (calls-fit ts f) (lent (storeOf b)) (lent-agrees (leastOf b) (storeOf b) (held-sound b ok)))
 
   low : (q : Bool) (n : ℕ) → n ≤ lastOf q n

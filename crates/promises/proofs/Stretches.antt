@@ -14,8 +14,8 @@ use Rattle.model.specs.Basic.{pick}
 use Rattle.model.specs.declared.Stretch.{Stretch}
 use Rattle.model.specs.Entry.{alive}
 use Rattle.model.specs.Life.{touch, join, shownTo, lifeOf}
-use Rattle.model.proofs.Lists.{both-true}
-use Rattle.model.proofs.Lives.{stretch, First, join-touch, runs, front, runs-step, runs-late}
+use Rattle.model.proofs.lists.Lists.{both-true}
+use Rattle.model.proofs.reading.Lives.{stretch, First, join-touch, runs, front, runs-step, runs-late}
 use Rattle.promises.specs.Lives.{Lies, Apart, EndsBy}
 
 -- ---- joined
@@ -109,23 +109,23 @@ module _ (f : ℕ → Option ℕ) where
           joined-lies w x (stretch v (suc v) y) (runs f (suc v) n) (omega arith) (apart-first (runs f (suc v) n) (runs-apart n (suc v))) (inr (h (later low (eqb-false w v t))))
 
   -- and nothing else lies there
-  pub record Found (v n w x : ℕ) : Type 0 where
+  pub record FoundAt (v n w x : ℕ) : Type 0 where
     pub from : v ≤ w
     pub upto : w < v + n
     pub is : f w ≡ some x
 
-  lies-found : (n v w x : ℕ) → Lies w x (runs f v n) → Found v n w x
+  lies-found : (n v w x : ℕ) → Lies w x (runs f v n) → FoundAt v n w x
   lies-found zero v w x h = absurd h
   lies-found (suc n) v w x h = at (f v) refl (subst (Lies w x) (runs-step f v n) h) (lies-found n (suc v) w x)
     where
-      more : Found (suc v) n w x → Found v (suc n) w x
+      more : FoundAt (suc v) n w x → FoundAt v (suc n) w x
       more g = record { from = omega (arith, g .from); upto = omega (arith, g .upto); is = g .is }
 
-      at : (o : Option ℕ) → f v ≡ o → Lies w x (front v o (runs f (suc v) n)) → (Lies w x (runs f (suc v) n) → Found (suc v) n w x) → Found v (suc n) w x
+      at : (o : Option ℕ) → f v ≡ o → Lies w x (front v o (runs f (suc v) n)) → (Lies w x (runs f (suc v) n) → FoundAt (suc v) n w x) → FoundAt v (suc n) w x
       at none q r ih = more (ih r)
       at (some y) q r ih = by (lies-joined w x (stretch v (suc v) y) (runs f (suc v) n) r)
         where
-          by : Lies w x (stretch v (suc v) y ∷ runs f (suc v) n) → Found v (suc n) w x
+          by : Lies w x (stretch v (suc v) y ∷ runs f (suc v) n) → FoundAt v (suc n) w x
           by (inl i) =
               let e : w ≡ v = omega (arith, i .0, i .1) in
               record { from = i .0; upto = omega (arith, i .1); is = ap f e ∙ q ∙ ap some (i .2) }

@@ -1,6 +1,6 @@
 -- Of a store that was never pruned check never answers 7: no router has expired, so rule 7 follows from rules 1 and 3.
 -- Assumes nothing.
-use Prim.Native.Nat.{ℕ, zero, suc, _≤_, _<_}
+use Prim.Native.Nat.{ℕ, zero, suc, _≤_}
 use native.Mathlib.Omega.{arith}
 use mathlib.Core.Bool.{Bool, true, false}
 use mathlib.Core.Path.{_≡_, refl, ap, sym, _∙_, subst}
@@ -13,17 +13,17 @@ use Rattle.model.specs.declared.Verdict.{Verdict}
 use Rattle.model.specs.Entry.{alive}
 use Rattle.model.specs.Page.{isFree}
 use Rattle.model.specs.Store.{Store, page, next, last, lastOf}
-use Rattle.model.specs.Sound.{firstBroken, entryOk, liesWell, rule1, rule2, rule3, rule4, rule5, rule6, rule7}
+use Rattle.model.specs.Sound.{firstBroken, entryOk, liesWell, rule2, rule3, rule4, rule5, rule6, rule7}
 use Rattle.model.specs.Layout.{readHeader, decode}
 use Rattle.model.specs.Counted.{rule8}
 use Rattle.model.specs.Clean.{clean}
 use Rattle.model.specs.Judged.{lengthOk, magicOk, editionOk, brokenIn, ruled, verdict, judged}
 use Rattle.model.specs.Editions.{leastOf, lentNumber}
 use Rattle.model.specs.Any.{judgedAny}
-use Rattle.model.proofs.Members.{In, all-in, not-both}
-use Rattle.model.proofs.Given.{Front, front-of, entry-ok, GoodEntry, Young, rule7-by}
-use Rattle.model.proofs.Judging.{clean-first}
-use Rattle.store.specs.Read.{oldest-lt}
+use Rattle.model.proofs.lists.Members.{In, all-in, not-both}
+use Rattle.model.proofs.sound.ByRule.{Front, front-of, entry-ok, GoodEntry, Young, rule7-by}
+use Rattle.model.proofs.sound.Judging.{clean-first}
+use Rattle.store.proofs.laws.Read.{oldest-lt}
 use Rattle.promises.specs.Accepts.{storeOf}
 use Rattle.promises.specs.Prunes.{NeverSeven}
 use Rattle.promises.proofs.Known.{check-goes, check-refuses}

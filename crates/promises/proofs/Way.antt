@@ -23,23 +23,23 @@ use Rattle.model.specs.Histories.{Call, begins, commits, abandons, inserts, del
 use Rattle.model.specs.Settings.{Machine, put, step}
 use Rattle.model.specs.Lent.{Outcome, freshLent}
 use Rattle.model.specs.Ended.{Asked, toFresh, toFreshSecond, toCheck, toOpen, toCommit, toAbandon, toInsert, toDelete, toReturn, toPrune, toLookup, toRange, toVisits, toDifference, toLife, ended, toState}
-use Rattle.model.proofs.Lists.{all-cons}
-use Rattle.model.proofs.Members.{true-holds, either-left, either-right, bool-cases, In, all-by}
-use Rattle.model.proofs.Given.{to-tests}
-use Rattle.model.proofs.Turns.{fresh-sound}
-use Rattle.model.proofs.Editions.{edition-four}
-use Rattle.model.proofs.Theorems as stores
+use Rattle.model.proofs.lists.Lists.{all-cons}
+use Rattle.model.proofs.lists.Members.{true-holds, either-left, either-right, bool-cases, In, all-by}
+use Rattle.model.proofs.sound.ByRule.{to-tests}
+use Rattle.model.proofs.turning.Turns.{fresh-sound}
+use Rattle.model.proofs.theorems.Editions.{edition-four}
+use Rattle.model.proofs.theorems.Theorems as stores
 use Rattle.promises.specs.Accepts.{Accepts, storeOf, OfEdition, Written}
 use Rattle.promises.specs.Runs.{Turn, Kind, making, changing, reading, kindOf, asks, fitting, givesUp, each}
 use Rattle.promises.specs.Beside.{Beside, whenDone, stepped, undone, onward, fromFresh, fromLent}
-use Rattle.promises.specs.Way.{Ruled, ruledOf, changedBy, remadeBy, ruledBy, EachState, BalancedIn, LentState, FreshState}
+use Rattle.promises.specs.Way.{EditionStore, ruledOf, changedBy, remadeBy, ruledBy, EachState, BalancedIn, LentState, FreshState}
 use Rattle.promises.proofs.Known.{four}
 use Rattle.promises.proofs.Encoded.{encoded-sound, accepted}
 use Rattle.promises.proofs.Lending.{kind-asks, change-leaves, fresh-leaves, made-wrong, call-bytes, held-sound}
 use Rattle.promises.proofs.Agreed.{Agreed, fresh-agreed, lent-agreed, one-turn}
 use Rattle.promises.proofs.Answering.{answers}
 
-pub balanced-in : (r : Ruled) → 4 ≤ r .least → T (sound (r .least) (r .store)) → BalancedIn r
+pub balanced-in : (r : EditionStore) → 4 ≤ r .least → T (sound (r .least) (r .store)) → BalancedIn r
 balanced-in r low sure v from h =
     all-by (λ (x : Seen). isRoot x || enough x) (seen s v) (λ x i. at x i (bool-cases (isRoot x)))
   where
@@ -85,20 +85,20 @@ none-at-first k (suc n) m h = at (givesUp k (suc n))
 -- ---- state by state
 
 -- what each call hands on gives what is said of each state
-each-state : (P I : Beside → Ruled → Type 0) → ((x : Beside) (r : Ruled) → I x r → P x r)
-    → ((x : Beside) (r : Ruled) (t : Turn) → fitting (kindOf (t .call)) ≡ true → I x r → I (onward x t) (ruledBy (x .bytes) r (t .call)))
-    → (ts : List Turn) → each fitting ts ≡ true → (x : Beside) (r : Ruled) → I x r → EachState P x r ts
+each-state : (P I : Beside → EditionStore → Type 0) → ((x : Beside) (r : EditionStore) → I x r → P x r)
+    → ((x : Beside) (r : EditionStore) (t : Turn) → fitting (kindOf (t .call)) ≡ true → I x r → I (onward x t) (ruledBy (x .bytes) r (t .call)))
+    → (ts : List Turn) → each fitting ts ≡ true → (x : Beside) (r : EditionStore) → I x r → EachState P x r ts
 each-state P I says hands [] f x r i = says x r i
 each-state P I says hands (t ∷ ts) f x r i =
     let (g, h) = all-cons (λ (u : Turn). fitting (kindOf (u .call))) t ts f in
     (says x r i, each-state P I says hands ts h (onward x t) (ruledBy (x .bytes) r (t .call)) (hands x r t g i))
 
 -- bytes that hold the store which the rules make, by its edition
-record Holds (b : List ℕ) (r : Ruled) : Type 0 where
+record Holds (b : List ℕ) (r : EditionStore) : Type 0 where
   pub edition : leastOf b ≡ r .least
   pub holds : storeOf b ≡ r .store
 
-module _ (b : List ℕ) (r : Ruled) (ok : Accepts b) (i : Holds b r) where
+module _ (b : List ℕ) (r : EditionStore) (ok : Accepts b) (i : Holds b r) where
   changed : (c : Call) → fitting (kindOf (asks c)) ≡ true → (ns : List ℕ) → Holds (ended (asks c) b ns .store) (changedBy r c)
   changed c f ns =
       let l = change-leaves b ok c (ap fitting (sym (kind-asks c)) ∙ f) ns in
@@ -133,25 +133,25 @@ module _ (b : List ℕ) (r : Ruled) (ok : Accepts b) (i : Holds b r) where
   holds-on toState f ns = i
 
 -- the bytes hold the store that the rules make, the machine agrees with it, and they are bytes where those lent were
-record Stands (b : List ℕ) (x : Beside) (r : Ruled) : Type 0 where
+record Stands (b : List ℕ) (x : Beside) (r : EditionStore) : Type 0 where
   pub agreed : Agreed x
   pub holds : Holds (x .bytes) r
   pub bytes : Bytes b → Bytes (x .bytes)
 
 module _ (b : List ℕ) where
-  stands-on : (x : Beside) (r : Ruled) (t : Turn) → fitting (kindOf (t .call)) ≡ true → Stands b x r → Stands b (onward x t) (ruledBy (x .bytes) r (t .call))
+  stands-on : (x : Beside) (r : EditionStore) (t : Turn) → fitting (kindOf (t .call)) ≡ true → Stands b x r → Stands b (onward x t) (ruledBy (x .bytes) r (t .call))
   stands-on x r t f i = record {
     agreed = one-turn x (i .agreed) t f;
     holds = holds-on (x .bytes) r (i .agreed .accepted) (i .holds) (t .call) f (t .list);
     bytes = λ h. call-bytes (x .bytes) (i .agreed .accepted) (i .bytes h) (t .call) f (t .list);
   }
 
-  in-balance : (x : Beside) (r : Ruled) → Stands b x r → BalancedIn r
+  in-balance : (x : Beside) (r : EditionStore) → Stands b x r → BalancedIn r
   in-balance x r i =
       balanced-in r (subst (λ (n : ℕ). 4 ≤ n) (i .holds .edition) (four (x .bytes)))
       (subst (λ (n : ℕ). T (sound n (r .store))) (i .holds .edition) (subst (λ (s : Store). T (sound (leastOf (x .bytes)) s)) (i .holds .holds) (held-sound (x .bytes) (i .agreed .accepted))))
 
-  by-rules : (x : Beside) (r : Ruled) → Stands b x r → Bytes b → x .bytes ≡ encode (r .least) (r .store)
+  by-rules : (x : Beside) (r : EditionStore) → Stands b x r → Bytes b → x .bytes ≡ encode (r .least) (r .store)
   by-rules x r i h = sym (accepted (x .bytes) (i .bytes h) (i .agreed .accepted) .same) ∙ ap₂ encode (i .holds .edition) (i .holds .holds)
 
   pub lent-way : Accepts b → (ts : List Turn) → each fitting ts ≡ true → EachState (LentState b) (fromLent b) (ruledOf b) ts

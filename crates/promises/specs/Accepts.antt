@@ -32,6 +32,6 @@ pub record Written (least : ℕ) (s : Store) : Type 0 where
   pub held : storeOf (encode least s) ≡ s
 
 -- bytes that are those of a sound store, to the last bit
-pub record Exact (b : List ℕ) : Type 0 where
+pub record SoundBytes (b : List ℕ) : Type 0 where
   pub is-sound : T (sound (leastOf b) (storeOf b))
   pub same : encode (leastOf b) (storeOf b) ≡ b

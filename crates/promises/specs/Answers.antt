@@ -95,7 +95,7 @@ Gives (suc m) n = n ≡ suc m
 
 -- what state tells of the machine: the current version, second of its numbers, whether an update is open, the third, and the oldest version,
 -- the seventh
-pub record Stands (m : Machine) (e : Ended) : Type 0 where
+pub record StateTells (m : Machine) (e : Ended) : Type 0 where
   pub number : e .number ≡ 0
   pub current : getD (e .results) 1 0 ≡ m .current
   pub opened : getD (e .results) 2 0 ≡ bit (m .opened)
@@ -108,7 +108,7 @@ pub record Answers (x : Beside) : Type 0 where
   pub range : (lo hi v : ℕ) (ns : List ℕ) → ended (toRange lo hi v) (x .bytes) ns ≡ ofListed (x .bytes) (listed ns (rangedFrom (x .machine) lo hi v (length ns)))
   pub difference : (u v : ℕ) (ns : List ℕ) → ended (toDifference u v) (x .bytes) ns ≡ ofListed (x .bytes) (listed ns (toldFrom (x .machine) u v (length ns)))
   pub life : (k : ℕ) (ns : List ℕ) → ended (toLife k) (x .bytes) ns ≡ ofListed (x .bytes) (listed ns (livedIn (x .machine) k (length ns)))
-  pub state : (ns : List ℕ) → Stands (x .machine) (ended toState (x .bytes) ns)
+  pub state : (ns : List ℕ) → StateTells (x .machine) (ended toState (x .bytes) ns)
   -- "in key order", no key twice
   pub order : (v : ℕ) → x .machine .oldest ≤ v → v ≤ lastIn (x .machine) → inOrder (λ (p q : Pair). ltb (p .key) (q .key)) (x .machine .shows v) ≡ true
   -- "their number is those inserts less those deletes"

@@ -23,7 +23,7 @@ use Rattle.model.specs.Editions.{leastOf}
 use Rattle.model.specs.Histories.{Call, callBy, after}
 use Rattle.model.specs.Needs.{NeedsPage, NeedsSlot, inserting, deleting, InsertTried, DeleteTried}
 use Rattle.model.specs.Ended.{Asked, toInsert, toDelete, ended}
-use Rattle.promises.specs.Accepts.{Accepts, storeOf, OfEdition, Written, Exact}
+use Rattle.promises.specs.Accepts.{Accepts, storeOf, OfEdition, Written, SoundBytes}
 use Rattle.promises.specs.Runs.{Turn, turned, runBytes, making, reading, kindOf, asks, notMaking, fitting, each}
 use Rattle.promises.specs.Beside.{fromFresh, fromLent}
 use Rattle.promises.specs.Answers.{Answers}
@@ -36,7 +36,7 @@ abbrev pub EncodedSound : Type 0
 EncodedSound = (least : ℕ) → OfEdition least → (s : Store) → T (sound least s) → Written least s
 
 abbrev pub AcceptedSound : Type 0
-AcceptedSound = (b : List ℕ) → Bytes b → Accepts b → Exact b
+AcceptedSound = (b : List ℕ) → Bytes b → Accepts b → SoundBytes b
 
 -- ---- a sound store stays sound: every call, from any accepted bytes
 
@@ -106,11 +106,11 @@ Balanced = (b : List ℕ) → Accepts b → BalancedIn (ruledOf b)
 
 -- ---- "An update is refused for lack of pages exactly when those rules need a page and none is free": 12, and 13 so for a slot, on any bytes
 
-pub record Lacks (b ns : List ℕ) : Type 0 where
+pub record LackRefused (b ns : List ℕ) : Type 0 where
   pub insert-page : (k x : ℕ) → ended (toInsert k x) b ns .number ≡ 12 ↔ (Accepts b × (InsertTried (storeOf b) k × NeedsPage (leastOf b) (storeOf b) k (inserting k x)))
   pub insert-slot : (k x : ℕ) → ended (toInsert k x) b ns .number ≡ 13 ↔ (Accepts b × (InsertTried (storeOf b) k × NeedsSlot (leastOf b) (storeOf b) k (inserting k x)))
   pub delete-page : (k : ℕ) → ended (toDelete k) b ns .number ≡ 12 ↔ (Accepts b × (DeleteTried (storeOf b) k × NeedsPage (leastOf b) (storeOf b) k (deleting k)))
   pub delete-slot : (k : ℕ) → ended (toDelete k) b ns .number ≡ 13 ↔ (Accepts b × (DeleteTried (storeOf b) k × NeedsSlot (leastOf b) (storeOf b) k (deleting k)))
 
 abbrev pub Lacking : Type 0
-Lacking = (b ns : List ℕ) → Lacks b ns
+Lacking = (b ns : List ℕ) → LackRefused b ns

@@ -24,7 +24,7 @@ abbrev pub differences : Store → ℕ → ℕ → List Delta
 differences s u v = differ (settings s u) (settings s v)
 
 -- both can be read
-pub record Readable (b : List ℕ) (u v : ℕ) : Type 0 where
+pub record BothReadable (b : List ℕ) (u v : ℕ) : Type 0 where
   pub accepted : Accepts b
   pub old-kept : storeOf b .oldest ≤ u
   pub old : u ≤ last (storeOf b)
@@ -33,14 +33,14 @@ pub record Readable (b : List ℕ) (u v : ℕ) : Type 0 where
 
 -- ---- the call gives them: four numbers each, and their count; "14 is given when the list holds fewer", with the count
 
-pub record Given (b : List ℕ) (u v : ℕ) (ds : List Delta) : Type 0 where
+pub record DeltasGiven (b : List ℕ) (u v : ℕ) (ds : List Delta) : Type 0 where
   pub room : (ns : List ℕ) → 4 * length ds ≤ length ns
       → ended (toDifference u v) b ns ≡ record { number = 0; results = length ds ∷ []; store = b; list = flatMap deltaNumbers ds ++ drop (4 * length ds) ns }
   pub short : (ns : List ℕ) → length ns < 4 * length ds
       → ended (toDifference u v) b ns ≡ record { number = 14; results = length ds ∷ []; store = b; list = ns }
 
 abbrev pub DifferenceGiven : Type 0
-DifferenceGiven = (b : List ℕ) (u v : ℕ) → Readable b u v → Given b u v (differences (storeOf b) u v)
+DifferenceGiven = (b : List ℕ) (u v : ℕ) → BothReadable b u v → DeltasGiven b u v (differences (storeOf b) u v)
 
 -- ---- what they say
 
@@ -58,18 +58,18 @@ pub record Says (s : Store) (u v : ℕ) (ds : List Delta) : Type 0 where
   pub applied : apply ds (settings s u) ≡ settings s v
 
 abbrev pub DifferenceSays : Type 0
-DifferenceSays = (b : List ℕ) (u v : ℕ) → Readable b u v → Says (storeOf b) u v (differences (storeOf b) u v)
+DifferenceSays = (b : List ℕ) (u v : ℕ) → BothReadable b u v → Says (storeOf b) u v (differences (storeOf b) u v)
 
 -- ---- "Equal version numbers give an empty list."
 
 abbrev pub DifferenceNone : Type 0
-DifferenceNone = (b : List ℕ) (v : ℕ) → Readable b v v → (ns : List ℕ)
+DifferenceNone = (b : List ℕ) (v : ℕ) → BothReadable b v v → (ns : List ℕ)
     → ended (toDifference v v) b ns ≡ record { number = 0; results = 0 ∷ []; store = b; list = ns }
 
 -- ---- from the second version to the first: the same, with the sides exchanged
 
 abbrev pub DifferenceExchanged : Type 0
-DifferenceExchanged = (b : List ℕ) (u v : ℕ) → Readable b u v → differences (storeOf b) v u ≡ map exchanged (differences (storeOf b) u v)
+DifferenceExchanged = (b : List ℕ) (u v : ℕ) → BothReadable b u v → differences (storeOf b) v u ≡ map exchanged (differences (storeOf b) u v)
 
 -- ---- between two committed versions it stays, whatever is called later, short of making fresh
 

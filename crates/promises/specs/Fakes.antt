@@ -57,7 +57,7 @@ pub record Invents (f : Implementation) : Type 0 where
   pub given : f (toRange low high version) bytes list .number ≡ 0
   pub invented : f (toRange low high version) bytes list .results ≢ length (between low high (settings (storeOf bytes) version)) ∷ []
 
-pub record Stopped (f : Implementation) : Type 0 where
+pub record NoFake (f : Implementation) : Type 0 where
   pub refuses : RefusesAll f → ⊥
   pub fixed : OneAnswer f → ⊥
   pub nothing : WritesNothing f → ⊥
@@ -66,4 +66,4 @@ pub record Stopped (f : Implementation) : Type 0 where
   pub invents : Invents f → ⊥
 
 abbrev pub FakesStopped : Type 0
-FakesStopped = (f : Implementation) → Honest f → Stopped f
+FakesStopped = (f : Implementation) → Honest f → NoFake f

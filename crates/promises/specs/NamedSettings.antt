@@ -117,7 +117,7 @@ NeverSkipped = (table b : List ℕ) (lo hi v : ℕ) (ns : List ℕ)
 abbrev pub seventeen : List ℕ → List ℕ → List ℕ → Ended
 seventeen results b ns = record { number = 17; results = results; store = b; list = ns }
 
-pub record Stopped (old b : List ℕ) (k v : ℕ) : Type 0 where
+pub record NameRefused (old b : List ℕ) (k v : ℕ) : Type 0 where
   pub lookup : (ns : List ℕ) → endedNamed old (byLookup k v) b ns ≡ seventeen (0 ∷ 0 ∷ []) b ns
   pub range : (lo hi : ℕ) (ns : List ℕ) → lo ≤ k → k ≤ hi → hi < keyLimit → endedNamed old (byRange lo hi v) b ns ≡ seventeen (0 ∷ []) b ns
   pub insert : (x : ℕ) (ns : List ℕ) → endedNamed old (byInsert k x) b ns ≡ seventeen [] b ns
@@ -125,7 +125,7 @@ pub record Stopped (old b : List ℕ) (k v : ℕ) : Type 0 where
 
 abbrev pub NeverSofter : Type 0
 NeverSofter = (old b : List ℕ) → Accepts b → (k x v : ℕ) → storeOf b .oldest ≤ v → v ≤ last (storeOf b)
-    → find k (settings (storeOf b) v) ≡ some x → knownIn old k ≡ Nothing → Stopped old b k v
+    → find k (settings (storeOf b) v) ≡ some x → knownIn old k ≡ Nothing → NameRefused old b k v
 
 -- ---- a table that is right: each of its rows says what its key is, and no other row does
 

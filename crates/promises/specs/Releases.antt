@@ -13,7 +13,7 @@ use Rattle.promises.specs.Accepts.{Accepts, storeOf}
 use Rattle.promises.specs.Views.{SaysSame}
 
 -- an update is open on accepted bytes
-pub record Opened (b : List ℕ) : Type 0 where
+pub record OpenAccepted (b : List ℕ) : Type 0 where
   pub accepted : Accepts b
   pub opened : storeOf b .opened ≡ true
 
@@ -24,8 +24,8 @@ Equal s = settings s (next s) ≡ settings s (s .current)
 -- ---- "exactly when": a commit of any bytes
 
 pub record Commits (b ns : List ℕ) : Type 0 where
-  pub empty : ended toCommit b ns .number ≡ 15 ↔ (Opened b × Equal (storeOf b))
-  pub done : ended toCommit b ns .number ≡ 0 ↔ (Opened b × (Equal (storeOf b) → ⊥))
+  pub empty : ended toCommit b ns .number ≡ 15 ↔ (OpenAccepted b × Equal (storeOf b))
+  pub done : ended toCommit b ns .number ≡ 0 ↔ (OpenAccepted b × (Equal (storeOf b) → ⊥))
   -- "change nothing"; so the update stays open
   pub nothing : ended toCommit b ns .number ≡ 15 → Untouched b ns (ended toCommit b ns)
 
@@ -35,13 +35,13 @@ ExactlyWhen = (b ns : List ℕ) → Commits b ns
 -- ---- "key for key": the settings are equal exactly when a lookup of any key says of the open version what it says of the current one
 
 abbrev pub KeyForKey : Type 0
-KeyForKey = (b : List ℕ) → Opened b
+KeyForKey = (b : List ℕ) → OpenAccepted b
     → Equal (storeOf b) ↔ ((k : ℕ) (ns : List ℕ) → SaysSame (ended (toLookup k (next (storeOf b))) b ns) (ended (toLookup k (storeOf b .current)) b ns))
 
 -- ---- and exactly when the list of 2026-03, from the current version to the open one, is empty
 
 abbrev pub NothingDiffers : Type 0
-NothingDiffers = (b : List ℕ) → Opened b → (ns ms : List ℕ)
+NothingDiffers = (b : List ℕ) → OpenAccepted b → (ns ms : List ℕ)
     → ended toCommit b ns .number ≡ 15 ↔ (ended (toDifference (storeOf b .current) (next (storeOf b))) b ms .results ≡ 0 ∷ [])
 
 -- ---- "An insert undone by a delete counts as no change even if pages were split": a commit gives after the two what it gave before them

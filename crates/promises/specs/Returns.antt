@@ -88,7 +88,7 @@ ReturnStopped = (b : List ℕ) (v : ℕ) (ns : List ℕ) → Stops (ended (toRet
 abbrev pub returning : ℕ → Turn
 returning v = record { call = toReturn v; list = [] }
 
-pub record Restored (b : List ℕ) (ts : List Turn) (v : ℕ) : Type 0 where
+pub record ReturnRestores (b : List ℕ) (ts : List Turn) (v : ℕ) : Type 0 where
   -- every byte of the store is what it was before the opening
   pub bytes : runBytes b (opening ∷ (ts ++ (returning v ∷ []))) ≡ b
   -- each later call answers as if the update had never been
@@ -97,7 +97,7 @@ pub record Restored (b : List ℕ) (ts : List Turn) (v : ℕ) : Type 0 where
 abbrev pub ReturnAbandons : Type 0
 ReturnAbandons = (b : List ℕ) → Bytes b → turned b opening .number ≡ 0
     → (ts : List Turn) → each fitting ts ≡ true → inside b (opening ∷ ts) ≡ true
-    → (v : ℕ) → Stops (turned (runBytes b (opening ∷ ts)) (returning v) .number) → Restored b ts v
+    → (v : ℕ) → Stops (turned (runBytes b (opening ∷ ts)) (returning v) .number) → ReturnRestores b ts v
 
 pub record Returns : Type 0 where
   pub gives : ReturnGives

@@ -22,23 +22,23 @@ use Rattle.promises.specs.Beside.{Beside, onward}
 use Rattle.promises.specs.Answers.{Answers}
 
 -- a store, and its edition by its least
-pub record Ruled : Type 0 where
+pub record EditionStore : Type 0 where
   pub least : ℕ
   pub store : Store
 
-abbrev pub ruledOf : List ℕ → Ruled
+abbrev pub ruledOf : List ℕ → EditionStore
 ruledOf b = record { least = leastOf b; store = storeOf b }
 
 -- ---- the store that the page rules (model's Rules, Climb and Calls) make of a call
 
-abbrev pub changedBy : Ruled → Call → Ruled
+abbrev pub changedBy : EditionStore → Call → EditionStore
 changedBy r c = record { least = r .least; store = after (r .store) (callBy (r .least) (r .store) c) .store }
 
 -- making fresh: of the bytes only their length counts, which all calls leave
-abbrev pub remadeBy : ℕ → List ℕ → Ruled → Ruled
+abbrev pub remadeBy : ℕ → List ℕ → EditionStore → EditionStore
 remadeBy least b r = pick (lengthOk least b) (record { least = least; store = fresh (sizeOf least b) }) r
 
-abbrev pub ruledBy : List ℕ → Ruled → Asked → Ruled
+abbrev pub ruledBy : List ℕ → EditionStore → Asked → EditionStore
 ruledBy b r toFresh = remadeBy 4 b r
 ruledBy b r toFreshSecond = remadeBy 8 b r
 ruledBy b r toCheck = r
@@ -58,24 +58,24 @@ ruledBy b r toState = r
 
 -- ---- every state on the way, the first and the last among them
 
-abbrev pub EachState : (Beside → Ruled → Type 0) → Beside → Ruled → List Turn → Type 0
+abbrev pub EachState : (Beside → EditionStore → Type 0) → Beside → EditionStore → List Turn → Type 0
 EachState P x r [] = P x r
 EachState P x r (t ∷ ts) = P x r × EachState P (onward x t) (ruledBy (x .bytes) r (t .call)) ts
 
 -- "Every page that a version reaches, its root aside, holds at least four entries alive at that version."
-abbrev pub BalancedIn : Ruled → Type 0
+abbrev pub BalancedIn : EditionStore → Type 0
 BalancedIn r = (v : ℕ) → r .store .oldest ≤ v → v ≤ last (r .store)
     → all (λ (x : Seen). eqb (x .number) (rootAt (r .store .slots) v) || leb (r .least) (length (pairsAt v (page (r .store .pages) (x .number))))) (seen (r .store) v) ≡ true
 
 -- a state on the way from the lent bytes b
-pub record LentState (b : List ℕ) (x : Beside) (r : Ruled) : Type 0 where
+pub record LentState (b : List ℕ) (x : Beside) (r : EditionStore) : Type 0 where
   pub answers : Answers x
   -- "After every call the pages are byte for byte what the published page rules, as fixed in document 01, produce."
   pub bytes : Bytes b → x .bytes ≡ encode (r .least) (r .store)
   pub balanced : BalancedIn r
 
 -- a state on the way from a fresh store
-pub record FreshState (x : Beside) (r : Ruled) : Type 0 where
+pub record FreshState (x : Beside) (r : EditionStore) : Type 0 where
   pub answers : Answers x
   pub bytes : x .bytes ≡ encode (r .least) (r .store)
   pub balanced : BalancedIn r

@@ -13,7 +13,7 @@ ghost use Rattle.model.specs.Judged.{isSound};
 ghost use Rattle.model.specs.Calls.{prunedPage, pruned};
 ghost use Rattle.page.specs.Exact.{Exact};
 ghost use Rattle.store.specs.Set.{withPages, withSlots};
-ghost use Rattle.turn.specs.Turned.{Kept};
+ghost use Rattle.turn.specs.Turned.{HeadedBytes};
 ghost use Rattle.prune.specs.Shift.{shifted};
 ghost use Rattle.prune.specs.Needed.{Needed};
 
@@ -45,7 +45,7 @@ fn prune_page(s: &mut [u8], l: Limits, n: usize, v: u32)
 
 // Every page.
 fn prune_pages(s: &mut [u8], l: Limits, size: usize, v: u32)
-    requires { ⌜ Edition l × Kept (l .least) (now s) × (size ≡ length (decode (l .least) (now s) .pages)) ⌝ }
+    requires { ⌜ Edition l × HeadedBytes (l .least) (now s) × (size ≡ length (decode (l .least) (now s) .pages)) ⌝ }
     ensures { λ _. ⌜ now (s .exit) ≡ encode (l .least) (withPages (decode (l .least) (now (s .entry))) (map (prunedPage v) (decode (l .least) (now (s .entry)) .pages))) ⌝ }
 {
     let mut n = 5;
@@ -57,7 +57,7 @@ fn prune_pages(s: &mut [u8], l: Limits, size: usize, v: u32)
 
 // Which slot is the first that is needed from version v on: the last that is not above it.
 fn first_needed(s: &[u8], l: Limits, roots: u32, v: u32) -> u32
-    requires { ⌜ Edition l × Kept (l .least) (now s) × (roots ≡ length (decode (l .least) (now s) .slots)) × (0 < roots) ⌝ }
+    requires { ⌜ Edition l × HeadedBytes (l .least) (now s) × (roots ≡ length (decode (l .least) (now s) .slots)) × (0 < roots) ⌝ }
     ensures { λ r. ⌜ Needed v (decode (l .least) (now (s .entry)) .slots) r ⌝ }
 {
     let mut k = 0;
@@ -73,7 +73,7 @@ fn first_needed(s: &[u8], l: Limits, roots: u32, v: u32) -> u32
 
 // Slot j, or an unused one behind the last.
 fn slot_at(s: &[u8], l: Limits, roots: u32, j: u32) -> Slot
-    requires { ⌜ Edition l × Kept (l .least) (now s) × (roots ≡ length (decode (l .least) (now s) .slots)) ⌝ }
+    requires { ⌜ Edition l × HeadedBytes (l .least) (now s) × (roots ≡ length (decode (l .least) (now s) .slots)) ⌝ }
     ensures { λ r. ⌜ r ≡ getD (decode (l .least) (now (s .entry)) .slots) j noSlot ⌝ }
 {
     if j < roots {
@@ -87,7 +87,7 @@ fn slot_at(s: &[u8], l: Limits, roots: u32, j: u32) -> Slot
 
 // Slot i becomes slot i + k.
 fn shift_slot(s: &mut [u8], l: Limits, roots: u32, k: u32, i: u32)
-    requires { ⌜ Edition l × Kept (l .least) (now s) × (roots ≡ length (decode (l .least) (now s) .slots)) × (k ≤ roots) × (i < roots) ⌝ }
+    requires { ⌜ Edition l × HeadedBytes (l .least) (now s) × (roots ≡ length (decode (l .least) (now s) .slots)) × (k ≤ roots) × (i < roots) ⌝ }
     ensures { λ _. ⌜ now (s .exit) ≡ encode (l .least) (withSlots (decode (l .least) (now (s .entry))) (set (decode (l .least) (now (s .entry)) .slots) i (getD (decode (l .least) (now (s .entry)) .slots) (i + k) noSlot))) ⌝ }
 {
     let x = slot_at(s, l, roots, i + k);
@@ -96,7 +96,7 @@ fn shift_slot(s: &mut [u8], l: Limits, roots: u32, k: u32, i: u32)
 
 // The slots from place k on move to the front, and unused ones follow them.
 fn shift_slots(s: &mut [u8], l: Limits, roots: u32, k: u32)
-    requires { ⌜ Edition l × Kept (l .least) (now s) × (roots ≡ length (decode (l .least) (now s) .slots)) × (k ≤ roots) ⌝ }
+    requires { ⌜ Edition l × HeadedBytes (l .least) (now s) × (roots ≡ length (decode (l .least) (now s) .slots)) × (k ≤ roots) ⌝ }
     ensures { λ _. ⌜ now (s .exit) ≡ encode (l .least) (withSlots (decode (l .least) (now (s .entry))) (shifted k (decode (l .least) (now (s .entry)) .slots))) ⌝ }
 {
     let mut i = 0;

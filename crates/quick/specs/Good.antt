@@ -13,7 +13,7 @@ use Rattle.local.specs.Local.{IsPage, countAt, levelAt}
 abbrev pub Asks : ℕ → List ℕ → ℕ → ℕ → ℕ → ℕ → Type 0
 Asks least s a b up n = a < b → (readHeader least s .oldest ≤ a) × IsPage least s n × (levelAt least s n ≡ up + 1)
 
-pub record Good (least : ℕ) (s : List ℕ) : Type 0 where
+pub record QuickGood (least : ℕ) (s : List ℕ) : Type 0 where
   pub linked : Linked least s
   pub low : (n : ℕ) → IsPage least s n → levelAt least s n ≤ 7
   pub order : (n : ℕ) → IsPage least s n → inOrder before (readEntries (pageOf least s n) 128 (countAt least s n)) ≡ true

@@ -1,14 +1,10 @@
 pub mod Good
 pub mod Within
 pub mod Part
-pub mod Order
-pub mod Here
 pub mod Under
 pub mod Routers
 pub mod Pages
-pub mod Given
 pub mod Slots
 pub mod Sums
 pub mod Number
-pub mod Led
 pub mod Noted

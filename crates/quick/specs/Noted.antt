@@ -1,26 +1,13 @@
--- Where the notes stand in for the pages' own tests. Assumes nothing.
+-- Where the notes stand in for the pages' own tests.
 use Prim.Native.Nat.{ℕ, _≤_}
-use mathlib.Core.Bool.{Bool, true, false, _&&_}
-use mathlib.Core.Path.{_≡_, ap, sym, _∙_}
-use lib.ListN.{drop}
+use mathlib.Core.Bool.{true}
+use mathlib.Core.Path.{_≡_}
 use Rattle.model.specs.Store.{Store}
-use Rattle.model.specs.Sound.{rule1, rule2, rule3, rule4, rule5}
-use Rattle.model.specs.Quick.{spansMet, slotsFine, quick}
-use Rattle.notes.specs.Six.{quick-by}
+use Rattle.model.specs.Sound.{rule1, rule2, rule3}
 
 -- a store of which rules 1 to 3 hold
-pub record Ruled (least : ℕ) (s : Store) : Type 0 where
+pub record ThreeRules (least : ℕ) (s : Store) : Type 0 where
   pub two : 2 ≤ least
   pub first : rule1 least s ≡ true
   pub second : rule2 s ≡ true
   pub third : rule3 s ≡ true
-
-module _ (least : ℕ) (s : Store) (h : Ruled least s) where
-  by : quick least s ≡ (spansMet s 5 (drop 5 (s .pages)) && slotsFine least (s .oldest) (s .pages) (s .slots) && (rule4 s && rule5 least s))
-  by = quick-by least (h .two) s (h .first) (h .second) (h .third)
-
-  pub not-led : (spansMet s 5 (drop 5 (s .pages)) && slotsFine least (s .oldest) (s .pages) (s .slots)) ≡ false → false ≡ quick least s
-  not-led e = sym (by ∙ ap (λ (b : Bool). b && (rule4 s && rule5 least s)) e)
-
-  pub noted : (r : Bool) → r ≡ (rule4 s && rule5 least s) → (spansMet s 5 (drop 5 (s .pages)) && slotsFine least (s .oldest) (s .pages) (s .slots)) ≡ true → r ≡ quick least s
-  noted r q e = q ∙ sym (by ∙ ap (λ (b : Bool). b && (rule4 s && rule5 least s)) e)

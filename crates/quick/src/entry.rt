@@ -6,7 +6,7 @@ ghost use Prim.Native.Nat.{_-_, _≤_, min, max};
 ghost use lib.Dec.{leb, ltb, eqb};
 ghost use Rattle.model.specs.Basic.{pick};
 ghost use Rattle.model.specs.Entry.{liveAt};
-ghost use Rattle.model.specs.Quick.{meets, past, apart};
+ghost use Rattle.spans.specs.Quick.{meets, past, apart};
 ghost use Rattle.model.specs.Inner.{throughout};
 
 pub(crate) fn larger(a: u32, b: u32) -> u32

@@ -1,6 +1,6 @@
 // Sound or not, found quickly: no walk, and no version by version, so that a million commits cost no more than none.
 //
-// The tests are those of model/specs/Quick, which are rules 4 to 6 where rules 1 to 3 hold (model/proofs/Quick, `quick-rules`). Which
+// The tests are those of spans/specs/Quick, which are rules 4 to 6 where rules 1 to 3 hold (spans/proofs/laws/Quick, `quick-rules`). Which
 // rule is broken is for `judge`: here the number of check is given, and no more.
 mod entry;
 mod pages;
@@ -21,11 +21,11 @@ ghost use lib.ListN.{drop};
 ghost use Rattle.model.specs.Limits.{Edition};
 ghost use Rattle.model.specs.Layout.{decode};
 ghost use Rattle.model.specs.Judged.{lengthOk, magicOk, editionOk, judged};
-ghost use Rattle.model.specs.Quick.{spansMet, slotsFine, quick, quickIn};
+ghost use Rattle.spans.specs.Quick.{spansMet, slotsFine, quick, quickIn};
 ghost use Rattle.local.specs.Local.{Sized};
 ghost use Rattle.notes.specs.Ready.{Ready};
-ghost use Rattle.quick.specs.Good.{Good};
-ghost use Rattle.quick.specs.Noted.{Ruled};
+ghost use Rattle.quick.specs.Good.{QuickGood};
+ghost use Rattle.quick.specs.Noted.{ThreeRules};
 ghost use Rattle.quick.specs.Number.{refusedBy};
 ghost use Rattle.quick.specs.Slots.{GoodSlots};
 
@@ -35,9 +35,9 @@ pub(crate) fn wide(x: u32) -> usize
     x as usize
 }
 
-// The sums and the slots: rule 6, once rules 4 and 5 hold (notes/specs/Six, `six-by`). Each is one pass over the store.
+// The sums and the slots: rule 6, once rules 4 and 5 hold (notes/proofs/laws/Six, `six-by`). Each is one pass over the store.
 pub fn led(s: &[u8], l: Limits) -> bool
-    requires { ⌜ Edition l × Good (l .least) (now s) × GoodSlots (l .least) (now s) ⌝ }
+    requires { ⌜ Edition l × QuickGood (l .least) (now s) × GoodSlots (l .least) (now s) ⌝ }
     ensures { λ r. ⌜ r ≡ (spansMet (decode (l .least) (now (s .entry))) 5 (drop 5 (decode (l .least) (now (s .entry)) .pages)) && slotsFine (l .least) (decode (l .least) (now (s .entry)) .oldest) (decode (l .least) (now (s .entry)) .pages) (decode (l .least) (now (s .entry)) .slots)) ⌝ }
 {
     if !sums::spans_met(s, l) {
@@ -56,7 +56,7 @@ fn budget(size: usize) -> u32
 
 // The pages, where the sums and the slots are right: what is found is rules 4 to 6, if something of the budget is left.
 fn pages_within(s: &[u8], l: Limits) -> Within
-    requires { ⌜ Edition l × Good (l .least) (now s) × GoodSlots (l .least) (now s) ⌝ }
+    requires { ⌜ Edition l × QuickGood (l .least) (now s) × GoodSlots (l .least) (now s) ⌝ }
     ensures { λ r. ⌜ ((spansMet (decode (l .least) (now (s .entry))) 5 (drop 5 (decode (l .least) (now (s .entry)) .pages)) && slotsFine (l .least) (decode (l .least) (now (s .entry)) .oldest) (decode (l .least) (now (s .entry)) .pages) (decode (l .least) (now (s .entry)) .slots)) ≡ true → 0 < r .left → r .fine ≡ quick (l .least) (decode (l .least) (now (s .entry)))) ⌝ }
 {
     let h = store::header(s, l);
@@ -67,7 +67,7 @@ fn pages_within(s: &[u8], l: Limits) -> Within
 // Whether rules 4 to 6 are found to hold within the budget; `fit` is what `led` gave. Only `true` tells: `false` stands too where the
 // budget is used up. For check, which asks the notes in either case, and so asks them once.
 pub fn surely(s: &[u8], l: Limits, fit: bool) -> bool
-    requires { ⌜ Edition l × Good (l .least) (now s) × GoodSlots (l .least) (now s) × (fit ≡ (spansMet (decode (l .least) (now s)) 5 (drop 5 (decode (l .least) (now s) .pages)) && slotsFine (l .least) (decode (l .least) (now s) .oldest) (decode (l .least) (now s) .pages) (decode (l .least) (now s) .slots))) ⌝ }
+    requires { ⌜ Edition l × QuickGood (l .least) (now s) × GoodSlots (l .least) (now s) × (fit ≡ (spansMet (decode (l .least) (now s)) 5 (drop 5 (decode (l .least) (now s) .pages)) && slotsFine (l .least) (decode (l .least) (now s) .oldest) (decode (l .least) (now s) .pages) (decode (l .least) (now s) .slots))) ⌝ }
     ensures { λ r. ⌜ (r ≡ true → quick (l .least) (decode (l .least) (now (s .entry))) ≡ true) ⌝ }
 {
     if !fit {
@@ -83,7 +83,7 @@ pub fn surely(s: &[u8], l: Limits, fit: bool) -> bool
 // Rules 4 to 6, where rules 1 to 3 hold. Both ways are exact: the pages within the budget, which is quick on what a history leaves, and,
 // where that is used up, the notes, which no bytes can keep busy.
 fn quick(s: &[u8], l: Limits, h: Header) -> bool
-    requires { ⌜ Edition l × Good (l .least) (now s) × GoodSlots (l .least) (now s) × Ready (l .least) (now s) h × Ruled (l .least) (decode (l .least) (now s)) ⌝ }
+    requires { ⌜ Edition l × QuickGood (l .least) (now s) × GoodSlots (l .least) (now s) × Ready (l .least) (now s) h × ThreeRules (l .least) (decode (l .least) (now s)) ⌝ }
     ensures { λ r. ⌜ r ≡ quick (l .least) (decode (l .least) (now (s .entry))) ⌝ }
 {
     if !led(s, l) {

@@ -8,15 +8,15 @@ ghost use Rattle.model.specs.Basic.{all, those, inOrder};
 ghost use Rattle.model.specs.Entry.{before};
 ghost use Rattle.model.specs.Limits.{Edition};
 ghost use Rattle.model.specs.Layout.{readEntry, readEntries, decodePage};
-ghost use Rattle.model.specs.Quick.{kept, apart, lowOver, keyOver, liveCount, manyOver, fineOver, pastAll};
+ghost use Rattle.spans.specs.Quick.{kept, apart, lowOver, keyOver, liveCount, manyOver, fineOver, pastAll};
 ghost use Rattle.model.specs.Inner.{throughout};
 ghost use Rattle.page.specs.Head.{readHead};
-ghost use Rattle.notes.specs.Linked.{Stands};
+ghost use Rattle.notes.specs.Linked.{EntryRoom};
 ghost use Rattle.quick.specs.Part.{endFine, highOver};
 
 // The live keys are at least low.
 fn low_each(page: &[u8], n: usize, low: u32, a: u32, b: u32) -> bool
-    requires { ⌜ Stands (now page) n ⌝ }
+    requires { ⌜ EntryRoom (now page) n ⌝ }
     ensures { λ r. ⌜ r ≡ lowOver low a b (readEntries (now (page .entry)) 128 n) ⌝ }
 {
     let mut i = 0;
@@ -32,7 +32,7 @@ fn low_each(page: &[u8], n: usize, low: u32, a: u32, b: u32) -> bool
 
 // The same. Entries stand by key, so that where the first one's is at least low all are.
 fn low_over(page: &[u8], n: usize, low: u32, a: u32, b: u32) -> bool
-    requires { ⌜ Stands (now page) n × (inOrder before (readEntries (now page) 128 n) ≡ true) ⌝ }
+    requires { ⌜ EntryRoom (now page) n × (inOrder before (readEntries (now page) 128 n) ≡ true) ⌝ }
     ensures { λ r. ⌜ r ≡ lowOver low a b (readEntries (now (page .entry)) 128 n) ⌝ }
 {
     if n == 0 {
@@ -47,7 +47,7 @@ fn low_over(page: &[u8], n: usize, low: u32, a: u32, b: u32) -> bool
 
 // The live keys are under h.
 fn high_each(page: &[u8], n: usize, h: u32, a: u32, b: u32) -> bool
-    requires { ⌜ Stands (now page) n ⌝ }
+    requires { ⌜ EntryRoom (now page) n ⌝ }
     ensures { λ r. ⌜ r ≡ highOver h a b (readEntries (now (page .entry)) 128 n) ⌝ }
 {
     let mut i = 0;
@@ -63,7 +63,7 @@ fn high_each(page: &[u8], n: usize, h: u32, a: u32, b: u32) -> bool
 
 // The same. Entries stand by key, so that where the last one's is under h all are.
 pub(crate) fn high_over(page: &[u8], n: usize, h: u32, a: u32, b: u32) -> bool
-    requires { ⌜ Stands (now page) n × (inOrder before (readEntries (now page) 128 n) ≡ true) ⌝ }
+    requires { ⌜ EntryRoom (now page) n × (inOrder before (readEntries (now page) 128 n) ≡ true) ⌝ }
     ensures { λ r. ⌜ r ≡ highOver h a b (readEntries (now (page .entry)) 128 n) ⌝ }
 {
     if n == 0 {
@@ -78,7 +78,7 @@ pub(crate) fn high_over(page: &[u8], n: usize, h: u32, a: u32, b: u32) -> bool
 
 // An entry with the key k is alive throughout.
 fn key_over(page: &[u8], n: usize, k: u32, a: u32, b: u32) -> bool
-    requires { ⌜ Stands (now page) n ⌝ }
+    requires { ⌜ EntryRoom (now page) n ⌝ }
     ensures { λ r. ⌜ r ≡ keyOver k a b (readEntries (now (page .entry)) 128 n) ⌝ }
 {
     let mut t = a;
@@ -96,7 +96,7 @@ fn key_over(page: &[u8], n: usize, k: u32, a: u32, b: u32) -> bool
 
 // How far from a on the entries from place i on stand one after another, up to b.
 pub(crate) fn past_behind(page: &[u8], n: usize, i: usize, a: u32, b: u32) -> u32
-    requires { ⌜ Stands (now page) n × (i ≤ n) ⌝ }
+    requires { ⌜ EntryRoom (now page) n × (i ≤ n) ⌝ }
     ensures { λ r. ⌜ r ≡ min b (pastAll a (readEntries (now (page .entry)) (128 + 96 * i) (n - i))) ⌝ }
 {
     let mut t = a;
@@ -114,7 +114,7 @@ pub(crate) fn past_behind(page: &[u8], n: usize, i: usize, a: u32, b: u32) -> u3
 
 // How many are alive at v. Once there are m no more are counted.
 fn live_count(page: &[u8], n: usize, m: usize, v: u32) -> usize
-    requires { ⌜ Stands (now page) n ⌝ }
+    requires { ⌜ EntryRoom (now page) n ⌝ }
     ensures { λ r. ⌜ r ≡ min m (liveCount v (readEntries (now (page .entry)) 128 n)) ⌝ }
 {
     let mut c = 0;
@@ -132,7 +132,7 @@ fn live_count(page: &[u8], n: usize, m: usize, v: u32) -> usize
 
 // How many are alive throughout. Once there are m no more are counted.
 fn through_count(page: &[u8], n: usize, m: usize, a: u32, b: u32) -> usize
-    requires { ⌜ Stands (now page) n ⌝ }
+    requires { ⌜ EntryRoom (now page) n ⌝ }
     ensures { λ r. ⌜ r ≡ min m (length (those (throughout a b) (readEntries (now (page .entry)) 128 n))) ⌝ }
 {
     let mut c = 0;
@@ -150,7 +150,7 @@ fn through_count(page: &[u8], n: usize, m: usize, a: u32, b: u32) -> usize
 
 // Where entry i ends inside the stretch, m are alive.
 fn end_fine(page: &[u8], n: usize, i: usize, m: usize, a: u32, b: u32) -> bool
-    requires { ⌜ Stands (now page) n × (i + 1 ≤ n) ⌝ }
+    requires { ⌜ EntryRoom (now page) n × (i + 1 ≤ n) ⌝ }
     ensures { λ r. ⌜ r ≡ endFine m a b (readEntries (now (page .entry)) 128 n) (readEntry (now (page .entry)) (128 + 96 * i)) ⌝ }
 {
     let e = page::entry_at(page, i);
@@ -161,7 +161,7 @@ fn end_fine(page: &[u8], n: usize, i: usize, m: usize, a: u32, b: u32) -> bool
 }
 
 fn ends_over(page: &[u8], n: usize, m: usize, a: u32, b: u32) -> bool
-    requires { ⌜ Stands (now page) n ⌝ }
+    requires { ⌜ EntryRoom (now page) n ⌝ }
     ensures { λ r. ⌜ r ≡ all (endFine m a b (readEntries (now (page .entry)) 128 n)) (readEntries (now (page .entry)) 128 n) ⌝ }
 {
     let mut i = 0;
@@ -176,7 +176,7 @@ fn ends_over(page: &[u8], n: usize, m: usize, a: u32, b: u32) -> bool
 
 // At least m entries are alive. Where so many are alive throughout no end needs a look.
 fn many_over(page: &[u8], n: usize, m: usize, a: u32, b: u32) -> bool
-    requires { ⌜ Stands (now page) n ⌝ }
+    requires { ⌜ EntryRoom (now page) n ⌝ }
     ensures { λ r. ⌜ r ≡ manyOver m a b (readEntries (now (page .entry)) 128 n) ⌝ }
 {
     if a < b {
@@ -211,7 +211,7 @@ pub(crate) fn fine_over(page: &[u8], l: Limits, m: usize, low: u32, a: u32, b: u
 // "No live key stands twice in a page", of the entries that have not ended by the oldest version. They stand in order, so that each to the
 // next is enough.
 pub(crate) fn all_apart(page: &[u8], n: usize, old: u32) -> bool
-    requires { ⌜ Stands (now page) n × (inOrder before (readEntries (now page) 128 n) ≡ true) ⌝ }
+    requires { ⌜ EntryRoom (now page) n × (inOrder before (readEntries (now page) 128 n) ≡ true) ⌝ }
     ensures { λ r. ⌜ r ≡ inOrder apart (kept old (readEntries (now (page .entry)) 128 n)) ⌝ }
 {
     let mut d = crate::entry::nobody();

@@ -10,15 +10,15 @@ ghost use Rattle.model.specs.Entry.{before};
 ghost use Rattle.model.specs.Limits.{Edition};
 ghost use Rattle.model.specs.Store.{page};
 ghost use Rattle.model.specs.Layout.{decode, decodePage, readHeader, readEntries, readSlots};
-ghost use Rattle.model.specs.Quick.{upto, slotFine, slotsFine};
+ghost use Rattle.spans.specs.Quick.{upto, slotFine, slotsFine};
 ghost use Rattle.page.specs.Head.{readHead};
 ghost use Rattle.local.specs.Local.{slotAt};
-ghost use Rattle.quick.specs.Good.{Good};
+ghost use Rattle.quick.specs.Good.{QuickGood};
 ghost use Rattle.quick.specs.Slots.{GoodSlots};
 
 // Up to where the root stands of the slot in front of place i: the version there, or alive behind the last slot.
 pub(crate) fn upto_at(s: &[u8], l: Limits, i: usize, roots: usize) -> u32
-    requires { ⌜ Edition l × Good (l .least) (now s) × GoodSlots (l .least) (now s) × (roots ≤ 64 * l .least) ⌝ }
+    requires { ⌜ Edition l × QuickGood (l .least) (now s) × GoodSlots (l .least) (now s) × (roots ≤ 64 * l .least) ⌝ }
     ensures { λ r. ⌜ r ≡ upto (readSlots (now (s .entry)) (512 * l .least + 32 * i) (roots - i)) ⌝ }
 {
     if roots <= i {
@@ -55,7 +55,7 @@ fn root_fine(page: &[u8], l: Limits, a: u32, b: u32) -> bool
 }
 
 fn slot_fine(s: &[u8], l: Limits, i: usize, roots: usize, old: u32) -> bool
-    requires { ⌜ Edition l × Good (l .least) (now s) × GoodSlots (l .least) (now s) × (roots ≡ readHeader (l .least) (now s) .roots) × (i + 1 ≤ roots) ⌝ }
+    requires { ⌜ Edition l × QuickGood (l .least) (now s) × GoodSlots (l .least) (now s) × (roots ≡ readHeader (l .least) (now s) .roots) × (i + 1 ≤ roots) ⌝ }
     ensures { λ r. ⌜ r ≡ slotFine (l .least) (max old (slotAt (l .least) (now (s .entry)) i .version)) (upto (readSlots (now (s .entry)) (512 * l .least + 32 * (i + 1)) (roots - (i + 1)))) (page (decode (l .least) (now (s .entry)) .pages) (slotAt (l .least) (now (s .entry)) i .root)) ⌝ }
 {
     let x = store::slot(s, l, i);
@@ -67,7 +67,7 @@ fn slot_fine(s: &[u8], l: Limits, i: usize, roots: usize, old: u32) -> bool
 
 // Each root of the directory throughout its stretch.
 pub(crate) fn slots_fine(s: &[u8], l: Limits) -> bool
-    requires { ⌜ Edition l × Good (l .least) (now s) × GoodSlots (l .least) (now s) ⌝ }
+    requires { ⌜ Edition l × QuickGood (l .least) (now s) × GoodSlots (l .least) (now s) ⌝ }
     ensures { λ r. ⌜ r ≡ slotsFine (l .least) (decode (l .least) (now (s .entry)) .oldest) (decode (l .least) (now (s .entry)) .pages) (decode (l .least) (now (s .entry)) .slots) ⌝ }
 {
     let h = store::header(s, l);

@@ -5,10 +5,10 @@ ghost use Prim.Native.Nat.{ℕ, _+_, _*_, _^_, _≤_, _<_};
 ghost use lib.ListN.{length, getD, drop};
 ghost use Rattle.model.specs.Limits.{Edition};
 ghost use Rattle.model.specs.Layout.{pageOf, decode, decodePage, readEntry, readEntries};
-ghost use Rattle.model.specs.Quick.{spansMet};
+ghost use Rattle.spans.specs.Quick.{spansMet};
 ghost use Rattle.local.specs.Local.{IsPage};
-ghost use Rattle.quick.specs.Good.{Good};
-ghost use Rattle.notes.specs.Linked.{Stands};
+ghost use Rattle.quick.specs.Good.{QuickGood};
+ghost use Rattle.notes.specs.Linked.{EntryRoom};
 ghost use Rattle.quick.specs.Slots.{GoodSlots};
 ghost use Rattle.quick.specs.Sums.{Sums, addTo, addSlots, addEntries, addPage, addPages, pageMet, allMet};
 
@@ -21,7 +21,7 @@ fn add(sums: &mut [u64], n: usize, x: u32)
 
 // Each slot's stretch, at its root.
 fn add_slots(sums: &mut [u64], s: &[u8], l: Limits, old: u32)
-    requires { ⌜ Edition l × Good (l .least) (now s) × GoodSlots (l .least) (now s) × Sums 0 (now sums) ⌝ }
+    requires { ⌜ Edition l × QuickGood (l .least) (now s) × GoodSlots (l .least) (now s) × Sums 0 (now sums) ⌝ }
     ensures { λ _. ⌜ now (sums .exit) ≡ addSlots old (now (sums .entry)) (decode (l .least) (now (s .entry)) .slots) ⌝ }
 {
     let h = store::header(s, l);
@@ -39,7 +39,7 @@ fn add_slots(sums: &mut [u64], s: &[u8], l: Limits, old: u32)
 
 // Each router's span, at the page that it leads to.
 fn add_entries(sums: &mut [u64], page: &[u8], n: usize, old: u32)
-    requires { ⌜ Stands (now page) n × (n ≤ 40) × Sums 200000 (now sums) × ((i : ℕ) → i < n → readEntry (now page) (128 + 96 * i) .value < 4096) ⌝ }
+    requires { ⌜ EntryRoom (now page) n × (n ≤ 40) × Sums 200000 (now sums) × ((i : ℕ) → i < n → readEntry (now page) (128 + 96 * i) .value < 4096) ⌝ }
     ensures { λ _. ⌜ now (sums .exit) ≡ addEntries old (now (sums .entry)) (readEntries (now (page .entry)) 128 n) ⌝ }
 {
     let mut i = 0;
@@ -54,7 +54,7 @@ fn add_entries(sums: &mut [u64], page: &[u8], n: usize, old: u32)
 
 // The routers of page n, if it has any.
 fn add_page(sums: &mut [u64], s: &[u8], l: Limits, n: usize, old: u32)
-    requires { ⌜ Edition l × Good (l .least) (now s) × IsPage (l .least) (now s) n × Sums 200000 (now sums) ⌝ }
+    requires { ⌜ Edition l × QuickGood (l .least) (now s) × IsPage (l .least) (now s) n × Sums 200000 (now sums) ⌝ }
     ensures { λ _. ⌜ now (sums .exit) ≡ addPage old (now (sums .entry)) (decodePage (l .least) (pageOf (l .least) (now (s .entry)) n)) ⌝ }
 {
     let p = store::part(s, l, n);
@@ -66,7 +66,7 @@ fn add_page(sums: &mut [u64], s: &[u8], l: Limits, n: usize, old: u32)
 }
 
 fn add_pages(sums: &mut [u64], s: &[u8], l: Limits, old: u32)
-    requires { ⌜ Edition l × Good (l .least) (now s) × Sums 512 (now sums) ⌝ }
+    requires { ⌜ Edition l × QuickGood (l .least) (now s) × Sums 512 (now sums) ⌝ }
     ensures { λ _. ⌜ now (sums .exit) ≡ addPages old (now (sums .entry)) (drop 5 (decode (l .least) (now (s .entry)) .pages)) ⌝ }
 {
     let size = store::size(s, l);
@@ -79,7 +79,7 @@ fn add_pages(sums: &mut [u64], s: &[u8], l: Limits, old: u32)
 
 // Page n is free, or the sum is its span.
 fn page_met(s: &[u8], l: Limits, n: usize, sum: u64, old: u32) -> bool
-    requires { ⌜ Edition l × Good (l .least) (now s) × IsPage (l .least) (now s) n ⌝ }
+    requires { ⌜ Edition l × QuickGood (l .least) (now s) × IsPage (l .least) (now s) n ⌝ }
     ensures { λ r. ⌜ r ≡ pageMet old sum (decodePage (l .least) (pageOf (l .least) (now (s .entry)) n)) ⌝ }
 {
     let h = page::head_of(store::part(s, l, n), l);
@@ -90,7 +90,7 @@ fn page_met(s: &[u8], l: Limits, n: usize, sum: u64, old: u32) -> bool
 }
 
 fn all_met(sums: &[u64], s: &[u8], l: Limits, old: u32) -> bool
-    requires { ⌜ Edition l × Good (l .least) (now s) × (length (now sums) ≡ 4096) ⌝ }
+    requires { ⌜ Edition l × QuickGood (l .least) (now s) × (length (now sums) ≡ 4096) ⌝ }
     ensures { λ r. ⌜ r ≡ allMet old (now (sums .entry)) 5 (drop 5 (decode (l .least) (now (s .entry)) .pages)) ⌝ }
 {
     let size = store::size(s, l);
@@ -106,7 +106,7 @@ fn all_met(sums: &[u64], s: &[u8], l: Limits, old: u32) -> bool
 
 // Each used page from 5 on: the spans of the slots and routers that lead to it add up to its own.
 pub(crate) fn spans_met(s: &[u8], l: Limits) -> bool
-    requires { ⌜ Edition l × Good (l .least) (now s) × GoodSlots (l .least) (now s) ⌝ }
+    requires { ⌜ Edition l × QuickGood (l .least) (now s) × GoodSlots (l .least) (now s) ⌝ }
     ensures { λ r. ⌜ r ≡ spansMet (decode (l .least) (now (s .entry))) 5 (drop 5 (decode (l .least) (now (s .entry)) .pages)) ⌝ }
 {
     let h = store::header(s, l);

@@ -7,11 +7,11 @@ ghost use lib.Dec.{ltb};
 ghost use Rattle.model.specs.Basic.{pick};
 ghost use Rattle.model.specs.Limits.{Edition};
 ghost use Rattle.model.specs.Layout.{readEntry, readEntries, decode};
-ghost use Rattle.model.specs.Quick.{under};
-ghost use Rattle.quick.specs.Good.{Good, Asks};
-ghost use Rattle.notes.specs.Linked.{Stands};
+ghost use Rattle.spans.specs.Quick.{under};
+ghost use Rattle.quick.specs.Good.{QuickGood, Asks};
+ghost use Rattle.notes.specs.Linked.{EntryRoom};
 ghost use Rattle.quick.specs.Under.{wayOf};
-ghost use Rattle.quick.specs.Within.{Answers};
+ghost use Rattle.quick.specs.Within.{QuickRight};
 
 // Where an entry is the last one alive: whether its key is fine, and the stretch for which its page is asked.
 pub(crate) struct Way {
@@ -23,7 +23,7 @@ pub(crate) struct Way {
 
 // The way at place i, for keys under h. An entry not alive in the stretch leads nowhere.
 fn way_at(page: &[u8], n: usize, i: usize, h: u32, a: u32, b: u32) -> Way
-    requires { ⌜ Stands (now page) n × (i + 1 ≤ n) ⌝ }
+    requires { ⌜ EntryRoom (now page) n × (i + 1 ≤ n) ⌝ }
     ensures { λ r. ⌜ r ≡ wayOf h a b (readEntry (now (page .entry)) (128 + 96 * i)) (readEntries (now (page .entry)) (128 + 96 * (i + 1)) (n - (i + 1))) ⌝ }
 {
     let e = page::entry_at(page, i);
@@ -58,8 +58,8 @@ pub(crate) fn under(
     n: usize,
     left: u32,
 ) -> Within
-    requires { ⌜ Edition l × Good (l .least) (now s) × Asks (l .least) (now s) a b up n ⌝ }
-    ensures { λ r. ⌜ Answers (left - pick (ltb a b) 1 0) (under up (decode (l .least) (now (s .entry)) .pages) h a b n) r ⌝ }
+    requires { ⌜ Edition l × QuickGood (l .least) (now s) × Asks (l .least) (now s) a b up n ⌝ }
+    ensures { λ r. ⌜ QuickRight (left - pick (ltb a b) 1 0) (under up (decode (l .least) (now (s .entry)) .pages) h a b n) r ⌝ }
 {
     if b <= a {
         return Within {

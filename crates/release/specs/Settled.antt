@@ -1,15 +1,13 @@
 -- Whether the open version's settings are the current version's, told by what starts or ends at the open version in the leaves. That this
 -- tells it exactly is `settled-unchanged` (Exactly).
--- Assumes nothing.
-use Prim.Native.Nat.{ℕ, _-_}
+use Prim.Native.Nat.{ℕ}
 use mathlib.Core.Bool.{Bool, true, false}
 use mathlib.Core.Option.{Option, none, some}
 use lib.Dec.{eqb}
-use lib.ListN.{length}
-use Rattle.model.specs.Basic.{all, pick, count}
+use Rattle.model.specs.Basic.{all, pick}
 use Rattle.model.specs.declared.Entry.{Entry}
 use Rattle.model.specs.Page.{Page}
-use Rattle.model.specs.Store.{Store, page, next}
+use Rattle.model.specs.Store.{Store, next}
 use Rattle.model.specs.Walk.{lookup}
 
 -- a version has a setting
@@ -28,7 +26,3 @@ settled s e = pick (eqb (e .start) (next s)) (has s (s .current) e) (pick (eqb (
 -- each entry of a page does, if the page is a leaf
 abbrev pub leafSettled : Store → Page → Bool
 leafSettled s p = pick (eqb (p .level) 1) (all (settled s) (p .entries)) true
-
--- and of each page from n on
-abbrev pub settledFrom : Store → ℕ → Bool
-settledFrom s n = all (λ (m : ℕ). leafSettled s (page (s .pages) m)) (count n (length (s .pages) - n))

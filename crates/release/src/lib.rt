@@ -12,7 +12,7 @@ ghost use Rattle.model.specs.Store.{page};
 ghost use Rattle.model.specs.Walk.{keyLimit};
 ghost use Rattle.model.specs.Layout.{sizeOf, decode};
 ghost use Rattle.model.specs.Calls.{unchanged};
-ghost use Rattle.walk.specs.Sure.{Readable};
+ghost use Rattle.walk.specs.Sure.{Walkable};
 ghost use Rattle.release.specs.Settled.{has, settled, leafSettled};
 ghost use Rattle.release.specs.Opened.{Opened};
 
@@ -24,7 +24,7 @@ fn wide(x: u32) -> usize
 
 // Whether version v has an entry's key with its value.
 fn has(s: &[u8], l: Limits, e: Entry, v: u32) -> bool
-    requires { ⌜ Readable l (now s) v × (e .key < keyLimit) ⌝ }
+    requires { ⌜ Walkable l (now s) v × (e .key < keyLimit) ⌝ }
     ensures { λ r. ⌜ r ≡ has (decode (l .least) (now (s .entry))) v e ⌝ }
 {
     match walk::lookup(s, l, e.key, v) {

@@ -1,4 +1,3 @@
 pub mod Slotted
 pub mod Root
 pub mod Renew
-pub mod Moved

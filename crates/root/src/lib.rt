@@ -17,7 +17,7 @@ ghost use Rattle.edit.specs.Change.{changeOf};
 ghost use Rattle.edit.specs.Fill.{nil};
 ghost use Rattle.gather.specs.Gather.{Good, pairsIn};
 ghost use Rattle.gather.specs.Kept.{Fits};
-ghost use Rattle.parts.specs.Kept.{Kept, Inside, pagesOf};
+ghost use Rattle.parts.specs.Kept.{ExactBytes, Inside, pagesOf};
 ghost use Rattle.parts.specs.Becomes.{Becomes};
 ghost use Rattle.root.specs.Root.{rootedOf};
 
@@ -36,7 +36,7 @@ pub(crate) fn wide(x: u32) -> usize
 
 // The root goes, and "that child becomes the root": the page of its first wanted router.
 fn give_way(s: &mut [u8], l: Limits, w: u32, n: usize, want: Gather) -> usize
-    requires { ⌜ Kept l (now s) × Inside l (now s) n × (w < 2 ^ 20) × Good want × (0 < want .n) ⌝ }
+    requires { ⌜ ExactBytes l (now s) × Inside l (now s) n × (w < 2 ^ 20) × Good want × (0 < want .n) ⌝ }
     ensures { λ r. ⌜ (r ≡ getD (pairsIn want) 0 nil .value) × Becomes l (now (s .entry)) (now (s .exit)) (set (pagesOf l (now (s .entry))) n (gone w (page (pagesOf l (now (s .entry))) n))) ⌝ }
 {
     let list = want.list;
@@ -47,7 +47,7 @@ fn give_way(s: &mut [u8], l: Limits, w: u32, n: usize, want: Gather) -> usize
 
 // "First of all, an index root whose wanted list is one router goes"; else the root takes its change in place, or is rebuilt alone.
 pub fn work_root(s: &mut [u8], l: Limits, w: u32, n: usize, c: Change, size: usize) -> Rooted
-    requires { ⌜ Kept l (now s) × Inside l (now s) n × Fits c × (w < 2 ^ 20) × (size ≡ length (pagesOf l (now s))) × (page (pagesOf l (now s)) n .level < 15) ⌝ }
+    requires { ⌜ ExactBytes l (now s) × Inside l (now s) n × Fits c × (w < 2 ^ 20) × (size ≡ length (pagesOf l (now s))) × (page (pagesOf l (now s)) n .level < 15) ⌝ }
     ensures { λ r. ⌜ (rootedOf r (pagesOf l (now (s .exit))) ≡ workRoot (l .least) w (pagesOf l (now (s .entry))) n (changeOf c)) × Becomes l (now (s .entry)) (now (s .exit)) (pagesOf l (now (s .exit))) ⌝ }
 {
     let want = parts::wanted_of(s, l, n, w, c);

@@ -11,12 +11,12 @@ ghost use Rattle.model.specs.Climb.{putSlot};
 ghost use Rattle.model.specs.Needs.{hasSlot};
 ghost use Rattle.model.specs.Plan.{slotLeft};
 ghost use Rattle.store.specs.Set.{withSlots};
-ghost use Rattle.parts.specs.Kept.{Kept, Inside};
+ghost use Rattle.parts.specs.Kept.{ExactBytes, Inside};
 ghost use Rattle.root.specs.Slotted.{Slotted, slotsOf};
 
 // Whether the open version has its slot.
 fn has_slot(s: &[u8], l: Limits) -> bool
-    requires { ⌜ Kept l (now s) × Slotted l (now s) ⌝ }
+    requires { ⌜ ExactBytes l (now s) × Slotted l (now s) ⌝ }
     ensures { λ r. ⌜ r ≡ hasSlot (decode (l .least) (now (s .entry))) ⌝ }
 {
     let h = store::header(s, l);
@@ -26,7 +26,7 @@ fn has_slot(s: &[u8], l: Limits) -> bool
 
 // Whether a new root finds a slot: else "the rules need a 257th".
 pub fn slot_left(s: &[u8], l: Limits) -> bool
-    requires { ⌜ Kept l (now s) × Slotted l (now s) ⌝ }
+    requires { ⌜ ExactBytes l (now s) × Slotted l (now s) ⌝ }
     ensures { λ r. ⌜ r ≡ slotLeft (l .least) (decode (l .least) (now (s .entry))) ⌝ }
 {
     let h = store::header(s, l);
@@ -35,7 +35,7 @@ pub fn slot_left(s: &[u8], l: Limits) -> bool
 
 // The open version's slot leads to page n from now on.
 fn replace_slot(s: &mut [u8], l: Limits, n: usize)
-    requires { ⌜ Kept l (now s) × Inside l (now s) n × Slotted l (now s) × (hasSlot (decode (l .least) (now s)) ≡ true) ⌝ }
+    requires { ⌜ ExactBytes l (now s) × Inside l (now s) n × Slotted l (now s) × (hasSlot (decode (l .least) (now s)) ≡ true) ⌝ }
     ensures { λ _. ⌜ now (s .exit) ≡ encode (l .least) (withSlots (decode (l .least) (now (s .entry))) (putSlot (next (decode (l .least) (now (s .entry)))) n (slotsOf l (now (s .entry))))) ⌝ }
 {
     let h = store::header(s, l);
@@ -52,7 +52,7 @@ fn replace_slot(s: &mut [u8], l: Limits, n: usize)
 
 // The open version takes a slot, which leads to page n.
 fn add_slot(s: &mut [u8], l: Limits, n: usize)
-    requires { ⌜ Kept l (now s) × Inside l (now s) n × Slotted l (now s) × (hasSlot (decode (l .least) (now s)) ≡ false) × (length (slotsOf l (now s)) < 64 * l .least) ⌝ }
+    requires { ⌜ ExactBytes l (now s) × Inside l (now s) n × Slotted l (now s) × (hasSlot (decode (l .least) (now s)) ≡ false) × (length (slotsOf l (now s)) < 64 * l .least) ⌝ }
     ensures { λ _. ⌜ now (s .exit) ≡ encode (l .least) (withSlots (decode (l .least) (now (s .entry))) (putSlot (next (decode (l .least) (now (s .entry)))) n (slotsOf l (now (s .entry))))) ⌝ }
 {
     let h = store::header(s, l);
@@ -70,7 +70,7 @@ fn add_slot(s: &mut [u8], l: Limits, n: usize)
 
 // "A new root takes the directory slot of the open version, or replaces it there."
 pub fn take_slot(s: &mut [u8], l: Limits, n: usize)
-    requires { ⌜ Kept l (now s) × Inside l (now s) n × Slotted l (now s) × (slotLeft (l .least) (decode (l .least) (now s)) ≡ true) ⌝ }
+    requires { ⌜ ExactBytes l (now s) × Inside l (now s) n × Slotted l (now s) × (slotLeft (l .least) (decode (l .least) (now s)) ≡ true) ⌝ }
     ensures { λ _. ⌜ now (s .exit) ≡ encode (l .least) (withSlots (decode (l .least) (now (s .entry))) (putSlot (next (decode (l .least) (now (s .entry)))) n (slotsOf l (now (s .entry))))) ⌝ }
 {
     if has_slot(s, l) {

@@ -1,15 +1,8 @@
-pub mod Read
-pub mod Parts
 pub mod Slots
 pub mod Header
 pub mod Pages
-pub mod Exactly
 pub mod Holds
-pub mod Inside
 pub mod Set
 pub mod Tested
-pub mod Counted
-pub mod Sure
 pub mod Fresh
-pub mod Answers
 pub mod Editions

@@ -1,11 +1,6 @@
-pub mod Inside
-pub mod Starts
 pub mod Across
 pub mod Here
-pub mod Bound
 pub mod Told
 pub mod Table
 pub mod Cells
-pub mod Most
-pub mod Filling
 pub mod Skips

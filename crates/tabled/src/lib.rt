@@ -15,7 +15,7 @@ ghost use Rattle.model.specs.Store.{page};
 ghost use Rattle.model.specs.Limits.{Edition};
 ghost use Rattle.model.specs.Layout.{decode};
 ghost use Rattle.model.specs.Near.{startsBy};
-ghost use Rattle.walk.specs.Sure.{Inside};
+ghost use Rattle.walk.specs.Sure.{PageStands};
 
 // What a range asks of the pages of its walk: its low and high keys and its version; and what they are judged by.
 pub struct Asked {
@@ -34,7 +34,7 @@ pub fn wide(x: u32) -> usize
 
 // Whether page n has a router alive at v at or below a key.
 pub fn starts(s: &[u8], l: Limits, n: usize, v: u32, key: u32) -> bool
-    requires { ⌜ Edition l × Inside (l .least) (now s) n × (length (now s) ≤ 2 ^ 40) ⌝ }
+    requires { ⌜ Edition l × PageStands (l .least) (now s) n × (length (now s) ≤ 2 ^ 40) ⌝ }
     ensures { λ r. ⌜ r ≡ startsBy key (pairsAt v (page (decode (l .least) (now (s .entry)) .pages) n)) ⌝ }
 {
     let p = store::part(s, l, n);

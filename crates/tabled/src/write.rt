@@ -9,7 +9,7 @@ ghost use Rattle.model.specs.Walk.{rangeBelow};
 ghost use Rattle.model.specs.Layout.{pageOf, decode};
 ghost use Rattle.local.specs.Local.{countAt};
 ghost use Rattle.model.specs.Near.{rangeRight};
-ghost use Rattle.walk.specs.Written.{Space, Gathers};
+ghost use Rattle.walk.specs.Written.{PairSpace, PairGathers};
 ghost use Rattle.tabled.specs.Across.{rightFrom};
 ghost use Rattle.tabled.specs.Here.{Reads};
 ghost use Rattle.tabled.specs.Cells.{Table};
@@ -48,8 +48,8 @@ pub fn gather_by(
     list: &mut [u32],
     found: usize,
 ) -> usize
-    requires { ⌜ Reads l (now s) × (rangeRight (l .least) (now s) (q .version) up (q .high) at n ≡ true) × Space (q .write) (now list) found (rangeBelow up (decode (l .least) (now s) .pages) (q .version) (q .low) (q .high) at n) × Table (l .least) (now s) (q .version) (q .low) (q .high) ((up + 2) * 4096) (now table) ⌝ }
-    ensures { λ r. ⌜ Gathers (q .write) (now (list .entry)) (now (list .exit)) found r (rangeBelow up (decode (l .least) (now (s .entry)) .pages) (q .version) (q .low) (q .high) at n) ⌝ }
+    requires { ⌜ Reads l (now s) × (rangeRight (l .least) (now s) (q .version) up (q .high) at n ≡ true) × PairSpace (q .write) (now list) found (rangeBelow up (decode (l .least) (now s) .pages) (q .version) (q .low) (q .high) at n) × Table (l .least) (now s) (q .version) (q .low) (q .high) ((up + 2) * 4096) (now table) ⌝ }
+    ensures { λ r. ⌜ PairGathers (q .write) (now (list .entry)) (now (list .exit)) found r (rangeBelow up (decode (l .least) (now (s .entry)) .pages) (q .version) (q .low) (q .high) at n) ⌝ }
 {
     let p = store::part(s, l, n);
     let h = page::head_of(p, l);

@@ -1,6 +1,6 @@
 -- A page that ended before the open version, and a free one: an abandon leaves them as they are, whatever their entries are.
 -- Assumes nothing.
-use Prim.Native.Nat.{ℕ, zero, suc, _<_}
+use Prim.Native.Nat.{ℕ, _<_}
 use mathlib.Core.Path.{_≡_}
 use mathlib.Core.List.{List}
 use Rattle.model.specs.Page.{Page}

@@ -15,7 +15,7 @@ ghost use Rattle.model.specs.Judged.{isSound};
 ghost use Rattle.model.specs.Calls.{back, committed, abandoned};
 ghost use Rattle.page.specs.Exact.{Exact};
 ghost use Rattle.store.specs.Set.{withPages};
-ghost use Rattle.turn.specs.Turned.{Kept, begun};
+ghost use Rattle.turn.specs.Turned.{HeadedBytes, begun};
 ghost use Rattle.turn.specs.Slotted.{Cleared};
 ghost use Rattle.turn.specs.Past.{Past, AllPast};
 
@@ -97,7 +97,7 @@ fn undo_page(s: &mut [u8], l: Limits, n: usize, w: u32)
 
 // What it makes of every page.
 fn undo_pages(s: &mut [u8], l: Limits, size: usize, w: u32)
-    requires { ⌜ Edition l × (0 < w) × (w < 2 ^ 20) × Kept (l .least) (now s) × (size ≡ length (decode (l .least) (now s) .pages)) × AllPast w (decode (l .least) (now s) .pages) ⌝ }
+    requires { ⌜ Edition l × (0 < w) × (w < 2 ^ 20) × HeadedBytes (l .least) (now s) × (size ≡ length (decode (l .least) (now s) .pages)) × AllPast w (decode (l .least) (now s) .pages) ⌝ }
     ensures { λ _. ⌜ now (s .exit) ≡ encode (l .least) (withPages (decode (l .least) (now (s .entry))) (map (back w) (decode (l .least) (now (s .entry)) .pages))) ⌝ }
 {
     let mut n = 5;

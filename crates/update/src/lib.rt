@@ -24,7 +24,7 @@ ghost use Rattle.model.specs.Plan.{planUp, slotLeft, outlookNumber};
 ghost use Rattle.model.specs.Lent.{left};
 ghost use Rattle.edit.specs.Change.{changeOf};
 ghost use Rattle.gather.specs.Kept.{Fits};
-ghost use Rattle.parts.specs.Kept.{Kept, pagesOf};
+ghost use Rattle.parts.specs.Kept.{ExactBytes, pagesOf};
 ghost use Rattle.plan.specs.Plan.{upsOf, Led};
 ghost use Rattle.update.specs.Applied.{ToRoot, ToApply};
 ghost use Rattle.update.specs.Whole.{LeavesSound};
@@ -32,7 +32,7 @@ ghost use Rattle.root.specs.Slotted.{Slotted};
 
 // The number that a change will come to: 12 "the rules need a page and none is free", 13 "the rules need a 257th slot", else 0.
 fn foresee(s: &[u8], l: Limits, w: u32, way: Way, c: Change, size: usize) -> u32
-    requires { ⌜ Kept l (now s) × Led l (now s) way × Fits c × (size ≡ length (pagesOf l (now s))) × Slotted l (now s) ⌝ }
+    requires { ⌜ ExactBytes l (now s) × Led l (now s) way × Fits c × (size ≡ length (pagesOf l (now s))) × Slotted l (now s) ⌝ }
     ensures { λ r. ⌜ r ≡ outlookNumber (slotLeft (l .least) (decode (l .least) (now (s .entry)))) (planUp (l .least) w (pagesOf l (now (s .entry))) (way .root) (upsOf (way .list) (way .n)) (changeOf c) (length (freeOnes (pagesOf l (now (s .entry)))))) ⌝ }
 {
     match plan::plan_up(s, l, w, way, c, parts::count_free(s, l, size)) {

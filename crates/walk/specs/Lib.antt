@@ -5,9 +5,6 @@ pub mod Ends
 pub mod Scan
 pub mod Places
 pub mod Below
-pub mod Bound
 pub mod Covers
 pub mod Down
 pub mod Sure
-pub mod Here
-pub mod Visited

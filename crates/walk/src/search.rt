@@ -12,7 +12,7 @@ ghost use Rattle.model.specs.Entry.{pairOf, liveAt};
 ghost use Rattle.model.specs.Walk.{find, between};
 ghost use Rattle.model.specs.Calls.{lookedAt};
 ghost use Rattle.model.specs.Near.{startsBy};
-ghost use Rattle.walk.specs.Written.{written, Space, Gathers};
+ghost use Rattle.walk.specs.Written.{written, PairSpace, PairGathers};
 ghost use Rattle.walk.specs.Live.{live};
 ghost use Rattle.walk.specs.Scan.{Stands, entry, from, Next, Owns};
 ghost use Rattle.walk.specs.Places.{Place, Fives};
@@ -152,7 +152,7 @@ pub fn own_router(page: &[u8], n: usize, v: u32, key: u32) -> Own
 
 // A setting behind the first k of a list.
 fn put(list: &mut [u32], k: usize, e: Entry, write: bool)
-    requires { ⌜ Space write (now list) k (pairOf e ∷ []) ⌝ }
+    requires { ⌜ PairSpace write (now list) k (pairOf e ∷ []) ⌝ }
     ensures { λ _. ⌜ now (list .exit) ≡ written write (now (list .entry)) k (pairOf e ∷ []) ⌝ }
 {
     if write {
@@ -163,8 +163,8 @@ fn put(list: &mut [u32], k: usize, e: Entry, write: bool)
 
 // The settings of a leaf that a range asks for, behind the first `found` of a list; gives how many there are then.
 pub fn settings(page: &[u8], n: usize, q: Query, list: &mut [u32], found: usize) -> usize
-    requires { ⌜ Stands (now page) n × Space (q .write) (now list) found (between (q .low) (q .high) (live (q .version) (from (now page) 0 n))) ⌝ }
-    ensures { λ r. ⌜ Gathers (q .write) (now (list .entry)) (now (list .exit)) found r (between (q .low) (q .high) (live (q .version) (from (now (page .entry)) 0 n))) ⌝ }
+    requires { ⌜ Stands (now page) n × PairSpace (q .write) (now list) found (between (q .low) (q .high) (live (q .version) (from (now page) 0 n))) ⌝ }
+    ensures { λ r. ⌜ PairGathers (q .write) (now (list .entry)) (now (list .exit)) found r (between (q .low) (q .high) (live (q .version) (from (now (page .entry)) 0 n))) ⌝ }
 {
     let mut sum = found;
     let mut i = next_place(page, n, q.version, q.low, q.high, 0);

@@ -15,7 +15,7 @@ ghost use Rattle.model.specs.Visited.{pageNumber};
 ghost use Rattle.model.specs.Lent.{listed};
 ghost use Rattle.walk.specs.Counted.{withList};
 ghost use Rattle.walk.specs.Covers.{Covers};
-ghost use Rattle.walk.specs.Sure.{Readable};
+ghost use Rattle.walk.specs.Sure.{Walkable};
 
 // A page's number as the caller's list has it.
 fn number(n: usize) -> u32
@@ -28,7 +28,7 @@ fn number(n: usize) -> u32
 // The pages from page n, `up` levels above the leaves, down to the leaf for a key, into a list that holds them. Rule 1 has no level
 // above 7, so they are at most seven.
 fn note(s: &[u8], l: Limits, v: u32, key: u32, n: usize, up: usize, list: &mut [u32])
-    requires { ⌜ Readable l (now s) v × Covers (l .least) v (decode (l .least) (now s) .pages) up n key × (up < length (now list)) ⌝ }
+    requires { ⌜ Walkable l (now s) v × Covers (l .least) v (decode (l .least) (now s) .pages) up n key × (up < length (now list)) ⌝ }
     ensures { λ _. ⌜ now (list .exit) ≡ sets (now (list .entry)) 0 (pathDown up (decode (l .least) (now (s .entry)) .pages) v key n) ⌝ }
 {
     let mut here = n;
@@ -44,7 +44,7 @@ fn note(s: &[u8], l: Limits, v: u32, key: u32, n: usize, up: usize, list: &mut [
 // What a sound store tells of the pages that a lookup visits: one on each level from the root's down, so they are counted before
 // any is written, and 14 leaves the list untouched.
 pub fn visits(s: &[u8], l: Limits, key: u32, v: u32, list: &mut [u32]) -> Counted
-    requires { ⌜ Readable l (now s) v × (key < keyLimit) ⌝ }
+    requires { ⌜ Walkable l (now s) v × (key < keyLimit) ⌝ }
     ensures { λ r. ⌜ withList r (now (list .exit)) ≡ listed (now (list .entry)) (toldBy pageNumber 1 0 (length (now (list .entry))) (lookupVisits (decode (l .least) (now (s .entry))) key v)) ⌝ }
 {
     let root = crate::root_at(s, l, v);

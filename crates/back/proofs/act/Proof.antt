@@ -1,5 +1,5 @@
 -- `act` meets its contract. Assumes nothing.
-use Rattle.back.specs.Pass.{stepped-as}
+use Rattle.back.proofs.laws.Pass.{stepped-as}
 use Rattle.model.specs.Layout.{decode}
 use borrow.Author.Needs.{needs}
 use Rattle.back.proofs.act.Statement.{statement}

@@ -1,5 +1,5 @@
 -- `carry` meets its contract. Assumes nothing.
-use Rattle.back.specs.Both.{first-stops, second-so}
+use Rattle.back.proofs.laws.Both.{first-stops, second-so}
 use borrow.Author.Needs.{needs}
 use Rattle.back.proofs.carry.Statement.{statement}
 use Rattle.back.proofs.carry.Tie as tie

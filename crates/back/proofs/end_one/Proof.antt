@@ -1,5 +1,5 @@
 -- `end_one` meets its contract. Assumes nothing.
-use Rattle.back.specs.Pass.{end-added, end-same, ends, end-stepped}
+use Rattle.back.proofs.laws.Pass.{end-added, end-same, ends, end-stepped}
 use borrow.Author.Needs.{needs}
 use Rattle.back.proofs.end_one.Statement.{statement}
 use Rattle.back.proofs.end_one.Tie as tie

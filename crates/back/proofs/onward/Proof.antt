@@ -1,5 +1,5 @@
 -- `onward` meets its contract. Assumes nothing.
-use Rattle.back.specs.Going.{going-open, going-old}
+use Rattle.back.proofs.laws.Going.{going-open, going-old}
 use mathlib.Core.Path.{refl}
 use native.Mathlib.Omega.{arith}
 use Rattle.back.proofs.onward.Statement.{statement}

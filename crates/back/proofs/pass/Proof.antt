@@ -4,8 +4,10 @@ use Rattle.model.specs.declared.Delta.{Delta}
 use Rattle.model.specs.Layout.{decode}
 use Rattle.model.specs.Walk.{keyLimit}
 use Rattle.differ.specs.Listing.{between, leftOf}
-use Rattle.back.specs.Going.{Going, going-open, going-old}
-use Rattle.back.specs.Pass.{passed, pass-start, pass-on, pass-goes, pass-stops, pass-end}
+use Rattle.back.specs.Going.{Going}
+use Rattle.back.proofs.laws.Going.{going-open, going-old}
+use Rattle.back.specs.Pass.{passed}
+use Rattle.back.proofs.laws.Pass.{pass-start, pass-on, pass-goes, pass-stops, pass-end}
 use mathlib.Core.Path.{_≡_, refl, ap, _∙_}
 use mathlib.Core.List.{List}
 use native.Mathlib.Omega.{arith}

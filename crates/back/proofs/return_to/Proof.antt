@@ -1,5 +1,5 @@
 -- `return_to` meets its contract. Assumes nothing.
-use Rattle.back.specs.Both.{all-done, one-stops}
+use Rattle.back.proofs.laws.Both.{all-done, one-stops}
 use borrow.Author.Needs.{needs}
 use Rattle.back.proofs.return_to.Statement.{statement}
 use Rattle.back.proofs.return_to.Tie as tie

@@ -1,5 +1,5 @@
 -- `set_one` meets its contract. Assumes nothing.
-use Rattle.back.specs.Pass.{enters, set-stepped, set-refused, set-none}
+use Rattle.back.proofs.laws.Pass.{enters, set-stepped, set-refused, set-none}
 use borrow.Author.Needs.{needs}
 use Rattle.back.proofs.set_one.Statement.{statement}
 use Rattle.back.proofs.set_one.Tie as tie

@@ -4,7 +4,7 @@ use mathlib.Core.Path.{_≡_}
 use native.Mathlib.Omega.{arith}
 use lib.Pow.{pow-pos}
 use Rattle.model.specs.Field.{field as fieldOf}
-use Rattle.bits.specs.Laws.{field-fits, field-whole}
+use Rattle.bits.proofs.laws.Laws.{field-fits, field-whole}
 use borrow.Author.Needs.{needs}
 use Rattle.bits.proofs.field.Statement.{statement}
 use Rattle.bits.proofs.field.Tie as tie

@@ -3,7 +3,7 @@ use Prim.Native.Nat.{_-_, _+_}
 use mathlib.Core.Path.{_≡_, sym, _∙_}
 use native.Mathlib.Omega.{arith}
 use lib.Pow.{shr-lt}
-use Rattle.bits.specs.Whole.{put-split}
+use Rattle.bits.proofs.laws.Whole.{put-split}
 use borrow.Author.Needs.{needs}
 use Rattle.bits.proofs.put_field.Statement.{statement}
 use Rattle.bits.proofs.put_field.Tie as tie

@@ -3,8 +3,8 @@ use Prim.Native.Nat.{ℕ, _-_, _+_, _*_, _/_, _%_}
 use mathlib.Core.Path.{_∙_}
 use native.Mathlib.Omega.{arith}
 use lib.Pow.{pow-mono}
-use Rattle.bits.specs.Laws.{field-lt}
-use Rattle.bits.specs.Whole.{put-whole}
+use Rattle.bits.proofs.laws.Laws.{field-lt}
+use Rattle.bits.proofs.laws.Whole.{put-whole}
 use borrow.Author.Needs.{needs}
 use Rattle.bits.proofs.put_short.Statement.{statement}
 use Rattle.bits.proofs.put_short.Tie as tie

@@ -6,8 +6,7 @@ use native.Mathlib.Nat.{div-one}
 use lib.Pow.{pow-pos}
 use lib.ListN.{length, length-set}
 use Rattle.model.specs.Field.{putField}
-use Rattle.bits.specs.Whole.{put-more-byte}
-use borrow.Author.Needs.{needs}
+use Rattle.bits.proofs.laws.Whole.{put-more-byte}
 use Rattle.bits.proofs.put_word.Statement.{statement}
 use Rattle.bits.proofs.put_word.Tie as tie
 

@@ -4,7 +4,7 @@ use mathlib.Core.Path.{_≡_, ap, _∙_}
 use native.Mathlib.Omega.{arith}
 use lib.Pow.{pow-mono}
 use Rattle.model.specs.Field.{field as fieldOf}
-use Rattle.bits.specs.Laws.{field-lt, field-more-byte}
+use Rattle.bits.proofs.laws.Laws.{field-lt, field-more-byte}
 use borrow.Author.Needs.{needs}
 use Rattle.bits.proofs.word.Statement.{statement}
 use Rattle.bits.proofs.word.Tie as tie

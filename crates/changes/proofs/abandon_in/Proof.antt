@@ -1,6 +1,6 @@
 -- `abandon_in` meets its contract: it is not sure. Assumes nothing.
 use borrow.Author.Needs.{needs}
-use Rattle.reads.specs.Guard.{not-sure}
+use Rattle.reads.proofs.laws.Guard.{not-sure}
 use Rattle.changes.proofs.abandon_in.Statement.{statement}
 use Rattle.changes.proofs.abandon_in.Tie as tie
 

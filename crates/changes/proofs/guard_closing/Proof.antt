@@ -3,9 +3,10 @@ use native.Mathlib.Omega.{arith}
 use mathlib.Core.Path.{sym, _∙_}
 use borrow.Author.Tests.{not-true, not-false}
 use borrow.Author.Needs.{needs}
-use Rattle.store.specs.Sure.{few, front}
-use Rattle.changes.specs.Turning.{closing, gives-seven, gives-close}
-use Rattle.reads.specs.Guard.{judged-number, zero-sound}
+use Rattle.store.proofs.laws.Sure.{few, front}
+use Rattle.changes.specs.Turning.{closing}
+use Rattle.changes.proofs.laws.Turning.{gives-seven, gives-close}
+use Rattle.reads.proofs.laws.Guard.{judged-number, zero-sound}
 use Rattle.changes.proofs.guard_closing.Statement.{statement}
 use Rattle.changes.proofs.guard_closing.Tie as tie
 

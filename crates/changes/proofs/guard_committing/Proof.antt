@@ -1,8 +1,8 @@
 -- `guard_committing` meets its contract. Assumes nothing.
-use Rattle.changes.specs.Committing.{gives-closing, gives-test, opens}
-use Rattle.reads.specs.Guard.{guard-sound}
+use Rattle.changes.proofs.laws.Committing.{gives-closing, gives-test, opens}
+use Rattle.reads.proofs.laws.Guard.{guard-sound}
 use Rattle.changes.specs.Turning.{closing}
-use Rattle.store.specs.Sure.{few, front}
+use Rattle.store.proofs.laws.Sure.{few, front}
 use Rattle.model.specs.Basic.{pick}
 use mathlib.Core.Path.{ap, sym, _∙_}
 use mathlib.Core.Bool.{Bool}

@@ -2,9 +2,10 @@
 use native.Mathlib.Omega.{arith}
 use mathlib.Core.Path.{sym, _∙_}
 use borrow.Author.Needs.{needs}
-use Rattle.store.specs.Sure.{few, front}
-use Rattle.changes.specs.Turning.{opening, gives-eight, gives-nine, gives-open}
-use Rattle.reads.specs.Guard.{judged-number, zero-sound}
+use Rattle.store.proofs.laws.Sure.{few, front}
+use Rattle.changes.specs.Turning.{opening}
+use Rattle.changes.proofs.laws.Turning.{gives-eight, gives-nine, gives-open}
+use Rattle.reads.proofs.laws.Guard.{judged-number, zero-sound}
 use Rattle.changes.proofs.guard_opening.Statement.{statement}
 use Rattle.changes.proofs.guard_opening.Tie as tie
 

@@ -1,7 +1,7 @@
 -- `judge` meets its contract: a sound store's number is 0. Assumes nothing.
 use mathlib.Core.Path.{sym}
 use borrow.Author.Needs.{needs}
-use Rattle.reads.specs.Guard.{sound-zero}
+use Rattle.reads.proofs.laws.Guard.{sound-zero}
 use Rattle.changes.proofs.judge.Statement.{statement}
 use Rattle.changes.proofs.judge.Tie as tie
 

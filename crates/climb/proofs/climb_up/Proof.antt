@@ -3,11 +3,13 @@ use native.Mathlib.Omega.{arith}
 use mathlib.Core.Path.{_≡_, refl, sym, _∙_}
 use Rattle.edit.specs.Change.{changeOf}
 use Rattle.gather.specs.Kept.{Fits}
-use Rattle.parts.specs.Becomes.{Becomes, stays, kept-after, then}
+use Rattle.parts.specs.Becomes.{Becomes}
+use Rattle.parts.proofs.laws.Becomes.{stays, kept-after, then}
 use Rattle.parts.specs.Kept.{pagesOf}
 use Rattle.plan.specs.Plan.{upsOf}
 use Rattle.climb.specs.Work.{workedOf}
-use Rattle.climb.specs.Climb.{climbUp, climb-step, climb-end, placed-after, bytes-after}
+use Rattle.climb.specs.Climb.{climbUp}
+use Rattle.climb.proofs.laws.Climb.{climb-step, climb-end, placed-after, bytes-after}
 use borrow.Author.Needs.{needs}
 use Rattle.climb.proofs.climb_up.Statement.{statement}
 use Rattle.climb.proofs.climb_up.Tie as tie

@@ -1,9 +1,11 @@
 use mathlib.Core.Path.{_≡_, _∙_}
 use Rattle.model.specs.Needs.{fills}
-use Rattle.gather.specs.Gather.{pairsIn, length-pairs}
-use Rattle.parts.specs.Becomes.{stays}
+use Rattle.gather.specs.Gather.{pairsIn}
+use Rattle.gather.proofs.laws.Gather.{length-pairs}
+use Rattle.parts.proofs.laws.Becomes.{stays}
 use Rattle.parts.specs.Kept.{pagesOf}
-use Rattle.climb.specs.Work.{workedOf, regroup-lacks, regroup-rises, usable-small}
+use Rattle.climb.specs.Work.{workedOf}
+use Rattle.climb.proofs.laws.Work.{regroup-lacks, regroup-rises, usable-small}
 use borrow.Author.Needs.{needs}
 use Rattle.climb.proofs.regroup.Statement.{statement}
 use Rattle.climb.proofs.regroup.Tie as tie

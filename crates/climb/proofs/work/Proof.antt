@@ -3,12 +3,14 @@ use mathlib.Core.Path.{_≡_, sym, _∙_}
 use Rattle.model.specs.Needs.{takesInPlace}
 use Rattle.model.specs.Store.{page}
 use Rattle.edit.specs.Change.{changeOf}
-use Rattle.gather.specs.Gather.{listed}
-use Rattle.parts.specs.Becomes.{pages-are}
-use Rattle.parts.specs.Kept.{pagesOf, valid, wanted-room}
+use Rattle.gather.proofs.laws.Gather.{listed}
+use Rattle.parts.proofs.laws.Becomes.{pages-are}
+use Rattle.parts.specs.Kept.{pagesOf}
+use Rattle.parts.proofs.laws.Kept.{valid, wanted-room}
 use Rattle.group.specs.Group.{aroundOf}
-use Rattle.climb.specs.Rebuild.{itself}
-use Rattle.climb.specs.Work.{workedOf, work-settles, work-regroups, in-place-room}
+use Rattle.climb.proofs.laws.Rebuild.{itself}
+use Rattle.climb.specs.Work.{workedOf}
+use Rattle.climb.proofs.laws.Work.{work-settles, work-regroups, in-place-room}
 use borrow.Author.Needs.{needs}
 use Rattle.climb.proofs.work.Statement.{statement}
 use Rattle.climb.proofs.work.Tie as tie

@@ -4,31 +4,22 @@ use lib.ListN.{length-replicate}
 use borrow.Author.Needs.{needs}
 use Rattle.console.proofs.main.Statement.{statement}
 use Rattle.console.proofs.main.Tie as tie
-use Rattle.console.proofs.main.Reads as reads
-use Rattle.console.proofs.main.Lts as lts
-use Rattle.console.proofs.serving.serve.Reads as serve-reads
 
--- src/main.rt:49:20
 slice-aggregate-serve : tie.Need-slice-aggregate-serve
 slice-aggregate-serve c = search needs
 
--- src/main.rt:49:32
 slice-aggregate-serve-2 : tie.Need-slice-aggregate-serve-2
 slice-aggregate-serve-2 c = search needs
 
--- src/main.rt:49:43
 slice-aggregate-serve-3 : tie.Need-slice-aggregate-serve-3
 slice-aggregate-serve-3 c = search needs
 
--- src/main.rt:49:55
 slice-aggregate-serve-4 : tie.Need-slice-aggregate-serve-4
 slice-aggregate-serve-4 c = search needs
 
--- src/main.rt:49:5
 serve-requires : tie.Need-serve-requires
 serve-requires c κs = (length-replicate {A = ℕ} 65536 0, length-replicate {A = ℕ} 10040 0, length-replicate {A = ℕ} 65536 0, length-replicate {A = ℕ} 262144 0)
 
--- src/main.rt:44:1
 returns : tie.Need-returns
 returns c = search needs
 

@@ -1,5 +1,5 @@
 -- `act` meets its contract. Assumes nothing.
-use Rattle.convert.specs.Pass.{asks-as, went-as}
+use Rattle.convert.proofs.laws.Pass.{asks-as, went-as}
 use Rattle.model.specs.Layout.{decode}
 use borrow.Author.Needs.{needs}
 use Rattle.convert.proofs.act.Statement.{statement}

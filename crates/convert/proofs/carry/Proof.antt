@@ -1,5 +1,5 @@
 -- `carry` meets its contract. Assumes nothing.
-use Rattle.convert.specs.Pass.{ends-due, sets-due, first-stops, second-so}
+use Rattle.convert.proofs.laws.Pass.{ends-due, sets-due, first-stops, second-so}
 use borrow.Author.Needs.{needs}
 use Rattle.convert.proofs.carry.Statement.{statement}
 use Rattle.convert.proofs.carry.Tie as tie

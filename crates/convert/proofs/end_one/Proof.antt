@@ -1,5 +1,5 @@
 -- `end_one` meets its contract. Assumes nothing.
-use Rattle.convert.specs.Due.{end-added, end-same, ends, end-went}
+use Rattle.convert.proofs.laws.Due.{end-added, end-same, ends, end-went}
 use borrow.Author.Needs.{needs}
 use Rattle.convert.proofs.end_one.Statement.{statement}
 use Rattle.convert.proofs.end_one.Tie as tie

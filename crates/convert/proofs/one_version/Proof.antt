@@ -1,6 +1,6 @@
 -- `one_version` meets its contract. Assumes nothing.
 use native.Mathlib.Omega.{arith}
-use Rattle.convert.specs.Version.{old-read, new-read, open-ready, open-shows, version-stops, version-goes, version-low}
+use Rattle.convert.proofs.laws.Version.{old-read, new-read, open-ready, open-shows, version-stops, version-goes, version-low}
 use borrow.Author.Needs.{needs}
 use Rattle.convert.proofs.one_version.Statement.{statement}
 use Rattle.convert.proofs.one_version.Tie as tie

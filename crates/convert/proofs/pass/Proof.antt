@@ -5,9 +5,9 @@ use Rattle.model.specs.Layout.{decode}
 use Rattle.model.specs.Walk.{keyLimit}
 use Rattle.differ.specs.Listing.{between, leftOf}
 use Rattle.back.specs.Pass.{passed}
-use Rattle.convert.specs.Ready.{Ready, shown}
+use Rattle.convert.specs.Ready.{UpdateOpen, shown}
 use Rattle.convert.specs.Due.{Due}
-use Rattle.convert.specs.Pass.{pass-start, due-start, pass-on, asks, pass-goes, pass-due, pass-stops, pass-end}
+use Rattle.convert.proofs.laws.Pass.{pass-start, due-start, pass-on, asks, pass-goes, pass-due, pass-stops, pass-end}
 use mathlib.Core.Path.{_≡_, refl, ap, subst, _∙_}
 use mathlib.Core.List.{List}
 use native.Mathlib.Omega.{arith}
@@ -18,7 +18,7 @@ use Rattle.convert.proofs.pass.Tie as tie
 
 abbrev Inv-loop : tie.InvT-loop
 Inv-loop s k t₀ l u v insert key₀ high₀ t key high =
-    (key ≤ keyLimit + 1) × Ready l t × Due insert (shown l t) (leftOf k s u v key)
+    (key ≤ keyLimit + 1) × UpdateOpen l t × Due insert (shown l t) (leftOf k s u v key)
     × (passed insert (l .least) (between k s u v) (decode (l .least) t₀) ≡ passed insert (l .least) (leftOf k s u v key) (decode (l .least) t))
     × (length t ≡ length t₀)
 

@@ -3,8 +3,9 @@ use lib.ListN.{length}
 use Rattle.model.specs.declared.Header.{Header}
 use Rattle.model.specs.Layout.{decode}
 use Rattle.model.specs.Convert.{replay}
-use Rattle.store.specs.Read.{current-of}
-use Rattle.convert.specs.Version.{Replaying, header-right, version-low, on-start, on-stops, on-goes, on-more, on-end}
+use Rattle.store.proofs.laws.Read.{current-of}
+use Rattle.convert.specs.Version.{Replaying}
+use Rattle.convert.proofs.laws.Version.{header-right, version-low, on-start, on-stops, on-goes, on-more, on-end}
 use mathlib.Core.Path.{_≡_, refl, ap, sym, _∙_}
 use native.Mathlib.Omega.{arith}
 use Prim.Native.Nat.{_-_, _≤_, _<_}

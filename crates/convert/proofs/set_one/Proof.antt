@@ -1,5 +1,5 @@
 -- `set_one` meets its contract. Assumes nothing.
-use Rattle.convert.specs.Due.{set-removed, set-same, enters, set-went}
+use Rattle.convert.proofs.laws.Due.{set-removed, set-same, enters, set-went}
 use borrow.Author.Needs.{needs}
 use Rattle.convert.proofs.set_one.Statement.{statement}
 use Rattle.convert.proofs.set_one.Tie as tie

@@ -1,5 +1,5 @@
 -- `first_from` meets its contract. Assumes nothing.
-use Rattle.cursor.specs.Leaf.{first-found, first-further, first-end}
+use Rattle.cursor.proofs.laws.Leaf.{first-found, first-further, first-end}
 use Rattle.cursor.specs.First.{atOrAbove, leads}
 use Rattle.model.specs.Walk.{settings, keyLimit}
 use Rattle.model.specs.Layout.{decode}

@@ -1,8 +1,8 @@
 -- `first_in` meets its contract. Assumes nothing.
-use Rattle.cursor.specs.Leaf.{below-covers, first-here, first-none}
-use Rattle.walk.specs.Here.{here-stands, here-pairs}
-use Rattle.walk.specs.Sure.{covers-inside}
-use Rattle.store.specs.Sure.{few}
+use Rattle.cursor.proofs.laws.Leaf.{below-covers, first-here, first-none}
+use Rattle.walk.proofs.laws.Here.{here-stands, here-pairs}
+use Rattle.walk.proofs.laws.Sure.{covers-inside}
+use Rattle.store.proofs.laws.Sure.{few}
 use Rattle.model.specs.Entry.{pairOf}
 use Rattle.model.specs.Walk.{settings}
 use Rattle.model.specs.Layout.{decode}

@@ -1,7 +1,8 @@
 -- `leaf_for` meets its contract. Assumes nothing.
-use Rattle.cursor.specs.Leaf.{Below, below-root}
-use Rattle.walk.specs.Sure.{covers-inside, root-covers}
-use Rattle.store.specs.Sure.{few}
+use Rattle.cursor.specs.Leaf.{Below}
+use Rattle.cursor.proofs.laws.Leaf.{below-root}
+use Rattle.walk.proofs.laws.Sure.{covers-inside, root-covers}
+use Rattle.store.proofs.laws.Sure.{few}
 use mathlib.Core.Path.{_≡_, subst}
 use native.Mathlib.Omega.{arith}
 use Prim.Native.Nat.{ℕ}

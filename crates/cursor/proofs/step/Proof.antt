@@ -1,8 +1,8 @@
 -- `step` meets its contract. Assumes nothing.
-use Rattle.cursor.specs.Leaf.{below-covers, step-next, step-last}
-use Rattle.walk.specs.Here.{here-stands, here-pairs, here-starts}
-use Rattle.walk.specs.Sure.{covers-inside}
-use Rattle.store.specs.Sure.{few}
+use Rattle.cursor.proofs.laws.Leaf.{below-covers, step-next, step-last}
+use Rattle.walk.proofs.laws.Here.{here-stands, here-pairs, here-starts}
+use Rattle.walk.proofs.laws.Sure.{covers-inside}
+use Rattle.store.proofs.laws.Sure.{few}
 use Rattle.model.specs.Walk.{settings}
 use Rattle.model.specs.Layout.{decode}
 use native.Mathlib.Omega.{arith}

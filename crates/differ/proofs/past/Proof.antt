@@ -1,6 +1,6 @@
 -- `past` meets its contract. Assumes nothing.
 use Rattle.differ.specs.Listing.{leftOf}
-use Rattle.differ.specs.Past.{high-low, high-top, past-on}
+use Rattle.differ.proofs.laws.Past.{high-low, high-top, past-on}
 use Rattle.model.specs.Walk.{keyLimit}
 use mathlib.Core.Bool.{false}
 use mathlib.Core.Path.{_≡_, refl, _∙_}

@@ -1,5 +1,5 @@
 -- `tell` meets its contract. Assumes nothing.
-use Rattle.differ.specs.Halfway.{Between, between-start, between-end, between-space, between-step, high-low, high-top}
+use Rattle.differ.proofs.laws.Halfway.{ToldBelow, between-start, between-end, between-space, between-step, high-low, high-top}
 use Rattle.model.specs.Walk.{keyLimit}
 use native.Mathlib.Omega.{arith}
 use Prim.Native.Nat.{_-_}
@@ -8,7 +8,7 @@ use Rattle.differ.proofs.tell.Statement.{statement}
 use Rattle.differ.proofs.tell.Tie as tie
 
 abbrev Inv-loop : tie.InvT-loop
-Inv-loop s l u v list₀ write found₀ key₀ list found key = Between l s u v write list₀ list found key
+Inv-loop s l u v list₀ write found₀ key₀ list found key = ToldBelow l s u v write list₀ list found key
 
 abbrev μ-loop : tie.MeasureT-loop
 μ-loop s l u v list₀ write found₀ key₀ list found key = keyLimit - key

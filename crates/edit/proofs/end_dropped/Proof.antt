@@ -1,7 +1,8 @@
 -- `edit::end_dropped` meets its contract. Assumes nothing.
 use mathlib.Core.Path.{ap, sym, _∙_}
 use Rattle.model.specs.Layout.{encodePage, decodePage}
-use Rattle.edit.specs.Change.{first, first-none}
+use Rattle.edit.specs.Change.{first}
+use Rattle.edit.proofs.laws.Change.{first-none}
 use borrow.Author.Needs.{needs}
 use Rattle.edit.proofs.end_dropped.Statement.{statement}
 use Rattle.edit.proofs.end_dropped.Tie as tie

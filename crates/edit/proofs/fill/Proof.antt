@@ -8,8 +8,9 @@ use Rattle.model.specs.declared.Pair.{Pair}
 use Rattle.model.specs.Limits.{liveShown}
 use Rattle.model.specs.Layout.{liveOf}
 use Rattle.page.specs.Head.{putHead, putLive}
-use Rattle.page.specs.Editions.{count-bits}
-use Rattle.edit.specs.Fill.{nil, Fitting, filling, fillHead, filling-start, filling-step, filling-end, filling-live}
+use Rattle.page.proofs.laws.Editions.{count-bits}
+use Rattle.edit.specs.Fill.{nil, Fitting}
+use Rattle.edit.proofs.laws.Fill.{filling, fillHead, filling-start, filling-step, filling-end, filling-live}
 use lib.Seq.{getD-drop}
 use lib.ListN.{length, getD, drop, length-drop}
 use borrow.Author.Needs.{needs}

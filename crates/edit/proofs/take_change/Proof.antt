@@ -1,6 +1,8 @@
 -- `edit::take_change` meets its contract: the ends, then each pair that enters. Assumes nothing.
-use Rattle.edit.specs.Change.{first, second, third, third-is, first-valid, first-room, second-valid, second-room}
-use Rattle.page.specs.Exact.{Valid, valid-read, encode-exact, encode-count, decode-encode}
+use Rattle.edit.specs.Change.{first}
+use Rattle.edit.proofs.laws.Change.{second, third, third-is, first-valid, first-room, second-valid, second-room}
+use Rattle.page.specs.Exact.{Valid}
+use Rattle.page.proofs.laws.Exact.{valid-read, encode-exact, encode-count, decode-encode}
 use Rattle.model.specs.Layout.{encodePage, decodePage}
 use native.Mathlib.Omega.{arith}
 use mathlib.Core.Path.{_≡_, ap, _∙_}

@@ -1,7 +1,7 @@
 -- `edit::undo` meets its contract: an active page is cleared, another sifted. Assumes nothing.
-use Rattle.edit.specs.Same.{back-yes, back-no}
-use Rattle.page.specs.Exact.{free-zeros}
-use Rattle.page.specs.Read.{start-of}
+use Rattle.edit.proofs.laws.Same.{back-yes, back-no}
+use Rattle.page.proofs.laws.Exact.{free-zeros}
+use Rattle.page.proofs.laws.Read.{start-of}
 use Rattle.page.specs.declared.Head.{Head}
 use Rattle.model.specs.Layout.{encodePage, decodePage}
 use Rattle.model.specs.Field.{zeros}

@@ -1,14 +1,12 @@
-use mathlib.Core.Bool.{Bool, true, false, not}
-use Rattle.gather.specs.Kept.{stays, staying, staying-none, staying-step, after-is, rest, rest-all, rest-step, rest-none}
+use Rattle.gather.proofs.laws.Kept.{stays, staying, staying-none, staying-step, after-is, rest, rest-all, rest-step, rest-none}
 use Rattle.edit.specs.Change.{one, changeOf}
-use Rattle.page.specs.Read.{count-of}
+use Rattle.page.proofs.laws.Read.{count-of}
 use Rattle.model.specs.Layout.{countOf, decodePage}
 use Rattle.model.specs.declared.Entry.{Entry}
-use lib.ListN.{length}
 use native.Mathlib.Omega.{arith}
-use mathlib.Core.List.{List, [], _∷_, _++_}
+use mathlib.Core.List.{List, [], _∷_}
 use mathlib.Core.Path.{_≡_, ap, sym, _∙_}
-use Prim.Native.Nat.{ℕ, _≤_, _-_, _+_, _*_}
+use Prim.Native.Nat.{ℕ, _≤_, _-_, _+_}
 use borrow.Author.Needs.{needs}
 use Rattle.gather.proofs.after.Statement.{statement}
 use Rattle.gather.proofs.after.Tie as tie

@@ -1,11 +1,12 @@
-use Rattle.gather.specs.Gather.{Good, pairsIn, listed, length-pairs, part-none, part-more, part-pairs}
+use Rattle.gather.specs.Gather.{Good, pairsIn}
+use Rattle.gather.proofs.laws.Gather.{listed, length-pairs, part-none, part-more, part-pairs}
 use Rattle.edit.specs.Fill.{nil}
 use Rattle.model.specs.declared.Pair.{Pair}
-use lib.ListN.{length, getD, take, drop, length-append}
+use lib.ListN.{getD, take, drop, length-append}
 use native.Mathlib.Omega.{arith}
 use mathlib.Core.List.{List, [], _∷_, _++_, append-nil, append-assoc}
 use mathlib.Core.Path.{_≡_, sym, _∙_}
-use Prim.Native.Nat.{ℕ, _≤_, _-_, _+_}
+use Prim.Native.Nat.{_≤_, _-_, _+_}
 use borrow.Author.Needs.{needs}
 use Rattle.gather.proofs.copied.Statement.{statement}
 use Rattle.gather.proofs.copied.Tie as tie

@@ -1,5 +1,5 @@
 use Rattle.edit.specs.Change.{changeOf}
-use Rattle.edit.specs.Same.{among-is}
+use Rattle.edit.proofs.laws.Same.{among-is}
 use mathlib.Core.Path.{_∙_}
 use borrow.Author.Needs.{needs}
 use Rattle.gather.proofs.dropped.Statement.{statement}

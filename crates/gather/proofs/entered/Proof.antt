@@ -1,5 +1,6 @@
-use Rattle.gather.specs.Place.{place-low, enter-is}
-use Rattle.gather.specs.Gather.{pairsIn, length-pairs, listed, copied-count, pushed-count}
+use Rattle.gather.proofs.laws.Place.{place-low, enter-is}
+use Rattle.gather.specs.Gather.{pairsIn}
+use Rattle.gather.proofs.laws.Gather.{length-pairs, listed, copied-count, pushed-count}
 use mathlib.Core.Path.{sym, _∙_}
 use native.Mathlib.Omega.{arith}
 use Prim.Native.Nat.{_≤_, _-_}

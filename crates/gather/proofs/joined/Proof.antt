@@ -1,4 +1,5 @@
-use Rattle.gather.specs.Gather.{pairsIn, length-pairs}
+use Rattle.gather.specs.Gather.{pairsIn}
+use Rattle.gather.proofs.laws.Gather.{length-pairs}
 use lib.Seq.{take-all}
 use mathlib.Core.Path.{_≡_, _∙_}
 use native.Mathlib.Omega.{arith}

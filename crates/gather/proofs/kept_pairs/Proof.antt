@@ -1,16 +1,17 @@
-use Rattle.gather.specs.Kept.{keptPairs, kept-step, rest, rest-all, rest-step, rest-none}
-use Rattle.gather.specs.Gather.{Good, pairsIn, listed, one-more}
+use Rattle.gather.specs.Kept.{keptPairs}
+use Rattle.gather.proofs.laws.Kept.{kept-step, rest, rest-all, rest-step, rest-none}
+use Rattle.gather.specs.Gather.{Good, pairsIn}
+use Rattle.gather.proofs.laws.Gather.{listed, one-more}
 use Rattle.edit.specs.Change.{changeOf}
-use Rattle.page.specs.Read.{read-sized, count-of}
-use Rattle.page.specs.Head.{readHead}
-use Rattle.model.specs.Layout.{countOf, readEntry}
+use Rattle.page.proofs.laws.Read.{read-sized, count-of}
+use Rattle.model.specs.Layout.{countOf}
 use Rattle.model.specs.Entry.{liveAt}
 use Rattle.model.specs.Basic.{has}
 use Rattle.model.specs.declared.Pair.{Pair}
 use Rattle.model.specs.declared.Entry.{Entry}
 use native.Mathlib.Omega.{arith}
 use mathlib.Core.List.{List, [], _∷_, _++_, append-nil}
-use mathlib.Core.Bool.{Bool, _&&_, not}
+use mathlib.Core.Bool.{_&&_, not}
 use mathlib.Core.Path.{_≡_, ap, sym, _∙_}
 use Prim.Native.Nat.{ℕ, _≤_, _-_, _+_, _*_}
 use borrow.Author.Needs.{needs}

@@ -1,4 +1,4 @@
-use Rattle.gather.specs.Kept.{kept-live}
+use Rattle.gather.proofs.laws.Kept.{kept-live}
 use Rattle.edit.specs.Change.{changeOf}
 use Rattle.model.specs.Layout.{decodePage}
 use mathlib.Core.Path.{refl, _∙_}

@@ -1,4 +1,4 @@
-use Rattle.gather.specs.Gather.{lists-none}
+use Rattle.gather.proofs.laws.Gather.{lists-none}
 use Rattle.gather.proofs.none.Statement.{statement}
 use Rattle.gather.proofs.none.Tie as tie
 

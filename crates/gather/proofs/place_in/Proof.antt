@@ -1,5 +1,7 @@
-use Rattle.gather.specs.Place.{placeIn, place-step, place-past}
-use Rattle.gather.specs.Gather.{pairsIn, length-pairs}
+use Rattle.gather.specs.Place.{placeIn}
+use Rattle.gather.proofs.laws.Place.{place-step, place-past}
+use Rattle.gather.specs.Gather.{pairsIn}
+use Rattle.gather.proofs.laws.Gather.{length-pairs}
 use Rattle.edit.specs.Fill.{nil}
 use Rattle.model.specs.declared.Pair.{Pair}
 use borrow.Author.Tests.{lt-ltb, le-ltb}
@@ -9,7 +11,7 @@ use native.Mathlib.Omega.{arith}
 use mathlib.Core.List.{List}
 use mathlib.Core.Bool.{true, false}
 use mathlib.Core.Path.{_≡_}
-use Prim.Native.Nat.{ℕ, _≤_, _-_, _+_}
+use Prim.Native.Nat.{_≤_, _-_, _+_}
 use borrow.Author.Needs.{needs}
 use Rattle.gather.proofs.place_in.Statement.{statement}
 use Rattle.gather.proofs.place_in.Tie as tie

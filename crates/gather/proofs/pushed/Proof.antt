@@ -1,4 +1,4 @@
-use Rattle.gather.specs.Gather.{lists-pushed}
+use Rattle.gather.proofs.laws.Gather.{lists-pushed}
 use borrow.Author.Needs.{needs}
 use Rattle.gather.proofs.pushed.Statement.{statement}
 use Rattle.gather.proofs.pushed.Tie as tie

@@ -1,4 +1,4 @@
-use Rattle.gather.specs.Gather.{lists-same}
+use Rattle.gather.proofs.laws.Gather.{lists-same}
 use borrow.Author.Needs.{needs}
 use Rattle.gather.proofs.pushed_if.Statement.{statement}
 use Rattle.gather.proofs.pushed_if.Tie as tie

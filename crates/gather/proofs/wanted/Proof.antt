@@ -1,11 +1,9 @@
-use Rattle.gather.specs.Kept.{kept-room, enter-few, wanted-none, wanted-one, wanted-two}
-use Rattle.gather.specs.Gather.{pairsIn, length-pairs, listed}
+use Rattle.gather.proofs.laws.Kept.{kept-room, enter-few, wanted-none, wanted-one, wanted-two}
+use Rattle.gather.specs.Gather.{pairsIn}
+use Rattle.gather.proofs.laws.Gather.{length-pairs, listed}
 use Rattle.edit.specs.Change.{changeOf}
 use Rattle.model.specs.Layout.{decodePage}
-use Rattle.model.specs.Entry.{enterPair}
-use Rattle.model.specs.declared.Pair.{Pair}
-use mathlib.Core.List.{List}
-use mathlib.Core.Path.{_≡_, ap, _∙_}
+use mathlib.Core.Path.{_≡_, _∙_}
 use native.Mathlib.Omega.{arith}
 use Prim.Native.Nat.{ℕ, _≤_}
 use borrow.Author.Needs.{needs}

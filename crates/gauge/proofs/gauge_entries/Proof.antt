@@ -1,66 +1,50 @@
-use Prim.Native.Nat.{ℕ, _+_, _*_, _-_, _<_, _≤_}
-use mathlib.Core.Path.{_≡_, refl, ap, sym, _∙_}
-use mathlib.Core.Bool.{Bool, true, false}
+use Prim.Native.Nat.{_+_, _-_, _≤_}
+use mathlib.Core.Path.{_≡_, ap, sym, _∙_}
 use native.Mathlib.Omega.{arith}
 use borrow.Author.Tests.{not-true, not-false}
 use lib.ListN.{length}
-use Rattle.model.specs.Basic.{pick}
-use Rattle.gauge.specs.Gauge.{Fit, told, weight, entrySum, entries-none, entries-more, entries-small}
+use Rattle.gauge.specs.Gauge.{weight, entrySum}
+use Rattle.gauge.proofs.laws.Gauge.{GaugeFit, told, entries-none, entries-more, entries-small}
 use borrow.Author.Needs.{needs}
 use Rattle.gauge.proofs.gauge_entries.Statement.{statement}
 use Rattle.gauge.proofs.gauge_entries.Tie as tie
-use Rattle.gauge.proofs.gauge_entries.Reads as reads
-use Rattle.gauge.proofs.gauge_entries.Lts as lts
-use Rattle.gauge.proofs.fits.Reads as fits-reads
-use Rattle.page.proofs.entry_at.Reads as entry-at-reads
 
 abbrev Inv-loop : tie.InvT-loop
-Inv-loop page n r₀ i₀ r i = Fit (length page) 128 0 n × (i ≤ n) × (r ≡ entrySum page i)
+Inv-loop page n r₀ i₀ r i = GaugeFit (length page) 128 0 n × (i ≤ n) × (r ≡ entrySum page i)
 
 abbrev μ-loop : tie.MeasureT-loop
 μ-loop page n r₀ i₀ r i = n - i
 
--- src/lib.rt:50:9
 fits-requires : tie.Need-fits-requires Inv-loop μ-loop
 fits-requires c κs = search needs
 
--- src/lib.rt:51:9
 returns : tie.Need-returns Inv-loop μ-loop
 returns c = let e = sym (c .before .fits2 .ensures) ∙ not-true _ (c .if1 .taken) in rw e
 
--- src/lib.rt:55:5
 loop-holds : tie.Need-loop-holds Inv-loop μ-loop
 loop-holds c = let a = c .before .before .before .args in (told (length (a .page .now)) 128 0 (a .n) (sym (c .before .fits2 .ensures) ∙ not-false _ (c .if1 .left)), omega arith, entries-none (a .page .now))
 
--- src/lib.rt:56:13
 entry-at-requires : tie.Need-entry-at-requires Inv-loop μ-loop
 entry-at-requires c κs = let f = c .before .loop .inv .0 in (omega (arith, f .held), omega (arith, f .bytes))
 
--- src/lib.rt:57:14
 cast-r : tie.Need-cast-r Inv-loop μ-loop
 cast-r c = search needs
 
--- src/lib.rt:57:29
 cast-r-2 : tie.Need-cast-r-2 Inv-loop μ-loop
 cast-r-2 c = search needs
 
--- src/lib.rt:57:14
 add-r : tie.Need-add-r Inv-loop μ-loop
 add-r c = search needs
 
--- src/lib.rt:57:46
 cast-r-3 : tie.Need-cast-r-3 Inv-loop μ-loop
 cast-r-3 c = search needs
 
--- src/lib.rt:57:14
 add-r-2 : tie.Need-add-r-2 Inv-loop μ-loop
 add-r-2 c = search needs
 
--- src/lib.rt:57:61
 cast-r-4 : tie.Need-cast-r-4 Inv-loop μ-loop
 cast-r-4 c = search needs
 
--- src/lib.rt:57:14
 add-r-3 : tie.Need-add-r-3 Inv-loop μ-loop
 add-r-3 c = search needs
 
@@ -70,23 +54,18 @@ step c =
     let l = c .before .before .before .before .before .before .loop in let a = c .before .before .before .before .before .before .before .before .before .before .args in
     rw (c .before .before .before .before .entry-at .ensures, l .inv .2) (entries-more (a .page .now) (l .i))
 
--- src/lib.rt:57:9
 add-r-4 : tie.Need-add-r-4 Inv-loop μ-loop
 add-r-4 c = let l = c .before .before .before .before .before .before .loop in let a = c .before .before .before .before .before .before .before .before .before .before .args in omega (arith, step c, entries-small (a .page .now) (l .i + 1), l .inv .0 .many)
 
--- src/lib.rt:58:9
 add-i : tie.Need-add-i Inv-loop μ-loop
 add-i c = omega (arith, c .before .before .before .before .before .before .loop .inv .0 .many)
 
--- src/lib.rt:55:5
 loop-less : tie.Need-loop-less Inv-loop μ-loop
 loop-less c = omega arith
 
--- src/lib.rt:55:5
 loop-again : tie.Need-loop-again Inv-loop μ-loop
 loop-again c = (c .before .before .before .before .before .before .loop .inv .0, omega arith, step c)
 
--- src/lib.rt:46:1
 returns-2 : tie.Need-returns-2 Inv-loop μ-loop
 returns-2 c =
     let l = c .before .loop in let a = c .before .before .before .before .before .args in

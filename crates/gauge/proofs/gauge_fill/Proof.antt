@@ -1,36 +1,25 @@
-use Prim.Native.Nat.{ℕ, _+_, _*_, _-_, _<_, _≤_}
-use mathlib.Core.Path.{_≡_, refl, ap, sym, _∙_}
-use mathlib.Core.Bool.{Bool, true, false}
+use Prim.Native.Nat.{ℕ}
+use mathlib.Core.Path.{refl, ap, sym, _∙_}
 use native.Mathlib.Omega.{arith}
 use borrow.Author.Tests.{not-true, not-false}
 use lib.ListN.{length}
-use Rattle.model.specs.Basic.{pick}
-use Rattle.gauge.specs.Gauge.{Fillable, fillable, fitting-all, filled-four}
-use Rattle.page.specs.Editions.{edition-of}
+use Rattle.gauge.proofs.laws.Gauge.{fillable, fitting-all, filled-four}
+use Rattle.page.proofs.laws.Editions.{edition-of}
 use Rattle.model.specs.Limits.{Edition}
 use Rattle.model.specs.declared.Limits.{Limits}
 use borrow.Author.Needs.{needs}
 use Rattle.gauge.proofs.gauge_fill.Statement.{statement}
 use Rattle.gauge.proofs.gauge_fill.Tie as tie
-use Rattle.gauge.proofs.gauge_fill.Reads as reads
-use Rattle.gauge.proofs.gauge_fill.Lts as lts
-use Rattle.edit.proofs.fill.Reads as fill-reads
-use Rattle.gauge.proofs.fill_fits.Reads as fill-fits-reads
-use Rattle.model.proofs.edition_one.Reads as edition-one-reads
 
--- src/lib.rt:85:9
 fill-fits-requires : tie.Need-fill-fits-requires
 fill-fits-requires c κs = search needs
 
--- src/lib.rt:86:9
 returns : tie.Need-returns
 returns c = let e = sym (c .before .fill-fits .ensures) ∙ not-true _ (c .if1 .taken) in rw e (refl, refl)
 
--- src/lib.rt:92:22
 edition-one-requires : tie.Need-edition-one-requires
 edition-one-requires c κs = search needs
 
--- src/lib.rt:92:5
 fill-requires : tie.Need-fill-requires
 fill-requires c κs =
     let a = c .before .before .before .before .before .args in
@@ -39,11 +28,9 @@ fill-requires c κs =
     let f = fillable (length (a .page .now)) (a .w) (a .key) (a .n) (sym (c .before .before .before .fill-fits .ensures) ∙ not-false _ (c .before .before .if1 .left)) in
     (d, omega (arith, f .page, l), omega arith, omega (arith, f .version), omega (arith, f .room, d .four), omega (arith, f .room), λ (k : ℕ). fitting-all (a .key) (a .value) k 56 (omega (arith, f .low)) (omega arith))
 
--- src/lib.rt:80:1
 same-length : tie.Need-same-length
 same-length c = search needs
 
--- src/lib.rt:80:1
 returns-2 : tie.Need-returns-2
 returns-2 c =
     let a = c .before .before .before .before .before .before .before .before .args in

@@ -1,4 +1,4 @@
-use Rattle.page.specs.Editions.{full-is}
+use Rattle.page.proofs.laws.Editions.{full-is}
 use borrow.Author.Tests.{le-leb, lt-leb}
 use Prim.Native.Nat.{_*_}
 use native.Mathlib.Omega.{arith}

@@ -1,19 +1,16 @@
-use Rattle.group.specs.Group.{routersOf, groupOf, gather-right, gather-left, gather-none, gather-alone}
-use Rattle.parts.specs.Kept.{pagesOf, live-few}
-use Rattle.gather.specs.Gather.{pairsIn, length-pairs, listed}
-use Rattle.page.specs.Editions.{merge-is}
-use Rattle.model.specs.Store.{page}
-use Rattle.model.specs.Rules as rules
-use Rattle.model.specs.Page.{pairsAt}
-use Rattle.model.specs.declared.Pair.{Pair}
+use Rattle.group.specs.Group.{routersOf, groupOf}
+use Rattle.group.proofs.laws.Group.{gather-right, gather-left, gather-none, gather-alone}
+use Rattle.parts.specs.Kept.{pagesOf}
+use Rattle.parts.proofs.laws.Kept.{live-few}
+use Rattle.gather.specs.Gather.{pairsIn}
+use Rattle.gather.proofs.laws.Gather.{length-pairs, listed}
+use Rattle.page.proofs.laws.Editions.{merge-is}
 use borrow.Author.Tests.{not-true, not-false}
 use lib.ListN.{length-append}
-use lib.ListN.{length}
 use native.Mathlib.Omega.{arith}
-use mathlib.Core.List.{List, [], _∷_}
-use mathlib.Core.Bool.{true, false}
-use mathlib.Core.Path.{_≡_, ap, _∙_}
-use Prim.Native.Nat.{ℕ, _+_, _*_, _≤_, _<_}
+use mathlib.Core.Bool.{false}
+use mathlib.Core.Path.{_≡_}
+use Prim.Native.Nat.{_*_, _≤_, _<_}
 use borrow.Author.Needs.{needs}
 use Rattle.group.proofs.gathered.Statement.{statement}
 use Rattle.group.proofs.gathered.Tie as tie

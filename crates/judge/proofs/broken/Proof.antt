@@ -2,7 +2,7 @@
 use mathlib.Core.Path.{_≡_, sym, _∙_}
 use borrow.Author.Tests.{not-true, not-false}
 use Rattle.model.specs.Inner.{lowerIn}
-use Rattle.model.proofs.Judging.{unbroken, broken-lower, broken-eight, broken-none}
+use Rattle.model.proofs.sound.Judging.{unbroken, broken-lower, broken-eight, broken-none}
 use Rattle.judge.proofs.broken.Statement.{statement}
 use Rattle.judge.proofs.broken.Tie as tie
 

@@ -4,7 +4,7 @@ use mathlib.Core.Path.{_∙_}
 use borrow.Author.Needs.{needs}
 use Rattle.model.specs.Judged.{verdict, judged}
 use Rattle.model.specs.Any.{judgedAny}
-use Rattle.store.specs.Editions.{is-edition, refused-early, gone-on}
+use Rattle.store.proofs.laws.Editions.{is-edition, refused-early, gone-on}
 use Rattle.judge.proofs.check.Statement.{statement}
 use Rattle.judge.proofs.check.Tie as tie
 

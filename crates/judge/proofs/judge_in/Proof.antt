@@ -1,7 +1,7 @@
 -- `judge::judge_in` meets its contract: numbers 1 to 3, or the rule that is broken. Assumes nothing.
-use Rattle.judge.specs.Judge.{ruled-none, ruled-some, judged-refused, judged-ruled}
-use Rattle.quick.specs.Number.{not-refused}
-use Rattle.local.specs.Sizes.{sized}
+use Rattle.judge.proofs.laws.Judge.{ruled-none, ruled-some, judged-refused, judged-ruled}
+use Rattle.quick.proofs.laws.Number.{not-refused}
+use Rattle.local.proofs.laws.Sizes.{sized}
 use Rattle.model.specs.Judged.{ruled}
 use mathlib.Core.Path.{sym, ap, _∙_}
 use borrow.Author.Needs.{needs}

@@ -3,15 +3,15 @@ use mathlib.Core.Path.{_≡_, sym, _∙_}
 use mathlib.Core.Bool.{true}
 use native.Mathlib.Omega.{arith}
 use borrow.Author.Tests.{not-true, not-false}
-use Rattle.local.specs.Linked.{held}
-use Rattle.notes.specs.Given.{ready}
-use Rattle.judge.specs.Named.{named-sound, named-some, six-last, six-led, six-none}
-use Rattle.quick.specs.Given.{good}
-use Rattle.quick.specs.Slots.{good-slots}
-use Rattle.store.specs.Read.{current-lt}
+use Rattle.local.proofs.laws.Linked.{held}
+use Rattle.notes.proofs.laws.Given.{ready}
+use Rattle.judge.proofs.laws.Named.{named-sound, named-some, six-last, six-led, six-none}
+use Rattle.quick.proofs.laws.Given.{good}
+use Rattle.quick.proofs.laws.Slots.{good-slots}
+use Rattle.store.proofs.laws.Read.{current-lt}
 use Rattle.notes.specs.Ready.{Ready}
 use Rattle.local.specs.Local.{Held}
-use Rattle.model.proofs.Judging.{lower-one, lower-two, lower-three}
+use Rattle.model.proofs.sound.Judging.{lower-one, lower-two, lower-three}
 use Rattle.model.specs.Clean.{clean}
 use Rattle.model.specs.Layout.{decode}
 use Rattle.model.specs.Sound.{rule2, rule3}

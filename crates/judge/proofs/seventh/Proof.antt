@@ -1,5 +1,4 @@
 -- `judge::seventh` meets its contract: as rule 7 holds or not. Assumes nothing.
-use borrow.Author.Tests.{not-true}
 use borrow.Author.Needs.{needs}
 use Rattle.judge.proofs.seventh.Statement.{statement}
 use Rattle.judge.proofs.seventh.Tie as tie

@@ -1,6 +1,6 @@
 use mathlib.Core.Path.{_≡_, refl, sym, _∙_}
 use lib.Ieee.{nan, ofBits, binary32, div, ofFields, odd}
-use Rattle.kinds.specs.Floats.{nan-only}
+use Rattle.kinds.proofs.laws.Floats.{nan-only}
 use borrow.Author.Needs.{needs}
 use Rattle.kinds.proofs.float_of.Statement.{statement}
 use Rattle.kinds.proofs.float_of.Tie as tie

@@ -4,7 +4,7 @@ use lib.ListN.{length}
 use native.Mathlib.Omega.{arith}
 use borrow.Author.Tests.{eq-eqb, ne-eqb}
 use Rattle.model.specs.Kinds.{knownFrom, knownIn}
-use Rattle.kinds.specs.Laws.{here, further, over}
+use Rattle.kinds.proofs.laws.Laws.{here, further, over}
 use borrow.Author.Needs.{needs}
 use Rattle.kinds.proofs.kind_of.Statement.{statement}
 use Rattle.kinds.proofs.kind_of.Tie as tie

@@ -1,7 +1,7 @@
 -- `tell` meets its contract. Assumes nothing.
 use native.Mathlib.Omega.{arith}
 use mathlib.Core.Path.{refl, ap, sym, subst}
-use Rattle.model.proofs.Telling.{written-none}
+use Rattle.model.proofs.reading.Telling.{written-none}
 use Rattle.life.specs.Lived.{stretches, shown}
 use borrow.Author.Needs.{needs}
 use Rattle.life.proofs.tell.Statement.{statement}

@@ -3,10 +3,6 @@ use native.Mathlib.Omega.{arith}
 use borrow.Author.Needs.{needs}
 use Rattle.morning.proofs.look_on.Statement.{statement}
 use Rattle.morning.proofs.look_on.Tie as tie
-use Rattle.morning.proofs.look_on.Reads as reads
-use Rattle.morning.proofs.look_on.Lts as lts
-use Rattle.morning.proofs.value_of.Reads as value-of-reads
-use Rattle.walk.proofs.lookup.Reads as lookup-reads
 
 abbrev Inv-loop : tie.InvT-loop
 Inv-loop s l from step n v key₀ stride sum₀ i₀ key sum i = (key < 16777216) × ((stride < 16777216) × ((sum < 4294967296) × (i ≤ n)))
@@ -14,39 +10,30 @@ Inv-loop s l from step n v key₀ stride sum₀ i₀ key sum i = (key < 16777216
 abbrev μ-loop : tie.MeasureT-loop
 μ-loop s l from step n v key₀ stride sum₀ i₀ key sum i = n - i
 
--- src/lib.rt:22:5
 loop-holds : tie.Need-loop-holds Inv-loop μ-loop
 loop-holds c = (omega arith, (omega arith, (omega arith, omega arith)))
 
--- src/lib.rt:23:31
 lookup-requires : tie.Need-lookup-requires Inv-loop μ-loop
 lookup-requires c κs = search needs
 
--- src/lib.rt:23:22
 value-of-requires : tie.Need-value-of-requires Inv-loop μ-loop
 value-of-requires c κs = search needs
 
--- src/lib.rt:23:16
 add-sum : tie.Need-add-sum Inv-loop μ-loop
 add-sum c = search needs
 
--- src/lib.rt:24:16
 add-key : tie.Need-add-key Inv-loop μ-loop
 add-key c = search needs
 
--- src/lib.rt:25:9
 add-i : tie.Need-add-i Inv-loop μ-loop
 add-i c = search needs
 
--- src/lib.rt:22:5
 loop-less : tie.Need-loop-less Inv-loop μ-loop
 loop-less c = omega arith
 
--- src/lib.rt:22:5
 loop-again : tie.Need-loop-again Inv-loop μ-loop
 loop-again c = (omega arith, (omega arith, (omega arith, omega arith)))
 
--- src/lib.rt:15:1
 returns : tie.Need-returns Inv-loop μ-loop
 returns c = tt
 

@@ -1,36 +1,26 @@
 use mathlib.Core.Path.{sym, _∙_}
 use native.Mathlib.Omega.{arith}
-use Rattle.page.specs.Editions.{edition-of}
-use Rattle.reads.specs.Reading.{reads}
+use Rattle.page.proofs.laws.Editions.{edition-of}
+use Rattle.reads.proofs.laws.Reading.{reads}
 use borrow.Author.Needs.{needs}
 use Rattle.morning.proofs.morning_lookups.Statement.{statement}
 use Rattle.morning.proofs.morning_lookups.Tie as tie
-use Rattle.morning.proofs.morning_lookups.Reads as own-reads
-use Rattle.morning.proofs.morning_lookups.Lts as lts
-use Rattle.reads.proofs.guard_reading.Reads as guard-reading-reads
-use Rattle.model.proofs.edition_one.Reads as edition-one-reads
-use Rattle.morning.proofs.look_on.Reads as look-on-reads
 
--- src/lib.rt:36:9
 edition-one-requires : tie.Need-edition-one-requires
 edition-one-requires c κs = search needs
 
--- src/lib.rt:37:8
 guard-reading-requires : tie.Need-guard-reading-requires
 guard-reading-requires c κs = edition-of 4 (c .edition-one .ensures) (omega arith) (omega arith)
 
--- src/lib.rt:38:9
 returns : tie.Need-returns
 returns c = search needs
 
--- src/lib.rt:40:5
 look-on-requires : tie.Need-look-on-requires
 look-on-requires c κs =
     let a = c .before .before .before .before .args in
     let d = edition-of 4 (c .before .before .edition-one .ensures) (omega arith) (omega arith) in
     reads d (a .s .now) _ (a .version) (sym (c .before .guard-reading .ensures) ∙ c .if1 .left)
 
--- src/lib.rt:34:1
 returns-2 : tie.Need-returns-2
 returns-2 c = search needs
 

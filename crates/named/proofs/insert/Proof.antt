@@ -2,7 +2,7 @@ use mathlib.Core.Path.{ap, _∙_}
 use Rattle.model.specs.declared.Known.{Known}
 use Rattle.model.specs.Kinds.{allowed}
 use Rattle.model.specs.Named.{insertNamed}
-use Rattle.named.specs.Answers.{refuses, goes}
+use Rattle.named.proofs.laws.Answers.{refuses, goes}
 use borrow.Author.Needs.{needs}
 use Rattle.named.proofs.insert.Statement.{statement}
 use Rattle.named.proofs.insert.Tie as tie

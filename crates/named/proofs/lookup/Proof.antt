@@ -1,7 +1,7 @@
 use mathlib.Core.Path.{ap, _∙_}
 use Rattle.model.specs.Kinds.{unknown}
 use Rattle.model.specs.Named.{lookupNamed}
-use Rattle.named.specs.Answers.{refuses, goes}
+use Rattle.named.proofs.laws.Answers.{refuses, goes}
 use borrow.Author.Needs.{needs}
 use Rattle.named.proofs.lookup.Statement.{statement}
 use Rattle.named.proofs.lookup.Tie as tie

@@ -3,7 +3,7 @@ use borrow.Author.Needs.{needs}
 use Rattle.model.specs.declared.Known.{Known}
 use Rattle.model.specs.Kinds.{unlike}
 use Rattle.model.specs.Named.{kindNamed}
-use Rattle.named.specs.Answers.{refuses, goes}
+use Rattle.named.proofs.laws.Answers.{refuses, goes}
 use Rattle.named.proofs.lookup_kind.Statement.{statement}
 use Rattle.named.proofs.lookup_kind.Tie as tie
 

@@ -13,10 +13,12 @@ use Rattle.model.specs.Entry.{pairOf}
 use Rattle.page.proofs.entry_at.Reads as entry-at-reads
 use Rattle.page.proofs.head_of.Reads as head-of-reads
 use Rattle.store.proofs.part.Reads as part-reads
-use Rattle.walk.specs.Written.{gathers-space, gathers-length, Gathering, space-front, gather-start, gather-same, gather-step, gather-end, gathers-append}
-use Rattle.tabled.specs.Here.{here-inside, here-stands, here-pairs, here-starts, here-own, here-all, here-range}
-use Rattle.tabled.specs.Across.{rightFrom, from-first, from-same}
-use Rattle.walk.specs.Below.{later, later-step, later-same, later-end, leaf-range}
+use Rattle.walk.proofs.laws.Written.{gathers-space, gathers-length, PairGathering, space-front, gather-start, gather-same, gather-step, gather-end, gathers-append}
+use Rattle.tabled.proofs.laws.Here.{here-inside, here-stands, here-pairs, here-starts, here-own, here-all, here-range}
+use Rattle.tabled.specs.Across.{rightFrom}
+use Rattle.tabled.proofs.laws.Across.{from-first, from-same}
+use Rattle.walk.specs.Below.{later}
+use Rattle.walk.proofs.laws.Below.{later-step, later-same, later-end, leaf-range}
 use Rattle.walk.specs.Scan.{from, entry}
 use Rattle.walk.specs.Live.{live}
 use Rattle.near.proofs.gather.Reads as gather
@@ -62,7 +64,7 @@ claims t = (
 abbrev gather-Inv-loop : gather-lts.InvT-loop
 gather-Inv-loop s l q n up at list₀ found p count k₀ i₀ list k i =
     (i ≤ count) × (i < count → between 0 (q .high) (live (q .version) (from p i count)) ≡ pairOf (entry p i) ∷ between 0 (q .high) (live (q .version) (from p (i + 1) count)))
-    × Gathering (q .write) list₀ list k₀ k (later (up - 1) (decode (l .least) s .pages) (q .version) (q .low) (q .high) p count i₀)
+    × PairGathering (q .write) list₀ list k₀ k (later (up - 1) (decode (l .least) s .pages) (q .version) (q .low) (q .high) p count i₀)
     (later (up - 1) (decode (l .least) s .pages) (q .version) (q .low) (q .high) p count i)
     × (rightFrom (l .least) s (q .version) (q .high) (up - 1) p count i ≡ true)
 

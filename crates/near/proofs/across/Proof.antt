@@ -12,7 +12,7 @@ use Rattle.model.specs.Lent.{listed}
 use Rattle.model.specs.Calls.{rangedBy}
 use Rattle.model.specs.Walk.{rootAt, rangeBelow}
 use Rattle.model.specs.Layout.{decode}
-use Rattle.near.specs.Crossed.{answered-wrong, answered-right, cross-free, cross-by}
+use Rattle.near.proofs.laws.Crossed.{answered-wrong, answered-right, cross-free, cross-by}
 use Rattle.near.proofs.across.Statement.{statement}
 use Rattle.near.proofs.across.Tie as tie
 

@@ -1,9 +1,9 @@
 -- `fill` meets its contract. Assumes nothing.
 use native.Mathlib.Omega.{arith}
 use borrow.Author.Needs.{needs}
-use Rattle.walk.specs.Written.{none-room}
-use Rattle.walk.specs.Counted.{counted, range-short, second-space, range-all}
-use Rattle.tabled.specs.Bound.{right-few}
+use Rattle.walk.proofs.laws.Written.{none-room}
+use Rattle.walk.proofs.laws.Counted.{counted, range-short, second-space, range-all}
+use Rattle.tabled.proofs.laws.Bound.{right-few}
 use Rattle.near.proofs.fill.Statement.{statement}
 use Rattle.near.proofs.fill.Tie as tie
 

@@ -4,9 +4,9 @@ use mathlib.Core.Path.{ap, sym, _∙_}
 use borrow.Author.Needs.{needs}
 use Rattle.model.specs.declared.Header.{Header}
 use Rattle.model.specs.Store.{lastOf}
-use Rattle.store.specs.Read.{current-lt}
-use Rattle.local.specs.First.{last-is}
-use Rattle.near.specs.Early.{lookup-refused, lookup-walked, guard-fronted, none-sized, none-fronted}
+use Rattle.store.proofs.laws.Read.{current-lt}
+use Rattle.local.proofs.laws.First.{last-is}
+use Rattle.near.proofs.laws.Early.{lookup-refused, lookup-walked, guard-fronted, none-sized, none-fronted}
 use Rattle.near.proofs.lookup.Statement.{statement}
 use Rattle.near.proofs.lookup.Tie as tie
 

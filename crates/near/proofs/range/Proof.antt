@@ -4,10 +4,10 @@ use mathlib.Core.Path.{ap, sym, _∙_}
 use borrow.Author.Needs.{needs}
 use Rattle.model.specs.declared.Header.{Header}
 use Rattle.model.specs.Store.{lastOf}
-use Rattle.store.specs.Read.{current-lt}
-use Rattle.local.specs.First.{last-is}
-use Rattle.near.specs.Early.{guard-fronted, none-sized, none-fronted}
-use Rattle.near.specs.Crossed.{range-refused, range-crossed}
+use Rattle.store.proofs.laws.Read.{current-lt}
+use Rattle.local.proofs.laws.First.{last-is}
+use Rattle.near.proofs.laws.Early.{guard-fronted, none-sized, none-fronted}
+use Rattle.near.proofs.laws.Crossed.{range-refused, range-crossed}
 use Rattle.near.proofs.range.Statement.{statement}
 use Rattle.near.proofs.range.Tie as tie
 

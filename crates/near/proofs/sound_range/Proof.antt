@@ -1,9 +1,9 @@
 -- `sound_range` meets its contract. Assumes nothing.
 use native.Mathlib.Omega.{arith}
 use borrow.Author.Needs.{needs}
-use Rattle.store.specs.Sure.{few}
-use Rattle.walk.specs.Sure.{root-covers, covers-inside}
-use Rattle.near.specs.Sounded.{sound-reads, sound-range}
+use Rattle.store.proofs.laws.Sure.{few}
+use Rattle.walk.proofs.laws.Sure.{root-covers, covers-inside}
+use Rattle.near.proofs.laws.Sounded.{sound-reads, sound-range}
 use Rattle.near.proofs.sound_range.Statement.{statement}
 use Rattle.near.proofs.sound_range.Tie as tie
 

@@ -1,6 +1,7 @@
 -- `page::blank` meets its contract: after each turn one entry more is unused. Assumes nothing.
-use Rattle.page.specs.Stage.{blanked, blanked-more, blanked-none}
-use Rattle.page.specs.Read.{sized-unused}
+use Rattle.page.specs.Stage.{blanked}
+use Rattle.page.proofs.laws.Stage.{blanked-more, blanked-none}
+use Rattle.page.proofs.laws.Read.{sized-unused}
 use lib.ListN.{length}
 use native.Mathlib.Omega.{arith}
 use mathlib.Core.Path.{_≡_, refl, ap, _∙_}

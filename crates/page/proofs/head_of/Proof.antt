@@ -2,7 +2,7 @@
 use mathlib.Core.Path.{_∙_}
 use borrow.Author.Needs.{needs}
 use Rattle.page.specs.declared.Head.{Head}
-use Rattle.page.specs.Head.{front-five, front-six}
+use Rattle.page.proofs.laws.Head.{front-five, front-six}
 use Rattle.page.proofs.head_of.Statement.{statement}
 use Rattle.page.proofs.head_of.Tie as tie
 

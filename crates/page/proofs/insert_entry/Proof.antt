@@ -1,12 +1,11 @@
 -- `page::insert_entry` meets its contract: the live count is carried on by what the entry adds. Assumes nothing.
-use mathlib.Core.Path.{_≡_, _∙_}
-use mathlib.Core.List.{List}
-use Prim.Native.Nat.{ℕ, _+_}
+use mathlib.Core.Path.{_∙_}
+use Prim.Native.Nat.{_+_}
 use native.Mathlib.Omega.{arith}
 use borrow.Author.Needs.{needs}
 use Rattle.model.specs.Limits.{liveShown}
 use Rattle.page.specs.Head.{putLive}
-use Rattle.page.specs.Insert.{live-low, live-end}
+use Rattle.page.proofs.laws.Insert.{live-low, live-end}
 use Rattle.page.proofs.insert_entry.Statement.{statement}
 use Rattle.page.proofs.insert_entry.Tie as tie
 

@@ -10,7 +10,7 @@ use borrow.Author.Needs.{needs}
 use Rattle.model.specs.Limits.{countBits, liveBits}
 use Rattle.model.specs.Field.{field}
 use Rattle.model.specs.Layout.{liveOf}
-use Rattle.page.specs.Editions.{counter-is, counter-counts}
+use Rattle.page.proofs.laws.Editions.{counter-is, counter-counts}
 use Rattle.page.proofs.live_of.Statement.{statement}
 use Rattle.page.proofs.live_of.Tie as tie
 

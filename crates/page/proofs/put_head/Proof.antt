@@ -2,7 +2,7 @@
 use mathlib.Core.Path.{_∙_}
 use native.Mathlib.Omega.{arith}
 use borrow.Author.Needs.{needs}
-use Rattle.page.specs.Head.{fits-five, put-five, fits-six, put-six}
+use Rattle.page.proofs.laws.Head.{fits-five, put-five, fits-six, put-six}
 use Rattle.page.proofs.put_head.Statement.{statement}
 use Rattle.page.proofs.put_head.Tie as tie
 

@@ -10,7 +10,7 @@ use borrow.Author.Needs.{needs}
 use Rattle.model.specs.Limits.{countBits, liveBits, liveShown}
 use Rattle.model.specs.Field.{putField}
 use Rattle.page.specs.Head.{putLive}
-use Rattle.page.specs.Editions.{counter-is, counter-counts}
+use Rattle.page.proofs.laws.Editions.{counter-is, counter-counts}
 use Rattle.page.proofs.put_live.Statement.{statement}
 use Rattle.page.proofs.put_live.Tie as tie
 

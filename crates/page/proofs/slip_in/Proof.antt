@@ -1,9 +1,11 @@
 -- `page::slip_in` meets its contract: before turn k the first k entries are those wanted, and x is the next of them. Assumes nothing.
-use Rattle.page.specs.Insert.{insertAt, more, insert-here, insert-next, wanted-sized, wanted-length, insert-start, insert-step, insert-end}
-use Rattle.page.specs.Stage.{staged, entriesIn, staged-read, count}
-use Rattle.page.specs.Editions.{count-bits}
-use Rattle.page.specs.Front.{read-fits}
-use Rattle.page.specs.Read.{count-of}
+use Rattle.page.specs.Insert.{insertAt}
+use Rattle.page.proofs.laws.Insert.{more, insert-here, insert-next, wanted-sized, wanted-length, insert-start, insert-step, insert-end}
+use Rattle.page.specs.Stage.{staged, entriesIn}
+use Rattle.page.proofs.laws.Stage.{staged-read, count}
+use Rattle.page.proofs.laws.Editions.{count-bits}
+use Rattle.page.proofs.laws.Front.{read-fits}
+use Rattle.page.proofs.laws.Read.{count-of}
 use Rattle.page.specs.Head.{putHead, HeadFits}
 use Rattle.page.specs.declared.Head.{Head}
 use Rattle.model.specs.Layout.{unused, countOf}

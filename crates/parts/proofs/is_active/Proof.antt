@@ -1,5 +1,6 @@
-use Rattle.parts.specs.Kept.{pagesOf, part-in, short, shown}
-use Rattle.page.specs.Read.{start-of}
+use Rattle.parts.specs.Kept.{pagesOf}
+use Rattle.parts.proofs.laws.Kept.{part-in, short, shown}
+use Rattle.page.proofs.laws.Read.{start-of}
 use Rattle.model.specs.Store.{page}
 use Rattle.model.specs.Layout.{pageOf}
 use Rattle.model.specs.Page.{Page}

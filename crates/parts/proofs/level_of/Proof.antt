@@ -1,5 +1,5 @@
-use Rattle.parts.specs.Kept.{part-in, short, shown}
-use Rattle.page.specs.Read.{level-of}
+use Rattle.parts.proofs.laws.Kept.{part-in, short, shown}
+use Rattle.page.proofs.laws.Read.{level-of}
 use Rattle.model.specs.Layout.{pageOf}
 use Rattle.model.specs.Page.{Page}
 use mathlib.Core.Path.{sym, ap, _∙_}

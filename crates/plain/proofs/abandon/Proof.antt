@@ -1,15 +1,13 @@
 -- `abandon` meets its contract. Assumes nothing.
-use Prim.Native.Nat.{ℕ, suc, _+_, _*_, _<_}
+use Prim.Native.Nat.{_+_}
 use native.Mathlib.Omega.{arith}
-use mathlib.Core.Path.{_≡_, refl, ap, ap₂, sym, _∙_}
-use mathlib.Core.List.{List}
+use mathlib.Core.Path.{ap, _∙_}
 use Rattle.plain.specs.declared.Left.{Left}
-use Rattle.model.specs.Walk.{keyLimit}
-use Rattle.model.specs.Calls.{benchLimit}
-use Rattle.plain.specs.Plain.{valueAt}
-use Rattle.plain.specs.Items.{plainOf, from, found-some, found-none}
-use Rattle.plain.specs.Calls.{givenBy, abandon-seven, abandon-left}
-use Rattle.plain.specs.Sweep.{fate, swept-read}
+use Rattle.plain.specs.Items.{plainOf}
+use Rattle.plain.specs.Calls.{givenBy}
+use Rattle.plain.proofs.laws.Calls.{abandon-seven, abandon-left}
+use Rattle.plain.specs.Sweep.{fate}
+use Rattle.plain.proofs.laws.Sweep.{swept-read}
 use mathlib.Core.Bool.{true}
 use borrow.Author.Tests.{not-true, not-false}
 use borrow.Author.Needs.{needs}

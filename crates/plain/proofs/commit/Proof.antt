@@ -5,9 +5,10 @@ use mathlib.Core.Path.{_≡_, ap, sym, _∙_}
 use borrow.Author.Tests.{not-true, not-false}
 use Rattle.model.specs.Basic.{isEmpty}
 use Rattle.plain.specs.declared.Left.{Left}
-use Rattle.plain.specs.Plain.{Plain, Given, differs}
+use Rattle.plain.specs.Plain.{Given, differs}
 use Rattle.plain.specs.Items.{plainOf, from}
-use Rattle.plain.specs.Calls.{givenBy, commit-seven, commit-fifteen, commit-done}
+use Rattle.plain.specs.Calls.{givenBy}
+use Rattle.plain.proofs.laws.Calls.{commit-seven, commit-fifteen, commit-done}
 use mathlib.Core.Bool.{false}
 use borrow.Author.Needs.{needs}
 use Rattle.plain.proofs.commit.Statement.{statement}

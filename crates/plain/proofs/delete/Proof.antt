@@ -1,15 +1,17 @@
 -- `delete` meets its contract. Assumes nothing.
-use Prim.Native.Nat.{ℕ, suc, _+_, _*_, _<_}
+use Prim.Native.Nat.{ℕ, suc, _+_, _<_}
 use native.Mathlib.Omega.{arith}
-use mathlib.Core.Path.{_≡_, refl, ap, ap₂, sym, _∙_}
+use mathlib.Core.Path.{_≡_, ap, ap₂, sym, _∙_}
 use mathlib.Core.List.{List}
 use Rattle.plain.specs.declared.Left.{Left}
 use Rattle.model.specs.Walk.{keyLimit}
-use Rattle.model.specs.Calls.{benchLimit}
 use Rattle.plain.specs.Plain.{valueAt}
-use Rattle.plain.specs.Items.{plainOf, from, found-some, found-none}
-use Rattle.plain.specs.Calls.{givenBy, delete-five, delete-seven, delete-eleven, delete-left}
-use Rattle.plain.specs.Sweep.{fate, swept-laid}
+use Rattle.plain.specs.Items.{plainOf, from}
+use Rattle.plain.proofs.laws.Items.{found-some, found-none}
+use Rattle.plain.specs.Calls.{givenBy}
+use Rattle.plain.proofs.laws.Calls.{delete-five, delete-seven, delete-eleven, delete-left}
+use Rattle.plain.specs.Sweep.{fate}
+use Rattle.plain.proofs.laws.Sweep.{swept-laid}
 use mathlib.Core.Bool.{false}
 use borrow.Author.Tests.{not-true, not-false}
 use borrow.Author.Needs.{needs}

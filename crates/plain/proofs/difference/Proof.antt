@@ -1,10 +1,10 @@
 -- `difference` meets its contract: counted first, then written. Assumes nothing.
 use native.Mathlib.Omega.{arith}
-use mathlib.Core.Path.{_≡_, ap, sym, _∙_}
-use Rattle.model.proofs.Telling.{none-room, counted, told-short, second-space, told-all}
-use Rattle.plain.specs.Plain.{settings, differs}
+use mathlib.Core.Path.{sym, _∙_}
+use Rattle.model.proofs.reading.Telling.{none-room, counted, told-short, second-space, told-all}
 use Rattle.plain.specs.Items.{plainOf, from}
-use Rattle.plain.specs.Tell.{deltas, differs-few, difference-old, difference-new, difference-done}
+use Rattle.plain.specs.Tell.{deltas}
+use Rattle.plain.proofs.laws.Tell.{differs-few, difference-old, difference-new, difference-done}
 use borrow.Author.Needs.{needs}
 use Rattle.plain.proofs.difference.Statement.{statement}
 use Rattle.plain.proofs.difference.Tie as tie

@@ -1,15 +1,15 @@
 -- `insert` meets its contract. Assumes nothing.
-use Prim.Native.Nat.{ℕ, suc, _+_, _*_, _<_}
+use Prim.Native.Nat.{ℕ, suc, _+_, _<_}
 use native.Mathlib.Omega.{arith}
-use mathlib.Core.Path.{_≡_, refl, ap, ap₂, sym, _∙_}
+use mathlib.Core.Path.{_≡_, ap, ap₂, sym, _∙_}
 use mathlib.Core.List.{List}
 use Rattle.plain.specs.declared.Left.{Left}
-use Rattle.model.specs.Walk.{keyLimit}
 use Rattle.model.specs.Calls.{benchLimit}
 use Rattle.plain.specs.Plain.{valueAt}
-use Rattle.plain.specs.Items.{plainOf, from, found-some, found-none}
-use Rattle.plain.specs.Calls.{givenBy, insert-five, insert-seven, insert-ten, insert-room, insert-left}
-use Rattle.plain.specs.Laid.{laid}
+use Rattle.plain.specs.Items.{plainOf, from}
+use Rattle.plain.proofs.laws.Items.{found-some, found-none}
+use Rattle.plain.specs.Calls.{givenBy}
+use Rattle.plain.proofs.laws.Calls.{insert-five, insert-seven, insert-ten, insert-room, insert-left}
 use borrow.Author.Tests.{not-true, not-false}
 use borrow.Author.Needs.{needs}
 use Rattle.plain.proofs.insert.Statement.{statement}

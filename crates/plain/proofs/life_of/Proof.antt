@@ -1,11 +1,12 @@
 -- `life_of` meets its contract: counted first, then written. Assumes nothing.
 use Prim.Native.Nat.{ℕ}
 use native.Mathlib.Omega.{arith}
-use mathlib.Core.Path.{sym, _∙_}
-use Rattle.model.proofs.Telling.{none-room, counted, told-short, second-space, told-all}
+use mathlib.Core.Path.{_∙_}
+use Rattle.model.proofs.reading.Telling.{none-room, counted, told-short, second-space, told-all}
 use Rattle.plain.specs.Plain.{valueAt}
 use Rattle.plain.specs.Items.{plainOf, from}
-use Rattle.plain.specs.Lived.{stretches, few-stretches, life-five, life-done}
+use Rattle.plain.specs.Lived.{stretches}
+use Rattle.plain.proofs.laws.Lived.{few-stretches, life-five, life-done}
 use borrow.Author.Needs.{needs}
 use Rattle.plain.proofs.life_of.Statement.{statement}
 use Rattle.plain.proofs.life_of.Tie as tie

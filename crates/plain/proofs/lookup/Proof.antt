@@ -1,10 +1,10 @@
 -- `lookup` meets its contract. Assumes nothing.
 use native.Mathlib.Omega.{arith}
-use mathlib.Core.Path.{_≡_, ap, sym, _∙_}
+use mathlib.Core.Path.{sym, _∙_}
 use Rattle.plain.specs.Plain.{valueAt}
-use Rattle.plain.specs.Items.{plainOf, from, looked-found, looked-none}
-use Rattle.plain.specs.Calls.{lookup-five, lookup-six, lookup-done}
-use borrow.Author.Needs.{needs}
+use Rattle.plain.specs.Items.{plainOf, from}
+use Rattle.plain.proofs.laws.Items.{looked-found, looked-none}
+use Rattle.plain.proofs.laws.Calls.{lookup-five, lookup-six, lookup-done}
 use Rattle.plain.proofs.lookup.Statement.{statement}
 use Rattle.plain.proofs.lookup.Tie as tie
 

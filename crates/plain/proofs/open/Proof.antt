@@ -3,7 +3,8 @@ use native.Mathlib.Omega.{arith}
 use mathlib.Core.Path.{ap, _∙_}
 use Rattle.plain.specs.declared.Left.{Left}
 use Rattle.plain.specs.Items.{plainOf}
-use Rattle.plain.specs.Calls.{givenBy, open-eight, open-nine, open-done}
+use Rattle.plain.specs.Calls.{givenBy}
+use Rattle.plain.proofs.laws.Calls.{open-eight, open-nine, open-done}
 use borrow.Author.Needs.{needs}
 use Rattle.plain.proofs.open.Statement.{statement}
 use Rattle.plain.proofs.open.Tie as tie

@@ -2,8 +2,10 @@
 use mathlib.Core.Path.{ap, sym, _∙_}
 use Rattle.plain.specs.declared.Left.{Left}
 use Rattle.plain.specs.Items.{plainOf}
-use Rattle.plain.specs.Calls.{givenBy, prune-three, prune-six, prune-eight, prune-left}
-use Rattle.plain.specs.Sweep.{outliving, swept-read}
+use Rattle.plain.specs.Calls.{givenBy}
+use Rattle.plain.proofs.laws.Calls.{prune-three, prune-six, prune-eight, prune-left}
+use Rattle.plain.specs.Sweep.{outliving}
+use Rattle.plain.proofs.laws.Sweep.{swept-read}
 use borrow.Author.Needs.{needs}
 use Rattle.plain.proofs.prune.Statement.{statement}
 use Rattle.plain.proofs.prune.Tie as tie

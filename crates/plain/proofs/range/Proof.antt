@@ -1,10 +1,10 @@
 -- `range` meets its contract: counted first, then written. Assumes nothing.
 use native.Mathlib.Omega.{arith}
-use mathlib.Core.Path.{_≡_, ap, sym, _∙_}
-use Rattle.model.proofs.Telling.{none-room, counted, told-short, second-space, told-all}
-use Rattle.plain.specs.Plain.{settings, differs}
+use mathlib.Core.Path.{sym, _∙_}
+use Rattle.model.proofs.reading.Telling.{none-room, counted, told-short, second-space, told-all}
 use Rattle.plain.specs.Items.{plainOf, from}
-use Rattle.plain.specs.Tell.{pairs, settings-few, range-fits, range-five, range-six, range-done}
+use Rattle.plain.specs.Tell.{pairs}
+use Rattle.plain.proofs.laws.Tell.{settings-few, range-fits, range-five, range-six, range-done}
 use borrow.Author.Needs.{needs}
 use Rattle.plain.proofs.range.Statement.{statement}
 use Rattle.plain.proofs.range.Tie as tie

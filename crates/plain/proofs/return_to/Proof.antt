@@ -5,8 +5,9 @@ use mathlib.Core.Path.{_≡_, ap, sym, _∙_}
 use borrow.Author.Tests.{not-true, not-false}
 use Rattle.plain.specs.declared.Left.{Left}
 use Rattle.plain.specs.Items.{plainOf}
-use Rattle.plain.specs.Calls.{givenBy, return-six, return-seven}
-use Rattle.plain.specs.Turns.{return-room, return-left}
+use Rattle.plain.specs.Calls.{givenBy}
+use Rattle.plain.proofs.laws.Calls.{return-six, return-seven}
+use Rattle.plain.proofs.laws.Turns.{return-room, return-left}
 use borrow.Author.Needs.{needs}
 use Rattle.plain.proofs.return_to.Statement.{statement}
 use Rattle.plain.proofs.return_to.Tie as tie

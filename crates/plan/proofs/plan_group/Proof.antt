@@ -1,11 +1,11 @@
-use Rattle.plan.specs.Plan.{plannedOf, group-fails, group-rises}
-use Rattle.group.specs.Numbers.{actives-two, active-in, numbers-small}
+use Rattle.plan.specs.Plan.{plannedOf}
+use Rattle.plan.proofs.laws.Plan.{group-fails, group-rises}
+use Rattle.group.proofs.laws.Numbers.{actives-two, active-in, numbers-small}
 use Rattle.group.specs.Group.{routersOf}
 use Rattle.parts.specs.Kept.{pagesOf}
 use Rattle.model.specs.Needs.{actives}
-use mathlib.Core.Path.{_≡_, _∙_}
 use native.Mathlib.Omega.{arith}
-use Prim.Native.Nat.{ℕ, _+_, _*_, _≤_, _<_}
+use Prim.Native.Nat.{_≤_}
 use borrow.Author.Needs.{needs}
 use Rattle.plan.proofs.plan_group.Statement.{statement}
 use Rattle.plan.proofs.plan_group.Tie as tie

@@ -1,7 +1,9 @@
-use Rattle.plan.specs.Plan.{plannedOf, level-settles, level-group}
+use Rattle.plan.specs.Plan.{plannedOf}
+use Rattle.plan.proofs.laws.Plan.{level-settles, level-group}
 use Rattle.group.specs.Group.{aroundOf}
-use Rattle.parts.specs.Kept.{pagesOf, wanted-room}
-use Rattle.gather.specs.Gather.{listed}
+use Rattle.parts.specs.Kept.{pagesOf}
+use Rattle.parts.proofs.laws.Kept.{wanted-room}
+use Rattle.gather.proofs.laws.Gather.{listed}
 use Rattle.edit.specs.Change.{changeOf}
 use Rattle.model.specs.Store.{page}
 use Rattle.model.specs.Needs.{takesInPlace}

@@ -1,11 +1,11 @@
-use Rattle.plan.specs.Plan.{outlookOf, root-goes, root-stays, root-lacks, root-moves}
+use Rattle.plan.specs.Plan.{outlookOf}
+use Rattle.plan.proofs.laws.Plan.{root-goes, root-stays, root-lacks, root-moves}
 use Rattle.parts.specs.Kept.{pagesOf}
-use Rattle.gather.specs.Gather.{listed}
+use Rattle.gather.proofs.laws.Gather.{listed}
 use Rattle.edit.specs.Change.{changeOf, one}
 use Rattle.model.specs.Store.{page}
 use Rattle.model.specs.Needs.{goes}
-use mathlib.Core.Bool.{Bool}
-use mathlib.Core.Path.{_≡_, ap, sym, _∙_}
+use mathlib.Core.Path.{_≡_, sym, _∙_}
 use native.Mathlib.Omega.{arith}
 use borrow.Author.Needs.{needs}
 use Rattle.plan.proofs.plan_root.Statement.{statement}

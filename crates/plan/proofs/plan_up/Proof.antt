@@ -1,15 +1,14 @@
-use Rattle.plan.specs.Plan.{plannedOf, outlookOf, upsOf, nowhere, up-step, up-end}
+use Rattle.plan.specs.Plan.{plannedOf, outlookOf, upsOf}
+use Rattle.plan.proofs.laws.Plan.{up-step, up-end}
 use Rattle.parts.specs.Kept.{pagesOf}
 use Rattle.gather.specs.Kept.{Fits}
 use Rattle.edit.specs.Change.{changeOf}
 use Rattle.model.specs.Plan.{planUp, planOn}
 use Rattle.model.specs.Plan as plan
 use Rattle.model.specs.Page as changes
-use lib.ListN.{getD}
-use mathlib.Core.List.{List}
 use mathlib.Core.Path.{_≡_, refl, ap, sym, _∙_}
 use native.Mathlib.Omega.{arith}
-use Prim.Native.Nat.{ℕ, _+_, _*_, _-_, _≤_, _<_}
+use Prim.Native.Nat.{ℕ, _+_, _*_, _-_, _≤_}
 use borrow.Author.Needs.{needs}
 use Rattle.plan.proofs.plan_up.Statement.{statement}
 use Rattle.plan.proofs.plan_up.Tie as tie

@@ -5,9 +5,9 @@ use borrow.Author.Needs.{needs}
 use Rattle.model.specs.Layout.{encodePage, decodePage}
 use Rattle.model.specs.Field.{zeros}
 use Rattle.page.specs.declared.Head.{Head}
-use Rattle.page.specs.Exact.{free-zeros}
-use Rattle.page.specs.Read.{end-of}
-use Rattle.prune.specs.Pages.{pruned-yes, pruned-no}
+use Rattle.page.proofs.laws.Exact.{free-zeros}
+use Rattle.page.proofs.laws.Read.{end-of}
+use Rattle.prune.proofs.laws.Pages.{pruned-yes, pruned-no}
 use Rattle.prune.proofs.drop_ended.Statement.{statement}
 use Rattle.prune.proofs.drop_ended.Tie as tie
 

@@ -1,18 +1,18 @@
 -- `first_needed` meets its contract. Assumes nothing.
-use Prim.Native.Nat.{_+_, _-_, _≤_, _<_}
+use Prim.Native.Nat.{_+_, _-_, _<_}
 use native.Mathlib.Omega.{arith}
-use mathlib.Core.Path.{_≡_, ap, sym, _∙_}
+use mathlib.Core.Path.{ap, _∙_}
 use lib.ListN.{length}
 use borrow.Author.Needs.{needs}
 use Rattle.model.specs.declared.Slot.{Slot}
 use Rattle.model.specs.Layout.{decode}
-use Rattle.prune.specs.Needed.{Past, past-start, past-more, past-stops, past-end}
-use Rattle.prune.specs.Whole.{kept-front, kept-short, few-slots, slot-is}
+use Rattle.prune.proofs.laws.Needed.{NoneNeeded, past-start, past-more, past-stops, past-end}
+use Rattle.prune.proofs.laws.Whole.{kept-front, kept-short, few-slots, slot-is}
 use Rattle.prune.proofs.first_needed.Statement.{statement}
 use Rattle.prune.proofs.first_needed.Tie as tie
 
 abbrev Inv-loop : tie.InvT-loop
-Inv-loop s l roots v k₀ k = (k < roots) × Past v (decode (l .least) s .slots) k
+Inv-loop s l roots v k₀ k = (k < roots) × NoneNeeded v (decode (l .least) s .slots) k
 
 abbrev μ-loop : tie.MeasureT-loop
 μ-loop s l roots v k₀ k = roots - k

@@ -1,13 +1,11 @@
 -- `prune` meets its contract. Assumes nothing.
-use Prim.Native.Nat.{_+_, _-_}
 use native.Mathlib.Omega.{arith}
-use mathlib.Core.Path.{_≡_, ap, sym, _∙_}
+use mathlib.Core.Path.{ap, sym, _∙_}
 use borrow.Author.Needs.{needs}
 use Rattle.model.specs.declared.Header.{Header}
-use Rattle.model.specs.Layout.{decode}
-use Rattle.store.specs.Sure.{few, front}
-use Rattle.turn.specs.Turned.{kept}
-use Rattle.prune.specs.Whole.{roots-are, some-roots, header-right, pages-kept, pages-roots, first-in, pruned-bytes}
+use Rattle.store.proofs.laws.Sure.{few, front}
+use Rattle.turn.proofs.laws.Turned.{kept}
+use Rattle.prune.proofs.laws.Whole.{roots-are, some-roots, header-right, pages-kept, pages-roots, pruned-bytes}
 use Rattle.prune.proofs.prune.Statement.{statement}
 use Rattle.prune.proofs.prune.Tie as tie
 

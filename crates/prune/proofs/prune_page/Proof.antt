@@ -3,8 +3,8 @@ use native.Mathlib.Omega.{arith}
 use mathlib.Core.Path.{ap, _∙_}
 use borrow.Author.Needs.{needs}
 use Rattle.model.specs.Layout.{withPage}
-use Rattle.page.specs.Editions.{bytes-is}
-use Rattle.store.specs.Parts.{part-page, part-back}
+use Rattle.page.proofs.laws.Editions.{bytes-is}
+use Rattle.store.proofs.laws.Parts.{part-page, part-back}
 use Rattle.prune.proofs.prune_page.Statement.{statement}
 use Rattle.prune.proofs.prune_page.Tie as tie
 

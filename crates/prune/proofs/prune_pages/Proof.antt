@@ -5,12 +5,12 @@ use mathlib.Core.Path.{_≡_, refl, sym, _∙_}
 use lib.ListN.{length}
 use borrow.Author.Needs.{needs}
 use Rattle.model.specs.Layout.{decode}
-use Rattle.prune.specs.Pruned.{Pruned, pruned-start, pruned-short, pruned-end, pruned-part, pruned-exact, pruned-step}
+use Rattle.prune.proofs.laws.Pruned.{PrunedBelow, pruned-start, pruned-short, pruned-end, pruned-part, pruned-exact, pruned-step}
 use Rattle.prune.proofs.prune_pages.Statement.{statement}
 use Rattle.prune.proofs.prune_pages.Tie as tie
 
 abbrev Inv-loop : tie.InvT-loop
-Inv-loop s₀ l size v n₀ s n = (5 ≤ n) × (n ≤ size) × (length s ≡ length s₀) × Pruned (l .least) (decode (l .least) s₀) v n s
+Inv-loop s₀ l size v n₀ s n = (5 ≤ n) × (n ≤ size) × (length s ≡ length s₀) × PrunedBelow (l .least) (decode (l .least) s₀) v n s
 
 abbrev μ-loop : tie.MeasureT-loop
 μ-loop s₀ l size v n₀ s n = size - n

@@ -3,7 +3,7 @@ use native.Mathlib.Omega.{arith}
 use mathlib.Core.Path.{sym, subst, _∙_}
 use borrow.Author.Needs.{needs}
 use Rattle.store.specs.Slots.{SlotFits}
-use Rattle.prune.specs.Whole.{kept-front, kept-short, few-slots, slot-put, slot-fits}
+use Rattle.prune.proofs.laws.Whole.{kept-front, kept-short, few-slots, slot-put, slot-fits}
 use Rattle.prune.proofs.shift_slot.Statement.{statement}
 use Rattle.prune.proofs.shift_slot.Tie as tie
 

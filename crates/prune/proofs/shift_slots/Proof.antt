@@ -1,11 +1,11 @@
 -- `shift_slots` meets its contract. Assumes nothing.
-use Prim.Native.Nat.{_-_, _≤_, _<_}
+use Prim.Native.Nat.{_-_, _≤_}
 use native.Mathlib.Omega.{arith}
 use mathlib.Core.Path.{_≡_, refl, sym, _∙_}
 use lib.ListN.{length}
 use borrow.Author.Needs.{needs}
 use Rattle.model.specs.Layout.{decode}
-use Rattle.prune.specs.Whole.{Shifted, shifted-start, shifted-kept, shifted-roots, shifted-step, shifted-end}
+use Rattle.prune.proofs.laws.Whole.{Shifted, shifted-start, shifted-kept, shifted-roots, shifted-step, shifted-end}
 use Rattle.prune.proofs.shift_slots.Statement.{statement}
 use Rattle.prune.proofs.shift_slots.Tie as tie
 

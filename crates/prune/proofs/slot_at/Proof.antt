@@ -4,7 +4,7 @@ use mathlib.Core.Path.{sym, _∙_}
 use lib.ListN.{List·getD-eq-default}
 use borrow.Author.Needs.{needs}
 use Rattle.model.specs.Layout.{noSlot, decode}
-use Rattle.prune.specs.Whole.{kept-front, kept-short, few-slots, slot-is}
+use Rattle.prune.proofs.laws.Whole.{kept-front, kept-short, few-slots, slot-is}
 use Rattle.prune.proofs.slot_at.Statement.{statement}
 use Rattle.prune.proofs.slot_at.Tie as tie
 

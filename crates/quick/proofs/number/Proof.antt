@@ -1,7 +1,7 @@
 -- `quick::number` meets its contract: numbers 1 to 3, then the rules, of which rule 8 is tested last. Assumes nothing.
-use Rattle.local.specs.Sizes.{sized}
-use Rattle.model.specs.Quick.{quickIn}
-use Rattle.quick.specs.Number.{refused-number, not-refused, ruled-number, in-clean}
+use Rattle.local.proofs.laws.Sizes.{sized}
+use Rattle.spans.specs.Quick.{quickIn}
+use Rattle.quick.proofs.laws.Number.{refused-number, not-refused, ruled-number, in-clean}
 use borrow.Author.Tests.{not-true, not-false}
 use native.Mathlib.Omega.{arith}
 use mathlib.Core.Bool.{true}

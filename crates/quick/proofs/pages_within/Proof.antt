@@ -3,8 +3,8 @@ use mathlib.Core.Path.{_≡_, ap, sym, _∙_}
 use native.Mathlib.Omega.{arith}
 use Rattle.model.specs.declared.Header.{Header}
 use Rattle.model.specs.Layout.{decode}
-use Rattle.store.specs.Read.{oldest-of}
-use Rattle.quick.specs.Number.{quick-pages}
+use Rattle.store.proofs.laws.Read.{oldest-of}
+use Rattle.quick.proofs.laws.Number.{quick-pages}
 use Rattle.quick.proofs.pages_within.Statement.{statement}
 use Rattle.quick.proofs.pages_within.Tie as tie
 

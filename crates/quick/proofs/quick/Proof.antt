@@ -2,7 +2,7 @@
 use mathlib.Core.Path.{sym, _∙_}
 use borrow.Author.Tests.{not-true, not-false}
 use Rattle.model.specs.Layout.{decode}
-use Rattle.quick.specs.Noted.{not-led, noted}
+use Rattle.quick.proofs.laws.Noted.{not-led, noted}
 use Rattle.quick.proofs.quick.Statement.{statement}
 use Rattle.quick.proofs.quick.Tie as tie
 

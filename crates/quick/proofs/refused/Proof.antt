@@ -1,5 +1,5 @@
 -- `quick::refused` meets its contract: the tests in check's order. Assumes nothing.
-use Rattle.local.specs.Sizes.{sized}
+use Rattle.local.proofs.laws.Sizes.{sized}
 use Rattle.local.specs.Local.{Sized}
 use Rattle.model.specs.Layout.{sizeOf}
 use borrow.Author.Tests.{not-true, not-false}

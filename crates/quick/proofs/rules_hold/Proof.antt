@@ -1,10 +1,10 @@
 -- `quick::rules_hold` meets its contract: the rules that hold so far give what the next one asks. Assumes nothing.
-use Rattle.quick.specs.Number.{in-first, in-second, in-third, in-quick, in-rest}
-use Rattle.quick.specs.Given.{good}
-use Rattle.quick.specs.Slots.{good-slots}
-use Rattle.notes.specs.Given.{ready}
-use Rattle.model.proofs.Judging.{clean-first}
-use Rattle.local.specs.Linked.{held}
+use Rattle.quick.proofs.laws.Number.{in-first, in-second, in-third, in-quick, in-rest}
+use Rattle.quick.proofs.laws.Given.{good}
+use Rattle.quick.proofs.laws.Slots.{good-slots}
+use Rattle.notes.proofs.laws.Given.{ready}
+use Rattle.model.proofs.sound.Judging.{clean-first}
+use Rattle.local.proofs.laws.Linked.{held}
 use Rattle.local.specs.Local.{Held}
 use Rattle.model.specs.Sound.{rule2, rule3}
 use Rattle.model.specs.Layout.{decode}
@@ -16,12 +16,6 @@ use mathlib.Core.Path.{_≡_, sym, _∙_}
 use borrow.Author.Needs.{needs}
 use Rattle.quick.proofs.rules_hold.Statement.{statement}
 use Rattle.quick.proofs.rules_hold.Tie as tie
-use Rattle.quick.proofs.rules_hold.Reads as reads
-use Rattle.quick.proofs.rules_hold.Lts as lts
-use Rattle.local.proofs.first_rule.Reads as first-rule-reads
-use Rattle.local.proofs.second_rule.Reads as second-rule-reads
-use Rattle.local.proofs.third_rule.Reads as third-rule-reads
-use Rattle.store.proofs.header.Reads as header-reads
 
 -- the rules that hold so far, and what they give
 one : (c : tie.Else1) → let a = c .before .before .before .args in clean (a .l .least) (a .s .now) ≡ true
@@ -36,35 +30,27 @@ two c = sym (c .before .second-rule .ensures) ∙ not-false (c .before .second-r
 three : (c : tie.Else3) → let a = c .before .before .before .before .before .before .before .before .args in rule3 (decode (a .l .least) (a .s .now)) ≡ true
 three c = sym (c .before .third-rule .ensures) ∙ not-false (c .before .third-rule .result) (c .if3 .left)
 
--- src/lib.rt:46:9
 first-rule-requires : tie.Need-first-rule-requires
 first-rule-requires c κs = search needs
 
--- src/lib.rt:47:9
 returns : tie.Need-returns
 returns c = let a = c .before .before .before .args in sym (in-first (a .l .least) (a .s .now) (sym (c .before .first-rule .ensures) ∙ not-true (c .before .first-rule .result) (c .if1 .taken)))
 
--- src/lib.rt:49:9
 header-requires : tie.Need-header-requires
 header-requires c κs = (c .before .before .before .pre .0, omega (arith, c .before .before .before .pre .1 .front), omega (arith, c .before .before .before .pre .1 .long))
 
--- src/lib.rt:50:9
 second-rule-requires : tie.Need-second-rule-requires
 second-rule-requires c κs = (c .before .before .before .before .pre .0, is-held ((c)))
 
--- src/lib.rt:51:9
 returns-2 : tie.Need-returns-2
 returns-2 c = let a = c .before .before .before .before .before .before .args in sym (in-second (a .l .least) (a .s .now) (one ((c .before .before .before))) (sym (c .before .second-rule .ensures) ∙ not-true (c .before .second-rule .result) (c .if2 .taken)))
 
--- src/lib.rt:53:9
 third-rule-requires : tie.Need-third-rule-requires
 third-rule-requires c κs = (c .before .before .before .before .before .before .pre .0, is-held ((c .before .before)))
 
--- src/lib.rt:54:9
 returns-3 : tie.Need-returns-3
 returns-3 c = let a = c .before .before .before .before .before .before .before .before .args in sym (in-third (a .l .least) (a .s .now) (one ((c .before .before .before .before .before))) (two ((c .before .before))) (sym (c .before .third-rule .ensures) ∙ not-true (c .before .third-rule .result) (c .if3 .taken)))
 
--- src/lib.rt:56:5
 quick-requires : tie.Need-quick-requires
 quick-requires c κs = let a = c .before .before .before .before .before .before .before .before .args in (c .before .before .before .before .before .before .before .before .pre .0, good (a .l .least) (a .s .now) (a .size) (c .before .before .before .before .before .before .before .before .pre .1) (one ((c .before .before .before .before .before))) (three ((c))), good-slots (a .l .least) (a .s .now) (a .size) (c .before .before .before .before .before .before .before .before .pre .1) (one ((c .before .before .before .before .before))), ready (a .l .least) (a .s .now) (c .before .before .before .before .header .result) (is-held (c .before .before .before .before)) (two (c .before .before)) (three ((c))), record { two = omega (arith, c .before .before .before .before .before .before .before .before .pre .0 .four); first = clean-first (a .l .least) (a .s .now) (one (c .before .before .before .before .before)); second = two (c .before .before); third = three ((c)) })
 

@@ -2,7 +2,7 @@
 use mathlib.Core.Path.{sym, _∙_}
 use native.Mathlib.Omega.{arith}
 use borrow.Author.Tests.{not-false}
-use Rattle.notes.specs.Laws.{wrong}
+use Rattle.notes.proofs.laws.Laws.{wrong}
 use Rattle.quick.proofs.surely.Statement.{statement}
 use Rattle.quick.proofs.surely.Tie as tie
 

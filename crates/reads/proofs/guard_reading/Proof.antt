@@ -2,10 +2,11 @@
 use native.Mathlib.Omega.{arith}
 use mathlib.Core.Path.{sym, _∙_}
 use borrow.Author.Needs.{needs}
-use Rattle.store.specs.Sure.{few, front}
-use Rattle.store.specs.Read.{current-lt}
-use Rattle.reads.specs.Reading.{reading, unread-of, gives-five, gives-six, gives-none}
-use Rattle.reads.specs.Guard.{judged-number, zero-sound}
+use Rattle.store.proofs.laws.Sure.{few, front}
+use Rattle.store.proofs.laws.Read.{current-lt}
+use Rattle.reads.specs.Reading.{reading}
+use Rattle.reads.proofs.laws.Reading.{unread-of, gives-five, gives-six, gives-none}
+use Rattle.reads.proofs.laws.Guard.{judged-number, zero-sound}
 use Rattle.reads.proofs.guard_reading.Statement.{statement}
 use Rattle.reads.proofs.guard_reading.Tie as tie
 

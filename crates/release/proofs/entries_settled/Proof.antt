@@ -8,11 +8,11 @@ use Rattle.model.specs.Basic.{all}
 use Rattle.model.specs.Store.{page}
 use Rattle.model.specs.Layout.{decode}
 use Rattle.page.specs.declared.Head.{Head}
-use Rattle.store.specs.Sure.{few}
-use Rattle.walk.specs.Sure.{inside, five, size}
+use Rattle.store.proofs.laws.Sure.{few}
+use Rattle.walk.proofs.laws.Sure.{inside, five, size}
 use Rattle.walk.specs.Scan.{from}
 use Rattle.release.specs.Settled.{settled}
-use Rattle.release.specs.Places.{entries-are, key-low, all-stops, all-goes, all-done}
+use Rattle.release.proofs.laws.Places.{entries-are, key-low, all-stops, all-goes, all-done}
 use Rattle.release.proofs.entries_settled.Statement.{statement}
 use Rattle.release.proofs.entries_settled.Tie as tie
 

@@ -3,7 +3,7 @@ use mathlib.Core.Path.{sym, _∙_}
 use borrow.Author.Needs.{needs}
 use Rattle.model.specs.Walk.{lookup}
 use Rattle.model.specs.Layout.{decode}
-use Rattle.release.specs.Places.{value-so, absent-so, refused-so}
+use Rattle.release.proofs.laws.Places.{value-so, absent-so, refused-so}
 use Rattle.release.proofs.has.Statement.{statement}
 use Rattle.release.proofs.has.Tie as tie
 

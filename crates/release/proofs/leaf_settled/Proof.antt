@@ -3,9 +3,9 @@ use Prim.Native.Nat.{_≤_}
 use mathlib.Core.Path.{subst}
 use borrow.Author.Needs.{needs}
 use Rattle.page.specs.declared.Head.{Head}
-use Rattle.store.specs.Sure.{few}
-use Rattle.walk.specs.Sure.{inside}
-use Rattle.release.specs.Ended.{ended-settled}
+use Rattle.store.proofs.laws.Sure.{few}
+use Rattle.walk.proofs.laws.Sure.{inside}
+use Rattle.release.proofs.laws.Ended.{ended-settled}
 use Rattle.release.proofs.leaf_settled.Statement.{statement}
 use Rattle.release.proofs.leaf_settled.Tie as tie
 

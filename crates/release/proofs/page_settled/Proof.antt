@@ -2,8 +2,8 @@
 use mathlib.Core.Path.{ap, sym, _∙_}
 use borrow.Author.Needs.{needs}
 use Rattle.page.specs.declared.Head.{Head}
-use Rattle.store.specs.Sure.{few, part-in}
-use Rattle.release.specs.Places.{level-is, no-leaf, a-leaf}
+use Rattle.store.proofs.laws.Sure.{few, part-in}
+use Rattle.release.proofs.laws.Places.{level-is, no-leaf, a-leaf}
 use Rattle.release.proofs.page_settled.Statement.{statement}
 use Rattle.release.proofs.page_settled.Tie as tie
 

@@ -1,7 +1,7 @@
 -- `settled` meets its contract. Assumes nothing.
 use native.Mathlib.Omega.{arith}
 use mathlib.Core.Path.{_∙_}
-use Rattle.release.specs.Opened.{reads-upto, next-low, settled-start, settled-end, settled-apart}
+use Rattle.release.proofs.laws.Opened.{reads-upto, next-low, settled-start, settled-end, settled-apart}
 use Rattle.release.proofs.settled.Statement.{statement}
 use Rattle.release.proofs.settled.Tie as tie
 

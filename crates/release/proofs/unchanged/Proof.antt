@@ -8,10 +8,10 @@ use borrow.Author.Tests.{not-true, not-false}
 use Rattle.model.specs.declared.Header.{Header}
 use Rattle.model.specs.Layout.{decode}
 use Rattle.model.specs.Calls.{unchanged}
-use Rattle.store.specs.Sure.{few, front}
-use Rattle.release.specs.Settled.{settledFrom}
-use Rattle.release.specs.Opened.{size-is, header-size, whole-is}
-use Rattle.release.specs.Places.{from-stops, from-goes, from-done}
+use Rattle.store.proofs.laws.Sure.{few, front}
+use Rattle.release.proofs.laws.Settled.{settledFrom}
+use Rattle.release.proofs.laws.Opened.{size-is, header-size, whole-is}
+use Rattle.release.proofs.laws.Places.{from-stops, from-goes, from-done}
 use Rattle.release.proofs.unchanged.Statement.{statement}
 use Rattle.release.proofs.unchanged.Tie as tie
 

@@ -1,7 +1,7 @@
 -- `give_way` meets its contract. Assumes nothing.
 use mathlib.Core.Path.{ap, sym, _∙_}
 use Rattle.model.specs.declared.Pair.{Pair}
-use Rattle.gather.specs.Gather.{pair-at}
+use Rattle.gather.proofs.laws.Gather.{pair-at}
 use borrow.Author.Needs.{needs}
 use Rattle.root.proofs.give_way.Statement.{statement}
 use Rattle.root.proofs.give_way.Tie as tie

@@ -8,12 +8,14 @@ use Rattle.model.specs.Needs.{goes}
 use Rattle.model.specs.Store.{page}
 use Rattle.model.specs.Page.{changed}
 use Rattle.edit.specs.Change.{changeOf}
-use Rattle.parts.specs.Kept.{pagesOf, wanted-room}
-use Rattle.parts.specs.Becomes.{pages-are}
-use Rattle.gather.specs.Gather.{listed}
-use Rattle.climb.specs.Rebuild.{itself}
-use Rattle.root.specs.Root.{rootedOf, goes-some, root-goes, root-stays, root-renews}
-use Rattle.root.specs.Renew.{alone-is, alone-grouped}
+use Rattle.parts.specs.Kept.{pagesOf}
+use Rattle.parts.proofs.laws.Kept.{wanted-room}
+use Rattle.parts.proofs.laws.Becomes.{pages-are}
+use Rattle.gather.proofs.laws.Gather.{listed}
+use Rattle.climb.proofs.laws.Rebuild.{itself}
+use Rattle.root.specs.Root.{rootedOf}
+use Rattle.root.proofs.laws.Root.{goes-some, root-goes, root-stays, root-renews}
+use Rattle.root.proofs.laws.Renew.{alone-is, alone-grouped}
 use borrow.Author.Needs.{needs}
 use Rattle.root.proofs.work_root.Statement.{statement}
 use Rattle.root.proofs.work_root.Tie as tie

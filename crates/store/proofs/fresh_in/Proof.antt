@@ -1,6 +1,6 @@
 -- `store::fresh_in` meets its contract: refused and untouched, or made. Assumes nothing.
-use Rattle.store.specs.Answers.{refused-number, refused-store, done-number, done-store}
-use Rattle.store.specs.Tested.{whole-length}
+use Rattle.store.proofs.laws.Answers.{refused-number, refused-store, done-number, done-store}
+use Rattle.store.proofs.laws.Tested.{whole-length}
 use Rattle.model.specs.Judged.{lengthOk}
 use borrow.Author.Tests.{not-true, not-false}
 use Prim.Native.Nat.{ℕ}

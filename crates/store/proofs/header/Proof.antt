@@ -1,5 +1,5 @@
 -- `store::header` meets its contract: the fields are read one by one. Assumes nothing.
-use Rattle.page.specs.Editions.{rooter-is, rooter-roots, aged-is, aged-few}
+use Rattle.page.proofs.laws.Editions.{rooter-is, rooter-roots, aged-is, aged-few}
 use Rattle.model.specs.Layout.{readHeader}
 use native.Mathlib.Omega.{arith}
 use borrow.Author.Needs.{needs}

@@ -1,5 +1,5 @@
 -- `store::named` meets its contract: before turn i the first i bytes are those of the name. Assumes nothing.
-use Rattle.store.specs.Answers.{name-same, name-other}
+use Rattle.store.proofs.laws.Answers.{name-same, name-other}
 use Rattle.model.specs.Layout.{magic}
 use borrow.Author.Count.{below-more}
 use lib.ListN.{getD}

@@ -1,6 +1,6 @@
 -- `store::part` meets its contract: what is lent is the page. Assumes nothing.
-use Rattle.store.specs.Parts.{part-page, length-page}
-use Rattle.page.specs.Editions.{bytes-is}
+use Rattle.store.proofs.laws.Parts.{part-page, length-page}
+use Rattle.page.proofs.laws.Editions.{bytes-is}
 use lib.ListN.{length}
 use mathlib.Core.Path.{ap, _∙_}
 use native.Mathlib.Omega.{arith}

@@ -1,6 +1,7 @@
 -- `store::put_header` meets its contract: the fields are laid one after the other. Assumes nothing.
-use Rattle.store.specs.Header.{putHeader, bit-small}
-use Rattle.page.specs.Editions.{rooter-is, rooter-roots, aged-is, aged-few}
+use Rattle.store.specs.Header.{putHeader}
+use Rattle.store.proofs.laws.Header.{bit-small}
+use Rattle.page.proofs.laws.Editions.{rooter-is, rooter-roots, aged-is, aged-few}
 use Rattle.model.specs.Field.{lay}
 use native.Mathlib.Omega.{arith}
 use borrow.Author.Needs.{needs}

@@ -1,5 +1,5 @@
 -- `store::put_slot` meets its contract: the fields are laid one after the other. Assumes nothing.
-use Rattle.page.specs.Editions.{bytes-is}
+use Rattle.page.proofs.laws.Editions.{bytes-is}
 use Rattle.model.specs.Field.{lay}
 use Prim.Native.Nat.{_*_}
 use mathlib.Core.Path.{_≡_}

@@ -1,5 +1,5 @@
 -- `store::slot` meets its contract: the fields are read one by one. Assumes nothing.
-use Rattle.page.specs.Editions.{bytes-is}
+use Rattle.page.proofs.laws.Editions.{bytes-is}
 use Rattle.model.specs.Layout.{readSlot}
 use Prim.Native.Nat.{_*_}
 use mathlib.Core.Path.{_≡_}

@@ -7,7 +7,7 @@ use Rattle.model.specs.declared.Pair.{Pair}
 use Rattle.model.specs.Layout.{pageOf}
 use Rattle.page.specs.Head.{readHead}
 use Rattle.model.specs.Near.{startsBy}
-use Rattle.tabled.specs.Starts.{starts-next}
+use Rattle.tabled.proofs.laws.Starts.{starts-next}
 use Rattle.tabled.proofs.starts.Statement.{statement}
 use Rattle.tabled.proofs.starts.Tie as tie
 

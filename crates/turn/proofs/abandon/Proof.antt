@@ -6,13 +6,13 @@ use borrow.Author.Needs.{needs}
 use Rattle.model.specs.Layout.{decode}
 use Rattle.model.specs.Store.{next}
 use Rattle.model.specs.declared.Header.{Header}
-use Rattle.model.proofs.Given.{old-current}
-use Rattle.store.specs.Sure.{sure, few, front, roots}
-use Rattle.store.specs.Header.{header-fits}
-use Rattle.store.specs.Read.{current-of}
-use Rattle.turn.specs.Abandoned.{some-roots, abandoned-bytes}
-use Rattle.turn.specs.Ended.{all-past}
-use Rattle.turn.specs.Turned.{kept, next-low}
+use Rattle.model.proofs.sound.ByRule.{old-current}
+use Rattle.store.proofs.laws.Sure.{sure, few, front, roots}
+use Rattle.store.proofs.laws.Header.{header-fits}
+use Rattle.store.proofs.laws.Read.{current-of}
+use Rattle.turn.proofs.laws.Abandoned.{some-roots, abandoned-bytes}
+use Rattle.turn.proofs.laws.Ended.{all-past}
+use Rattle.turn.proofs.laws.Turned.{kept, next-low}
 use Rattle.turn.proofs.abandon.Statement.{statement}
 use Rattle.turn.proofs.abandon.Tie as tie
 

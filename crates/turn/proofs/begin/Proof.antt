@@ -2,9 +2,9 @@
 use native.Mathlib.Omega.{arith}
 use mathlib.Core.Path.{_∙_}
 use borrow.Author.Needs.{needs}
-use Rattle.store.specs.Sure.{few, front}
-use Rattle.store.specs.Header.{header-fits}
-use Rattle.turn.specs.Turned.{kept, begun-bytes}
+use Rattle.store.proofs.laws.Sure.{few, front}
+use Rattle.store.proofs.laws.Header.{header-fits}
+use Rattle.turn.proofs.laws.Turned.{kept, begun-bytes}
 use Rattle.turn.proofs.begin.Statement.{statement}
 use Rattle.turn.proofs.begin.Tie as tie
 

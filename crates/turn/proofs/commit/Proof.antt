@@ -3,9 +3,9 @@ use native.Mathlib.Omega.{arith}
 use mathlib.Core.Path.{ap, _∙_}
 use borrow.Author.Needs.{needs}
 use Rattle.model.specs.declared.Header.{Header}
-use Rattle.store.specs.Sure.{few, front}
-use Rattle.store.specs.Header.{header-fits}
-use Rattle.turn.specs.Turned.{kept, committed-bytes, next-low}
+use Rattle.store.proofs.laws.Sure.{few, front}
+use Rattle.store.proofs.laws.Header.{header-fits}
+use Rattle.turn.proofs.laws.Turned.{kept, committed-bytes, next-low}
 use Rattle.turn.proofs.commit.Statement.{statement}
 use Rattle.turn.proofs.commit.Tie as tie
 

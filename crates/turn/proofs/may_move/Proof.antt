@@ -2,9 +2,8 @@
 use Prim.Native.Nat.{_<_}
 use native.Mathlib.Omega.{arith}
 use mathlib.Core.Path.{subst}
-use borrow.Author.Needs.{needs}
 use Rattle.page.specs.declared.Head.{Head}
-use Rattle.turn.specs.Ended.{past-read}
+use Rattle.turn.proofs.laws.Ended.{past-read}
 use Rattle.turn.proofs.may_move.Statement.{statement}
 use Rattle.turn.proofs.may_move.Tie as tie
 

@@ -1,14 +1,12 @@
 -- `touched` meets its contract: what is left to be read decides for all. Assumes nothing.
-use Prim.Native.Nat.{ℕ, _+_, _*_, _-_, _≤_, _<_}
+use Prim.Native.Nat.{ℕ, _+_, _-_, _≤_, _<_}
 use native.Mathlib.Omega.{arith}
 use mathlib.Core.Path.{_≡_, ap, sym, _∙_, subst}
 use mathlib.Core.Bool.{true, false}
-use mathlib.Core.List.{List}
-use lib.ListN.{length}
 use borrow.Author.Needs.{needs}
 use Rattle.model.specs.declared.Entry.{Entry}
 use Rattle.page.specs.declared.Head.{Head}
-use Rattle.turn.specs.Touched.{Still, from, still-more, from-step, from-end, count-is, still-read}
+use Rattle.turn.proofs.laws.Touched.{Still, from, still-more, from-step, from-end, count-is, still-read}
 use Rattle.turn.proofs.touched.Statement.{statement}
 use Rattle.turn.proofs.touched.Tie as tie
 

@@ -1,12 +1,12 @@
 -- `undo_page` meets its contract. Assumes nothing.
 use native.Mathlib.Omega.{arith}
-use mathlib.Core.Path.{ap, sym, _∙_}
+use mathlib.Core.Path.{ap, _∙_}
 use borrow.Author.Tests.{not-true}
 use borrow.Author.Needs.{needs}
 use Rattle.model.specs.Layout.{withPage}
-use Rattle.page.specs.Editions.{bytes-is}
-use Rattle.store.specs.Parts.{part-page, part-back}
-use Rattle.turn.specs.Touched.{unmoved}
+use Rattle.page.proofs.laws.Editions.{bytes-is}
+use Rattle.store.proofs.laws.Parts.{part-page, part-back}
+use Rattle.turn.proofs.laws.Touched.{unmoved}
 use Rattle.turn.proofs.undo_page.Statement.{statement}
 use Rattle.turn.proofs.undo_page.Tie as tie
 

@@ -5,7 +5,7 @@ use mathlib.Core.Path.{_≡_, refl, sym, _∙_}
 use lib.ListN.{length}
 use borrow.Author.Needs.{needs}
 use Rattle.model.specs.Layout.{decode}
-use Rattle.turn.specs.Undone.{Undone, undone-start, undone-short, undone-end, undone-part, undone-exact, undone-past, undone-step}
+use Rattle.turn.proofs.laws.Undone.{Undone, undone-start, undone-short, undone-end, undone-part, undone-exact, undone-past, undone-step}
 use Rattle.turn.proofs.undo_pages.Statement.{statement}
 use Rattle.turn.proofs.undo_pages.Tie as tie
 

@@ -1,7 +1,7 @@
 -- `apply` meets its contract. Assumes nothing.
 use mathlib.Core.Path.{_∙_}
 use Rattle.climb.specs.Work.{workedOf}
-use Rattle.update.specs.Applied.{done-settled, done-lacking, to-root, applied}
+use Rattle.update.proofs.laws.Applied.{done-settled, done-lacking, to-root, applied}
 use borrow.Author.Needs.{needs}
 use Rattle.update.proofs.apply.Statement.{statement}
 use Rattle.update.proofs.apply.Tie as tie

@@ -1,8 +1,8 @@
-use Rattle.parts.specs.Becomes.{kept-after}
-use Rattle.root.specs.Slotted.{slotted-after}
+use Rattle.parts.proofs.laws.Becomes.{kept-after}
+use Rattle.root.proofs.laws.Slotted.{slotted-after}
 -- `apply_root` meets its contract. Assumes nothing.
 use Rattle.root.specs.Root.{rootedOf}
-use Rattle.update.specs.Applied.{bytes-stay, done-lacks, done-slot, done-inside, done-moves}
+use Rattle.update.proofs.laws.Applied.{bytes-stay, done-lacks, done-slot, done-inside, done-moves}
 use borrow.Author.Needs.{needs}
 use Rattle.update.proofs.apply_root.Statement.{statement}
 use Rattle.update.proofs.apply_root.Tie as tie

@@ -3,7 +3,7 @@ use native.Mathlib.Omega.{arith}
 use mathlib.Core.Bool.{true, false}
 use mathlib.Core.Path.{sym, _∙_}
 use Rattle.parts.specs.Kept.{pagesOf}
-use Rattle.update.specs.Foreseen.{free-few, keeps-number, lacks-number, moves-number}
+use Rattle.update.proofs.laws.Foreseen.{free-few, keeps-number, lacks-number, moves-number}
 use borrow.Author.Needs.{needs}
 use Rattle.update.proofs.foresee.Statement.{statement}
 use Rattle.update.proofs.foresee.Tie as tie

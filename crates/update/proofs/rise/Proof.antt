@@ -1,5 +1,5 @@
 -- `rise` meets its contract. Assumes nothing.
-use Rattle.update.specs.Whole.{Begun, kept, slots, readable, is-refused, to-apply, is-done}
+use Rattle.update.proofs.laws.Whole.{Begun, kept, slots, readable, is-refused, to-apply, is-done}
 use borrow.Author.Needs.{needs}
 use Rattle.update.proofs.rise.Statement.{statement}
 use Rattle.update.proofs.rise.Tie as tie

@@ -5,13 +5,13 @@ use mathlib.Core.Path.{_≡_, ap, sym, _∙_}
 use Rattle.model.specs.declared.Header.{Header}
 use Rattle.model.specs.Store.{page, next}
 use Rattle.model.specs.Layout.{decode}
-use Rattle.store.specs.Sure.{few, front}
-use Rattle.root.specs.Slotted.{next-is}
+use Rattle.store.proofs.laws.Sure.{few, front}
+use Rattle.root.proofs.laws.Slotted.{next-is}
 use Rattle.edit.specs.Change.{changeOf}
 use Rattle.parts.specs.Kept.{pagesOf}
-use Rattle.climb.specs.Work.{in-place-room}
-use Rattle.update.specs.Whole.{Begun, kept, slots, low, readable}
-use Rattle.update.specs.Settled.{leaf-inside, settles}
+use Rattle.climb.proofs.laws.Work.{in-place-room}
+use Rattle.update.proofs.laws.Whole.{Begun, kept, slots, low, readable}
+use Rattle.update.proofs.laws.Settled.{leaf-inside, settles}
 use borrow.Author.Needs.{needs}
 use Rattle.update.proofs.update.Statement.{statement}
 use Rattle.update.proofs.update.Tie as tie

@@ -3,8 +3,8 @@ use Prim.Native.Nat.{ℕ}
 use mathlib.Core.Path.{_∙_}
 use borrow.Author.Needs.{needs}
 use Rattle.model.specs.Named.{viewedBy, viewed}
-use Rattle.store.specs.Editions.{is-edition, refused-early, gone-on}
-use Rattle.viewer.specs.Opens.{viewed-is}
+use Rattle.store.proofs.laws.Editions.{is-edition, refused-early, gone-on}
+use Rattle.viewer.proofs.laws.Opens.{viewed-is}
 use Rattle.viewer.proofs.opens.Statement.{statement}
 use Rattle.viewer.proofs.opens.Tie as tie
 

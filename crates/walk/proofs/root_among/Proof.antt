@@ -8,8 +8,8 @@ use Rattle.model.specs.Layout.{readSlots, decode}
 use Rattle.model.specs.Walk.{rootAt}
 use Rattle.model.specs.declared.Header.{Header}
 use Rattle.model.specs.declared.Slot.{Slot}
-use Rattle.store.specs.Read.{slots-of}
-use Rattle.walk.specs.Down.{root-here, root-before, root-none}
+use Rattle.store.proofs.laws.Read.{slots-of}
+use Rattle.walk.proofs.laws.Down.{root-here, root-before, root-none}
 use Rattle.walk.proofs.root_among.Statement.{statement}
 use Rattle.walk.proofs.root_among.Tie as tie
 

@@ -4,7 +4,7 @@ use mathlib.Core.Path.{_∙_}
 use borrow.Author.Needs.{needs}
 use Rattle.model.specs.Lent.{Listed, differenceLent}
 use Rattle.model.specs.Any.{differenceAny}
-use Rattle.store.specs.Editions.{is-edition, refused-early, gone-on}
+use Rattle.store.proofs.laws.Editions.{is-edition, refused-early, gone-on}
 use Rattle.calls.proofs.any.difference.Statement.{statement}
 use Rattle.calls.proofs.any.difference.Tie as tie
 

@@ -4,7 +4,7 @@ use mathlib.Core.Path.{_∙_}
 use borrow.Author.Needs.{needs}
 use Rattle.model.specs.Lent.{Listed, lifeLent}
 use Rattle.model.specs.Any.{lifeAny}
-use Rattle.store.specs.Editions.{is-edition, refused-early, gone-on}
+use Rattle.store.proofs.laws.Editions.{is-edition, refused-early, gone-on}
 use Rattle.calls.proofs.any.life.Statement.{statement}
 use Rattle.calls.proofs.any.life.Tie as tie
 

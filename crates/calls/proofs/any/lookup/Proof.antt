@@ -5,7 +5,7 @@ use borrow.Author.Needs.{needs}
 use Rattle.model.specs.declared.Looked.the-variants.{Refused}
 use Rattle.model.specs.Lent.{lookupLent}
 use Rattle.model.specs.Any.{lookupAny}
-use Rattle.store.specs.Editions.{is-edition, refused-early, gone-on}
+use Rattle.store.proofs.laws.Editions.{is-edition, refused-early, gone-on}
 use Rattle.calls.proofs.any.lookup.Statement.{statement}
 use Rattle.calls.proofs.any.lookup.Tie as tie
 

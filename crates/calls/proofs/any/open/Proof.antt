@@ -4,7 +4,7 @@ use mathlib.Core.Path.{_∙_}
 use borrow.Author.Needs.{needs}
 use Rattle.model.specs.Lent.{leaving, openLent}
 use Rattle.model.specs.Any.{openAny}
-use Rattle.store.specs.Editions.{is-edition, refused-early, gone-on}
+use Rattle.store.proofs.laws.Editions.{is-edition, refused-early, gone-on}
 use Rattle.calls.proofs.any.open.Statement.{statement}
 use Rattle.calls.proofs.any.open.Tie as tie
 

@@ -4,7 +4,7 @@ use mathlib.Core.Path.{_∙_}
 use borrow.Author.Needs.{needs}
 use Rattle.model.specs.Lent.{leaving, pruneLent}
 use Rattle.model.specs.Any.{pruneAny}
-use Rattle.store.specs.Editions.{is-edition, refused-early, gone-on}
+use Rattle.store.proofs.laws.Editions.{is-edition, refused-early, gone-on}
 use Rattle.calls.proofs.any.prune.Statement.{statement}
 use Rattle.calls.proofs.any.prune.Tie as tie
 

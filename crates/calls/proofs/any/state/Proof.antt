@@ -6,7 +6,7 @@ use Rattle.model.specs.declared.State.{State}
 use Rattle.model.specs.State.{untold}
 use Rattle.model.specs.Lent.{stateLent}
 use Rattle.model.specs.Any.{stateAny}
-use Rattle.store.specs.Editions.{is-edition, refused-early, gone-on}
+use Rattle.store.proofs.laws.Editions.{is-edition, refused-early, gone-on}
 use Rattle.calls.proofs.any.state.Statement.{statement}
 use Rattle.calls.proofs.any.state.Tie as tie
 

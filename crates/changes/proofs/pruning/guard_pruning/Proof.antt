@@ -1,7 +1,8 @@
 -- `guard_pruning` meets its contract. Assumes nothing.
-use Rattle.changes.specs.Pruning.{pruning, gives-six, gives-eight, gives-none}
-use Rattle.reads.specs.Guard.{judged-number, zero-sound}
-use Rattle.store.specs.Sure.{few, front}
+use Rattle.changes.specs.Pruning.{pruning}
+use Rattle.changes.proofs.laws.Pruning.{gives-six, gives-eight, gives-none}
+use Rattle.reads.proofs.laws.Guard.{judged-number, zero-sound}
+use Rattle.store.proofs.laws.Sure.{few, front}
 use mathlib.Core.Path.{sym, _∙_}
 use native.Mathlib.Omega.{arith}
 use borrow.Author.Needs.{needs}

@@ -1,8 +1,9 @@
 -- `prune_in` meets its contract. Assumes nothing.
 use mathlib.Core.Path.{sym, _∙_}
 use borrow.Author.Needs.{needs}
-use Rattle.changes.specs.Pruning.{pruning, prune-first, prune-refused, prune-done, upto-current}
-use Rattle.reads.specs.Guard.{guard-sound}
+use Rattle.changes.specs.Pruning.{pruning}
+use Rattle.changes.proofs.laws.Pruning.{prune-first, prune-refused, prune-done, upto-current}
+use Rattle.reads.proofs.laws.Guard.{guard-sound}
 use Rattle.changes.proofs.pruning.prune_in.Statement.{statement}
 use Rattle.changes.proofs.pruning.prune_in.Tie as tie
 

@@ -1,7 +1,8 @@
 -- `guard_returning` meets its contract. Assumes nothing.
-use Rattle.changes.specs.Returning.{returning, gives-six, gives-seven, gives-none}
-use Rattle.reads.specs.Guard.{judged-number, zero-sound}
-use Rattle.store.specs.Sure.{few, front}
+use Rattle.changes.specs.Returning.{returning}
+use Rattle.changes.proofs.laws.Returning.{gives-six, gives-seven, gives-none}
+use Rattle.reads.proofs.laws.Guard.{judged-number, zero-sound}
+use Rattle.store.proofs.laws.Sure.{few, front}
 use borrow.Author.Tests.{not-true, not-false}
 use mathlib.Core.Path.{sym, _∙_}
 use native.Mathlib.Omega.{arith}

@@ -1,8 +1,9 @@
 -- `return_in` meets its contract. Assumes nothing.
-use Rattle.changes.specs.Returning.{returning, return-refused, return-done, goes-back}
-use Rattle.reads.specs.Guard.{guard-sound}
-use Rattle.store.specs.Read.{current-lt}
-use Rattle.store.specs.Sure.{few, front}
+use Rattle.changes.specs.Returning.{returning}
+use Rattle.changes.proofs.laws.Returning.{return-refused, return-done, goes-back}
+use Rattle.reads.proofs.laws.Guard.{guard-sound}
+use Rattle.store.proofs.laws.Read.{current-lt}
+use Rattle.store.proofs.laws.Sure.{few, front}
 use Rattle.model.specs.declared.Header.{Header}
 use mathlib.Core.Path.{ap, sym, _∙_}
 use native.Mathlib.Omega.{arith}

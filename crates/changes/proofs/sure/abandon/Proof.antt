@@ -1,8 +1,9 @@
 -- `abandon` meets its contract. Assumes nothing.
 use mathlib.Core.Path.{sym, _∙_}
 use borrow.Author.Needs.{needs}
-use Rattle.changes.specs.Turning.{closing, is-open, abandon-refused, abandon-done}
-use Rattle.reads.specs.Guard.{guard-sound}
+use Rattle.changes.specs.Turning.{closing}
+use Rattle.changes.proofs.laws.Turning.{is-open, abandon-refused, abandon-done}
+use Rattle.reads.proofs.laws.Guard.{guard-sound}
 use Rattle.changes.proofs.sure.abandon.Statement.{statement}
 use Rattle.changes.proofs.sure.abandon.Tie as tie
 

@@ -1,8 +1,9 @@
 -- `commit` meets its contract. Assumes nothing.
 use mathlib.Core.Path.{sym, _∙_}
 use borrow.Author.Needs.{needs}
-use Rattle.changes.specs.Turning.{committing, commit-refused, commit-done}
-use Rattle.reads.specs.Guard.{guard-sound}
+use Rattle.changes.specs.Turning.{committing}
+use Rattle.changes.proofs.laws.Turning.{commit-refused, commit-done}
+use Rattle.reads.proofs.laws.Guard.{guard-sound}
 use Rattle.changes.proofs.sure.commit.Statement.{statement}
 use Rattle.changes.proofs.sure.commit.Tie as tie
 

@@ -1,6 +1,6 @@
 -- `delete` meets its contract. Assumes nothing.
 use mathlib.Core.Path.{sym, _∙_}
-use Rattle.changes.specs.Updating.{ends, delete-refused, delete-done}
+use Rattle.changes.proofs.laws.Updating.{ends, delete-refused, delete-done}
 use borrow.Author.Needs.{needs}
 use Rattle.changes.proofs.sure.delete.Statement.{statement}
 use Rattle.changes.proofs.sure.delete.Tie as tie

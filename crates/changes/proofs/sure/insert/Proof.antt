@@ -1,6 +1,6 @@
 -- `insert` meets its contract. Assumes nothing.
 use mathlib.Core.Path.{sym, _∙_}
-use Rattle.changes.specs.Updating.{enters, insert-refused, insert-done}
+use Rattle.changes.proofs.laws.Updating.{enters, insert-refused, insert-done}
 use borrow.Author.Needs.{needs}
 use Rattle.changes.proofs.sure.insert.Statement.{statement}
 use Rattle.changes.proofs.sure.insert.Tie as tie

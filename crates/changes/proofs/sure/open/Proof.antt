@@ -1,8 +1,9 @@
 -- `open` meets its contract. Assumes nothing.
 use mathlib.Core.Path.{sym, _∙_}
 use borrow.Author.Needs.{needs}
-use Rattle.changes.specs.Turning.{opening, open-refused, open-done}
-use Rattle.reads.specs.Guard.{guard-sound}
+use Rattle.changes.specs.Turning.{opening}
+use Rattle.changes.proofs.laws.Turning.{open-refused, open-done}
+use Rattle.reads.proofs.laws.Guard.{guard-sound}
 use Rattle.changes.proofs.sure.open.Statement.{statement}
 use Rattle.changes.proofs.sure.open.Tie as tie
 

@@ -3,10 +3,11 @@ use native.Mathlib.Omega.{arith}
 use Prim.Native.Nat.{_+_, _^_, _<_}
 use mathlib.Core.Path.{sym, _∙_}
 use borrow.Author.Tests.{not-true, not-false}
-use Rattle.store.specs.Sure.{few, front}
-use Rattle.walk.specs.Sure.{Readable}
-use Rattle.reads.specs.Guard.{judged-number, zero-sound}
-use Rattle.changes.specs.Updating.{updating, limit-low, gives-key, gives-unopened, gives-rest, open-readable}
+use Rattle.store.proofs.laws.Sure.{few, front}
+use Rattle.walk.specs.Sure.{Walkable}
+use Rattle.reads.proofs.laws.Guard.{judged-number, zero-sound}
+use Rattle.changes.specs.Updating.{updating}
+use Rattle.changes.proofs.laws.Updating.{limit-low, gives-key, gives-unopened, gives-rest, open-readable}
 use borrow.Author.Needs.{needs}
 use Rattle.changes.proofs.updating.guard_updating.Statement.{statement}
 use Rattle.changes.proofs.updating.guard_updating.Tie as tie
@@ -43,7 +44,7 @@ returns-3 c =
     gives-unopened (a .l .least) (a .s .now) (a .insert) (a .key) (sym e ∙ c .before .before .before .before .before .if1 .left) (omega (arith, c .before .before .before .before .limit-of .ensures, c .before .before .before .if2 .left)) (c .before .before .header .result) (c .before .before .header .ensures) (not-true (c .before .before .header .result .opened) (c .if3 .taken))
 
 readable : (c : tie.After-struct-known2)
-    → (c .before .before .before .header .result .current + 1 < 2 ^ 20) × Readable (c .before .before .before .before .before .before .before .before .before .args .l) (c .before .before .before .before .before .before .before .before .before .args .s .now) (c .before .before .before .header .result .current + 1)
+    → (c .before .before .before .header .result .current + 1 < 2 ^ 20) × Walkable (c .before .before .before .before .before .before .before .before .before .args .l) (c .before .before .before .before .before .before .before .before .before .args .s .now) (c .before .before .before .header .result .current + 1)
 readable c =
     let e = c .before .before .before .before .before .before .before .judge .ensures in
     open-readable (c .before .before .before .before .before .before .before .before .before .pre .0) (c .before .before .before .before .before .before .before .before .before .args .s .now) (sym e ∙ c .before .before .before .before .before .before .if1 .left) (c .before .before .before .header .result) (c .before .before .before .header .ensures) (not-false (c .before .before .before .header .result .opened) (c .before .if3 .left))

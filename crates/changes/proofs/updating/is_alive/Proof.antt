@@ -3,7 +3,7 @@ use mathlib.Core.Path.{ap, sym, _∙_}
 use Rattle.model.specs.Walk.{lookup}
 use Rattle.model.specs.Layout.{decode}
 use Rattle.model.specs.Calls.{lookedFound}
-use Rattle.changes.specs.Updating.{found-is}
+use Rattle.changes.proofs.laws.Updating.{found-is}
 use borrow.Author.Needs.{needs}
 use Rattle.changes.proofs.updating.is_alive.Statement.{statement}
 use Rattle.changes.proofs.updating.is_alive.Tie as tie

@@ -1,7 +1,7 @@
 use Rattle.group.specs.Group.{routersOf}
 use native.Mathlib.Omega.{arith}
-use Rattle.parts.specs.Becomes.{kept-after, inside-after}
-use Rattle.climb.specs.Rebuild.{one-filled}
+use Rattle.parts.proofs.laws.Becomes.{kept-after, inside-after}
+use Rattle.climb.proofs.laws.Rebuild.{one-filled}
 use borrow.Author.Needs.{needs}
 use Rattle.climb.proofs.refill.one_page.Statement.{statement}
 use Rattle.climb.proofs.refill.one_page.Tie as tie

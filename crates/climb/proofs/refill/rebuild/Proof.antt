@@ -1,13 +1,14 @@
 use Prim.Native.Nat.{_*_, _<_}
 use native.Mathlib.Omega.{arith}
-use Rattle.page.specs.Editions.{full-is}
+use Rattle.page.proofs.laws.Editions.{full-is}
 use Rattle.model.specs.Rules.{usable}
-use Rattle.gather.specs.Gather.{pairsIn, length-pairs}
-use Rattle.group.specs.Numbers.{usable-in, first-in, second-in}
+use Rattle.gather.specs.Gather.{pairsIn}
+use Rattle.gather.proofs.laws.Gather.{length-pairs}
+use Rattle.group.proofs.laws.Numbers.{usable-in, first-in, second-in}
 use Rattle.group.specs.Group.{routersOf}
-use Rattle.parts.specs.Becomes.{pages-are}
+use Rattle.parts.proofs.laws.Becomes.{pages-are}
 use Rattle.parts.specs.Kept.{pagesOf}
-use Rattle.climb.specs.Rebuild.{itself, rebuilt-one, rebuilt-two, fills-one, fills-two}
+use Rattle.climb.proofs.laws.Rebuild.{itself, rebuilt-one, rebuilt-two, fills-one, fills-two}
 use borrow.Author.Needs.{needs}
 use Rattle.climb.proofs.refill.rebuild.Statement.{statement}
 use Rattle.climb.proofs.refill.rebuild.Tie as tie

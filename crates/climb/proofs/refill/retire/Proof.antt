@@ -1,5 +1,5 @@
-use Rattle.parts.specs.Becomes.{kept-after, inside-after}
-use Rattle.climb.specs.Rebuild.{one-gone, both-gone}
+use Rattle.parts.proofs.laws.Becomes.{kept-after, inside-after}
+use Rattle.climb.proofs.laws.Rebuild.{one-gone, both-gone}
 use borrow.Author.Needs.{needs}
 use Rattle.climb.proofs.refill.retire.Statement.{statement}
 use Rattle.climb.proofs.refill.retire.Tie as tie

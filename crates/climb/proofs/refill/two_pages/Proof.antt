@@ -1,8 +1,8 @@
 use Rattle.group.specs.Group.{routersOf}
 use Prim.Native.Nat.{_+_, _/_}
 use native.Mathlib.Omega.{arith}
-use Rattle.parts.specs.Becomes.{kept-after, inside-after, then}
-use Rattle.climb.specs.Rebuild.{both-filled}
+use Rattle.parts.proofs.laws.Becomes.{kept-after, inside-after, then}
+use Rattle.climb.proofs.laws.Rebuild.{both-filled}
 use borrow.Author.Needs.{needs}
 use Rattle.climb.proofs.refill.two_pages.Statement.{statement}
 use Rattle.climb.proofs.refill.two_pages.Tie as tie

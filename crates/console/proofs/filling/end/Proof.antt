@@ -4,32 +4,22 @@ use Rattle.console.proofs.Telling.{ended}
 use borrow.Author.Needs.{needs}
 use Rattle.console.proofs.filling.end.Statement.{statement}
 use Rattle.console.proofs.filling.end.Tie as tie
-use Rattle.console.proofs.filling.end.Reads as reads
-use Rattle.console.proofs.filling.end.Lts as lts
-use Rattle.lines.proofs.last.Reads as last-reads
-use Rattle.console.proofs.obeying.answer.Reads as answer-reads
 
--- src/filling.rt:57:9
 last-requires : tie.Need-last-requires
 last-requires c κs = search needs
 
--- src/filling.rt:58:9
 answer-requires : tie.Need-answer-requires
 answer-requires c κs = search needs
 
--- src/filling.rt:51:1
 same-length : tie.Need-same-length
 same-length c = search needs
 
--- src/filling.rt:51:1
 same-length-2 : tie.Need-same-length-2
 same-length-2 c = search needs
 
--- src/filling.rt:51:1
 same-length-3 : tie.Need-same-length-3
 same-length-3 c = search needs
 
--- src/filling.rt:51:1
 returns : tie.Need-returns
 returns c =
     let a = c .before .before .before .before .before .before .answer .ensures in

@@ -3,53 +3,42 @@ use Prim.Native.Nat.{_+_, _*_, _-_, _<_, _≤_}
 use mathlib.Core.Path.{_≡_, refl, _∙_}
 use lib.ListN.{length}
 use native.Mathlib.Omega.{arith}
-use Rattle.console.specs.Obeys.{storeIn, Upto}
+use Rattle.console.specs.Obeys.{storeIn, PieceUpto}
 use Rattle.console.proofs.Telling.{from-here, from-part, moves-on, one-more}
 use borrow.Author.Needs.{needs}
 use Rattle.console.proofs.filling.fill.Statement.{statement}
 use Rattle.console.proofs.filling.fill.Tie as tie
-use Rattle.console.proofs.filling.fill.Reads as reads
-use Rattle.console.proofs.filling.fill.Lts as lts
-use Rattle.lines.proofs.hear.Reads as hear-reads
-use Rattle.console.proofs.obeying.answer.Reads as answer-reads
 
 abbrev Inv-loop : tie.InvT-loop
 Inv-loop pages bytes₀ list₀ piece out₀ h₀ p₀ used₀ len₀ bytes list out h p used len =
     (length bytes ≡ length bytes₀) × (length list ≡ length list₀) × (length out ≡ length out₀) × (len ≤ 110462 * used)
-    × Upto h₀ (storeIn bytes₀ p₀) piece bytes out (record { held = h; pages = p; used = used; len = len })
+    × PieceUpto h₀ (storeIn bytes₀ p₀) piece bytes out (record { held = h; pages = p; used = used; len = len })
 
 abbrev μ-loop : tie.MeasureT-loop
 μ-loop pages bytes₀ list₀ piece out₀ h₀ p₀ used₀ len₀ bytes list out h p used len = length piece - used
 
--- src/filling.rt:30:5
 loop-holds : tie.Need-loop-holds Inv-loop μ-loop
 loop-holds c =
     let a = c .before .before .before .before .args in
     (refl, refl, refl, omega arith, from-here (a .held) (a .bytes .now) (a .pages) (a .piece .now) (a .out .now) (omega arith) (omega arith) (c .before .before .before .before .pre .0 .3))
 
--- src/filling.rt:31:12
 sub-if1 : tie.Need-sub-if1 Inv-loop μ-loop
 sub-if1 c = c .before .loop .inv .4 .len
 
--- src/filling.rt:34:32
 sub-hear : tie.Need-sub-hear Inv-loop μ-loop
 sub-hear c = search needs
 
--- src/filling.rt:34:32
 part-hear-start : tie.Need-part-hear-start Inv-loop μ-loop
 part-hear-start c = search needs
 
--- src/filling.rt:34:32
 part-hear-end : tie.Need-part-hear-end Inv-loop μ-loop
 part-hear-end c = search needs
 
--- src/filling.rt:34:13
 hear-requires : tie.Need-hear-requires Inv-loop μ-loop
 hear-requires c κs =
     let l = c .before .before .before .loop in
     (l .inv .4 .room, omega (arith, l .inv .4 .few))
 
--- src/filling.rt:36:13
 answer-requires : tie.Need-answer-requires Inv-loop μ-loop
 answer-requires c κs =
     let l = c .before .before .before .before .before .before .before .loop in
@@ -57,7 +46,6 @@ answer-requires c κs =
     let room : l .len + 110462 ≤ length (l .out) = omega (arith, l .inv .4 .len) in
     ((l .inv .4 .pages, l .inv .0 ∙ a .1, l .inv .1 ∙ a .2, l .inv .4 .sure), room)
 
--- src/filling.rt:39:9
 add-used : tie.Need-add-used Inv-loop μ-loop
 add-used c =
     let a = c .before .before .before .before .before .before .before .before .before .before .before .before .before .before .before .before .before .before .before .before .before .args in
@@ -67,7 +55,6 @@ add-used c =
     let small : l .used + c .before .before .before .before .before .before .before .before .before .before .before .before .hear .result .used < 18446744073709551616 = omega (arith, m .1, few) in
     record { fits = small }
 
--- src/filling.rt:30:5
 loop-less : tie.Need-loop-less Inv-loop μ-loop
 loop-less c =
     let l = c .before .before .before .before .before .before .before .before .before .before .before .before .before .before .before .before .loop in
@@ -75,7 +62,6 @@ loop-less c =
     let m = moves-on (c .before .before .before .before .before .before .before .before .before .before .before .before .before .before .before .before .before .before .before .before .before .args .piece .now) (l .used) k (omega arith) in
     omega (arith, m .0, m .1)
 
--- src/filling.rt:30:5
 loop-again : tie.Need-loop-again Inv-loop μ-loop
 loop-again c =
     let l = c .before .before .before .before .before .before .before .before .before .before .before .before .before .before .before .before .loop in
@@ -84,35 +70,27 @@ loop-again c =
     let o = c .before .before .before .before .before .before .before .before .answer .ensures in
     (c .before .before .before .before .before .before .before .bytes .given ∙ l .inv .0, c .before .before .before .before .before .list .given ∙ l .inv .1, c .before .before .before .out .given ∙ l .inv .2, omega (arith, l .inv .3, o .room, m .0), one-more (l .inv .4) k o (omega (arith, o .room, c .before .before .before .out .given)))
 
--- src/filling.rt:13:1
 same-length : tie.Need-same-length Inv-loop μ-loop
 same-length c = c .before .loop .inv .0
 
--- src/filling.rt:13:1
 same-length-2 : tie.Need-same-length-2 Inv-loop μ-loop
 same-length-2 c = c .before .loop .inv .1
 
--- src/filling.rt:13:1
 same-length-3 : tie.Need-same-length-3 Inv-loop μ-loop
 same-length-3 c = c .before .loop .inv .2
 
--- src/filling.rt:13:1
 returns : tie.Need-returns Inv-loop μ-loop
 returns c = (c .before .loop .inv .4, λ h. omega arith)
 
--- src/filling.rt:13:1
 same-length-4 : tie.Need-same-length-4 Inv-loop μ-loop
 same-length-4 c = c .before .before .loop .inv .0
 
--- src/filling.rt:13:1
 same-length-5 : tie.Need-same-length-5 Inv-loop μ-loop
 same-length-5 c = c .before .before .loop .inv .1
 
--- src/filling.rt:13:1
 same-length-6 : tie.Need-same-length-6 Inv-loop μ-loop
 same-length-6 c = c .before .before .loop .inv .2
 
--- src/filling.rt:13:1
 returns-2 : tie.Need-returns-2 Inv-loop μ-loop
 returns-2 c = (c .before .before .loop .inv .4, λ h. omega (arith, c .before .before .loop .inv .3))
 

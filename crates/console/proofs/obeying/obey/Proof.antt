@@ -3,32 +3,22 @@ use Rattle.console.proofs.Replying.{obeyed}
 use borrow.Author.Needs.{needs}
 use Rattle.console.proofs.obeying.obey.Statement.{statement}
 use Rattle.console.proofs.obeying.obey.Tie as tie
-use Rattle.console.proofs.obeying.obey.Reads as reads
-use Rattle.console.proofs.obeying.obey.Lts as lts
-use Rattle.console.proofs.obeying.reply.Reads as reply-reads
-use Rattle.console.proofs.showing.show.Reads as show-reads
 
--- src/obeying.rt:61:9
 reply-requires : tie.Need-reply-requires
 reply-requires c κs = search needs
 
--- src/obeying.rt:63:9
 show-requires : tie.Need-show-requires
 show-requires c κs = search needs
 
--- src/obeying.rt:49:1
 same-length : tie.Need-same-length
 same-length c = search needs
 
--- src/obeying.rt:49:1
 same-length-2 : tie.Need-same-length-2
 same-length-2 c = search needs
 
--- src/obeying.rt:49:1
 same-length-3 : tie.Need-same-length-3
 same-length-3 c = search needs
 
--- src/obeying.rt:49:1
 returns : tie.Need-returns
 returns c = obeyed (c .before .before .before .before .before .before .before .before .before .reply .ensures) (c .before .before .show .ensures .0) (c .before .before .show .ensures .1)
 

@@ -6,165 +6,117 @@ use Rattle.console.proofs.Replying.{said-store, said-open, said-insert,
 use borrow.Author.Needs.{needs}
 use Rattle.console.proofs.obeying.reply.Statement.{statement}
 use Rattle.console.proofs.obeying.reply.Tie as tie
-use Rattle.console.proofs.obeying.reply.Reads as reads
-use Rattle.console.proofs.obeying.reply.Lts as lts
-use Rattle.console.proofs.obeying.single.Reads as single-reads
-use Rattle.console.proofs.reading.get.Reads as get-reads
-use Rattle.console.proofs.reading.range.Reads as range-reads
-use Rattle.console.proofs.storing.make.Reads as make-reads
-use Rattle.console.proofs.updating.abandon.Reads as abandon-reads
-use Rattle.console.proofs.updating.commit.Reads as commit-reads
-use Rattle.console.proofs.updating.delete.Reads as delete-reads
-use Rattle.console.proofs.updating.insert.Reads as insert-reads
-use Rattle.console.proofs.updating.open.Reads as open-reads
 
--- src/obeying.rt:37:33
 enum-known-command : tie.Need-enum-known-command
 enum-known-command c = search needs
 
--- src/obeying.rt:37:40
 make-requires : tie.Need-make-requires
 make-requires c κs = search needs
 
--- src/obeying.rt:38:38
 enum-told : tie.Need-enum-told
 enum-told c = search needs
 
--- src/obeying.rt:38:26
 open-requires : tie.Need-open-requires
 open-requires c κs = search needs
 
--- src/obeying.rt:39:27
 enum-known-command-2 : tie.Need-enum-known-command-2
 enum-known-command-2 c = search needs
 
--- src/obeying.rt:39:43
 insert-requires : tie.Need-insert-requires
 insert-requires c κs = search needs
 
--- src/obeying.rt:40:27
 enum-known-command-3 : tie.Need-enum-known-command-3
 enum-known-command-3 c = search needs
 
--- src/obeying.rt:40:36
 delete-requires : tie.Need-delete-requires
 delete-requires c κs = search needs
 
--- src/obeying.rt:41:42
 enum-told-2 : tie.Need-enum-told-2
 enum-told-2 c = search needs
 
--- src/obeying.rt:41:28
 commit-requires : tie.Need-commit-requires
 commit-requires c κs = search needs
 
--- src/obeying.rt:42:44
 enum-told-3 : tie.Need-enum-told-3
 enum-told-3 c = search needs
 
--- src/obeying.rt:42:29
 abandon-requires : tie.Need-abandon-requires
 abandon-requires c κs = search needs
 
--- src/obeying.rt:43:24
 enum-known-command-4 : tie.Need-enum-known-command-4
 enum-known-command-4 c = search needs
 
--- src/obeying.rt:43:56
 get-requires : tie.Need-get-requires
 get-requires c κs = search needs
 
--- src/obeying.rt:43:42
 single-requires : tie.Need-single-requires
 single-requires c κs = search needs
 
--- src/obeying.rt:44:26
 enum-known-command-5 : tie.Need-enum-known-command-5
 enum-known-command-5 c = search needs
 
--- src/obeying.rt:44:50
 range-requires : tie.Need-range-requires
 range-requires c κs = search needs
 
--- src/obeying.rt:45:39
 enum-told-4 : tie.Need-enum-told-4
 enum-told-4 c = search needs
 
--- src/obeying.rt:45:25
 single-requires-2 : tie.Need-single-requires-2
 single-requires-2 c κs = search needs
 
--- src/obeying.rt:32:1
 same-length : tie.Need-same-length
 same-length c = search needs
 
--- src/obeying.rt:32:1
 returns : tie.Need-returns
 returns c = replied (storeIn (c .before .before .before .before .before .before .before .before .before .args .bytes .now) (c .before .before .before .before .before .before .before .before .before .args .pages)) (c .before .before .before .before .before .before .before .before .before .args .list .now) (c .before .before .before .before .before .command .given .1) (said-store _ _) (c .before .before .make .ensures)
 
--- src/obeying.rt:32:1
 same-length-2 : tie.Need-same-length-2
 same-length-2 c = search needs
 
--- src/obeying.rt:32:1
 returns-2 : tie.Need-returns-2
 returns-2 c = replied (storeIn (c .before .before .before .before .before .before .before .before .args .bytes .now) (c .before .before .before .before .before .before .before .before .args .pages)) (c .before .before .before .before .before .before .before .before .args .list .now) (c .before .before .before .before .enum-told .given .1) (said-open _) (c .before .before .«open» .ensures)
 
--- src/obeying.rt:32:1
 same-length-3 : tie.Need-same-length-3
 same-length-3 c = search needs
 
--- src/obeying.rt:32:1
 returns-3 : tie.Need-returns-3
 returns-3 c = replied (storeIn (c .before .before .before .before .before .before .before .before .before .args .bytes .now) (c .before .before .before .before .before .before .before .before .before .args .pages)) (c .before .before .before .before .before .before .before .before .before .args .list .now) (c .before .before .before .before .before .command2 .given .1) (said-insert _ _ _) (c .before .before .insert .ensures)
 
--- src/obeying.rt:32:1
 same-length-4 : tie.Need-same-length-4
 same-length-4 c = search needs
 
--- src/obeying.rt:32:1
 returns-4 : tie.Need-returns-4
 returns-4 c = replied (storeIn (c .before .before .before .before .before .before .before .before .before .args .bytes .now) (c .before .before .before .before .before .before .before .before .before .args .pages)) (c .before .before .before .before .before .before .before .before .before .args .list .now) (c .before .before .before .before .before .command3 .given .1) (said-delete _ _) (c .before .before .delete .ensures)
 
--- src/obeying.rt:32:1
 same-length-5 : tie.Need-same-length-5
 same-length-5 c = search needs
 
--- src/obeying.rt:32:1
 returns-5 : tie.Need-returns-5
 returns-5 c = replied (storeIn (c .before .before .before .before .before .before .before .before .args .bytes .now) (c .before .before .before .before .before .before .before .before .args .pages)) (c .before .before .before .before .before .before .before .before .args .list .now) (c .before .before .before .before .enum-told2 .given .1) (said-commit _) (c .before .before .commit .ensures)
 
--- src/obeying.rt:32:1
 same-length-6 : tie.Need-same-length-6
 same-length-6 c = search needs
 
--- src/obeying.rt:32:1
 returns-6 : tie.Need-returns-6
 returns-6 c = replied (storeIn (c .before .before .before .before .before .before .before .before .args .bytes .now) (c .before .before .before .before .before .before .before .before .args .pages)) (c .before .before .before .before .before .before .before .before .args .list .now) (c .before .before .before .before .enum-told3 .given .1) (said-abandon _) (c .before .before .abandon .ensures)
 
--- src/obeying.rt:32:1
 same-length-7 : tie.Need-same-length-7
 same-length-7 c = search needs
 
--- src/obeying.rt:32:1
 returns-7 : tie.Need-returns-7
 returns-7 c =
     let a = c .before .before .before .before .before .before .before .before .args in
     replied (storeIn (a .bytes .now) (a .pages)) (a .list .now) (c .before .before .before .before .command4 .given .1) refl (got (a .bytes .now) (a .pages) _ _ (c .before .get .result) (c .single .result) (omega arith) (c .before .before .before .before .before .before .before .before .pre .3) (c .before .get .ensures) (c .single .ensures))
 
--- src/obeying.rt:32:1
 same-length-8 : tie.Need-same-length-8
 same-length-8 c = search needs
 
--- src/obeying.rt:32:1
 same-length-9 : tie.Need-same-length-9
 same-length-9 c = search needs
 
--- src/obeying.rt:32:1
 returns-8 : tie.Need-returns-8
 returns-8 c = rw (c .before .before .before .before .before .before .command5 .given .1) (c .before .before .range .ensures)
 
--- src/obeying.rt:32:1
 returns-9 : tie.Need-returns-9
 returns-9 c =
     let a = c .before .before .before .before .before .args in

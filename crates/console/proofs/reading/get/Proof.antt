@@ -3,7 +3,7 @@ use mathlib.Core.Path.{_≡_, ap, _∙_}
 use Rattle.lines.specs.Session.{looked}
 use native.Mathlib.Omega.{arith}
 use Rattle.model.specs.declared.Limits.{Limits}
-use Rattle.page.specs.Editions.{edition-of}
+use Rattle.page.proofs.laws.Editions.{edition-of}
 use Rattle.console.proofs.Keeping.{front}
 use Rattle.console.proofs.Staying.{surely}
 use borrow.Author.Needs.{needs}

@@ -4,30 +4,22 @@ use Rattle.lines.specs.Session.{looked}
 use borrow.Author.Needs.{needs}
 use Rattle.console.proofs.reading.looked.Statement.{statement}
 use Rattle.console.proofs.reading.looked.Tie as tie
-use Rattle.console.proofs.reading.looked.Reads as reads
-use Rattle.console.proofs.reading.looked.Lts as lts
 
--- src/reading.rt:15:23
 enum-known-r : tie.Need-enum-known-r
 enum-known-r c = search needs
 
--- src/reading.rt:16:27
 enum-told : tie.Need-enum-told
 enum-told c = search needs
 
--- src/reading.rt:17:25
 enum-known-r-2 : tie.Need-enum-known-r-2
 enum-known-r-2 c = search needs
 
--- src/reading.rt:11:1
 returns : tie.Need-returns
 returns c = sym (ap looked (c .before .r .given .1))
 
--- src/reading.rt:11:1
 returns-2 : tie.Need-returns-2
 returns-2 c = search needs
 
--- src/reading.rt:11:1
 returns-3 : tie.Need-returns-3
 returns-3 c = sym (ap looked (c .before .r2 .given .1))
 

@@ -2,7 +2,7 @@
 use Prim.Native.Nat.{_*_, _≤_}
 use mathlib.Core.Path.{_≡_, ap}
 use Rattle.model.specs.declared.Limits.{Limits}
-use Rattle.page.specs.Editions.{edition-of}
+use Rattle.page.proofs.laws.Editions.{edition-of}
 use Rattle.console.proofs.Ranging.{count-fits, range-none, range-refused, range-done}
 use native.Mathlib.Omega.{arith}
 use Rattle.console.proofs.Keeping.{front}

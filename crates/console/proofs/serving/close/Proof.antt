@@ -4,11 +4,6 @@ use lib.Seq.{length-take-le}
 use borrow.Author.Needs.{needs}
 use Rattle.console.proofs.serving.close.Statement.{statement}
 use Rattle.console.proofs.serving.close.Tie as tie
-use Rattle.console.proofs.serving.close.Reads as reads
-use Rattle.console.proofs.serving.close.Lts as lts
-use Rattle.console.proofs.filling.end.Reads as end-reads
-use Rattle.console.proofs.serving.fail.Reads as fail-reads
-use Rattle.io.proofs.write_all.Reads as write-all-reads
 
 fail-requires : tie.Need-fail-requires
 fail-requires c κs = search needs

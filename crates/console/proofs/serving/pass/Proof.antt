@@ -5,41 +5,32 @@ use lib.ListN.{length, take, drop}
 use lib.Seq.{length-take-le}
 use native.Mathlib.Omega.{arith}
 use Rattle.console.specs.Obeys.{storeIn}
-use Rattle.console.proofs.Passing.{Going, set-out, length-part, part-moves, filled-part, go-on, arrive}
+use Rattle.console.proofs.Passing.{PieceGoing, set-out, length-part, part-moves, filled-part, go-on, arrive}
 use borrow.Author.Needs.{needs}
 use Rattle.console.proofs.serving.pass.Statement.{statement}
 use Rattle.console.proofs.serving.pass.Tie as tie
-use Rattle.console.proofs.serving.pass.Reads as reads
-use Rattle.console.proofs.serving.pass.Lts as lts
-use Rattle.console.proofs.filling.fill.Reads as fill-reads
-use Rattle.console.proofs.serving.put.Reads as put-reads
 
 abbrev Inv-loop : tie.InvT-loop
 Inv-loop pages bytes₀ list₀ piece out₀ h₀ p₀ at₀ went₀ bytes list out h p at went =
-    (length bytes ≡ length bytes₀) × (length list ≡ length list₀) × (length out ≡ length out₀) × Going h₀ (storeIn bytes₀ p₀) piece bytes h p at
+    (length bytes ≡ length bytes₀) × (length list ≡ length list₀) × (length out ≡ length out₀) × PieceGoing h₀ (storeIn bytes₀ p₀) piece bytes h p at
 
 abbrev μ-loop : tie.MeasureT-loop
 μ-loop pages bytes₀ list₀ piece out₀ h₀ p₀ at₀ went₀ bytes list out h p at went = length piece - at
 
--- src/serving.rt:33:5
 loop-holds : tie.Need-loop-holds Inv-loop μ-loop
 loop-holds c =
     let a = c .before .before .before .before .args in
     (refl, refl, refl, set-out (a .held) (a .bytes .now) (a .pages) (a .piece .now) (omega arith) (omega arith) (c .before .before .before .before .pre .0 .3))
 
--- src/serving.rt:34:41
 sub-fill : tie.Need-sub-fill Inv-loop μ-loop
 sub-fill c = search needs
 
--- src/serving.rt:34:41
 part-fill-start : tie.Need-part-fill-start Inv-loop μ-loop
 part-fill-start c = search needs
 
--- src/serving.rt:34:41
 part-fill-end : tie.Need-part-fill-end Inv-loop μ-loop
 part-fill-end c = search needs
 
--- src/serving.rt:34:13
 fill-requires : tie.Need-fill-requires Inv-loop μ-loop
 fill-requires c κs =
     let a = c .before .before .before .before .before .before .before .before .before .before .args in
@@ -51,19 +42,15 @@ fill-requires c κs =
     let room : 110462 ≤ length (l .out) = omega (arith, l .inv .2, q .1 .1) in
     ((g .pages, l .inv .0 ∙ q .0 .1, l .inv .1 ∙ q .0 .2, g .sure), ((g .room, few), room))
 
--- src/serving.rt:36:38
 slice-reshare-prefix-put : tie.Need-slice-reshare-prefix-put Inv-loop μ-loop
 slice-reshare-prefix-put c = c .before .before .before .before .before .before .fill .ensures .0 .len
 
--- src/serving.rt:36:38
 slice-aggregate-put : tie.Need-slice-aggregate-put Inv-loop μ-loop
 slice-aggregate-put c = sym (length-take-le (c .before .before .before .before .before .before .before .fill .result .len) (c .before .before .before .before .before .before .before .fill .last .1 .1 .1 .1 .1 .0) (c .before .before .before .before .before .before .before .fill .ensures .0 .len))
 
--- src/serving.rt:36:9
 put-requires : tie.Need-put-requires Inv-loop μ-loop
 put-requires c κs = search needs
 
--- src/serving.rt:39:9
 add-at : tie.Need-add-at Inv-loop μ-loop
 add-at c =
     let a = c .before .before .before .before .before .before .before .before .before .before .before .before .before .before .before .before .before .before .before .before .before .args in
@@ -74,7 +61,6 @@ add-at c =
     let small : l .at + c .before .before .before .before .before .before .before .before .before .before .fill .result .used < 18446744073709551616 = omega (arith, m .1, all) in
     record { fits = small }
 
--- src/serving.rt:33:5
 loop-less : tie.Need-loop-less Inv-loop μ-loop
 loop-less c =
     let a = c .before .before .before .before .before .before .before .before .before .before .before .before .before .before .before .before .before .before .before .before .before .args in
@@ -83,7 +69,6 @@ loop-less c =
     let m = part-moves (a .piece .now) (l .at) (u .0) (u .1) (omega arith) in
     omega (arith, m .0, m .1)
 
--- src/serving.rt:33:5
 loop-again : tie.Need-loop-again Inv-loop μ-loop
 loop-again c =
     let a = c .before .before .before .before .before .before .before .before .before .before .before .before .before .before .before .before .before .before .before .before .before .args in
@@ -92,19 +77,15 @@ loop-again c =
     let m = part-moves (a .piece .now) (l .at) (u .0) (u .1) (omega arith) in
     (c .before .before .before .before .before .before .before .before .before .bytes .given ∙ l .inv .0, c .before .before .before .before .before .before .before .list .given ∙ l .inv .1, c .before .before .before .before .before .out .given ∙ l .inv .2, go-on (l .inv .3) (filled-part (a .piece .now) (l .at) (u .0)))
 
--- src/serving.rt:17:1
 same-length : tie.Need-same-length Inv-loop μ-loop
 same-length c = c .before .loop .inv .0
 
--- src/serving.rt:17:1
 same-length-2 : tie.Need-same-length-2 Inv-loop μ-loop
 same-length-2 c = c .before .loop .inv .1
 
--- src/serving.rt:17:1
 same-length-3 : tie.Need-same-length-3 Inv-loop μ-loop
 same-length-3 c = c .before .loop .inv .2
 
--- src/serving.rt:17:1
 returns : tie.Need-returns Inv-loop μ-loop
 returns c = arrive (c .before .loop .went) (c .before .loop .inv .3) (omega arith)
 

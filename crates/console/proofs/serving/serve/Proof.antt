@@ -11,14 +11,6 @@ use native.Mathlib.Omega.{arith}
 use borrow.Author.Needs.{needs}
 use Rattle.console.proofs.serving.serve.Statement.{statement}
 use Rattle.console.proofs.serving.serve.Tie as tie
-use Rattle.console.proofs.serving.serve.Reads as reads
-use Rattle.console.proofs.serving.serve.Lts as lts
-use Rattle.console.proofs.serving.close.Reads as close-reads
-use Rattle.console.proofs.serving.further.Reads as further-reads
-use Rattle.console.proofs.serving.pass.Reads as pass-reads
-use Rattle.io.proofs.count.Reads as count-reads
-use Rattle.libc.proofs.read.Reads as read-reads
-use Rattle.lines.proofs.start.Reads as start-reads
 
 abbrev Inv-loop : tie.InvT-loop
 Inv-loop bytes₀ list₀ piece₀ out₀ h₀ p₀ reads₀ well₀ bytes list piece out h p reads well =
@@ -27,31 +19,24 @@ Inv-loop bytes₀ list₀ piece₀ out₀ h₀ p₀ reads₀ well₀ bytes list 
 abbrev μ-loop : tie.MeasureT-loop
 μ-loop bytes₀ list₀ piece₀ out₀ h₀ p₀ reads₀ well₀ bytes list piece out h p reads well = 1099511627776 - reads
 
--- src/serving.rt:48:9
 start-requires : tie.Need-start-requires Inv-loop μ-loop
 start-requires c κs = search needs
 
--- src/serving.rt:51:5
 loop-holds : tie.Need-loop-holds Inv-loop μ-loop
 loop-holds c = (refl, refl, refl, refl, c .start .ensures .1, omega (arith, ap (λ (r : Reading). r .before) (c .start .ensures .0)), omega arith, omega arith, λ t. absurd (omega arith))
 
--- src/serving.rt:52:27
 read-requires : tie.Need-read-requires Inv-loop μ-loop
 read-requires c κs = search needs
 
--- src/serving.rt:52:13
 count-requires : tie.Need-count-requires Inv-loop μ-loop
 count-requires c κs = search needs
 
--- src/serving.rt:56:41
 slice-reshare-prefix-pass : tie.Need-slice-reshare-prefix-pass Inv-loop μ-loop
 slice-reshare-prefix-pass c = search needs
 
--- src/serving.rt:56:41
 slice-aggregate-pass : tie.Need-slice-aggregate-pass Inv-loop μ-loop
 slice-aggregate-pass c = search needs
 
--- src/serving.rt:56:13
 pass-requires : tie.Need-pass-requires Inv-loop μ-loop
 pass-requires c κs =
     let q = c .before .before .before .before .before .before .before .before .before .before .before .before .before .before .before .before .before .before .pre in
@@ -63,19 +48,16 @@ pass-requires c κs =
     let room : 110462 ≤ length (l .out) = omega (arith, l .inv .3, q .3) in
     ((l .inv .6, l .inv .0 ∙ q .0, l .inv .1 ∙ q .1, l .inv .8), ((l .inv .4, few), room))
 
--- src/serving.rt:59:9
 further-requires : tie.Need-further-requires Inv-loop μ-loop
 further-requires c κs =
     let test : c .before .before .before .before .before .before .before .before .before .before .before .before .before .before .before .before .before .before .before .before .loop .reads < 1099511627776 = omega arith in
     test
 
--- src/serving.rt:51:5
 loop-less : tie.Need-loop-less Inv-loop μ-loop
 loop-less c =
     let test : c .before .before .before .before .before .before .before .before .before .before .before .before .before .before .before .before .before .before .before .before .before .loop .reads < 1099511627776 = omega arith in
     omega (arith, test, c .further .ensures .0)
 
--- src/serving.rt:51:5
 loop-again : tie.Need-loop-again Inv-loop μ-loop
 loop-again c =
     let l = c .before .before .before .before .before .before .before .before .before .before .before .before .before .before .before .before .before .before .before .before .before .loop in
@@ -85,7 +67,6 @@ loop-again c =
     let part = part-most (c .before .before .before .before .before .before .before .before .before .before .before .before .before .before .count .result) (c .before .before .before .before .before .before .before .before .before .before .before .before .before .before .before .before .before .before .read .last .1 .0) in
     (c .before .before .before .before .before .before .before .bytes .given ∙ l .inv .0, c .before .before .before .before .before .list .given ∙ l .inv .1, c .before .before .before .before .before .before .before .before .before .before .before .before .before .before .before .before .before .piece .given ∙ l .inv .2, c .before .before .before .out .given ∙ l .inv .3, k .room, omega (arith, k .few, part, piece, l .inv .5, c .further .ensures .0), k .pages, c .further .ensures .1, k .sure)
 
--- src/serving.rt:61:9
 close-requires : tie.Need-close-requires Inv-loop μ-loop
 close-requires c κs =
     let q = c .before .before .before .before .before .before .before .before .before .before .pre in
@@ -94,15 +75,12 @@ close-requires c κs =
     let room : 110462 ≤ length (l .out) = omega (arith, l .inv .3, q .3) in
     ((l .inv .6, l .inv .0 ∙ q .0, l .inv .1 ∙ q .1, l .inv .8), ((l .inv .4, few), room))
 
--- src/serving.rt:45:1
 same-length : tie.Need-same-length Inv-loop μ-loop
 same-length c = c .before .before .before .before .before .bytes2 .given ∙ c .before .before .before .before .before .before .before .before .before .before .before .loop .inv .0
 
--- src/serving.rt:45:1
 same-length-2 : tie.Need-same-length-2 Inv-loop μ-loop
 same-length-2 c = c .before .before .before .list2 .given ∙ c .before .before .before .before .before .before .before .before .before .before .before .loop .inv .1
 
--- src/serving.rt:45:1
 same-length-3 : tie.Need-same-length-3 Inv-loop μ-loop
 same-length-3 c =
     let l = c .before .before .before .before .before .before .before .before .before .before .before .loop in
@@ -111,11 +89,9 @@ same-length-3 c =
     (λ w. ap (λ (x : List ℕ). length x) (w .8) ∙ w .3 .given ∙ l .inv .2)
     (c .before .before .before .before .before .before .before .before .before .before .loop-test .came)
 
--- src/serving.rt:45:1
 same-length-4 : tie.Need-same-length-4 Inv-loop μ-loop
 same-length-4 c = c .before .out2 .given ∙ c .before .before .before .before .before .before .before .before .before .before .before .loop .inv .3
 
--- src/serving.rt:45:1
 returns : tie.Need-returns Inv-loop μ-loop
 returns c = tt
 

@@ -4,24 +4,16 @@ use Rattle.lines.proofs.Laying.{then-put}
 use borrow.Author.Needs.{needs}
 use Rattle.console.proofs.showing.show.Statement.{statement}
 use Rattle.console.proofs.showing.show.Tie as tie
-use Rattle.console.proofs.showing.show.Reads as reads
-use Rattle.console.proofs.showing.show.Lts as lts
-use Rattle.lines.proofs.say.Reads as say-reads
-use Rattle.console.proofs.showing.show_settings.Reads as show-settings-reads
 
--- src/showing.rt:32:9
 say-requires : tie.Need-say-requires
 say-requires c κs = search needs
 
--- src/showing.rt:33:5
 show-settings-requires : tie.Need-show-settings-requires
 show-settings-requires c κs = search needs
 
--- src/showing.rt:27:1
 same-length : tie.Need-same-length
 same-length c = search needs
 
--- src/showing.rt:27:1
 returns : tie.Need-returns
 returns c =
     (then-put (c .before .before .before .before .before .before .say .ensures .0) (c .before .before .show-settings .ensures .0) (omega (arith, c .before .before .before .before .before .before .say .ensures .0 .behind, c .before .before .before .before .before .before .say .ensures .1)), omega (arith, c .before .before .before .before .before .before .say .ensures .1, c .before .before .show-settings .ensures .1))

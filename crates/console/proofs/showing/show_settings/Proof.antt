@@ -8,9 +8,6 @@ use Rattle.console.proofs.Settings.{shown, put-none, put-more}
 use borrow.Author.Needs.{needs}
 use Rattle.console.proofs.showing.show_settings.Statement.{statement}
 use Rattle.console.proofs.showing.show_settings.Tie as tie
-use Rattle.console.proofs.showing.show_settings.Reads as reads
-use Rattle.console.proofs.showing.show_settings.Lts as lts
-use Rattle.lines.proofs.say.Reads as say-reads
 
 abbrev Inv-loop : tie.InvT-loop
 Inv-loop list count out₀ at i₀ e₀ out i e = (i ≤ count) × (length out ≡ length out₀) × (e ≤ at + 22 * i) × Put out₀ at (shown list i) out e
@@ -18,51 +15,39 @@ Inv-loop list count out₀ at i₀ e₀ out i e = (i ≤ count) × (length out �
 abbrev μ-loop : tie.MeasureT-loop
 μ-loop list count out₀ at i₀ e₀ out i e = count - i
 
--- src/showing.rt:18:5
 loop-holds : tie.Need-loop-holds Inv-loop μ-loop
 loop-holds c = (omega arith, refl, omega arith, put-none (c .before .before .args .out .now) (c .before .before .args .at))
 
--- src/showing.rt:19:24
 mul-key : tie.Need-mul-key Inv-loop μ-loop
 mul-key c = search needs
 
--- src/showing.rt:19:19
 mul-key-2 : tie.Need-mul-key-2 Inv-loop μ-loop
 mul-key-2 c = search needs
 
--- src/showing.rt:19:19
 shared-slice-read-key : tie.Need-shared-slice-read-key Inv-loop μ-loop
 shared-slice-read-key c = search needs
 
--- src/showing.rt:20:26
 mul-value : tie.Need-mul-value Inv-loop μ-loop
 mul-value c = search needs
 
--- src/showing.rt:20:26
 add-value : tie.Need-add-value Inv-loop μ-loop
 add-value c = search needs
 
--- src/showing.rt:20:21
 mul-value-2 : tie.Need-mul-value-2 Inv-loop μ-loop
 mul-value-2 c = search needs
 
--- src/showing.rt:20:21
 shared-slice-read-value : tie.Need-shared-slice-read-value Inv-loop μ-loop
 shared-slice-read-value c = search needs
 
--- src/showing.rt:21:9
 say-requires : tie.Need-say-requires Inv-loop μ-loop
 say-requires c κs = search needs
 
--- src/showing.rt:22:9
 add-i : tie.Need-add-i Inv-loop μ-loop
 add-i c = search needs
 
--- src/showing.rt:18:5
 loop-less : tie.Need-loop-less Inv-loop μ-loop
 loop-less c = search needs
 
--- src/showing.rt:18:5
 loop-again : tie.Need-loop-again Inv-loop μ-loop
 loop-again c =
     let a = c .before .before .before .before .before .before .before .before .before .before .args in
@@ -70,11 +55,9 @@ loop-again c =
     let inv = c .before .before .before .before .before .before .before .loop .inv in
     (omega arith, c .before .out .given ∙ inv .1, omega (arith, c .before .before .say .ensures .1), put-more (a .list .now) i (omega arith) (inv .3) (c .before .before .say .ensures .0) (omega (arith, inv .3 .behind)))
 
--- src/showing.rt:11:1
 same-length : tie.Need-same-length Inv-loop μ-loop
 same-length c = search needs
 
--- src/showing.rt:11:1
 returns : tie.Need-returns Inv-loop μ-loop
 returns c =
     let a = c .before .before .before .before .args in

@@ -11,52 +11,38 @@ use native.Mathlib.Omega.{arith}
 use borrow.Author.Needs.{needs}
 use Rattle.console.proofs.storing.make.Statement.{statement}
 use Rattle.console.proofs.storing.make.Tie as tie
-use Rattle.console.proofs.storing.make.Reads as reads
-use Rattle.console.proofs.storing.make.Lts as lts
-use Rattle.console.proofs.storing.refused.Reads as refused-reads
-use Rattle.store.proofs.fresh.Reads as fresh-reads
 
--- src/storing.rt:26:9
 refused-requires : tie.Need-refused-requires
 refused-requires c κs = search needs
 
--- src/storing.rt:26:9
 returns : tie.Need-returns
 returns c =
     let a = c .before .before .before .args in
     subst (λ (r : Reply). Single (stored 4 (storeIn (a .bytes .now) (a .pages)) (a .n)) (a .bytes .now) r) (sym (c .refused .ensures)) (few-kept (a .bytes .now) (a .n) (a .pages) (omega arith) (c .before .before .before .pre .2) (omega arith))
 
--- src/storing.rt:29:9
 refused-requires-2 : tie.Need-refused-requires-2
 refused-requires-2 c κs = search needs
 
--- src/storing.rt:29:9
 returns-2 : tie.Need-returns-2
 returns-2 c =
     let a = c .before .before .before .before .args in
     subst (λ (r : Reply). Single (stored 4 (storeIn (a .bytes .now) (a .pages)) (a .n)) (a .bytes .now) r) (sym (c .refused2 .ensures)) (many-kept (a .bytes .now) (a .n) (a .pages) (omega arith) (c .before .before .before .before .pre .2) (omega arith))
 
--- src/storing.rt:32:13
 mul-e : tie.Need-mul-e
 mul-e c = search needs
 
--- src/storing.rt:33:18
 slice-relend-prefix-fresh : tie.Need-slice-relend-prefix-fresh
 slice-relend-prefix-fresh c = search needs
 
--- src/storing.rt:33:18
 slice-aggregate-fresh : tie.Need-slice-aggregate-fresh
 slice-aggregate-fresh c = front (c .before .before .before .before .args .bytes .now) (c .before .before .before .before .args .n) (omega arith) (omega arith)
 
--- src/storing.rt:33:5
 fresh-requires : tie.Need-fresh-requires
 fresh-requires c κs = search needs
 
--- src/storing.rt:21:1
 same-length : tie.Need-same-length
 same-length c = search needs
 
--- src/storing.rt:21:1
 returns-3 : tie.Need-returns-3
 returns-3 c =
     let a = c .before .before .before .before .before .before .before .args in

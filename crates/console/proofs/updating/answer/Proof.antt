@@ -6,18 +6,14 @@ use Rattle.lines.specs.Session.{answered}
 use borrow.Author.Needs.{needs}
 use Rattle.console.proofs.updating.answer.Statement.{statement}
 use Rattle.console.proofs.updating.answer.Tie as tie
-use Rattle.console.proofs.updating.answer.Reads as reads
-use Rattle.console.proofs.updating.answer.Lts as lts
 
 refused-is : (n : ℕ) → (n ≡ 0 → ⊥) → Refused n ≡ answered n
 refused-is zero z = absurd (z refl)
 refused-is (suc n) z = refl
 
--- src/updating.rt:17:9
 returns : tie.Need-returns
 returns c = search needs
 
--- src/updating.rt:13:1
 returns-2 : tie.Need-returns-2
 returns-2 c = refused-is (c .before .args .n) (c .if1 .left)
 

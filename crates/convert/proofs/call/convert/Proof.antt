@@ -1,8 +1,8 @@
 -- `convert` meets its contract. Assumes nothing.
 use mathlib.Core.Path.{sym, _∙_}
 use borrow.Author.Needs.{needs}
-use Rattle.model.proofs.Converting.{passes}
-use Rattle.convert.specs.Whole.{refused-so, done-so}
+use Rattle.model.proofs.turning.Converting.{passes}
+use Rattle.convert.proofs.laws.Whole.{refused-so, done-so}
 use Rattle.convert.proofs.call.convert.Statement.{statement}
 use Rattle.convert.proofs.call.convert.Tie as tie
 

@@ -1,7 +1,7 @@
 -- `convert_in` meets its contract. Assumes nothing.
-use mathlib.Core.Path.{refl, sym, _∙_}
+use mathlib.Core.Path.{refl, _∙_}
 use borrow.Author.Needs.{needs}
-use Rattle.convert.specs.Whole.{fresh-made, starts, all-done, one-stops}
+use Rattle.convert.proofs.laws.Whole.{fresh-made, starts, all-done, one-stops}
 use Rattle.convert.proofs.call.convert_in.Statement.{statement}
 use Rattle.convert.proofs.call.convert_in.Tie as tie
 

@@ -9,10 +9,10 @@ use Rattle.model.specs.declared.Limits.{Limits}
 use Rattle.model.specs.declared.Header.{Header}
 use Rattle.model.specs.Layout.{readHeader, decode}
 use Rattle.model.specs.Judged.{lengthOk, judged}
-use Rattle.page.specs.Editions.{edition-of}
-use Rattle.store.specs.Read.{opened-of}
-use Rattle.store.specs.Sure.{front, few}
-use Rattle.convert.specs.Guard.{few-bytes, other-name, other-edition, target-wrong, judged-wrong, judged-sound, is-open, is-shut}
+use Rattle.page.proofs.laws.Editions.{edition-of}
+use Rattle.store.proofs.laws.Read.{opened-of}
+use Rattle.store.proofs.laws.Sure.{front, few}
+use Rattle.convert.proofs.laws.Guard.{few-bytes, other-name, other-edition, target-wrong, judged-wrong, judged-sound, is-open, is-shut}
 use Rattle.convert.proofs.call.guard.Statement.{statement}
 use Rattle.convert.proofs.call.guard.Tie as tie
 

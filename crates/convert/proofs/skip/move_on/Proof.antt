@@ -2,10 +2,10 @@
 use native.Mathlib.Omega.{arith}
 use mathlib.Core.Path.{_∙_}
 use borrow.Author.Needs.{needs}
-use Rattle.store.specs.Sure.{few, front}
-use Rattle.store.specs.Header.{header-fits}
-use Rattle.turn.specs.Turned.{kept}
-use Rattle.convert.specs.Skip.{moved-bytes}
+use Rattle.store.proofs.laws.Sure.{few, front}
+use Rattle.store.proofs.laws.Header.{header-fits}
+use Rattle.turn.proofs.laws.Turned.{kept}
+use Rattle.convert.proofs.laws.Skip.{moved-bytes}
 use Rattle.convert.proofs.skip.move_on.Statement.{statement}
 use Rattle.convert.proofs.skip.move_on.Tie as tie
 

@@ -1,24 +1,21 @@
 -- `next_change` meets its contract: nothing of the pages before n starts or ends behind v and before q. Assumes nothing.
-use Prim.Native.Nat.{ℕ, _*_, _≤_, _<_, _-_}
+use Prim.Native.Nat.{ℕ, _≤_, _<_, _-_}
 use native.Mathlib.Omega.{arith}
-use mathlib.Core.Path.{_≡_, ap, sym, _∙_}
-use mathlib.Core.List.{List}
+use mathlib.Core.Path.{ap}
 use Rattle.model.specs.declared.Header.{Header}
 use Rattle.model.specs.Layout.{pageOf, readHeader, sizeOf}
 use Rattle.model.specs.Inner.{Out}
-use Rattle.page.specs.Head.{readHead}
-use Rattle.store.specs.Sure.{front, few, part-in, whole}
+use Rattle.store.proofs.laws.Sure.{front, few, part-in, whole}
 use Rattle.local.specs.Local.{slotAt}
-use Rattle.notes.specs.Ready.{Sooner}
+use Rattle.notes.specs.Ready.{BehindUpto}
 use Rattle.judge.specs.Versions.{QuietPart}
-use Rattle.convert.specs.Skip.{Still, room, slots-less, parts-more}
-use borrow.Author.Needs.{needs}
+use Rattle.convert.proofs.laws.Skip.{room, slots-less, parts-more}
 use Rattle.convert.proofs.skip.next_change.Statement.{statement}
 use Rattle.convert.proofs.skip.next_change.Tie as tie
 
 abbrev Inv-loop : tie.InvT-loop
 Inv-loop s k v r size q₀ n₀ q n =
-    (5 ≤ n) × (n ≤ size) × Sooner v r q × ((i : ℕ) → i < readHeader (k .least) s .roots → Out v q (slotAt (k .least) s i .version))
+    (5 ≤ n) × (n ≤ size) × BehindUpto v r q × ((i : ℕ) → i < readHeader (k .least) s .roots → Out v q (slotAt (k .least) s i .version))
     × ((m : ℕ) → 5 ≤ m → m < n → QuietPart (k .least) (pageOf (k .least) s m) v q)
 
 abbrev μ-loop : tie.MeasureT-loop

@@ -1,7 +1,7 @@
 -- `skip` meets its contract. Assumes nothing.
 use native.Mathlib.Omega.{arith}
 use borrow.Author.Needs.{needs}
-use Rattle.convert.specs.Skip.{source-low, skipped}
+use Rattle.convert.proofs.laws.Skip.{source-low, skipped}
 use Rattle.convert.proofs.skip.skip.Statement.{statement}
 use Rattle.convert.proofs.skip.skip.Tie as tie
 

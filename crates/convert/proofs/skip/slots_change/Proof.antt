@@ -4,15 +4,16 @@ use native.Mathlib.Omega.{arith}
 use mathlib.Core.Path.{ap}
 use Rattle.model.specs.declared.Header.{Header}
 use Rattle.model.specs.Inner.{Out}
-use Rattle.store.specs.Sure.{front, few, roots}
+use Rattle.store.proofs.laws.Sure.{front, few, roots}
 use Rattle.local.specs.Local.{slotAt}
-use Rattle.notes.specs.Ready.{Sooner, outs-more}
+use Rattle.notes.specs.Ready.{BehindUpto}
+use Rattle.notes.proofs.laws.Ready.{outs-more}
 use borrow.Author.Needs.{needs}
 use Rattle.convert.proofs.skip.slots_change.Statement.{statement}
 use Rattle.convert.proofs.skip.slots_change.Tie as tie
 
 abbrev Inv-loop : tie.InvT-loop
-Inv-loop s k v r roots q₀ i₀ q i = (i ≤ roots) × Sooner v r q × ((j : ℕ) → j < i → Out v q (slotAt (k .least) s j .version))
+Inv-loop s k v r roots q₀ i₀ q i = (i ≤ roots) × BehindUpto v r q × ((j : ℕ) → j < i → Out v q (slotAt (k .least) s j .version))
 
 abbrev μ-loop : tie.MeasureT-loop
 μ-loop s k v r roots q₀ i₀ q i = roots - i

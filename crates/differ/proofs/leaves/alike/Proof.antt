@@ -1,8 +1,8 @@
 -- `leaves::alike` meets its contract. Assumes nothing.
-use Rattle.differ.specs.Leaves.{leaf-stands, same-none}
-use Rattle.walk.specs.Sure.{covers-inside}
-use Rattle.cursor.specs.Leaf.{below-covers}
-use Rattle.store.specs.Sure.{few}
+use Rattle.differ.proofs.laws.Leaves.{leaf-stands, same-none}
+use Rattle.walk.proofs.laws.Sure.{covers-inside}
+use Rattle.cursor.proofs.laws.Leaf.{below-covers}
+use Rattle.store.proofs.laws.Sure.{few}
 use mathlib.Core.Path.{sym, _∙_}
 use borrow.Author.Needs.{needs}
 use Rattle.differ.proofs.leaves.alike.Statement.{statement}

@@ -1,5 +1,5 @@
 -- `merge` meets its contract. Assumes nothing.
-use Rattle.differ.specs.Halfway.{Halfway, half-start, half-end, half-on, half-space, half-old, half-new, half-step}
+use Rattle.differ.proofs.laws.Halfway.{Halfway, half-start, half-end, half-on, half-space, half-old, half-new, half-step}
 use Rattle.model.specs.Walk.{keyLimit}
 use native.Mathlib.Omega.{arith}
 use Prim.Native.Nat.{_+_, _-_}

@@ -1,5 +1,5 @@
 -- `on` meets its contract. Assumes nothing.
-use Rattle.differ.specs.Side.{at-stays, at-ended, at-rises, at-gone}
+use Rattle.differ.proofs.laws.Side.{at-stays, at-ended, at-rises, at-gone}
 use mathlib.Core.Path.{_∙_}
 use native.Mathlib.Omega.{arith}
 use borrow.Author.Needs.{needs}

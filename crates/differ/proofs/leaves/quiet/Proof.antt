@@ -1,5 +1,6 @@
 -- `quiet` meets its contract. Assumes nothing.
-use Rattle.differ.specs.Quiet.{quiet, quiet-on, quiet-not, quiet-end}
+use Rattle.differ.specs.Quiet.{quiet}
+use Rattle.differ.proofs.laws.Quiet.{quiet-on, quiet-not, quiet-end}
 use Rattle.walk.specs.Scan.{from}
 use mathlib.Core.Path.{_≡_, refl, ap, sym, _∙_}
 use native.Mathlib.Omega.{arith}

@@ -1,5 +1,5 @@
 -- `side_from` meets its contract. Assumes nothing.
-use Rattle.differ.specs.Side.{at-here, at-none}
+use Rattle.differ.proofs.laws.Side.{at-here, at-none}
 use native.Mathlib.Omega.{arith}
 use Rattle.differ.proofs.leaves.side_from.Statement.{statement}
 use Rattle.differ.proofs.leaves.side_from.Tie as tie

@@ -1,11 +1,11 @@
 -- `leaves::tell` meets its contract. Assumes nothing.
-use Rattle.differ.specs.Leaves.{leaf-stands, rest-ordered, same-none, both-asked}
+use Rattle.differ.proofs.laws.Leaves.{leaf-stands, rest-ordered, same-none, both-asked}
 use Rattle.differ.specs.Listing.{deltas}
-use Rattle.model.proofs.Telling.{written-none}
+use Rattle.model.proofs.reading.Telling.{written-none}
 use native.Mathlib.Omega.{arith}
-use Rattle.walk.specs.Sure.{covers-inside}
-use Rattle.cursor.specs.Leaf.{below-covers}
-use Rattle.store.specs.Sure.{few}
+use Rattle.walk.proofs.laws.Sure.{covers-inside}
+use Rattle.cursor.proofs.laws.Leaf.{below-covers}
+use Rattle.store.proofs.laws.Sure.{few}
 use mathlib.Core.Path.{sym, _∙_, subst}
 use borrow.Author.Needs.{needs}
 use Rattle.differ.proofs.leaves.tell.Statement.{statement}

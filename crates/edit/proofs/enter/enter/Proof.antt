@@ -1,7 +1,8 @@
 -- `edit::enter::enter` meets its contract: the entry is inserted at its place. Assumes nothing.
-use Rattle.edit.specs.Place.{placeOf, place-low, entered-is}
+use Rattle.edit.specs.Place.{placeOf}
+use Rattle.edit.proofs.laws.Place.{place-low, entered-is}
 use Rattle.page.specs.Insert.{withEntry}
-use Rattle.page.specs.Read.{count-of, entries-of, length-entries}
+use Rattle.page.proofs.laws.Read.{count-of, entries-of, length-entries}
 use Rattle.page.specs.declared.Head.{Head}
 use Rattle.model.specs.Layout.{countOf, encodePage, decodePage, readEntries}
 use Rattle.model.specs.Entry.{born}

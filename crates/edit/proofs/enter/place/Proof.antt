@@ -3,7 +3,8 @@ use Prim.Native.Nat.{_≤_, _-_, _+_, _*_}
 use mathlib.Core.Path.{_≡_, ap, sym, _∙_}
 use native.Mathlib.Omega.{arith}
 use Rattle.model.specs.Layout.{readEntries}
-use Rattle.edit.specs.Place.{placeOf, beforeOf, place-start, place-here, place-later, place-none}
+use Rattle.edit.specs.Place.{placeOf, beforeOf}
+use Rattle.edit.proofs.laws.Place.{place-start, place-here, place-later, place-none}
 use borrow.Author.Needs.{needs}
 use Rattle.edit.proofs.enter.place.Statement.{statement}
 use Rattle.edit.proofs.enter.place.Tie as tie

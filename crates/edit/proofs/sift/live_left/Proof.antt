@@ -1,5 +1,5 @@
 -- `edit::sift::live_left` meets its contract: an entry that goes adds nothing. Assumes nothing.
-use mathlib.Core.Path.{_≡_, ap, sym, _∙_}
+use mathlib.Core.Path.{sym, _∙_}
 use borrow.Author.Needs.{needs}
 use Rattle.edit.proofs.sift.live_left.Statement.{statement}
 use Rattle.edit.proofs.sift.live_left.Tie as tie

@@ -1,9 +1,10 @@
 -- `edit::sift::sift` meets its contract: the entries closed up, those behind unused, the front for them, and how many live. Assumes nothing.
 use Rattle.model.specs.Limits.{liveShown}
-use Rattle.edit.specs.Sift.{sifted, siftedHead, fewer, head-fits, sift-end, sift-live, sift-low}
+use Rattle.edit.specs.Sift.{sifted}
+use Rattle.edit.proofs.laws.Sift.{siftedHead, fewer, head-fits, sift-end, sift-live, sift-low}
 use Rattle.edit.specs.Fate.{endOf}
 use Rattle.page.specs.Stage.{staged, blanked, entriesIn}
-use Rattle.page.specs.Read.{count-of}
+use Rattle.page.proofs.laws.Read.{count-of}
 use Rattle.page.specs.Head.{readHead, putHead, putLive, HeadFits}
 use Rattle.page.specs.declared.Head.{Head}
 use Rattle.model.specs.Layout.{countOf}

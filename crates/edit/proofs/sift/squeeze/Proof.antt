@@ -9,9 +9,12 @@ use Rattle.model.specs.Field.{lay}
 use Rattle.model.specs.Basic.{those}
 use Rattle.model.specs.Layout.{lives, entryParts, countOf, readEntries, unused}
 use Rattle.page.specs.Stage.{staged}
-use Rattle.page.specs.Read.{Sized, read-sized, length-entries}
-use Rattle.edit.specs.Fate.{fateOf, fate-sized, left}
-use Rattle.edit.specs.Sift.{sifted, Staged, sift-none, sift-read, sift-put, sifted-more, live-more, live-one-most}
+use Rattle.page.specs.Read.{FieldsFit}
+use Rattle.page.proofs.laws.Read.{read-sized, length-entries}
+use Rattle.edit.specs.Fate.{fateOf, left}
+use Rattle.edit.proofs.laws.Fate.{fate-sized}
+use Rattle.edit.specs.Sift.{sifted}
+use Rattle.edit.proofs.laws.Sift.{Staged, sift-none, sift-read, sift-put, sifted-more, live-more, live-one-most}
 use lib.Seq.{take-all}
 use lib.ListN.{length, getD, take, length-append}
 use borrow.Author.Needs.{needs}
@@ -77,7 +80,7 @@ loop-again c =
     (λ t.
     let k : left m ≡ (m .entry ∷ []) = rw (t .0 .taken) in
     let m1 : sifted r w (take (l .i + 1) es) ≡ out ++ (m .entry ∷ []) = more ∙ ap (λ (y : List Entry). out ++ y) k in
-    let z : Sized (m .entry) = rw (c .before .before .meet .ensures, c .before .before .before .entry-at .ensures) (fate-sized _ _ _ (read-sized _ _) (s .pre .3)) in
+    let z : FieldsFit (m .entry) = rw (c .before .before .meet .ensures, c .before .before .before .entry-at .ensures) (fate-sized _ _ _ (read-sized _ _) (s .pre .3)) in
     let put : Staged p (a .count) (out ++ m .entry ∷ []) (lay (l .page) (128 + 96 * l .j) (entryParts (m .entry)))
     = rw (l .inv .1) (sift-put p (l .page) (a .count) out (m .entry) (l .inv .4) (omega arith) z) in (
       omega arith,

@@ -1,5 +1,5 @@
 use native.Mathlib.Omega.{arith}
-use Prim.Native.Nat.{ℕ, _≤_, _+_, _-_, _*_}
+use Prim.Native.Nat.{ℕ, _≤_, _+_, _-_}
 use mathlib.Core.Path.{_≡_, ap, sym, _∙_}
 use mathlib.Core.List.{List, [], _∷_}
 use borrow.Author.Tests.{le-leb}
@@ -8,10 +8,11 @@ use lib.ListN.{length}
 use Rattle.model.specs.declared.Entry.{Entry}
 use Rattle.model.specs.Page.{wanted}
 use Rattle.model.specs.Layout.{countOf, decodePage}
-use Rattle.page.specs.Read.{count-of}
+use Rattle.page.proofs.laws.Read.{count-of}
 use Rattle.edit.specs.Change.{changeOf}
-use Rattle.gather.specs.Kept.{keptPairs, rest, rest-all, rest-step, rest-none}
-use Rattle.gather.specs.Tests.{kept-more, wanted-long}
+use Rattle.gather.specs.Kept.{keptPairs}
+use Rattle.gather.proofs.laws.Kept.{rest, rest-all, rest-step, rest-none}
+use Rattle.gather.proofs.laws.Tests.{kept-more, wanted-long}
 use borrow.Author.Needs.{needs}
 use Rattle.gather.proofs.test.has_enough.Statement.{statement}
 use Rattle.gather.proofs.test.has_enough.Tie as tie

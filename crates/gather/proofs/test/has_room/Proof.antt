@@ -5,10 +5,10 @@ use borrow.Author.Tests.{le-leb}
 use lib.ListN.{length}
 use Rattle.model.specs.Page.{changed}
 use Rattle.model.specs.Layout.{countOf, decodePage}
-use Rattle.page.specs.Read.{count-of, entries-of, length-entries}
-use Rattle.page.specs.Editions.{room-is}
+use Rattle.page.proofs.laws.Read.{count-of, entries-of, length-entries}
+use Rattle.page.proofs.laws.Editions.{room-is}
 use Rattle.edit.specs.Change.{changeOf}
-use Rattle.gather.specs.Tests.{changed-few}
+use Rattle.gather.proofs.laws.Tests.{changed-few}
 use borrow.Author.Needs.{needs}
 use Rattle.gather.proofs.test.has_room.Statement.{statement}
 use Rattle.gather.proofs.test.has_room.Tie as tie

@@ -1,8 +1,5 @@
-use Rattle.group.specs.Exchange.{apart, exchange-is, ones, fitting-pick}
-use Rattle.edit.specs.Change.{one}
-use mathlib.Core.Bool.{_&&_}
+use Rattle.group.proofs.laws.Exchange.{exchange-is, ones, fitting-pick}
 use native.Mathlib.Omega.{arith}
-use mathlib.Core.Path.{_≡_, _∙_}
 use borrow.Author.Needs.{needs}
 use Rattle.group.proofs.parent.exchange.Statement.{statement}
 use Rattle.group.proofs.parent.exchange.Tie as tie

@@ -1,4 +1,4 @@
-use Rattle.group.specs.Exchange.{among-two}
+use Rattle.group.proofs.laws.Exchange.{among-two}
 use borrow.Author.Needs.{needs}
 use Rattle.group.proofs.parent.not_among.Statement.{statement}
 use Rattle.group.proofs.parent.not_among.Tie as tie

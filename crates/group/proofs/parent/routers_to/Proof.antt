@@ -1,9 +1,8 @@
-use Rattle.group.specs.Exchange.{to-one, to-two}
+use Rattle.group.proofs.laws.Exchange.{to-one, to-two}
 use Rattle.group.specs.Group.{routersOf}
-use Rattle.page.specs.Editions.{full-is}
-use mathlib.Core.Path.{_≡_}
+use Rattle.page.proofs.laws.Editions.{full-is}
 use native.Mathlib.Omega.{arith}
-use Prim.Native.Nat.{ℕ, _+_, _*_, _/_, _≤_, _<_}
+use Prim.Native.Nat.{_+_, _*_, _/_, _≤_, _<_}
 use borrow.Author.Needs.{needs}
 use Rattle.group.proofs.parent.routers_to.Statement.{statement}
 use Rattle.group.proofs.parent.routers_to.Tie as tie

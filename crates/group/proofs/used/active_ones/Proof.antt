@@ -1,4 +1,4 @@
-use Rattle.group.specs.Numbers.{actives-are}
+use Rattle.group.proofs.laws.Numbers.{actives-are}
 use Rattle.parts.specs.Kept.{pagesOf}
 use borrow.Author.Needs.{needs}
 use Rattle.group.proofs.used.active_ones.Statement.{statement}

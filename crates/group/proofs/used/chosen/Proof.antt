@@ -1,5 +1,4 @@
 use mathlib.Core.Path.{refl}
-use borrow.Author.Needs.{needs}
 use Rattle.group.proofs.used.chosen.Statement.{statement}
 use Rattle.group.proofs.used.chosen.Tie as tie
 

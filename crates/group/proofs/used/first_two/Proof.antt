@@ -1,4 +1,4 @@
-use Rattle.group.specs.Numbers.{two-of-none, two-of-one, two-of-two}
+use Rattle.group.proofs.laws.Numbers.{two-of-none, two-of-one, two-of-two}
 use borrow.Author.Needs.{needs}
 use Rattle.group.proofs.used.first_two.Statement.{statement}
 use Rattle.group.proofs.used.first_two.Tie as tie

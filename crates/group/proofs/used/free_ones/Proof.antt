@@ -1,4 +1,4 @@
-use Rattle.group.specs.Numbers.{frees-none, frees-some}
+use Rattle.group.proofs.laws.Numbers.{frees-none, frees-some}
 use Rattle.parts.specs.Kept.{pagesOf}
 use native.Mathlib.Omega.{arith}
 use Prim.Native.Nat.{ℕ, _<_, _≤_}

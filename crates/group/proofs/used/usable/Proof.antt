@@ -1,10 +1,9 @@
-use Rattle.group.specs.Numbers.{numbers-are, numbered-self, take-two, actives-two, usable-two}
+use Rattle.group.proofs.laws.Numbers.{numbers-are, numbered-self, take-two, actives-two, usable-two}
 use Rattle.group.specs.Group.{routersOf}
 use Rattle.parts.specs.Kept.{pagesOf}
 use Rattle.model.specs.Needs.{actives}
 use lib.ListN.{take}
 use Rattle.model.specs.Store.{freeOnes}
-use mathlib.Core.Path.{_∙_}
 use borrow.Author.Needs.{needs}
 use Rattle.group.proofs.used.usable.Statement.{statement}
 use Rattle.group.proofs.used.usable.Tie as tie

@@ -2,7 +2,7 @@
 use Prim.Native.Nat.{_≤_, _<_, _-_, _+_, _*_}
 use mathlib.Core.Path.{_≡_, ap}
 use native.Mathlib.Omega.{arith}
-use Rattle.judge.specs.Quiet.{out-less, quiet-none, quiet-more, quiet-one}
+use Rattle.judge.proofs.laws.Quiet.{out-less, quiet-none, quiet-more, quiet-one}
 use Rattle.judge.specs.Versions.{QuietEntries}
 use Rattle.page.specs.Head.{readHead}
 use Rattle.page.specs.declared.Head.{Head}

@@ -4,7 +4,7 @@ use mathlib.Core.Path.{_≡_, ap}
 use mathlib.Core.List.{_∷_}
 use lib.ListN.{length}
 use native.Mathlib.Omega.{arith}
-use Rattle.judge.specs.Live.{pairs-end}
+use Rattle.judge.proofs.laws.Live.{pairs-end}
 use Rattle.judge.specs.Pending.{pairsFrom}
 use Rattle.model.specs.Layout.{readEntry}
 use Rattle.model.specs.Entry.{pairOf}

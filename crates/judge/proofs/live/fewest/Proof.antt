@@ -1,7 +1,7 @@
 -- `judge::live::fewest` meets its contract: each way out by the tests taken. Assumes nothing.
 use mathlib.Core.Path.{sym}
 use borrow.Author.Tests.{not-true, not-false}
-use Rattle.judge.specs.Live.{fewest-inner, fewest-leaf, fewest-index}
+use Rattle.judge.proofs.laws.Live.{fewest-inner, fewest-leaf, fewest-index}
 use Rattle.judge.proofs.live.fewest.Statement.{statement}
 use Rattle.judge.proofs.live.fewest.Tie as tie
 

@@ -2,7 +2,7 @@
 use Prim.Native.Nat.{_≤_, _-_}
 use mathlib.Core.Path.{_≡_, refl, sym, _∙_}
 use native.Mathlib.Omega.{arith}
-use Rattle.judge.specs.Live.{pairs-live, pairs-dead}
+use Rattle.judge.proofs.laws.Live.{pairs-live, pairs-dead}
 use Rattle.judge.specs.Pending.{pairsFrom}
 use borrow.Author.Needs.{needs}
 use Rattle.judge.proofs.live.next_live.Statement.{statement}

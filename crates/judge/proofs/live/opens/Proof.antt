@@ -2,7 +2,7 @@
 use mathlib.Core.Path.{ap, sym, _∙_}
 use lib.Dec.{eqb}
 use native.Mathlib.Omega.{arith}
-use Rattle.judge.specs.Live.{open-leaf, open-starts, open-counts, open-other, starts-none, starts-first}
+use Rattle.judge.proofs.laws.Live.{open-leaf, open-starts, open-counts, open-other, starts-none, starts-first}
 use Rattle.model.specs.declared.Entry.{Entry}
 use borrow.Author.Needs.{needs}
 use Rattle.judge.proofs.live.opens.Statement.{statement}

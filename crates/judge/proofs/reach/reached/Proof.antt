@@ -6,9 +6,9 @@ use lib.ListN.{getD}
 use lib.Dec.{eqb}
 use native.Mathlib.Omega.{arith}
 use borrow.Author.Tests.{not-true, not-false}
-use Rattle.judge.specs.Marked.{marked-step, marked-end}
+use Rattle.judge.proofs.laws.Marked.{marked-step, marked-end}
 use Rattle.judge.specs.Versions.{markedWell}
-use Rattle.local.specs.Sizes.{part-fits}
+use Rattle.local.proofs.laws.Sizes.{part-fits}
 use Rattle.local.specs.Local.{headAt, levelAt}
 use Rattle.model.specs.Layout.{readPages, sizeOf}
 use Rattle.model.specs.Sound.{same as sameOf}

@@ -3,8 +3,8 @@ use Prim.Native.Nat.{ℕ, _-_}
 use mathlib.Core.Path.{_≡_, ap, sym, _∙_}
 use mathlib.Core.List.{List}
 use native.Mathlib.Omega.{arith}
-use Rattle.judge.specs.Marked.{fails, passes-six}
-use Rattle.local.specs.Sizes.{part-fits}
+use Rattle.judge.proofs.laws.Marked.{fails, passes-six}
+use Rattle.local.proofs.laws.Sizes.{part-fits}
 use Rattle.local.specs.Local.{levelAt}
 use Rattle.page.specs.Head.{readHead}
 use Rattle.model.specs.declared.Header.{Header}

@@ -7,14 +7,15 @@ use lib.Dec.{eqb}
 use lib.ListN.{length, getD, set}
 use native.Mathlib.Omega.{arith}
 use borrow.Author.Tests.{not-true, not-false, eqb-true, lt-ltb, le-ltb}
-use Rattle.bits.specs.Put.{less}
-use Rattle.judge.specs.Taking.{start, fewer, leaf-marked, enter, shut, finish, stopped}
-use Rattle.judge.specs.Steps.{stops, passed, pushed, left, lighter}
-use Rattle.judge.specs.Walking.{Walking, Entering, weigh-top, weigh-put}
-use Rattle.judge.specs.Pending.{none, restOf, heft, weigh, stepOk}
-use Rattle.local.specs.Sizes.{part-fits}
+use Rattle.bits.proofs.laws.Put.{less}
+use Rattle.judge.proofs.laws.Taking.{start, fewer, leaf-marked, enter, shut, finish, stopped}
+use Rattle.judge.proofs.laws.Steps.{stops, passed, pushed, left, lighter}
+use Rattle.judge.proofs.laws.Walking.{Walking, Entering, weigh-top, weigh-put}
+use Rattle.judge.specs.Pending.{restOf, stepOk}
+use Rattle.judge.proofs.laws.Pending.{none, heft, weigh}
+use Rattle.local.proofs.laws.Sizes.{part-fits}
 use Rattle.local.specs.Local.{IsPage, countAt}
-use Rattle.model.proofs.Lists.{both-true}
+use Rattle.model.proofs.lists.Lists.{both-true}
 use Rattle.model.specs.Layout.{readEntry}
 use Rattle.model.specs.declared.Entry.{Entry}
 use Rattle.page.specs.Head.{readHead}

@@ -7,7 +7,7 @@ use borrow.Author.Tests.{eq-eqb, ne-eqb, not-true, not-false}
 use borrow.Author.Needs.{needs}
 use Rattle.model.specs.Basic.{pick}
 use Rattle.model.specs.Kinds.{rowRight, wrongFrom, wrongRow}
-use Rattle.kinds.specs.Laws.{row-key, wrong-here, wrong-on, wrong-end}
+use Rattle.kinds.proofs.laws.Laws.{row-key, wrong-here, wrong-on, wrong-end}
 use Rattle.kinds.proofs.table.wrong_row.Statement.{statement}
 use Rattle.kinds.proofs.table.wrong_row.Tie as tie
 

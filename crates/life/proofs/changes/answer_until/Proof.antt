@@ -4,15 +4,15 @@ use native.Mathlib.Omega.{arith}
 use mathlib.Core.Path.{_≡_, subst}
 use borrow.Author.Needs.{needs}
 use Rattle.model.specs.Layout.{decode}
-use Rattle.store.specs.Sure.{few}
-use Rattle.walk.specs.Covers.{covers-starts}
-use Rattle.walk.specs.Sure.{root-covers, covers-inside}
-use Rattle.life.specs.Way.{Going, going-start, going-down, going-end}
+use Rattle.store.proofs.laws.Sure.{few}
+use Rattle.walk.proofs.laws.Covers.{covers-starts}
+use Rattle.walk.proofs.laws.Sure.{root-covers, covers-inside}
+use Rattle.life.proofs.laws.Way.{LookupsCome, going-start, going-down, going-end}
 use Rattle.life.proofs.changes.answer_until.Statement.{statement}
 use Rattle.life.proofs.changes.answer_until.Tie as tie
 
 abbrev Inv-loop : tie.InvT-loop
-Inv-loop s l key v r q₀ n₀ up₀ q n up = Going (l .least) (decode (l .least) s) key v r q up n
+Inv-loop s l key v r q₀ n₀ up₀ q n up = LookupsCome (l .least) (decode (l .least) s) key v r q up n
 
 abbrev μ-loop : tie.MeasureT-loop
 μ-loop s l key v r q₀ n₀ up₀ q n up = up
@@ -47,12 +47,12 @@ shown-until-requires c κs =
 -- above the leaves
 deeper : (c : tie.After-shown-until Inv-loop μ-loop)
     → let a = c .before .before .before .before .before .before .before .args in let k = c .before .before .loop in
-    Going (a .l .least) (decode (a .l .least) (a .s .now)) (a .key) (a .v) (a .r) (k .q) (suc (k .up - 1)) (k .n)
+    LookupsCome (a .l .least) (decode (a .l .least) (a .s .now)) (a .key) (a .v) (a .r) (k .q) (suc (k .up - 1)) (k .n)
 deeper c =
     let a = c .before .before .before .before .before .before .before .args in
     let k = c .before .before .loop in
     let e : k .up ≡ suc (k .up - 1) = omega (arith, c .before .loop-test .taken) in
-    subst (λ (u : ℕ). Going (a .l .least) (decode (a .l .least) (a .s .now)) (a .key) (a .v) (a .r) (k .q) u (k .n)) e (k .inv)
+    subst (λ (u : ℕ). LookupsCome (a .l .least) (decode (a .l .least) (a .s .now)) (a .key) (a .v) (a .r) (k .q) u (k .n)) e (k .inv)
 
 child-requires : tie.Need-child-requires Inv-loop μ-loop
 child-requires c κs =
@@ -88,7 +88,7 @@ returns c =
     let k = c .before .before .loop in
     let e : k .up ≡ 0 = omega (arith, c .before .loop-test .left) in
     going-end (a .l .least) (decode (a .l .least) (a .s .now)) (a .key) (a .v) (a .r) (k .q) (k .n) (c .shown-until2 .result)
-    (subst (λ (u : ℕ). Going (a .l .least) (decode (a .l .least) (a .s .now)) (a .key) (a .v) (a .r) (k .q) u (k .n)) e (k .inv)) (c .shown-until2 .ensures)
+    (subst (λ (u : ℕ). LookupsCome (a .l .least) (decode (a .l .least) (a .s .now)) (a .key) (a .v) (a .r) (k .q) u (k .n)) e (k .inv)) (c .shown-until2 .ensures)
 
 pub answer-until-spec : {M : Type 1} → statement M
 answer-until-spec =

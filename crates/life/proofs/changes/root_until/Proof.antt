@@ -8,9 +8,10 @@ use Rattle.model.specs.declared.Header.{Header}
 use Rattle.model.specs.declared.Slot.{Slot}
 use Rattle.model.specs.Layout.{readSlots}
 use Rattle.model.specs.Walk.{rootAt}
-use Rattle.store.specs.Read.{slots-of}
-use Rattle.store.specs.Sure.{few, front, roots}
-use Rattle.life.specs.Still.{Until, roots-none, roots-more}
+use Rattle.store.proofs.laws.Read.{slots-of}
+use Rattle.store.proofs.laws.Sure.{few, front, roots}
+use Rattle.life.specs.Still.{Until}
+use Rattle.life.proofs.laws.Still.{roots-none, roots-more}
 use Rattle.life.proofs.changes.root_until.Statement.{statement}
 use Rattle.life.proofs.changes.root_until.Tie as tie
 

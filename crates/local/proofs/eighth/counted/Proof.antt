@@ -9,7 +9,7 @@ use Rattle.model.specs.Basic.{those}
 use Rattle.model.specs.Layout.{lives, readEntries}
 use Rattle.page.specs.declared.Head.{Head}
 use Rattle.page.specs.Head.{readHead}
-use Rattle.local.specs.Eighth.{count-free, count-used}
+use Rattle.local.proofs.laws.Eighth.{count-free, count-used}
 use Rattle.local.proofs.eighth.counted.Statement.{statement}
 use Rattle.local.proofs.eighth.counted.Tie as tie
 

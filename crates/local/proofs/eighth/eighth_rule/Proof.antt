@@ -4,9 +4,9 @@ use mathlib.Core.Path.{_≡_, sym, _∙_}
 use native.Mathlib.Omega.{arith}
 use borrow.Author.Tests.{not-true, not-false}
 use Rattle.model.specs.Counted.{rule8}
-use Rattle.local.specs.Eighth.{countsOk, counts-step, counts-end, eighth-none, eighth-some}
-use Rattle.local.specs.Ruled.{ruled}
-use Rattle.local.specs.Sizes.{part-fits}
+use Rattle.local.proofs.laws.Eighth.{countsOk, counts-step, counts-end, eighth-none, eighth-some}
+use Rattle.local.proofs.laws.Ruled.{ruled}
+use Rattle.local.proofs.laws.Sizes.{part-fits}
 use Rattle.local.proofs.eighth.eighth_rule.Statement.{statement}
 use Rattle.local.proofs.eighth.eighth_rule.Tie as tie
 

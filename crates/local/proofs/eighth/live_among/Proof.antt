@@ -6,7 +6,7 @@ use lib.ListN.{length}
 use borrow.Author.Needs.{needs}
 use Rattle.model.specs.Basic.{those}
 use Rattle.model.specs.Layout.{lives, readEntry, readEntries}
-use Rattle.local.specs.Eighth.{liveFrom, live-start, live-step, live-end, live-most}
+use Rattle.local.proofs.laws.Eighth.{liveFrom, live-start, live-step, live-end, live-most}
 use Rattle.local.proofs.eighth.live_among.Statement.{statement}
 use Rattle.local.proofs.eighth.live_among.Tie as tie
 

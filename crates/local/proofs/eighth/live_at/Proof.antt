@@ -1,5 +1,5 @@
 -- `local::eighth::live_at` meets its contract: the entry's end tells. Assumes nothing.
-use mathlib.Core.Path.{_≡_, sym, _∙_}
+use mathlib.Core.Path.{sym, _∙_}
 use borrow.Author.Tests.{eq-eqb, ne-eqb}
 use borrow.Author.Needs.{needs}
 use Rattle.model.specs.Layout.{readEntry}

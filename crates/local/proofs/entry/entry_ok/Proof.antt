@@ -1,7 +1,7 @@
 -- `local::entry::entry_ok` meets its contract: each way out is a law of one entry. Assumes nothing.
 use mathlib.Core.Path.{sym, _∙_}
 use borrow.Author.Tests.{not-true, not-false}
-use Rattle.local.specs.Pages.{entry-span, entry-leaf, entry-index}
+use Rattle.local.proofs.laws.Pages.{entry-span, entry-leaf, entry-index}
 use borrow.Author.Needs.{needs}
 use Rattle.local.proofs.entry.entry_ok.Statement.{statement}
 use Rattle.local.proofs.entry.entry_ok.Tie as tie

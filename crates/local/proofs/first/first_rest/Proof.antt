@@ -5,8 +5,8 @@ use borrow.Author.Tests.{not-true, not-false}
 use borrow.Author.Needs.{needs}
 use Rattle.model.specs.declared.Header.{Header}
 use Rattle.model.specs.Store.{lastOf}
-use Rattle.store.specs.Read.{current-lt}
-use Rattle.local.specs.First.{last-is, clean-roots, first-clean, first-last, first-rooted, first-rest}
+use Rattle.store.proofs.laws.Read.{current-lt}
+use Rattle.local.proofs.laws.First.{last-is, clean-roots, first-clean, first-last, first-rooted, first-rest}
 use Rattle.local.proofs.first.first_rest.Statement.{statement}
 use Rattle.local.proofs.first.first_rest.Tie as tie
 

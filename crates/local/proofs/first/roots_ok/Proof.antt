@@ -1,5 +1,5 @@
 -- `local::first::roots_ok` meets its contract: the slots from i on answer as all. Assumes nothing.
-use Rattle.local.specs.Loops.{all-slots-start, all-slots-step, all-slots-end}
+use Rattle.local.proofs.laws.Loops.{all-slots-start, all-slots-step, all-slots-end}
 use Prim.Native.Nat.{_≤_, _-_, _+_, _*_}
 use mathlib.Core.Path.{_≡_, sym, _∙_}
 use native.Mathlib.Omega.{arith}

@@ -6,13 +6,13 @@ use lib.Dec.{leb}
 use borrow.Author.Tests.{not-true, not-false, leb-true}
 use Rattle.model.specs.Basic.{pick}
 use Rattle.model.specs.Layout.{decode}
-use Rattle.model.proofs.Given.{old-last}
+use Rattle.model.proofs.sound.ByRule.{old-last}
 use borrow.Author.Needs.{needs}
 use Rattle.model.specs.declared.Header.{Header}
 use Rattle.model.specs.Store.{lastOf}
-use Rattle.store.specs.Read.{current-lt, oldest-of}
-use Rattle.local.specs.First.{last-is, clean-roots}
-use Rattle.local.specs.Right.{front-clean, front-last, front-none, front-slots}
+use Rattle.store.proofs.laws.Read.{current-lt, oldest-of}
+use Rattle.local.proofs.laws.First.{last-is, clean-roots}
+use Rattle.local.proofs.laws.Right.{front-clean, front-last, front-none, front-slots}
 use Rattle.local.proofs.front.front_rest.Statement.{statement}
 use Rattle.local.proofs.front.front_rest.Tie as tie
 

@@ -1,6 +1,6 @@
 -- `local::front::header_bits` meets its contract: by the edition's limits. Assumes nothing.
 use native.Mathlib.Omega.{arith}
-use Rattle.page.specs.Editions.{rooter-is, rooter-roots, aged-is, aged-few}
+use Rattle.page.proofs.laws.Editions.{rooter-is, rooter-roots, aged-is, aged-few}
 use Rattle.local.proofs.front.header_bits.Statement.{statement}
 use Rattle.local.proofs.front.header_bits.Tie as tie
 

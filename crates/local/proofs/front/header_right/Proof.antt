@@ -5,8 +5,8 @@ use native.Mathlib.Omega.{arith}
 use borrow.Author.Tests.{not-true, not-false}
 use borrow.Author.Needs.{needs}
 use Rattle.model.specs.declared.Header.{Header}
-use Rattle.page.specs.Editions.{bytes-is, slots-is, rooter-is, rooter-roots, aged-is, aged-few}
-use Rattle.local.specs.Right.{head-pages, head-spare, head-roots, head-rest}
+use Rattle.page.proofs.laws.Editions.{bytes-is, slots-is, rooter-is, rooter-roots, aged-is, aged-few}
+use Rattle.local.proofs.laws.Right.{head-pages, head-spare, head-roots, head-rest}
 use Rattle.local.proofs.front.header_right.Statement.{statement}
 use Rattle.local.proofs.front.header_right.Tie as tie
 

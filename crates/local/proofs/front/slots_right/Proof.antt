@@ -5,7 +5,8 @@ use native.Mathlib.Omega.{arith}
 use borrow.Author.Tests.{not-true, not-false}
 use borrow.Author.Needs.{needs}
 use Rattle.model.specs.Layout.{readSlots}
-use Rattle.local.specs.Front.{slotsFrom, from-start, from-step, from-end, fits-top}
+use Rattle.local.specs.Front.{slotsFrom}
+use Rattle.local.proofs.laws.Front.{from-start, from-step, from-end, fits-top}
 use Rattle.local.proofs.front.slots_right.Statement.{statement}
 use Rattle.local.proofs.front.slots_right.Tie as tie
 

@@ -3,8 +3,8 @@ use Prim.Native.Nat.{_*_}
 use mathlib.Core.Path.{_≡_, sym, _∙_}
 use native.Mathlib.Omega.{arith}
 use borrow.Author.Tests.{not-true, not-false}
-use Rattle.local.specs.Pages.{clean-room, clean-spare, clean-rest, spare-most}
-use Rattle.page.specs.Editions.{room-is, bytes-is}
+use Rattle.local.proofs.laws.Pages.{clean-room, clean-spare, clean-rest, spare-most}
+use Rattle.page.proofs.laws.Editions.{room-is, bytes-is}
 use Rattle.local.proofs.pages.clean_page.Statement.{statement}
 use Rattle.local.proofs.pages.clean_page.Tie as tie
 

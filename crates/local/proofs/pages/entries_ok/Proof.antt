@@ -4,10 +4,10 @@ use mathlib.Core.Path.{_≡_, refl, sym, _∙_}
 use native.Mathlib.Omega.{arith}
 use native.Mathlib.Nat.{sub-zero}
 use borrow.Author.Tests.{not-true, not-false}
-use Rattle.page.specs.Read.{read-sized}
+use Rattle.page.proofs.laws.Read.{read-sized}
 use Rattle.model.specs.Layout.{readEntries}
 use Rattle.local.specs.Local.{entriesOk}
-use Rattle.local.specs.Pages.{entries-ok-step, entries-ok-end}
+use Rattle.local.proofs.laws.Pages.{entries-ok-step, entries-ok-end}
 use Rattle.local.proofs.pages.entries_ok.Statement.{statement}
 use Rattle.local.proofs.pages.entries_ok.Tie as tie
 

@@ -1,6 +1,6 @@
 -- `local::pages::in_order` meets its contract: the next entry, or none. Assumes nothing.
 use mathlib.Core.Path.{sym, _∙_}
-use Rattle.local.specs.Pages.{next-none, next-some}
+use Rattle.local.proofs.laws.Pages.{next-none, next-some}
 use Prim.Native.Nat.{_+_, _*_}
 use Rattle.model.specs.Layout.{readEntry}
 use borrow.Author.Needs.{needs}

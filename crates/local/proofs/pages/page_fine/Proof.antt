@@ -3,7 +3,7 @@ use mathlib.Core.Path.{ap, sym, _∙_}
 use lib.Dec.{eqb}
 use native.Mathlib.Omega.{arith}
 use borrow.Author.Tests.{not-true, not-false}
-use Rattle.local.specs.Pages.{fine-start, fine-end, fine-count, fine-level, fine-span, fine-entries}
+use Rattle.local.proofs.laws.Pages.{fine-start, fine-end, fine-count, fine-level, fine-span, fine-entries}
 use Rattle.page.specs.declared.Head.{Head}
 use borrow.Author.Needs.{needs}
 use Rattle.local.proofs.pages.page_fine.Statement.{statement}

@@ -4,9 +4,9 @@ use native.Mathlib.Omega.{arith}
 use borrow.Author.Tests.{not-true, not-false}
 use borrow.Author.Needs.{needs}
 use Rattle.page.specs.declared.Head.{Head}
-use Rattle.local.specs.Pages.{clean-count}
-use Rattle.local.specs.Sizes.{part-fits}
-use Rattle.local.specs.Right.{page-low, page-far, page-other, page-clean, page-rest}
+use Rattle.local.proofs.laws.Pages.{clean-count}
+use Rattle.local.proofs.laws.Sizes.{part-fits}
+use Rattle.local.proofs.laws.Right.{page-low, page-far, page-other, page-clean, page-rest}
 use Rattle.local.proofs.pages.page_right.Statement.{statement}
 use Rattle.local.proofs.pages.page_right.Tie as tie
 

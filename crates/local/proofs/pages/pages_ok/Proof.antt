@@ -3,8 +3,8 @@ use Prim.Native.Nat.{_≤_, _-_}
 use mathlib.Core.Path.{_≡_, refl, sym, _∙_}
 use native.Mathlib.Omega.{arith}
 use borrow.Author.Tests.{not-true, not-false}
-use Rattle.local.specs.Pages.{clean-count, pages-fine-step, pages-fine-end}
-use Rattle.local.specs.Sizes.{part-fits}
+use Rattle.local.proofs.laws.Pages.{clean-count, pages-fine-step, pages-fine-end}
+use Rattle.local.proofs.laws.Sizes.{part-fits}
 use Rattle.local.specs.Local.{pagesFine}
 use Rattle.local.proofs.pages.pages_ok.Statement.{statement}
 use Rattle.local.proofs.pages.pages_ok.Tie as tie

@@ -1,7 +1,7 @@
 -- `local::pages::spare_at` meets its contract: each way out is a law. Assumes nothing.
 use native.Mathlib.Omega.{arith}
-use Rattle.page.specs.Editions.{counter-counts}
-use Rattle.local.specs.Pages.{spare-free, spare-none, spare-six}
+use Rattle.page.proofs.laws.Editions.{counter-counts}
+use Rattle.local.proofs.laws.Pages.{spare-free, spare-none, spare-six}
 use Rattle.local.proofs.pages.spare_at.Statement.{statement}
 use Rattle.local.proofs.pages.spare_at.Tie as tie
 

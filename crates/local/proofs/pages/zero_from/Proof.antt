@@ -4,7 +4,7 @@ use mathlib.Core.Path.{_≡_, refl, ap, sym, _∙_}
 use native.Mathlib.Omega.{arith}
 use lib.Dec.{eqb}
 use Rattle.model.specs.Clean.{zeroFrom}
-use Rattle.local.specs.Pages.{zero-more, zero-not}
+use Rattle.local.proofs.laws.Pages.{zero-more, zero-not}
 use Rattle.local.proofs.pages.zero_from.Statement.{statement}
 use Rattle.local.proofs.pages.zero_from.Tie as tie
 

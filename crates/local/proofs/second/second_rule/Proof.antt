@@ -1,7 +1,7 @@
 -- `local::second::second_rule` meets its contract: its two halves. Assumes nothing.
 use mathlib.Core.Path.{sym, _∙_}
 use borrow.Author.Tests.{not-true, not-false}
-use Rattle.local.specs.Second.{rule2-is}
+use Rattle.local.proofs.laws.Second.{rule2-is}
 use borrow.Author.Needs.{needs}
 use Rattle.local.proofs.second.second_rule.Statement.{statement}
 use Rattle.local.proofs.second.second_rule.Tie as tie

@@ -1,7 +1,7 @@
 -- `local::second::slot_rises` meets its contract: the next slot, or none. Assumes nothing.
 use mathlib.Core.Path.{sym, _∙_}
 use Prim.Native.Nat.{_+_, _*_}
-use Rattle.local.specs.Second.{slot-none, slot-some}
+use Rattle.local.proofs.laws.Second.{slot-none, slot-some}
 use Rattle.local.specs.Local.{slotAt}
 use borrow.Author.Needs.{needs}
 use Rattle.local.proofs.second.slot_rises.Statement.{statement}

@@ -3,14 +3,15 @@ use Prim.Native.Nat.{_≤_, _<_, _-_, _+_, _*_}
 use mathlib.Core.Path.{_≡_, ap, sym, _∙_}
 use native.Mathlib.Omega.{arith}
 use borrow.Author.Tests.{not-true, not-false, lt-leb, le-leb}
-use Rattle.local.specs.Second.{begun, two-none, two-first, two-rest, slots-ok-start, slots-ok-step, slots-ok-end}
-use Rattle.local.specs.First.{last-is}
+use Rattle.local.specs.Second.{begun}
+use Rattle.local.proofs.laws.Second.{two-none, two-first, two-rest, slots-ok-start, slots-ok-step, slots-ok-end}
+use Rattle.local.proofs.laws.First.{last-is}
 use Rattle.local.specs.Local.{slotsOk}
-use Rattle.model.specs.Layout.{readHeader, readSlots, decode}
+use Rattle.model.specs.Layout.{readHeader, readSlots}
 use Rattle.model.specs.Store.{lastOf}
 use Rattle.model.specs.declared.Header.{Header}
 use Rattle.model.specs.declared.Slot.{Slot}
-use Rattle.store.specs.Read.{current-lt}
+use Rattle.store.proofs.laws.Read.{current-lt}
 use borrow.Author.Needs.{needs}
 use Rattle.local.proofs.second.slots_begin.Statement.{statement}
 use Rattle.local.proofs.second.slots_begin.Tie as tie

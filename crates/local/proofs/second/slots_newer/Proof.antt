@@ -4,7 +4,8 @@ use mathlib.Core.Path.{_≡_, ap, sym, _∙_}
 use lib.Dec.{ltb}
 use native.Mathlib.Omega.{arith}
 use borrow.Author.Tests.{le-ltb, lt-ltb}
-use Rattle.local.specs.Second.{newer, newer-start, newer-step, newer-end}
+use Rattle.local.specs.Second.{newer}
+use Rattle.local.proofs.laws.Second.{newer-start, newer-step, newer-end}
 use Rattle.model.specs.Layout.{readHeader, readSlots}
 use Rattle.model.specs.Basic.{all}
 use Rattle.model.specs.declared.Header.{Header}

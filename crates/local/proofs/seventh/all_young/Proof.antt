@@ -8,7 +8,7 @@ use borrow.Author.Needs.{needs}
 use Rattle.model.specs.Basic.{all}
 use Rattle.model.specs.Layout.{readEntries}
 use Rattle.local.specs.Seventh.{isYoung}
-use Rattle.local.specs.Loops.{all-entries-step, all-entries-end}
+use Rattle.local.proofs.laws.Loops.{all-entries-step, all-entries-end}
 use Rattle.local.proofs.seventh.all_young.Statement.{statement}
 use Rattle.local.proofs.seventh.all_young.Tie as tie
 

@@ -2,8 +2,8 @@
 use Prim.Native.Nat.{_≤_, _*_}
 use mathlib.Core.Path.{_≡_, ap, sym, _∙_}
 use native.Mathlib.Omega.{arith}
-use Rattle.local.specs.Seventh.{young-free, young-other, young-here}
-use Rattle.local.specs.Sizes.{part-fits}
+use Rattle.local.proofs.laws.Seventh.{young-free, young-other, young-here}
+use Rattle.local.proofs.laws.Sizes.{part-fits}
 use Rattle.local.specs.Local.{headAt}
 use Rattle.page.specs.Head.{readHead}
 use Rattle.page.specs.declared.Head.{Head}

@@ -3,7 +3,7 @@ use Prim.Native.Nat.{_≤_, _-_}
 use mathlib.Core.Path.{_≡_, sym, _∙_}
 use native.Mathlib.Omega.{arith}
 use borrow.Author.Tests.{not-true, not-false}
-use Rattle.local.specs.Loops.{all-pages-step, all-pages-end}
+use Rattle.local.proofs.laws.Loops.{all-pages-step, all-pages-end}
 use Rattle.local.specs.Seventh.{youngOk}
 use Rattle.model.specs.Layout.{readPages, sizeOf}
 use Rattle.model.specs.Basic.{all}

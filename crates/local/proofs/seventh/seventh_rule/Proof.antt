@@ -2,8 +2,8 @@
 use mathlib.Core.Path.{sym, _∙_}
 use borrow.Author.Tests.{not-true, not-false}
 use borrow.Author.Needs.{needs}
-use Rattle.store.specs.Read.{current-lt}
-use Rattle.local.specs.Seventh.{seven-shut, seven-open}
+use Rattle.store.proofs.laws.Read.{current-lt}
+use Rattle.local.proofs.laws.Seventh.{seven-shut, seven-open}
 use Rattle.local.proofs.seventh.seventh_rule.Statement.{statement}
 use Rattle.local.proofs.seventh.seventh_rule.Tie as tie
 

@@ -1,12 +1,11 @@
 -- `local::third::link_fine` meets its contract: a router that ended by then, or any other entry. Assumes nothing.
 use Prim.Native.Nat.{ℕ}
-use mathlib.Core.Bool.{Bool, _&&_, not}
-use mathlib.Core.Path.{_≡_, ap, ap₂, sym, _∙_}
+use mathlib.Core.Bool.{_&&_, not}
+use mathlib.Core.Path.{_≡_, ap₂, sym, _∙_}
 use lib.Dec.{leb, eqb}
-use borrow.Author.Tests.{not-true}
 use borrow.Author.Needs.{needs}
 use Rattle.page.specs.declared.Head.{Head}
-use Rattle.local.specs.Third.{skips, link-out, link-kept}
+use Rattle.local.proofs.laws.Third.{skips, link-out, link-kept}
 use Rattle.local.proofs.third.link_fine.Statement.{statement}
 use Rattle.local.proofs.third.link_fine.Tie as tie
 

@@ -4,13 +4,13 @@ use mathlib.Core.Path.{_≡_, ap, sym, _∙_}
 use lib.Dec.{eqb}
 use native.Mathlib.Omega.{arith}
 use borrow.Author.Tests.{not-true, not-false}
-use Rattle.local.specs.Third.{link-own, link-leaf, link-child, link-level}
-use Rattle.local.specs.Sizes.{part-fits}
+use Rattle.local.proofs.laws.Third.{link-own, link-leaf, link-child, link-level}
+use Rattle.local.proofs.laws.Sizes.{part-fits}
 use Rattle.local.specs.Local.{headAt, lies}
 use Rattle.model.specs.Layout.{pageOf}
 use Rattle.page.specs.Head.{readHead}
 use Rattle.page.specs.declared.Head.{Head}
-use Rattle.page.specs.Read.{level-lt}
+use Rattle.page.proofs.laws.Read.{level-lt}
 use borrow.Author.Needs.{needs}
 use Rattle.local.proofs.third.link_ok.Statement.{statement}
 use Rattle.local.proofs.third.link_ok.Tie as tie

@@ -4,9 +4,9 @@ use mathlib.Core.Path.{_≡_, ap, sym, _∙_}
 use native.Mathlib.Omega.{arith}
 use native.Mathlib.Nat.{sub-zero}
 use borrow.Author.Tests.{not-true, not-false}
-use Rattle.local.specs.Third.{links-free, links-used}
-use Rattle.local.specs.Loops.{all-entries-step, all-entries-end}
-use Rattle.local.specs.Sizes.{part-fits}
+use Rattle.local.proofs.laws.Third.{links-free, links-used}
+use Rattle.local.proofs.laws.Loops.{all-entries-step, all-entries-end}
+use Rattle.local.proofs.laws.Sizes.{part-fits}
 use Rattle.local.specs.Local.{headAt, linkOk, linksOk}
 use Rattle.model.specs.Layout.{pageOf, decodePage, readEntries, decode}
 use Rattle.model.specs.Basic.{all}

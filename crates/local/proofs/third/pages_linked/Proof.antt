@@ -4,7 +4,7 @@ use mathlib.Core.Path.{_≡_, ap, sym, _∙_}
 use Rattle.model.specs.declared.Header.{Header}
 use native.Mathlib.Omega.{arith}
 use borrow.Author.Tests.{not-true, not-false}
-use Rattle.local.specs.Loops.{all-pages-step, all-pages-end}
+use Rattle.local.proofs.laws.Loops.{all-pages-step, all-pages-end}
 use Rattle.local.specs.Local.{linksOk}
 use Rattle.model.specs.Layout.{readPages, decode, sizeOf}
 use Rattle.model.specs.Basic.{all}

@@ -3,9 +3,9 @@ use Prim.Native.Nat.{_≤_, _-_, _+_, _*_}
 use mathlib.Core.Path.{_≡_, ap, sym, _∙_}
 use native.Mathlib.Omega.{arith}
 use borrow.Author.Tests.{eq-eqb, ne-eqb}
-use Rattle.local.specs.Third.{root-used-is}
-use Rattle.local.specs.Loops.{all-slots-start, all-slots-step, all-slots-end}
-use Rattle.local.specs.Sizes.{part-fits}
+use Rattle.local.proofs.laws.Third.{root-used-is}
+use Rattle.local.proofs.laws.Loops.{all-slots-start, all-slots-step, all-slots-end}
+use Rattle.local.proofs.laws.Sizes.{part-fits}
 use Rattle.local.specs.Local.{slotAt, IsPage, levelAt, rootUsed}
 use Rattle.model.specs.Layout.{readSlots, readHeader, decode}
 use Rattle.model.specs.declared.Header.{Header}

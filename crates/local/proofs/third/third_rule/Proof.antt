@@ -1,7 +1,7 @@
 -- `local::third::third_rule` meets its contract: its two halves. Assumes nothing.
 use mathlib.Core.Path.{sym, _∙_}
 use borrow.Author.Tests.{not-true, not-false}
-use Rattle.local.specs.Third.{rule3-is}
+use Rattle.local.proofs.laws.Third.{rule3-is}
 use borrow.Author.Needs.{needs}
 use Rattle.local.proofs.third.third_rule.Statement.{statement}
 use Rattle.local.proofs.third.third_rule.Tie as tie

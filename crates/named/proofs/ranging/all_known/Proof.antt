@@ -9,8 +9,8 @@ use Rattle.model.specs.Kinds.{unknown, knownIn}
 use Rattle.model.specs.Walk.{settings, between, rangeOf, keyLimit}
 use Rattle.model.specs.Layout.{decode}
 use Rattle.model.specs.Named.{allKnown}
-use Rattle.differ.specs.Listing.{reads-rising}
-use Rattle.named.specs.Onward.{range-between, leads-low, known-none, known-not, known-on, known-over}
+use Rattle.differ.proofs.laws.Listing.{reads-rising}
+use Rattle.named.proofs.laws.Onward.{range-between, leads-low, known-none, known-not, known-on, known-over}
 use Rattle.named.proofs.ranging.all_known.Statement.{statement}
 use Rattle.named.proofs.ranging.all_known.Tie as tie
 

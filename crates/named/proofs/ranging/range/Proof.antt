@@ -4,7 +4,7 @@ use mathlib.Core.Path.{_∙_}
 use borrow.Author.Needs.{needs}
 use Rattle.model.specs.Lent.{Listed}
 use Rattle.model.specs.Named.{rangeNamedBy, rangeNamed}
-use Rattle.store.specs.Editions.{is-edition, refused-early, gone-on}
+use Rattle.store.proofs.laws.Editions.{is-edition, refused-early, gone-on}
 use Rattle.named.proofs.ranging.range.Statement.{statement}
 use Rattle.named.proofs.ranging.range.Tie as tie
 

@@ -2,8 +2,8 @@
 use mathlib.Core.Path.{sym, _∙_}
 use borrow.Author.Tests.{not-true, not-false}
 use borrow.Author.Needs.{needs}
-use Rattle.reads.specs.Reading.{reads, keys-right}
-use Rattle.named.specs.Answers.{keys-low, named-refused, named-unknown, named-done}
+use Rattle.reads.proofs.laws.Reading.{reads, keys-right}
+use Rattle.named.proofs.laws.Answers.{keys-low, named-refused, named-unknown, named-done}
 use Rattle.named.proofs.ranging.range_in.Statement.{statement}
 use Rattle.named.proofs.ranging.range_in.Tie as tie
 

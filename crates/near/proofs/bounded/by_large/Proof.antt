@@ -1,6 +1,6 @@
 -- `bounded::by_large` meets its contract. Assumes nothing.
 use borrow.Author.Needs.{needs}
-use Rattle.tabled.specs.Cells.{large-long}
+use Rattle.tabled.proofs.laws.Cells.{large-long}
 use Rattle.near.proofs.bounded.by_large.Statement.{statement}
 use Rattle.near.proofs.bounded.by_large.Tie as tie
 

@@ -1,6 +1,6 @@
 -- `bounded::by_small` meets its contract. Assumes nothing.
 use borrow.Author.Needs.{needs}
-use Rattle.tabled.specs.Cells.{small-long}
+use Rattle.tabled.proofs.laws.Cells.{small-long}
 use Rattle.near.proofs.bounded.by_small.Statement.{statement}
 use Rattle.near.proofs.bounded.by_small.Tie as tie
 

@@ -5,8 +5,8 @@ use borrow.Author.Needs.{needs}
 use Rattle.model.specs.Near.{rangeRight}
 use Rattle.model.specs.Walk.{rangeBelow}
 use Rattle.model.specs.Layout.{decode}
-use Rattle.near.specs.Crossed.{answered-wrong}
-use Rattle.tabled.specs.Most.{high-wrong}
+use Rattle.near.proofs.laws.Crossed.{answered-wrong}
+use Rattle.tabled.proofs.laws.Most.{high-wrong}
 use Rattle.near.proofs.bounded.by_table.Statement.{statement}
 use Rattle.near.proofs.bounded.by_table.Tie as tie
 

@@ -11,13 +11,14 @@ use Rattle.model.specs.Near.{rangeRight}
 use Rattle.model.specs.Lent.{Listed}
 use Rattle.model.specs.Walk.{rangeBelow}
 use Rattle.model.specs.Layout.{decode}
-use Rattle.walk.specs.Counted.{counted-short, counted-all}
-use Rattle.walk.specs.Written.{numbers, written, Space, written-all}
-use Rattle.near.specs.Crossed.{answered-wrong, answered-right}
-use Rattle.tabled.specs.Most.{found-most}
-use Rattle.tabled.specs.Cells.{table-fewer}
-use Rattle.tabled.specs.Table.{found-some, found-zero}
-use Rattle.tabled.specs.Bound.{right-few}
+use Rattle.walk.proofs.laws.Counted.{counted-short, counted-all}
+use Rattle.walk.specs.Written.{numbers, written, PairSpace}
+use Rattle.walk.proofs.laws.Written.{written-all}
+use Rattle.near.proofs.laws.Crossed.{answered-wrong, answered-right}
+use Rattle.tabled.proofs.laws.Most.{found-most}
+use Rattle.tabled.proofs.laws.Cells.{table-fewer}
+use Rattle.tabled.proofs.laws.Table.{found-some, found-zero}
+use Rattle.tabled.proofs.laws.Bound.{right-few}
 use Rattle.near.proofs.bounded.listed_by.Statement.{statement}
 use Rattle.near.proofs.bounded.listed_by.Tie as tie
 
@@ -64,7 +65,7 @@ gather-by-requires c κs =
     let few = right-few (a .l .least) (a .s .now) (c .before .before .before .before .before .before .before .before .pre .0 .eight) (pred (a .level)) (a .q .version) (a .q .low) (a .q .high) (a .q .low) (a .n) (t .0) in (
       record { edition = c .before .before .before .before .before .before .before .before .pre .0; sized = rw (c .before .before .before .before .before .before .before .before .pre .1 .sized .is) (c .before .before .before .before .before .before .before .before .pre .1 .sized); few = c .before .before .before .before .before .before .before .before .pre .2 },
       subst (λ (m : ℕ). rangeRight (a .l .least) (a .s .now) (a .q .version) m (a .q .high) (a .q .low) (a .n) ≡ true) (sym u) (t .0),
-      subst (λ (m : ℕ). Space true ns 0 (rangeBelow m (decode (a .l .least) (a .s .now) .pages) (a .q .version) (a .q .low) (a .q .high) (a .q .low) (a .n))) (sym u)
+      subst (λ (m : ℕ). PairSpace true ns 0 (rangeBelow m (decode (a .l .least) (a .s .now) .pages) (a .q .version) (a .q .low) (a .q .high) (a .q .low) (a .n))) (sym u)
           (record { few = omega (arith, few); room = λ e. omega (arith, t .1, c .before .before .if2 .left) }),
       table-fewer (a .l .least) (a .s .now) (a .q .size) (c .before .before .before .before .before .before .before .before .pre .1 .sized) (a .q .version) (a .q .low) (a .q .high) ((a .level + 1) * 4096) ((c .before .wide .result - 1 + 2) * 4096) (a .table .now) (omega (arith, c .before .wide .ensures, c .before .before .before .before .before .before .before .before .pre .3)) (c .before .before .before .before .before .before .before .before .pre .5),
     )

@@ -6,8 +6,9 @@ use mathlib.Core.Path.{_≡_, ap, sym, _∙_, subst}
 use borrow.Author.Tests.{not-true, not-false}
 use borrow.Author.Needs.{needs}
 use Rattle.model.specs.Near.{pageRight}
-use Rattle.tabled.specs.Inside.{right-inside}
-use Rattle.near.specs.Down.{walked, descended, walk-free, level-start, level-wrong, level-none, level-on, level-leaf}
+use Rattle.tabled.proofs.laws.Inside.{right-inside}
+use Rattle.near.specs.Down.{walked}
+use Rattle.near.proofs.laws.Down.{descended, walk-free, level-start, level-wrong, level-none, level-on, level-leaf}
 use Rattle.near.proofs.down.descend.Statement.{statement}
 use Rattle.near.proofs.down.descend.Tie as tie
 

@@ -3,10 +3,10 @@ use native.Mathlib.Omega.{arith}
 use mathlib.Core.Path.{ap, sym, _∙_}
 use Rattle.model.specs.Page.{Page}
 use Rattle.page.specs.declared.Head.{Head}
-use Rattle.page.specs.Read.{level-of}
-use Rattle.store.specs.Read.{page-at, front-free}
-use Rattle.local.specs.Sizes.{part-fits}
-use Rattle.local.specs.Right.{far-free}
+use Rattle.page.proofs.laws.Read.{level-of}
+use Rattle.store.proofs.laws.Read.{page-at, front-free}
+use Rattle.local.proofs.laws.Sizes.{part-fits}
+use Rattle.local.proofs.laws.Right.{far-free}
 use Rattle.near.proofs.down.level_at.Statement.{statement}
 use Rattle.near.proofs.down.level_at.Tie as tie
 

@@ -5,8 +5,8 @@ use borrow.Author.Tests.{not-true, not-false}
 use borrow.Author.Needs.{needs}
 use Rattle.model.specs.Layout.{sizeOf}
 use Rattle.local.specs.Local.{Sized}
-use Rattle.local.specs.Sizes.{sized}
-use Rattle.near.specs.Early.{front-one, front-two, front-three, front-four, front-none}
+use Rattle.local.proofs.laws.Sizes.{sized}
+use Rattle.near.proofs.laws.Early.{front-one, front-two, front-three, front-four, front-none}
 use Rattle.near.proofs.guard.front.Statement.{statement}
 use Rattle.near.proofs.guard.front.Tie as tie
 

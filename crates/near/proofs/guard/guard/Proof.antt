@@ -7,9 +7,9 @@ use Rattle.model.specs.declared.Header.{Header}
 use Rattle.model.specs.Store.{lastOf}
 use Rattle.model.specs.Calls.{beyond, unreadable}
 use Rattle.model.specs.Layout.{decode}
-use Rattle.store.specs.Read.{current-lt, oldest-of}
-use Rattle.local.specs.First.{last-is}
-use Rattle.near.specs.Early.{guard-front, guard-five, guard-six, guard-none, none-sized}
+use Rattle.store.proofs.laws.Read.{current-lt, oldest-of}
+use Rattle.local.proofs.laws.First.{last-is}
+use Rattle.near.proofs.laws.Early.{guard-front, guard-five, guard-six, guard-none, none-sized}
 use Rattle.near.proofs.guard.guard.Statement.{statement}
 use Rattle.near.proofs.guard.guard.Tie as tie
 

@@ -15,9 +15,10 @@ use Rattle.page.specs.Head.{readHead}
 use Rattle.model.specs.Near.{rangeRight}
 use Rattle.walk.specs.Live.{live}
 use Rattle.walk.specs.Scan.{Stands, from, entry}
-use Rattle.tabled.specs.Inside.{level-inside}
-use Rattle.tabled.specs.Across.{rightFrom, across-wrong, across-leaf, across-none, across-on, from-on, from-same, from-end}
-use Rattle.near.specs.Within.{given-up, settled, ends, goes-on, fewer}
+use Rattle.tabled.proofs.laws.Inside.{level-inside}
+use Rattle.tabled.specs.Across.{rightFrom}
+use Rattle.tabled.proofs.laws.Across.{across-wrong, across-leaf, across-none, across-on, from-on, from-same, from-end}
+use Rattle.near.proofs.laws.Within.{given-up, settled, ends, goes-on, fewer}
 use Rattle.near.proofs.within.range_right.Reads as range-right
 use Rattle.near.proofs.within.range_right.Kinds as range-right-kinds
 use Rattle.near.proofs.within.+range_right.Lts-range_right as range-right-lts

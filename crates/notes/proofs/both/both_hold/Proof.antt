@@ -1,7 +1,7 @@
 -- `notes::both::both_hold` meets its contract: no note is kept at first. Assumes nothing.
 use borrow.Author.Needs.{needs}
 use Rattle.model.specs.Layout.{decode}
-use Rattle.notes.specs.Kept.{kept-none}
+use Rattle.notes.proofs.laws.Kept.{kept-none}
 use Rattle.notes.proofs.both.both_hold.Statement.{statement}
 use Rattle.notes.proofs.both.both_hold.Tie as tie
 

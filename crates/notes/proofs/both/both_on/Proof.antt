@@ -6,11 +6,13 @@ use native.Mathlib.Omega.{arith}
 use borrow.Author.Tests.{not-true, not-false}
 use borrow.Author.Needs.{needs}
 use Rattle.model.specs.Layout.{decode}
-use Rattle.model.proofs.Lists.{both-true}
+use Rattle.model.proofs.lists.Lists.{both-true}
 use Rattle.notes.specs.Notes.{keysBy, fullBy}
-use Rattle.notes.specs.Kept.{Kept, kept-later}
-use Rattle.notes.specs.Pass.{until-later}
-use Rattle.notes.specs.Both.{bothOn, both-ends, both-fails, both-next}
+use Rattle.notes.specs.Kept.{Kept}
+use Rattle.notes.proofs.laws.Kept.{kept-later}
+use Rattle.notes.proofs.laws.Pass.{until-later}
+use Rattle.notes.specs.Both.{bothOn}
+use Rattle.notes.proofs.laws.Both.{both-ends, both-fails, both-next}
 use Rattle.notes.proofs.both.both_on.Statement.{statement}
 use Rattle.notes.proofs.both.both_on.Tie as tie
 

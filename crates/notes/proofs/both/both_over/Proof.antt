@@ -7,10 +7,11 @@ use borrow.Author.Tests.{not-true, not-false}
 use Rattle.model.specs.declared.Header.{Header}
 use Rattle.model.specs.Layout.{decode}
 use Rattle.model.specs.Sound.{rule4, rule5}
-use Rattle.store.specs.Read.{current-lt}
-use Rattle.notes.specs.Kept.{Kept, height-here}
-use Rattle.notes.specs.Ready.{root-quiet, versions-upto}
-use Rattle.notes.specs.Both.{bothAt, both-slot, both-done, both-rules}
+use Rattle.store.proofs.laws.Read.{current-lt}
+use Rattle.notes.specs.Kept.{Kept}
+use Rattle.notes.proofs.laws.Kept.{height-here}
+use Rattle.notes.proofs.laws.Ready.{root-quiet, versions-upto}
+use Rattle.notes.proofs.laws.Both.{bothAt, both-slot, both-done, both-rules}
 use Rattle.notes.proofs.both.both_over.Statement.{statement}
 use Rattle.notes.proofs.both.both_over.Tie as tie
 

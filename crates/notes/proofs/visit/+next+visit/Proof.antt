@@ -1,13 +1,15 @@
-use mathlib.Core.Path.{_≡_, refl, ap, sym, _∙_, subst}
+use mathlib.Core.Path.{_≡_, ap, sym, _∙_, subst}
 use mathlib.Core.Bool.{true}
 use native.Mathlib.Omega.{arith}
 use borrow.Author.Tests.{not-true, not-false}
-use Rattle.model.specs.Layout.{decode, readEntry, readEntries}
-use Rattle.page.specs.Read.{Sized, read-sized}
+use Rattle.model.specs.Layout.{decode, readEntries}
+use Rattle.page.specs.Read.{FieldsFit}
+use Rattle.page.proofs.laws.Read.{read-sized}
 use Rattle.notes.specs.declared.Note.{Note}
 use Rattle.notes.specs.Notes.{nothing, noteAt, row}
-use Rattle.notes.specs.Here.{part-asks, head-asks, stands-here, few, entries-start, leads-here}
-use Rattle.notes.specs.Kept.{Kept, kidsAt, below-leaf, below-dead, below-live, leads-on, known-is, note-row, step-kid, row-end, row-next, row-stops, live-next, kept-after, entries-here, height-here}
+use Rattle.notes.proofs.laws.Here.{part-asks, head-asks, stands-here, few, entries-start, leads-here}
+use Rattle.notes.specs.Kept.{Kept, kidsAt}
+use Rattle.notes.proofs.laws.Kept.{below-leaf, below-dead, below-live, leads-on, known-is, note-row, step-kid, row-end, row-next, row-stops, live-next, kept-after, entries-here, height-here}
 use borrow.Author.Needs.{needs}
 use Prim.Native.Nat.{ℕ, _<_, _≤_, _+_, _*_, _-_}
 use borrow.Fn.Kinds.{In}
@@ -169,7 +171,7 @@ visit-entry-at-requires : (t : ℕ) → visit-lts.Need-entry-at-requires (visit-
 visit-entry-at-requires t c κs = let a = c .before .before .before .before .before .before .before .args in let r = c .before .before .before .before .before .before .before .pre .1 in let k = stands-here (r .0) (a .s .now) (r .1) (a .n) (r .2) (c .before .before .before .before .part .result .now) (c .before .before .before .before .part .ensures) (c .before .before .before .head-of .result) (c .before .before .before .head-of .ensures) in (omega (arith, k .room, c .loop-test .taken), k .long)
 
 visit-next-requires : (t : ℕ) → visit-lts.Need-next-requires (visit-claims t) (visit-at t) visit.Post visit-Inv-loop visit-μ-loop
-visit-next-requires t c κs = let a = c .before .before .before .before .before .before .before .before .before .args in let r = c .before .before .before .before .before .before .before .before .before .pre .1 in let z = subst Sized (sym (c .before .entry-at .ensures)) (read-sized (c .before .before .before .before .before .before .part .result .now) (128 + 96 * c .before .before .before .loop .i)) in (
+visit-next-requires t c κs = let a = c .before .before .before .before .before .before .before .before .before .args in let r = c .before .before .before .before .before .before .before .before .before .pre .1 in let z = subst FieldsFit (sym (c .before .entry-at .ensures)) (read-sized (c .before .before .before .before .before .before .part .result .now) (128 + 96 * c .before .before .before .loop .i)) in (
   omega (arith, c .before .before .before .before .before .before .before .before .before .pre .0),
   (
     r .0,

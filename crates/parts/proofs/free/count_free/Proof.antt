@@ -1,10 +1,10 @@
-use Rattle.parts.specs.Free.{freePast, free-all}
+use Rattle.parts.specs.Free.{freePast}
+use Rattle.parts.proofs.laws.Free.{free-all}
 use Rattle.parts.specs.Kept.{pagesOf}
 use lib.ListN.{length}
 use native.Mathlib.Omega.{arith}
-use mathlib.Core.List.{List}
 use mathlib.Core.Path.{_≡_, _∙_, sym, ap}
-use Prim.Native.Nat.{ℕ, suc, _+_, _-_, _≤_, _<_}
+use Prim.Native.Nat.{suc, _+_, _-_, _≤_, _<_}
 use borrow.Author.Needs.{needs}
 use Rattle.parts.proofs.free.count_free.Statement.{statement}
 use Rattle.parts.proofs.free.count_free.Tie as tie

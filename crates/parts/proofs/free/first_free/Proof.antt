@@ -1,9 +1,9 @@
-use Rattle.parts.specs.Free.{freePast, free-here, free-not, free-none}
+use Rattle.parts.specs.Free.{freePast}
+use Rattle.parts.proofs.laws.Free.{free-here, free-not, free-none}
 use Rattle.parts.specs.Kept.{pagesOf}
-use lib.ListN.{length}
 use native.Mathlib.Omega.{arith}
 use mathlib.Core.Path.{_≡_, refl, _∙_, sym}
-use Prim.Native.Nat.{ℕ, _+_, _-_, _≤_, _<_}
+use Prim.Native.Nat.{_-_, _≤_, _<_}
 use borrow.Author.Needs.{needs}
 use Rattle.parts.proofs.free.first_free.Statement.{statement}
 use Rattle.parts.proofs.free.first_free.Tie as tie

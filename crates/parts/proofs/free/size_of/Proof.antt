@@ -1,5 +1,6 @@
-use Rattle.parts.specs.Kept.{pagesOf, long}
-use Rattle.store.specs.Read.{size-is}
+use Rattle.parts.specs.Kept.{pagesOf}
+use Rattle.parts.proofs.laws.Kept.{long}
+use Rattle.store.proofs.laws.Read.{size-is}
 use lib.ListN.{length}
 use mathlib.Core.Path.{_∙_}
 use native.Mathlib.Omega.{arith}

@@ -1,17 +1,15 @@
-use Rattle.parts.specs.Becomes.{lent, fitting-part}
-use Rattle.parts.specs.Kept.{pagesOf, part-in, short, exact}
-use Rattle.gather.specs.Gather.{pairsIn, part-pairs}
-use Rattle.edit.specs.Left.{valid-filled}
-use Rattle.store.specs.Parts.{part-page}
-use Rattle.page.specs.Editions.{bytes-is}
-use Rattle.model.specs.Layout.{pageOf}
+use Rattle.parts.proofs.laws.Becomes.{lent, fitting-part}
+use Rattle.parts.proofs.laws.Kept.{part-in, short, exact}
+use Rattle.gather.proofs.laws.Gather.{part-pairs}
+use Rattle.edit.proofs.laws.Left.{valid-filled}
+use Rattle.store.proofs.laws.Parts.{part-page}
+use Rattle.page.proofs.laws.Editions.{bytes-is}
 use Rattle.model.specs.Page.{filled}
 use Rattle.model.specs.declared.Pair.{Pair}
-use lib.ListN.{length, take, drop, length-take}
+use lib.ListN.{take, drop, length-take}
 use native.Mathlib.Omega.{arith}
 use mathlib.Core.List.{List}
-use mathlib.Core.Path.{_≡_, _∙_}
-use Prim.Native.Nat.{ℕ, _+_, _*_, _-_, _≤_, _<_}
+use Prim.Native.Nat.{_-_}
 use borrow.Author.Needs.{needs}
 use Rattle.parts.proofs.writers.fill_in.Statement.{statement}
 use Rattle.parts.proofs.writers.fill_in.Tie as tie

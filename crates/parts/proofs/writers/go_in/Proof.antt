@@ -1,17 +1,13 @@
-use Rattle.parts.specs.Becomes.{lent}
-use Rattle.parts.specs.Kept.{pagesOf, part-in, short, exact, shown, valid}
-use Rattle.edit.specs.Left.{valid-gone, valid-changed}
-use Rattle.edit.specs.Change.{changeOf}
-use Rattle.store.specs.Parts.{part-page}
-use Rattle.page.specs.Editions.{bytes-is}
-use Rattle.model.specs.Layout.{pageOf}
+use Rattle.parts.proofs.laws.Becomes.{lent}
+use Rattle.parts.specs.Kept.{pagesOf}
+use Rattle.parts.proofs.laws.Kept.{part-in, short, exact, shown, valid}
+use Rattle.edit.proofs.laws.Left.{valid-gone}
+use Rattle.store.proofs.laws.Parts.{part-page}
+use Rattle.page.proofs.laws.Editions.{bytes-is}
 use Rattle.model.specs.Store.{page}
-use Rattle.model.specs.Page.{gone, changed}
-use lib.ListN.{take, drop}
+use Rattle.model.specs.Page.{gone}
 use native.Mathlib.Omega.{arith}
-use mathlib.Core.List.{List}
-use mathlib.Core.Path.{_≡_, _∙_}
-use Prim.Native.Nat.{ℕ, _+_, _*_, _-_, _≤_, _<_}
+use mathlib.Core.Path.{_∙_}
 use borrow.Author.Needs.{needs}
 use Rattle.parts.proofs.writers.go_in.Statement.{statement}
 use Rattle.parts.proofs.writers.go_in.Tie as tie

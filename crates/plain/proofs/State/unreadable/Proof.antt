@@ -1,7 +1,7 @@
 -- `unreadable` meets its contract. Assumes nothing.
 use native.Mathlib.Omega.{arith}
 use mathlib.Core.Bool.{Bool, _||_}
-use mathlib.Core.Path.{ap, sym, _∙_}
+use mathlib.Core.Path.{ap, sym}
 use lib.Dec.{ltb}
 use Rattle.model.specs.Store.{lastOf}
 use borrow.Author.Tests.{lt-ltb, le-ltb}

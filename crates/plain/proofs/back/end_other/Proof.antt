@@ -1,6 +1,6 @@
 -- `end_other` meets its contract. Assumes nothing.
 use mathlib.Core.Path.{sym, _∙_}
-use Rattle.plain.specs.Turns.{other-same, other-ended}
+use Rattle.plain.proofs.laws.Turns.{other-same, other-ended}
 use borrow.Author.Needs.{needs}
 use Rattle.plain.proofs.back.end_other.Statement.{statement}
 use Rattle.plain.proofs.back.end_other.Tie as tie

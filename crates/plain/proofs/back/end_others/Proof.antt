@@ -1,10 +1,9 @@
 -- `end_others` meets its contract: what is left is done by the keys from k on. Assumes nothing.
-use Prim.Native.Nat.{_+_, _-_}
+use Prim.Native.Nat.{_-_}
 use native.Mathlib.Omega.{arith}
 use Rattle.model.specs.Walk.{keyLimit}
 use Rattle.plain.specs.Plain.{endOther}
-use Rattle.plain.specs.Turns.{Turning, other-silent, turning-start, turning-on, turning-end}
-use borrow.Author.Needs.{needs}
+use Rattle.plain.proofs.laws.Turns.{Turning, other-silent, turning-start, turning-on, turning-end}
 use Rattle.plain.proofs.back.end_others.Statement.{statement}
 use Rattle.plain.proofs.back.end_others.Tie as tie
 

@@ -1,11 +1,12 @@
 -- `set_one` meets its contract. Assumes nothing.
 use Prim.Native.Nat.{ℕ, _+_}
 use native.Mathlib.Omega.{arith}
-use mathlib.Core.Path.{refl, sym, _∙_, subst}
+use mathlib.Core.Path.{refl, sym, subst}
 use mathlib.Core.List.{List}
 use Rattle.plain.specs.Plain.{valueAt, setMissing}
 use Rattle.plain.specs.Items.{from, foundOf}
-use Rattle.plain.specs.Turns.{Turned, missing-not, missing-none, missing-room, missing-set}
+use Rattle.plain.specs.Turns.{Turned}
+use Rattle.plain.proofs.laws.Turns.{missing-not, missing-none, missing-room, missing-set}
 use borrow.Author.Needs.{needs}
 use Rattle.plain.proofs.back.set_one.Statement.{statement}
 use Rattle.plain.proofs.back.set_one.Tie as tie

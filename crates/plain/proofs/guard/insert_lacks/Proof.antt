@@ -1,13 +1,12 @@
 -- `insert_lacks` meets its contract. Assumes nothing.
-use Prim.Native.Nat.{ℕ, suc, _+_, _<_}
+use Prim.Native.Nat.{ℕ, suc, _+_}
 use native.Mathlib.Omega.{arith}
 use mathlib.Core.Path.{_≡_, ap, sym, _∙_}
-use Rattle.model.specs.Calls.{benchLimit}
 use Rattle.plain.specs.Plain.{valueAt}
-use Rattle.plain.specs.Items.{from, found-some, found-none}
+use Rattle.plain.specs.Items.{from}
+use Rattle.plain.proofs.laws.Items.{found-some, found-none}
 use Rattle.plain.proofs.Guards.{lacks-five, lacks-seven, lacks-ten, lacks-room}
 use borrow.Author.Tests.{not-true, not-false}
-use borrow.Author.Needs.{needs}
 use Rattle.plain.proofs.guard.insert_lacks.Statement.{statement}
 use Rattle.plain.proofs.guard.insert_lacks.Tie as tie
 

@@ -1,12 +1,12 @@
 -- `value_at` meets its contract: the value of all items is that of the items left. Assumes nothing.
-use Prim.Native.Nat.{_+_, _-_, _*_, _≤_}
+use Prim.Native.Nat.{_-_, _≤_}
 use native.Mathlib.Omega.{arith}
 use mathlib.Core.Option.{some}
 use mathlib.Core.Path.{_≡_, refl, ap, sym, _∙_}
 use Rattle.model.specs.declared.Entry.{Entry}
-use lib.ListN.{length}
 use Rattle.plain.specs.Plain.{valueAt}
-use Rattle.plain.specs.Items.{from, from-end, foundOf, value-here, value-on}
+use Rattle.plain.specs.Items.{from, foundOf}
+use Rattle.plain.proofs.laws.Items.{from-end, value-here, value-on}
 use borrow.Author.Needs.{needs}
 use Rattle.plain.proofs.items.value_at.Statement.{statement}
 use Rattle.plain.proofs.items.value_at.Tie as tie

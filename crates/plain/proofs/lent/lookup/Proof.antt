@@ -1,15 +1,13 @@
 -- `lent::lookup` meets its contract. Assumes nothing.
-use Prim.Native.Nat.{ℕ}
 use mathlib.Core.Bool.{Bool}
-use mathlib.Core.Path.{_≡_, refl, ap, sym, _∙_}
+use mathlib.Core.Path.{ap, sym, _∙_}
 use borrow.Author.Tests.{not-true, not-false}
 use Rattle.model.specs.Basic.{pick}
-use Rattle.model.specs.declared.Looked.{Looked}
 use Rattle.model.specs.declared.Looked.the-variants.{Refused}
 use Rattle.plain.specs.declared.State.{State}
 use Rattle.plain.specs.Plain.{lookup}
 use Rattle.plain.specs.Items.{plainOf}
-use Rattle.plain.specs.Guard.{isLent, readPlain}
+use Rattle.plain.specs.Guard.{readPlain}
 use Rattle.plain.proofs.Guards as guards
 use borrow.Author.Needs.{needs}
 use Rattle.plain.proofs.lent.lookup.Statement.{statement}

@@ -1,12 +1,8 @@
 -- `lent::open` meets its contract. Assumes nothing.
-use Prim.Native.Nat.{ℕ, _^_, _<_}
-use native.Mathlib.Omega.{arith}
-use mathlib.Core.Path.{_≡_, refl, ap, sym, _∙_}
-use mathlib.Core.List.{List, []}
-use lib.ListN.{length}
+use mathlib.Core.Path.{refl, ap, sym, _∙_}
 use borrow.Author.Tests.{not-true, not-false}
 use Rattle.plain.specs.declared.State.{State}
-use Rattle.plain.specs.Plain.{Plain, Given, begin}
+use Rattle.plain.specs.Plain.{begin}
 use Rattle.plain.specs.Items.{plainOf}
 use Rattle.plain.specs.Guard.{isState, readPlain}
 use Rattle.plain.proofs.Guards as guards

@@ -1,17 +1,16 @@
 -- `lent::range` meets its contract. Assumes nothing.
-use Prim.Native.Nat.{ℕ}
 use mathlib.Core.Bool.{Bool}
-use mathlib.Core.Path.{_≡_, refl, ap, sym, _∙_}
+use mathlib.Core.Path.{ap, sym, _∙_}
 use lib.ListN.{length}
 use borrow.Author.Tests.{not-true, not-false}
 use Rattle.model.specs.Basic.{pick}
-use Rattle.model.specs.Lent.{Listed, listed}
+use Rattle.model.specs.Lent.{listed}
 use Rattle.plain.specs.declared.State.{State}
 use Rattle.plain.specs.declared.Told.{Told}
 use Rattle.plain.specs.Plain.{range}
 use Rattle.plain.specs.Items.{plainOf}
 use Rattle.plain.specs.Tell.{toldAs, toldWith}
-use Rattle.plain.specs.Guard.{isLent, readPlain}
+use Rattle.plain.specs.Guard.{readPlain}
 use Rattle.plain.proofs.Guards as guards
 use borrow.Author.Needs.{needs}
 use Rattle.plain.proofs.lent.range.Statement.{statement}

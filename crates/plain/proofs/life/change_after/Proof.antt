@@ -1,10 +1,10 @@
 -- `change_after` meets its contract: up to u the value has not changed. Assumes nothing.
-use Prim.Native.Nat.{ℕ, suc, _+_, _-_}
+use Prim.Native.Nat.{ℕ, suc, _-_}
 use native.Mathlib.Omega.{arith}
 use mathlib.Core.Path.{sym, _∙_}
 use Rattle.plain.specs.Plain.{valueAt}
 use Rattle.plain.specs.Items.{from}
-use Rattle.plain.specs.Lived.{Lasting, lasts-on, lasts-other, lasts-end}
+use Rattle.plain.proofs.laws.Lived.{Lasting, lasts-on, lasts-other, lasts-end}
 use borrow.Author.Needs.{needs}
 use Rattle.plain.proofs.life.change_after.Statement.{statement}
 use Rattle.plain.proofs.life.change_after.Tie as tie

@@ -1,6 +1,5 @@
 -- `change_of` meets its contract. Assumes nothing.
-use Rattle.plain.specs.Lived.{change-not, change-own}
-use borrow.Author.Needs.{needs}
+use Rattle.plain.proofs.laws.Lived.{change-not, change-own}
 use Rattle.plain.proofs.life.change_of.Statement.{statement}
 use Rattle.plain.proofs.life.change_of.Tie as tie
 

@@ -6,7 +6,7 @@ use mathlib.Core.Path.{_≡_, ap, sym, _∙_}
 use mathlib.Core.List.{[], _∷_}
 use lib.ListN.{length-set}
 use Rattle.model.specs.Telling.{written}
-use Rattle.model.proofs.Telling.{write-one, write-not}
+use Rattle.model.proofs.reading.Telling.{write-one, write-not}
 use Rattle.plain.specs.Lived.{stretches}
 use borrow.Author.Needs.{needs}
 use Rattle.plain.proofs.life.put_stretch.Statement.{statement}

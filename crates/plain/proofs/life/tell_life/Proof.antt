@@ -1,14 +1,15 @@
 -- `tell_life` meets its contract: what is left is the life from version v on. Assumes nothing.
-use Prim.Native.Nat.{ℕ, suc, _≤_, _-_}
+use Prim.Native.Nat.{ℕ, suc, _-_}
 use native.Mathlib.Omega.{arith}
 use mathlib.Core.Option.{Option}
 use mathlib.Core.Path.{sym}
 use Rattle.model.specs.Life.{lifeOf}
-use Rattle.model.proofs.Lives.{rest, rest-start, rest-end}
-use Rattle.model.proofs.Telling.{Gathering, space-front, gather-start, gather-same, gather-step, gather-end}
+use Rattle.model.proofs.reading.Lives.{rest, rest-start, rest-end}
+use Rattle.model.proofs.reading.Telling.{Gathering, space-front, gather-start, gather-same, gather-step, gather-end}
 use Rattle.plain.specs.Plain.{valueAt}
 use Rattle.plain.specs.Items.{from}
-use Rattle.plain.specs.Lived.{stretches, shown, rest-told}
+use Rattle.plain.specs.Lived.{stretches, shown}
+use Rattle.plain.proofs.laws.Lived.{rest-told}
 use borrow.Author.Needs.{needs}
 use Rattle.plain.proofs.life.tell_life.Statement.{statement}
 use Rattle.plain.proofs.life.tell_life.Tie as tie

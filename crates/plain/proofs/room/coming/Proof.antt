@@ -1,7 +1,7 @@
 -- `coming` meets its contract. Assumes nothing.
 use Prim.Native.Nat.{ℕ}
 use mathlib.Core.Bool.{Bool, true, false}
-use mathlib.Core.Path.{_≡_, refl, ap, ap₂, sym, _∙_}
+use mathlib.Core.Path.{_≡_, refl, ap₂, sym, _∙_}
 use Rattle.model.specs.Basic.{pick}
 use Rattle.plain.specs.Scan.{sameFound}
 use borrow.Author.Needs.{needs}

@@ -1,7 +1,7 @@
 -- `comings` meets its contract: what is found, and what comes of the keys from k on, is what comes of all. Assumes nothing.
 use Prim.Native.Nat.{ℕ, _+_, _-_, _≤_}
 use native.Mathlib.Omega.{arith}
-use mathlib.Core.Path.{_≡_, refl, ap, sym, _∙_}
+use mathlib.Core.Path.{_≡_, ap, _∙_}
 use mathlib.Core.List.{List}
 use lib.ListN.{length}
 use Rattle.model.specs.Basic.{those}
@@ -10,7 +10,7 @@ use Rattle.model.specs.Walk.{keyLimit}
 use Rattle.model.specs.Return.{comes}
 use Rattle.plain.specs.Plain.{keys, differs}
 use Rattle.plain.specs.Items.{from}
-use Rattle.plain.specs.Scan.{told, saying, differs-told, saying-skip, saying-end}
+use Rattle.plain.proofs.laws.Scan.{told, saying, differs-told, saying-skip, saying-end}
 use Rattle.plain.proofs.Guards.{comes-step, comes-few}
 use borrow.Author.Needs.{needs}
 use Rattle.plain.proofs.room.comings.Statement.{statement}

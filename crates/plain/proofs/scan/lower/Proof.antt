@@ -1,7 +1,7 @@
 -- `lower` meets its contract. Assumes nothing.
 use native.Mathlib.Omega.{arith}
 use mathlib.Core.Path.{sym, _∙_}
-use Rattle.plain.specs.Scan.{lower-out, lower-dead}
+use Rattle.plain.proofs.laws.Scan.{lower-out, lower-dead}
 use borrow.Author.Needs.{needs}
 use Rattle.plain.proofs.scan.lower.Statement.{statement}
 use Rattle.plain.proofs.scan.lower.Tie as tie

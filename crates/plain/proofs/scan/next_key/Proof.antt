@@ -1,12 +1,12 @@
 -- `next_key` meets its contract: the items passed say nothing of the keys skipped. Assumes nothing.
-use Prim.Native.Nat.{ℕ, _-_, _≤_}
+use Prim.Native.Nat.{_-_, _≤_}
 use native.Mathlib.Omega.{arith}
 use mathlib.Core.Path.{refl, ap, _∙_}
 use mathlib.Core.List.{List}
 use Rattle.model.specs.declared.Entry.{Entry}
 use Rattle.plain.specs.Plain.{valueAt}
-use Rattle.plain.specs.Items.{from-end}
-use Rattle.plain.specs.Scan.{Skipping, skips-on}
+use Rattle.plain.proofs.laws.Items.{from-end}
+use Rattle.plain.proofs.laws.Scan.{Skipping, skips-on}
 use borrow.Author.Needs.{needs}
 use Rattle.plain.proofs.scan.next_key.Statement.{statement}
 use Rattle.plain.proofs.scan.next_key.Tie as tie

@@ -1,5 +1,4 @@
 -- `same` meets its contract. Assumes nothing.
-use borrow.Author.Needs.{needs}
 use Rattle.plain.proofs.scan.same.Statement.{statement}
 use Rattle.plain.proofs.scan.same.Tie as tie
 

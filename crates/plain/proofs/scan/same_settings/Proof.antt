@@ -1,15 +1,14 @@
 -- `same_settings` meets its contract: what differs of all keys is what differs of the keys left. Assumes nothing.
 use Prim.Native.Nat.{_+_, _-_, _≤_}
 use native.Mathlib.Omega.{arith}
-use mathlib.Core.Bool.{Bool}
-use mathlib.Core.Path.{_≡_, refl, ap, sym, _∙_}
+use mathlib.Core.Path.{_≡_, ap, sym, _∙_}
 use mathlib.Core.List.{List}
 use Rattle.model.specs.Basic.{isEmpty}
 use Rattle.model.specs.declared.Delta.{Delta}
 use Rattle.model.specs.Walk.{keyLimit}
 use Rattle.plain.specs.Plain.{keys, differs}
 use Rattle.plain.specs.Items.{from}
-use Rattle.plain.specs.Scan.{told, saying, differs-told, saying-skip, saying-same, saying-other, saying-end}
+use Rattle.plain.proofs.laws.Scan.{told, saying, differs-told, saying-skip, saying-same, saying-other, saying-end}
 use borrow.Author.Needs.{needs}
 use Rattle.plain.proofs.scan.same_settings.Statement.{statement}
 use Rattle.plain.proofs.scan.same_settings.Tie as tie

@@ -1,13 +1,14 @@
 -- `drop_ended` meets its contract: what is left is the sweep of the items from place i on. Assumes nothing.
-use Prim.Native.Nat.{ℕ, _+_, _-_, _*_, _≤_}
+use Prim.Native.Nat.{ℕ, _+_, _-_, _≤_}
 use native.Mathlib.Omega.{arith}
 use mathlib.Core.Bool.{true}
-use mathlib.Core.Path.{_≡_, refl, ap, sym, _∙_}
+use mathlib.Core.Path.{ap, sym, _∙_}
 use mathlib.Core.List.{List}
-use Rattle.model.specs.declared.Entry.{Entry}
-use Rattle.model.proofs.Telling.{Gathering, space-front, gather-start, gather-same, gather-step, gather-end}
-use Rattle.plain.specs.Items.{item, from, from-end, kept}
-use Rattle.plain.specs.Sweep.{outliving, keptBy, swept, swept-step, swept-next, swept-none, swept-space, kept-few, from-kept}
+use Rattle.model.proofs.reading.Telling.{Gathering, space-front, gather-start, gather-same, gather-step, gather-end}
+use Rattle.plain.specs.Items.{item, from, kept}
+use Rattle.plain.proofs.laws.Items.{from-end}
+use Rattle.plain.specs.Sweep.{outliving, keptBy, swept}
+use Rattle.plain.proofs.laws.Sweep.{swept-next, swept-none, swept-space, kept-few, from-kept}
 use borrow.Author.Needs.{needs}
 use Rattle.plain.proofs.sweep.drop_ended.Statement.{statement}
 use Rattle.plain.proofs.sweep.drop_ended.Tie as tie

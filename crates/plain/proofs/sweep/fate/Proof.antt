@@ -1,5 +1,4 @@
 -- `fate` meets its contract. Assumes nothing.
-use mathlib.Core.Path.{sym, _∙_}
 use borrow.Author.Needs.{needs}
 use Rattle.plain.proofs.sweep.fate.Statement.{statement}
 use Rattle.plain.proofs.sweep.fate.Tie as tie

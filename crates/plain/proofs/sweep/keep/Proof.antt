@@ -1,16 +1,15 @@
 -- `keep` meets its contract. Assumes nothing.
-use Prim.Native.Nat.{_+_, _*_}
 use native.Mathlib.Omega.{arith}
 use mathlib.Core.Bool.{true}
-use mathlib.Core.Path.{_≡_, refl, ap, sym, _∙_}
+use mathlib.Core.Path.{refl, ap, sym, _∙_}
 use mathlib.Core.List.{List}
 use lib.ListN.{length}
 use Rattle.model.specs.declared.Entry.{Entry}
-use Rattle.model.specs.Telling.{written}
-use Rattle.model.proofs.Telling.{written-none}
+use Rattle.model.proofs.reading.Telling.{written-none}
 use Rattle.plain.specs.Items.{kept}
-use Rattle.plain.specs.Laid.{laid-written}
-use Rattle.plain.specs.Sweep.{withEnd, kept-one, kept-none}
+use Rattle.plain.proofs.laws.Laid.{laid-written}
+use Rattle.plain.specs.Sweep.{withEnd}
+use Rattle.plain.proofs.laws.Sweep.{kept-one, kept-none}
 use borrow.Author.Needs.{needs}
 use Rattle.plain.proofs.sweep.keep.Statement.{statement}
 use Rattle.plain.proofs.sweep.keep.Tie as tie

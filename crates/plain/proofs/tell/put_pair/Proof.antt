@@ -7,7 +7,7 @@ use mathlib.Core.List.{[], _∷_}
 use lib.ListN.{length-set}
 use Rattle.model.specs.Entry.{pair}
 use Rattle.model.specs.Telling.{written}
-use Rattle.model.proofs.Telling.{write-one, write-not}
+use Rattle.model.proofs.reading.Telling.{write-one, write-not}
 use Rattle.plain.specs.Tell.{pairs}
 use borrow.Author.Needs.{needs}
 use Rattle.plain.proofs.tell.put_pair.Statement.{statement}

@@ -2,8 +2,9 @@
 use native.Mathlib.Omega.{arith}
 use mathlib.Core.Path.{refl, sym, _∙_, subst}
 use Rattle.model.specs.Telling.{Space}
-use Rattle.model.proofs.Telling.{written-none}
-use Rattle.plain.specs.Tell.{deltas, delta-told, delta-none}
+use Rattle.model.proofs.reading.Telling.{written-none}
+use Rattle.plain.specs.Tell.{deltas}
+use Rattle.plain.proofs.laws.Tell.{delta-told, delta-none}
 use borrow.Author.Needs.{needs}
 use Rattle.plain.proofs.tell.tell_delta.Statement.{statement}
 use Rattle.plain.proofs.tell.tell_delta.Tie as tie

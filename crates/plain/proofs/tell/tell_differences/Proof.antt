@@ -1,15 +1,14 @@
 -- `tell_differences` meets its contract: what is left is what differs of the keys from k on. Assumes nothing.
-use Prim.Native.Nat.{suc, _+_, _-_, _≤_}
+use Prim.Native.Nat.{_+_, _-_, _≤_}
 use native.Mathlib.Omega.{arith}
-use mathlib.Core.Path.{_≡_, refl, ap, sym, _∙_}
-use mathlib.Core.List.{List}
+use mathlib.Core.Path.{_∙_}
 use Rattle.model.specs.Walk.{keyLimit}
-use Rattle.model.proofs.Telling.{Gathering, space-front, gather-start, gather-same, gather-step, gather-end}
-use Rattle.plain.specs.Plain.{settings, differs, keys}
+use Rattle.model.proofs.reading.Telling.{Gathering, space-front, gather-start, gather-same, gather-step, gather-end}
+use Rattle.plain.specs.Plain.{differs, keys}
 use Rattle.plain.specs.Items.{from}
-use Rattle.plain.specs.Scan.{told, saying, differs-told, saying-skip, saying-end}
-use Rattle.plain.specs.Tell.{deltas, deltaBy, saying-step}
-use borrow.Author.Needs.{needs}
+use Rattle.plain.proofs.laws.Scan.{told, saying, differs-told, saying-skip, saying-end}
+use Rattle.plain.specs.Tell.{deltas, deltaBy}
+use Rattle.plain.proofs.laws.Tell.{saying-step}
 use Rattle.plain.proofs.tell.tell_differences.Statement.{statement}
 use Rattle.plain.proofs.tell.tell_differences.Tie as tie
 

@@ -2,8 +2,9 @@
 use native.Mathlib.Omega.{arith}
 use mathlib.Core.Path.{refl, sym, subst}
 use Rattle.model.specs.Telling.{Space}
-use Rattle.model.proofs.Telling.{written-none}
-use Rattle.plain.specs.Tell.{pairs, setting-told, setting-none}
+use Rattle.model.proofs.reading.Telling.{written-none}
+use Rattle.plain.specs.Tell.{pairs}
+use Rattle.plain.proofs.laws.Tell.{setting-told, setting-none}
 use borrow.Author.Needs.{needs}
 use Rattle.plain.proofs.tell.tell_setting.Statement.{statement}
 use Rattle.plain.proofs.tell.tell_setting.Tie as tie

@@ -1,15 +1,13 @@
 -- `tell_settings` meets its contract: what is left is what the keys from k on show. Assumes nothing.
 use Prim.Native.Nat.{suc, _+_, _-_, _≤_}
 use native.Mathlib.Omega.{arith}
-use mathlib.Core.Path.{_≡_, refl, ap, sym, _∙_}
-use mathlib.Core.List.{List}
 use Rattle.model.specs.Walk.{keyLimit}
-use Rattle.model.proofs.Telling.{Gathering, space-front, gather-start, gather-same, gather-step, gather-end}
-use Rattle.plain.specs.Plain.{settings, differs, keys}
+use Rattle.model.proofs.reading.Telling.{Gathering, space-front, gather-start, gather-same, gather-step, gather-end}
+use Rattle.plain.specs.Plain.{settings}
 use Rattle.plain.specs.Items.{from}
-use Rattle.plain.specs.Scan.{told, saying, differs-told, saying-skip, saying-end}
-use Rattle.plain.specs.Tell.{pairs, settingBy, showing, showing-skip, showing-step, showing-end}
-use borrow.Author.Needs.{needs}
+use Rattle.plain.proofs.laws.Scan.{told}
+use Rattle.plain.specs.Tell.{pairs, settingBy}
+use Rattle.plain.proofs.laws.Tell.{showing, showing-skip, showing-step, showing-end}
 use Rattle.plain.proofs.tell.tell_settings.Statement.{statement}
 use Rattle.plain.proofs.tell.tell_settings.Tie as tie
 

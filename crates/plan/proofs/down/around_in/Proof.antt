@@ -1,13 +1,12 @@
-use Rattle.plan.specs.Way.{lookedFrom, looked-start, looked-on, looked-here, looked-last}
-use Rattle.gather.specs.Gather.{pairsIn, length-pairs, pair-at}
+use Rattle.plan.proofs.laws.Way.{lookedFrom, looked-start, looked-on, looked-here, looked-last}
+use Rattle.gather.specs.Gather.{pairsIn}
+use Rattle.gather.proofs.laws.Gather.{length-pairs, pair-at}
 use Rattle.edit.specs.Fill.{nil}
 use Rattle.model.specs.Walk.{around}
-use Rattle.model.specs.declared.Pair.{Pair}
-use lib.Seq.{getD-take}
-use lib.ListN.{length, getD}
-use mathlib.Core.Path.{_≡_, sym, ap, _∙_}
+use lib.ListN.{getD}
+use mathlib.Core.Path.{_≡_, sym, _∙_}
 use native.Mathlib.Omega.{arith}
-use Prim.Native.Nat.{ℕ, _+_, _-_, _≤_, _<_}
+use Prim.Native.Nat.{_-_, _≤_}
 use borrow.Author.Needs.{needs}
 use Rattle.plan.proofs.down.around_in.Statement.{statement}
 use Rattle.plan.proofs.down.around_in.Tie as tie

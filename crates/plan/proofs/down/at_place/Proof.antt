@@ -1,10 +1,5 @@
-use Rattle.plan.specs.Way.{taken-is, taken-among}
-use Rattle.model.specs.declared.Pair.{Pair}
-use lib.ListN.{length, getD}
-use mathlib.Core.List.{List}
-use mathlib.Core.Path.{_≡_, sym, ap, _∙_}
+use Rattle.plan.proofs.laws.Way.{taken-is, taken-among}
 use native.Mathlib.Omega.{arith}
-use Prim.Native.Nat.{ℕ, _+_, _-_, _≤_, _<_}
 use borrow.Author.Needs.{needs}
 use Rattle.plan.proofs.down.at_place.Statement.{statement}
 use Rattle.plan.proofs.down.at_place.Tie as tie

@@ -1,5 +1,5 @@
-use Rattle.parts.specs.Kept.{live-few}
-use Rattle.gather.specs.Gather.{listed}
+use Rattle.parts.proofs.laws.Kept.{live-few}
+use Rattle.gather.proofs.laws.Gather.{listed}
 use native.Mathlib.Omega.{arith}
 use borrow.Author.Needs.{needs}
 use Rattle.plan.proofs.down.place_below.Statement.{statement}

@@ -1,21 +1,19 @@
-use Rattle.plan.specs.Way.{Going, root-inside, root-level, going-start, going-inside, going-live, going-step, going-end}
-use Rattle.parts.specs.Kept.{Kept, pagesOf, kept-sound}
-use Rattle.model.specs.Walk.{heightOf}
-use Rattle.model.specs.Store.{page}
-use mathlib.Core.Path.{_≡_, sym, ap, _∙_}
+use Rattle.plan.proofs.laws.Way.{WayCome, root-inside, root-level, going-start, going-inside, going-live, going-step, going-end}
+use Rattle.parts.specs.Kept.{ExactBytes}
+use Rattle.parts.proofs.laws.Kept.{kept-sound}
 use native.Mathlib.Omega.{arith}
-use Prim.Native.Nat.{ℕ, suc, _+_, _-_, _≤_, _<_}
+use Prim.Native.Nat.{_-_}
 use borrow.Author.Needs.{needs}
 use Rattle.plan.proofs.down.way_to.Statement.{statement}
 use Rattle.plan.proofs.down.way_to.Tie as tie
 
 abbrev Inv-loop : tie.InvT-loop
-Inv-loop s l w key root up₀ list₀ n₀ at₀ up list n at = Going l s w key root list up n at
+Inv-loop s l w key root up₀ list₀ n₀ at₀ up list n at = WayCome l s w key root list up n at
 
 abbrev μ-loop : tie.MeasureT-loop
 μ-loop s l w key root up₀ list₀ n₀ at₀ up list n at = up
 
-kept : (c : tie.After-shared-slice-known Inv-loop μ-loop) → Kept (c .before .args .l) (c .before .args .s .now)
+kept : (c : tie.After-shared-slice-known Inv-loop μ-loop) → ExactBytes (c .before .args .l) (c .before .args .s .now)
 kept c = kept-sound (c .before .pre .0 .edition) (c .before .args .s .now) (c .before .pre .0 .sound) (λ i. c .shared-slice-known .given i .fits)
 
 root-at-requires : tie.Need-root-at-requires Inv-loop μ-loop

@@ -1,14 +1,10 @@
 use borrow.Author.Tests.{eq-eqb, ne-eqb}
 use Rattle.quick.proofs.entry.apart.Statement.{statement}
 use Rattle.quick.proofs.entry.apart.Tie as tie
-use Rattle.quick.proofs.entry.apart.Reads as reads
-use Rattle.quick.proofs.entry.apart.Lts as lts
 
--- src/entry.rt:74:9
 returns : tie.Need-returns
 returns c = simp (ne-eqb _ _ (c .if1 .taken))
 
--- src/entry.rt:70:1
 returns-2 : tie.Need-returns-2
 returns-2 c = simp (eq-eqb _ _ (c .before .before .if1 .left))
 

@@ -2,19 +2,13 @@ use borrow.Author.Tests.{le-leb, lt-leb}
 use borrow.Author.Needs.{needs}
 use Rattle.quick.proofs.entry.past.Statement.{statement}
 use Rattle.quick.proofs.entry.past.Tie as tie
-use Rattle.quick.proofs.entry.past.Reads as reads
-use Rattle.quick.proofs.entry.past.Lts as lts
-use Rattle.quick.proofs.entry.larger.Reads as larger-reads
 
--- src/entry.rt:54:9
 returns : tie.Need-returns
 returns c = simp (lt-leb _ _ (c .if1 .taken))
 
--- src/entry.rt:56:5
 larger-requires : tie.Need-larger-requires
 larger-requires c κs = search needs
 
--- src/entry.rt:50:1
 returns-2 : tie.Need-returns-2
 returns-2 c = simp (c .larger .ensures, le-leb _ _ (c .before .if1 .left))
 

@@ -2,19 +2,13 @@ use borrow.Author.Tests.{eq-eqb, ne-eqb}
 use borrow.Author.Needs.{needs}
 use Rattle.quick.proofs.entry.past_key.Statement.{statement}
 use Rattle.quick.proofs.entry.past_key.Tie as tie
-use Rattle.quick.proofs.entry.past_key.Reads as reads
-use Rattle.quick.proofs.entry.past_key.Lts as lts
-use Rattle.quick.proofs.entry.past.Reads as past-reads
 
--- src/entry.rt:64:9
 past-requires : tie.Need-past-requires
 past-requires c κs = search needs
 
--- src/entry.rt:64:9
 returns : tie.Need-returns
 returns c = simp (c .past .ensures, eq-eqb _ _ (c .before .if1 .taken))
 
--- src/entry.rt:60:1
 returns-2 : tie.Need-returns-2
 returns-2 c = simp (ne-eqb _ _ (c .if1 .left))
 

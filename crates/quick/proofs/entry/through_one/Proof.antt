@@ -1,18 +1,13 @@
 use borrow.Author.Tests.{le-leb, lt-leb}
 use Rattle.quick.proofs.entry.through_one.Statement.{statement}
 use Rattle.quick.proofs.entry.through_one.Tie as tie
-use Rattle.quick.proofs.entry.through_one.Reads as reads
-use Rattle.quick.proofs.entry.through_one.Lts as lts
 
--- src/entry.rt:117:9
 returns : tie.Need-returns
 returns c = simp (lt-leb _ _ (c .if1 .taken))
 
--- src/entry.rt:120:9
 returns-2 : tie.Need-returns-2
 returns-2 c = simp (le-leb _ _ (c .before .before .if1 .left), lt-leb _ _ (c .if2 .taken))
 
--- src/entry.rt:113:1
 returns-3 : tie.Need-returns-3
 returns-3 c = simp (le-leb _ _ (c .before .before .if1 .left), le-leb _ _ (c .if2 .left))
 

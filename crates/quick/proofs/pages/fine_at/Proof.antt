@@ -3,9 +3,10 @@ use mathlib.Core.Path.{sym}
 use native.Mathlib.Omega.{arith}
 use borrow.Author.Needs.{needs}
 use Rattle.model.specs.Layout.{decode, decodePage, pageOf}
-use Rattle.quick.specs.Pages.{ownFine, atLevel, at-other, at-same}
-use Rattle.notes.specs.Here.{part-asks, head-asks}
-use Rattle.quick.specs.Within.{settled, handed}
+use Rattle.quick.specs.Pages.{ownFine, atLevel}
+use Rattle.quick.proofs.laws.Pages.{at-other, at-same}
+use Rattle.notes.proofs.laws.Here.{part-asks, head-asks}
+use Rattle.quick.proofs.laws.Within.{settled, handed}
 use Rattle.quick.proofs.pages.fine_at.Statement.{statement}
 use Rattle.quick.proofs.pages.fine_at.Tie as tie
 

@@ -6,9 +6,9 @@ use native.Mathlib.Omega.{arith}
 use borrow.Author.Tests.{not-true, not-false}
 use Rattle.model.specs.Basic.{all}
 use Rattle.model.specs.Layout.{readPages, decode, decodePage, pageOf, sizeOf}
-use Rattle.local.specs.Loops.{all-pages-step, all-pages-end}
+use Rattle.local.proofs.laws.Loops.{all-pages-step, all-pages-end}
 use Rattle.quick.specs.Pages.{atLevel}
-use Rattle.quick.specs.Within.{settled, ends, goes-on}
+use Rattle.quick.proofs.laws.Within.{settled, ends, goes-on}
 use Rattle.quick.proofs.pages.level_fine.Statement.{statement}
 use Rattle.quick.proofs.pages.level_fine.Tie as tie
 

@@ -5,13 +5,14 @@ use native.Mathlib.Omega.{arith}
 use borrow.Author.Needs.{needs}
 use borrow.Author.Tests.{not-true, not-false}
 use Rattle.model.specs.Basic.{inOrder}
-use Rattle.model.specs.Quick.{kept, apart, childrenFine, routersFine}
+use Rattle.spans.specs.Quick.{kept, apart, childrenFine, routersFine}
 use Rattle.model.specs.Layout.{decode, decodePage, pageOf, readEntries}
-use Rattle.quick.specs.Pages.{ownFine, own-none, own-some, children-leaf, children-index}
+use Rattle.quick.specs.Pages.{ownFine}
+use Rattle.quick.proofs.laws.Pages.{own-none, own-some, children-leaf, children-index}
 use Rattle.quick.specs.Routers.{entriesAt}
-use Rattle.notes.specs.Here.{part-asks, head-asks, stands-here, level-is}
-use Rattle.quick.specs.Here.{order-here}
-use Rattle.quick.specs.Within.{settled, handed}
+use Rattle.notes.proofs.laws.Here.{part-asks, head-asks, stands-here, level-is}
+use Rattle.quick.proofs.laws.Here.{order-here}
+use Rattle.quick.proofs.laws.Within.{settled, handed}
 use Rattle.quick.proofs.pages.page_fine.Statement.{statement}
 use Rattle.quick.proofs.pages.page_fine.Tie as tie
 

@@ -9,9 +9,10 @@ use Rattle.model.specs.Basic.{all, inOrder}
 use Rattle.model.specs.Page.{Page}
 use Rattle.model.specs.Sound.{pagesPass}
 use Rattle.model.specs.Layout.{readPages, decode, sizeOf}
-use Rattle.model.specs.Quick.{kept, apart, childrenFine}
-use Rattle.quick.specs.Pages.{ownFine, atLevel, belowLevel, pages-own, level-start, level-step, level-end}
-use Rattle.quick.specs.Within.{settled, ends, goes-on}
+use Rattle.spans.specs.Quick.{kept, apart, childrenFine}
+use Rattle.quick.specs.Pages.{atLevel}
+use Rattle.quick.proofs.laws.Pages.{belowLevel, pages-own, level-start, level-step, level-end}
+use Rattle.quick.proofs.laws.Within.{settled, ends, goes-on}
 use Rattle.quick.proofs.pages.pages_fine.Statement.{statement}
 use Rattle.quick.proofs.pages.pages_fine.Tie as tie
 

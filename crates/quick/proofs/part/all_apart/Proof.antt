@@ -1,7 +1,7 @@
 -- `quick::part::all_apart` meets its contract: the entries from i on, behind the last one kept, answer as all. Assumes nothing.
 use Prim.Native.Nat.{_≤_, _-_, _+_, _*_}
 use mathlib.Core.Bool.{true}
-use mathlib.Core.Path.{_≡_, refl, sym, subst, _∙_}
+use mathlib.Core.Path.{_≡_, refl, sym, _∙_}
 use native.Mathlib.Omega.{arith}
 use native.Mathlib.Nat.{sub-zero}
 use borrow.Author.Tests.{not-true, not-false}
@@ -9,8 +9,8 @@ use borrow.Author.Needs.{needs}
 use Rattle.model.specs.Basic.{inOrder}
 use Rattle.model.specs.Entry.{before}
 use Rattle.model.specs.Layout.{readEntries}
-use Rattle.model.specs.Quick.{kept, apart}
-use Rattle.quick.specs.Part.{behind, behind-start, apart-step, apart-end, order-step}
+use Rattle.spans.specs.Quick.{kept, apart}
+use Rattle.quick.proofs.laws.Part.{behind, behind-start, apart-step, apart-end, order-step}
 use Rattle.quick.proofs.part.all_apart.Statement.{statement}
 use Rattle.quick.proofs.part.all_apart.Tie as tie
 

@@ -1,35 +1,24 @@
-use mathlib.Core.Path.{sym, ap, _∙_}
 use native.Mathlib.Omega.{arith}
 use borrow.Author.Tests.{not-true, not-false}
 use Rattle.model.specs.Layout.{readEntries}
-use Rattle.model.specs.Quick.{liveCount}
-use Rattle.quick.specs.Part.{endFine, leb-min}
+use Rattle.spans.specs.Quick.{liveCount}
+use Rattle.quick.proofs.laws.Part.{leb-min}
 use borrow.Author.Needs.{needs}
 use Rattle.quick.proofs.part.end_fine.Statement.{statement}
 use Rattle.quick.proofs.part.end_fine.Tie as tie
-use Rattle.quick.proofs.part.end_fine.Reads as reads
-use Rattle.quick.proofs.part.end_fine.Lts as lts
-use Rattle.page.proofs.entry_at.Reads as entry-at-reads
-use Rattle.quick.proofs.entry.ends_in.Reads as ends-in-reads
-use Rattle.quick.proofs.part.live_count.Reads as live-count-reads
 
--- src/part.rt:112:9
 entry-at-requires : tie.Need-entry-at-requires
 entry-at-requires c κs = (omega (arith, c .before .pre .0 .room, c .before .pre .1), c .before .pre .0 .long)
 
--- src/part.rt:113:9
 ends-in-requires : tie.Need-ends-in-requires
 ends-in-requires c κs = search needs
 
--- src/part.rt:114:9
 returns : tie.Need-returns
 returns c = rw (← c .before .before .entry-at .ensures, ← c .before .ends-in .ensures, not-true (c .before .ends-in .result) (c .if1 .taken))
 
--- src/part.rt:116:10
 live-count-requires : tie.Need-live-count-requires
 live-count-requires c κs = c .before .before .before .before .pre .0
 
--- src/part.rt:108:1
 returns-2 : tie.Need-returns-2
 returns-2 c = rw (← c .before .before .before .entry-at .ensures, ← c .before .before .ends-in .ensures, not-false (c .before .before .ends-in .result) (c .before .if1 .left), c .live-count .ensures) (leb-min (c .before .before .before .before .before .args .m) (liveCount (c .before .before .before .entry-at .result .end) (readEntries (c .before .before .before .before .before .args .page .now) 128 (c .before .before .before .before .before .args .n))))
 

@@ -6,13 +6,9 @@ use borrow.Author.Tests.{not-true, not-false}
 use Rattle.model.specs.Basic.{all}
 use Rattle.model.specs.Layout.{readEntries}
 use Rattle.quick.specs.Part.{endFine}
-use Rattle.local.specs.Loops.{all-entries-step, all-entries-end}
-use borrow.Author.Needs.{needs}
+use Rattle.local.proofs.laws.Loops.{all-entries-step, all-entries-end}
 use Rattle.quick.proofs.part.ends_over.Statement.{statement}
 use Rattle.quick.proofs.part.ends_over.Tie as tie
-use Rattle.quick.proofs.part.ends_over.Reads as reads
-use Rattle.quick.proofs.part.ends_over.Lts as lts
-use Rattle.quick.proofs.part.end_fine.Reads as end-fine-reads
 
 abbrev Inv-loop : tie.InvT-loop
 Inv-loop page n m a b i₀ i = (i ≤ n) × (all (endFine m a b (readEntries page 128 n)) (readEntries page 128 n) ≡ all (endFine m a b (readEntries page 128 n)) (readEntries page (128 + 96 * i) (n - i)))
@@ -20,35 +16,28 @@ Inv-loop page n m a b i₀ i = (i ≤ n) × (all (endFine m a b (readEntries pag
 abbrev μ-loop : tie.MeasureT-loop
 μ-loop page n m a b i₀ i = n - i
 
--- src/part.rt:124:5
 loop-holds : tie.Need-loop-holds Inv-loop μ-loop
 loop-holds c = (omega arith, rw sub-zero refl)
 
--- src/part.rt:125:13
 end-fine-requires : tie.Need-end-fine-requires Inv-loop μ-loop
 end-fine-requires c κs = (c .before .before .before .pre, omega (arith, c .loop-test .taken))
 
--- src/part.rt:126:13
 returns : tie.Need-returns Inv-loop μ-loop
 returns c =
     let a = c .before .before .before .before .before .args in let k = c .before .before .before .loop in
     sym (k .inv .1 ∙ all-entries-step (endFine (a .m) (a .a) (a .b) (readEntries (a .page .now) 128 (a .n))) (a .page .now) (k .i) (a .n) (c .before .before .loop-test .taken) ∙ rw (← c .before .end-fine .ensures, not-true (c .before .end-fine .result) (c .if1 .taken)))
 
--- src/part.rt:128:9
 add-i : tie.Need-add-i Inv-loop μ-loop
 add-i c = omega (arith, c .before .before .loop-test .taken, c .before .before .before .before .before .pre .room, c .before .before .before .before .before .pre .long)
 
--- src/part.rt:124:5
 loop-less : tie.Need-loop-less Inv-loop μ-loop
 loop-less c = omega (arith, c .before .before .loop-test .taken)
 
--- src/part.rt:124:5
 loop-again : tie.Need-loop-again Inv-loop μ-loop
 loop-again c =
     let a = c .before .before .before .before .before .args in let k = c .before .before .before .loop in
     (omega (arith, c .before .before .loop-test .taken), k .inv .1 ∙ all-entries-step (endFine (a .m) (a .a) (a .b) (readEntries (a .page .now) 128 (a .n))) (a .page .now) (k .i) (a .n) (c .before .before .loop-test .taken) ∙ rw (← c .before .end-fine .ensures, not-false (c .before .end-fine .result) (c .if1 .left)))
 
--- src/part.rt:119:1
 returns-2 : tie.Need-returns-2 Inv-loop μ-loop
 returns-2 c = let a = c .before .before .before .args in let k = c .before .loop in sym (k .inv .1 ∙ all-entries-end (endFine (a .m) (a .a) (a .b) (readEntries (a .page .now) 128 (a .n))) (a .page .now) (k .i) (a .n) (c .loop-test .left))
 

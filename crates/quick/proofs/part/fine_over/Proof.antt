@@ -2,23 +2,15 @@ use mathlib.Core.Path.{ap, sym, _∙_}
 use native.Mathlib.Omega.{arith}
 use borrow.Author.Tests.{not-true, not-false, eq-eqb, ne-eqb}
 use Rattle.page.specs.declared.Head.{Head}
-use Rattle.notes.specs.Linked.{Stands}
-use Rattle.quick.specs.Part.{fine-by}
-use borrow.Author.Needs.{needs}
+use Rattle.notes.specs.Linked.{EntryRoom}
+use Rattle.quick.proofs.laws.Part.{fine-by}
 use Rattle.quick.proofs.part.fine_over.Statement.{statement}
 use Rattle.quick.proofs.part.fine_over.Tie as tie
-use Rattle.quick.proofs.part.fine_over.Reads as reads
-use Rattle.quick.proofs.part.fine_over.Lts as lts
-use Rattle.page.proofs.head_of.Reads as head-of-reads
-use Rattle.quick.proofs.part.key_over.Reads as key-over-reads
-use Rattle.quick.proofs.part.low_over.Reads as low-over-reads
-use Rattle.quick.proofs.part.many_over.Reads as many-over-reads
 
--- src/part.rt:154:9
 head-of-requires : tie.Need-head-of-requires
 head-of-requires c κs = (c .before .pre .0, omega (arith, c .before .pre .1, c .before .pre .0 .four), omega (arith, c .before .pre .1, c .before .pre .0 .eight))
 
-stands : (c : tie.After-head-of) → Stands (c .before .before .args .page .now) (c .head-of .result .count)
+stands : (c : tie.After-head-of) → EntryRoom (c .before .before .args .page .now) (c .head-of .result .count)
 stands c =
     let r = c .before .before .pre in
     record {
@@ -26,41 +18,33 @@ stands c =
       long = omega (arith, r .1, r .0 .eight);
     }
 
--- src/part.rt:155:9
 low-over-requires : tie.Need-low-over-requires
 low-over-requires c κs = (stands (c), rw (c .head-of .ensures) (c .before .before .pre .3))
 
--- src/part.rt:156:9
 returns : tie.Need-returns
 returns c =
     let a = c .before .before .before .before .args in
     sym (fine-by (a .l .least) (a .page .now) (c .before .before .head-of .result) (c .before .before .head-of .ensures) (a .m) (a .low) (a .a) (a .b) ∙ rw (← c .before .low-over .ensures, not-true (c .before .low-over .result) (c .if1 .taken)))
 
--- src/part.rt:159:9
 many-over-requires : tie.Need-many-over-requires
 many-over-requires c κs = stands (c .before .before .before .before)
 
--- src/part.rt:159:9
 returns-2 : tie.Need-returns-2
 returns-2 c =
     let a = c .before .before .before .before .before .before .before .args in
     sym (fine-by (a .l .least) (a .page .now) (c .before .before .before .before .before .head-of .result) (c .before .before .before .before .before .head-of .ensures) (a .m) (a .low) (a .a) (a .b) ∙ rw (← c .before .before .before .before .low-over .ensures, not-false (c .before .before .before .before .low-over .result) (c .before .before .before .if1 .left), eq-eqb (c .before .before .before .before .before .head-of .result .level) 1 (c .before .if2 .taken)) (sym (c .many-over .ensures)))
 
--- src/part.rt:161:9
 key-over-requires : tie.Need-key-over-requires
 key-over-requires c κs = stands (c .before .before .before .before)
 
--- src/part.rt:162:9
 returns-3 : tie.Need-returns-3
 returns-3 c =
     let a = c .before .before .before .before .before .before .before .before .args in
     sym (fine-by (a .l .least) (a .page .now) (c .before .before .before .before .before .before .head-of .result) (c .before .before .before .before .before .before .head-of .ensures) (a .m) (a .low) (a .a) (a .b) ∙ rw (← c .before .before .before .before .before .low-over .ensures, not-false (c .before .before .before .before .before .low-over .result) (c .before .before .before .before .if1 .left), ne-eqb (c .before .before .before .before .before .before .head-of .result .level) 1 (c .before .before .if2 .left), ← c .before .key-over .ensures, not-true (c .before .key-over .result) (c .if3 .taken)))
 
--- src/part.rt:164:5
 many-over-requires-2 : tie.Need-many-over-requires-2
 many-over-requires-2 c κs = stands (c .before .before .before .before .before .before)
 
--- src/part.rt:150:1
 returns-4 : tie.Need-returns-4
 returns-4 c =
     let a = c .before .before .before .before .before .before .before .before .before .args in

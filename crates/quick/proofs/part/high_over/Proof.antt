@@ -1,6 +1,6 @@
 use mathlib.Core.Path.{sym}
 use native.Mathlib.Omega.{arith}
-use Rattle.quick.specs.Order.{high-none, high-last}
+use Rattle.quick.proofs.laws.Order.{high-none, high-last}
 use Rattle.quick.proofs.part.high_over.Statement.{statement}
 use Rattle.quick.proofs.part.high_over.Tie as tie
 

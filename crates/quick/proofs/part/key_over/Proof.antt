@@ -8,8 +8,8 @@ use borrow.Author.Tests.{le-leb}
 use Rattle.model.specs.Basic.{those, pick}
 use Rattle.model.specs.declared.Entry.{Entry}
 use Rattle.model.specs.Layout.{readEntries}
-use Rattle.model.specs.Quick.{pastAll, past}
-use Rattle.quick.specs.Part.{past-grows, past-those-step, past-those-end}
+use Rattle.spans.specs.Quick.{pastAll, past}
+use Rattle.quick.proofs.laws.Part.{past-grows, past-those-step, past-those-end}
 use Rattle.quick.proofs.part.key_over.Statement.{statement}
 use Rattle.quick.proofs.part.key_over.Tie as tie
 

@@ -1,5 +1,5 @@
-use Prim.Native.Nat.{ℕ, _≤_, _-_, _+_, _*_}
-use mathlib.Core.Path.{_≡_, refl, ap, sym, _∙_}
+use Prim.Native.Nat.{_≤_, _-_, _+_, _*_}
+use mathlib.Core.Path.{_≡_, ap, _∙_}
 use native.Mathlib.Omega.{arith}
 use native.Mathlib.Nat.{sub-zero}
 use borrow.Author.Needs.{needs}
@@ -7,8 +7,8 @@ use Rattle.model.specs.declared.Entry.{Entry}
 use Rattle.model.specs.Layout.{readEntries}
 use Rattle.model.specs.Basic.{pick}
 use Rattle.model.specs.Entry.{liveAt}
-use Rattle.model.specs.Quick.{liveCount}
-use Rattle.quick.specs.Part.{count-step, count-end, one-most}
+use Rattle.spans.specs.Quick.{liveCount}
+use Rattle.quick.proofs.laws.Part.{count-step, count-end, one-most}
 use Rattle.quick.proofs.part.live_count.Statement.{statement}
 use Rattle.quick.proofs.part.live_count.Tie as tie
 

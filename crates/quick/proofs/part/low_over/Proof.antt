@@ -1,6 +1,6 @@
 use mathlib.Core.Path.{sym}
 use native.Mathlib.Omega.{arith}
-use Rattle.quick.specs.Order.{low-none, low-first}
+use Rattle.quick.proofs.laws.Order.{low-none, low-first}
 use Rattle.quick.proofs.part.low_over.Statement.{statement}
 use Rattle.quick.proofs.part.low_over.Tie as tie
 

@@ -1,39 +1,28 @@
-use mathlib.Core.Path.{ap, sym, _∙_}
+use mathlib.Core.Path.{sym, _∙_}
 use native.Mathlib.Omega.{arith}
 use borrow.Author.Tests.{le-leb, lt-leb}
-use Rattle.model.proofs.QuickLaws.{many-through}
+use Rattle.spans.proofs.laws.Neighbours.{many-through}
 use Rattle.model.specs.Layout.{readEntries}
-use Rattle.model.specs.Quick.{liveCount}
+use Rattle.spans.specs.Quick.{liveCount}
 use borrow.Author.Needs.{needs}
 use Rattle.quick.proofs.part.many_over.Statement.{statement}
 use Rattle.quick.proofs.part.many_over.Tie as tie
-use Rattle.quick.proofs.part.many_over.Reads as reads
-use Rattle.quick.proofs.part.many_over.Lts as lts
-use Rattle.quick.proofs.part.ends_over.Reads as ends-over-reads
-use Rattle.quick.proofs.part.live_count.Reads as live-count-reads
-use Rattle.quick.proofs.part.through_count.Reads as through-count-reads
 
--- src/part.rt:139:17
 through-count-requires : tie.Need-through-count-requires
 through-count-requires c κs = search needs
 
--- src/part.rt:140:13
 returns : tie.Need-returns
 returns c = let a = c .before .before .before .before .args in sym (many-through (a .m) (a .a) (a .b) (readEntries (a .page .now) 128 (a .n)) (c .before .before .if1 .taken) (omega (arith, c .before .through-count .ensures, c .if2 .taken)))
 
--- src/part.rt:143:8
 live-count-requires : tie.Need-live-count-requires
 live-count-requires c κs = search needs
 
--- src/part.rt:144:9
 returns-2 : tie.Need-returns-2
 returns-2 c = let a = c .before .before .before .before .args in sym (rw (lt-leb (a .m) (liveCount (a .a) (readEntries (a .page .now) 128 (a .n))) (omega (arith, c .before .live-count .ensures, c .if3 .taken))))
 
--- src/part.rt:146:5
 ends-over-requires : tie.Need-ends-over-requires
 ends-over-requires c κs = search needs
 
--- src/part.rt:134:1
 returns-3 : tie.Need-returns-3
 returns-3 c = let a = c .before .before .before .before .before .args in c .ends-over .ensures ∙ sym (rw (le-leb (a .m) (liveCount (a .a) (readEntries (a .page .now) 128 (a .n))) (omega (arith, c .before .before .live-count .ensures, c .before .if3 .left))))
 

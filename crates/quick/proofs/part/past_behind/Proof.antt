@@ -3,8 +3,8 @@ use mathlib.Core.Path.{_≡_, refl, ap, sym, _∙_}
 use native.Mathlib.Omega.{arith}
 use borrow.Author.Needs.{needs}
 use Rattle.model.specs.Layout.{readEntries}
-use Rattle.model.specs.Quick.{pastAll, past}
-use Rattle.quick.specs.Part.{past-grows, past-step, past-end}
+use Rattle.spans.specs.Quick.{pastAll, past}
+use Rattle.quick.proofs.laws.Part.{past-grows, past-step, past-end}
 use Rattle.quick.proofs.part.past_behind.Statement.{statement}
 use Rattle.quick.proofs.part.past_behind.Tie as tie
 

@@ -1,5 +1,5 @@
-use Prim.Native.Nat.{ℕ, _≤_, _-_, _+_, _*_}
-use mathlib.Core.Path.{_≡_, refl, ap, sym, _∙_}
+use Prim.Native.Nat.{_≤_, _-_, _+_, _*_}
+use mathlib.Core.Path.{_≡_, ap, _∙_}
 use native.Mathlib.Omega.{arith}
 use native.Mathlib.Nat.{sub-zero}
 use borrow.Author.Needs.{needs}
@@ -8,7 +8,7 @@ use Rattle.model.specs.Layout.{readEntries}
 use lib.ListN.{length}
 use Rattle.model.specs.Basic.{pick, those}
 use Rattle.model.specs.Inner.{throughout}
-use Rattle.quick.specs.Part.{count-step, count-end, one-most}
+use Rattle.quick.proofs.laws.Part.{count-step, count-end, one-most}
 use Rattle.quick.proofs.part.through_count.Statement.{statement}
 use Rattle.quick.proofs.part.through_count.Tie as tie
 

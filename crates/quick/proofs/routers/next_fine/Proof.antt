@@ -2,8 +2,8 @@ use native.Mathlib.Omega.{arith}
 use borrow.Author.Needs.{needs}
 use lib.Dec.{ltb}
 use Rattle.model.specs.Layout.{decode}
-use Rattle.model.specs.Quick.{under as underOf}
-use Rattle.quick.specs.Within.{taken}
+use Rattle.spans.specs.Quick.{under as underOf}
+use Rattle.quick.proofs.laws.Within.{taken}
 use Rattle.quick.proofs.routers.next_fine.Statement.{statement}
 use Rattle.quick.proofs.routers.next_fine.Tie as tie
 

@@ -6,10 +6,11 @@ use native.Mathlib.Omega.{arith}
 use borrow.Author.Needs.{needs}
 use borrow.Author.Tests.{not-true, not-false}
 use Rattle.model.specs.Layout.{decode, readEntries}
-use Rattle.model.specs.Quick.{past, under as underOf, nexts}
-use Rattle.quick.specs.Part.{past-more}
-use Rattle.quick.specs.Under.{underPage, nexts-step, nexts-end, nexts-empty}
-use Rattle.quick.specs.Within.{settled, ends, goes-on}
+use Rattle.spans.specs.Quick.{past, under as underOf, nexts}
+use Rattle.quick.proofs.laws.Part.{past-more}
+use Rattle.quick.specs.Under.{underPage}
+use Rattle.quick.proofs.laws.Under.{nexts-step, nexts-end, nexts-empty}
+use Rattle.quick.proofs.laws.Within.{settled, ends, goes-on}
 use Rattle.quick.proofs.routers.nexts_fine.Statement.{statement}
 use Rattle.quick.proofs.routers.nexts_fine.Tie as tie
 

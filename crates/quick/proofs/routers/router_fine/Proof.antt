@@ -9,7 +9,7 @@ use borrow.Author.Tests.{le-leb, lt-leb}
 use Rattle.model.specs.declared.Entry.{Entry}
 use Rattle.model.specs.Layout.{readEntry, readEntries, decode}
 use Rattle.quick.specs.Routers.{routerFrom, routerFine}
-use Rattle.quick.specs.Within.{settled, handed}
+use Rattle.quick.proofs.laws.Within.{settled, handed}
 use Rattle.quick.proofs.routers.router_fine.Statement.{statement}
 use Rattle.quick.proofs.routers.router_fine.Tie as tie
 

@@ -5,13 +5,14 @@ use native.Mathlib.Omega.{arith}
 use borrow.Author.Needs.{needs}
 use borrow.Author.Tests.{not-true, not-false}
 use Rattle.model.specs.Layout.{readEntry, readEntries, decode}
-use Rattle.model.specs.Quick.{nexts}
+use Rattle.spans.specs.Quick.{nexts}
 use Rattle.local.specs.Local.{IsPage, levelAt}
-use Rattle.notes.specs.Here.{part-asks, room-here}
-use Rattle.quick.specs.Here.{order-part}
-use Rattle.quick.specs.Routers.{routerFrom, leads-to, router-by}
+use Rattle.notes.proofs.laws.Here.{part-asks, room-here}
+use Rattle.quick.proofs.laws.Here.{order-part}
+use Rattle.quick.specs.Routers.{routerFrom}
+use Rattle.quick.proofs.laws.Routers.{leads-to, router-by}
 use Rattle.quick.specs.Under.{underPage}
-use Rattle.quick.specs.Within.{settled, handed}
+use Rattle.quick.proofs.laws.Within.{settled, handed}
 use Rattle.quick.proofs.routers.router_from.Statement.{statement}
 use Rattle.quick.proofs.routers.router_from.Tie as tie
 

@@ -7,11 +7,11 @@ use native.Mathlib.Omega.{arith}
 use Rattle.model.specs.declared.Entry.{Entry}
 use borrow.Author.Tests.{not-true, not-false}
 use Rattle.model.specs.Layout.{readEntry, readEntries, decode}
-use Rattle.model.specs.Quick.{kept, routersFine}
-use Rattle.notes.specs.Here.{part-asks, head-asks, stands-here, few, entries-start, child-here}
+use Rattle.spans.specs.Quick.{kept, routersFine}
+use Rattle.notes.proofs.laws.Here.{part-asks, head-asks, stands-here, few, entries-start, child-here}
 use Rattle.quick.specs.Routers.{entriesAt, routerFine}
-use Rattle.quick.specs.Under.{routers-step, routers-end}
-use Rattle.quick.specs.Within.{settled, ends, goes-on}
+use Rattle.quick.proofs.laws.Under.{routers-step, routers-end}
+use Rattle.quick.proofs.laws.Within.{settled, ends, goes-on}
 use Rattle.quick.proofs.routers.routers_fine.Statement.{statement}
 use Rattle.quick.proofs.routers.routers_fine.Tie as tie
 

@@ -1,14 +1,10 @@
 use borrow.Author.Tests.{le-leb, lt-leb}
 use Rattle.quick.proofs.slots.root_least.Statement.{statement}
 use Rattle.quick.proofs.slots.root_least.Tie as tie
-use Rattle.quick.proofs.slots.root_least.Reads as reads
-use Rattle.quick.proofs.slots.root_least.Lts as lts
 
--- src/slots.rt:34:9
 returns : tie.Need-returns
 returns c = rw (le-leb (c .before .args .level) 1 (c .if1 .taken))
 
--- src/slots.rt:30:1
 returns-2 : tie.Need-returns-2
 returns-2 c = rw (lt-leb (c .before .args .level) 1 (c .if1 .left))
 

@@ -1,34 +1,23 @@
 use Rattle.model.specs.declared.Slot.{Slot}
-use Rattle.notes.specs.Here.{part-asks, room-here}
-use Rattle.quick.specs.Here.{order-part}
-use Rattle.store.specs.Read.{page-at}
+use Rattle.notes.proofs.laws.Here.{part-asks, room-here}
+use Rattle.quick.proofs.laws.Here.{order-part}
+use Rattle.store.proofs.laws.Read.{page-at}
 use Rattle.local.specs.Local.{IsPage, slotAt}
 use mathlib.Core.Path.{_≡_, ap, _∙_}
 use native.Mathlib.Omega.{arith}
 use borrow.Author.Needs.{needs}
 use Rattle.quick.proofs.slots.slot_fine.Statement.{statement}
 use Rattle.quick.proofs.slots.slot_fine.Tie as tie
-use Rattle.quick.proofs.slots.slot_fine.Reads as reads
-use Rattle.quick.proofs.slots.slot_fine.Lts as lts
-use Rattle.quick.proofs.slots.root_fine.Reads as root-fine-reads
-use Rattle.quick.proofs.slots.upto_at.Reads as upto-at-reads
-use Rattle.quick.proofs.wide.Reads as wide-reads
-use Rattle.store.proofs.part.Reads as part-reads
-use Rattle.store.proofs.slot.Reads as slot-reads
 
--- src/slots.rt:59:9
 slot-requires : tie.Need-slot-requires
 slot-requires c κs = (c .before .pre .0, omega (arith, c .before .pre .2 .front), omega (arith, c .before .pre .2 .roots, c .before .pre .3, c .before .pre .4), omega (arith, c .before .pre .1 .linked .long))
 
--- src/slots.rt:60:27
 add-upto-at : tie.Need-add-upto-at
 add-upto-at c = omega (arith, c .before .before .pre .2 .roots, c .before .before .pre .3, c .before .before .pre .4, c .before .before .pre .0 .eight)
 
--- src/slots.rt:60:9
 upto-at-requires : tie.Need-upto-at-requires
 upto-at-requires c κs = (c .before .before .pre .0, c .before .before .pre .1, c .before .before .pre .2, omega (arith, c .before .before .pre .2 .roots, c .before .before .pre .3))
 
--- src/slots.rt:61:9
 wide-requires : tie.Need-wide-requires
 wide-requires c κs = search needs
 

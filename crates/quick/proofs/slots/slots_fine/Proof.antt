@@ -1,22 +1,17 @@
-use Rattle.quick.specs.Slots.{slots-start, slots-fine-step, slots-fine-end}
-use Rattle.model.specs.Quick.{slotsFine}
+use Rattle.quick.proofs.laws.Slots.{slots-start, slots-fine-step, slots-fine-end}
+use Rattle.spans.specs.Quick.{slotsFine}
 use Rattle.model.specs.Layout.{decode, readHeader, readSlots}
 use Rattle.model.specs.declared.Header.{Header}
 use borrow.Author.Tests.{not-true, not-false}
 use Prim.Native.Nat.{ℕ, _+_, _*_, _-_, _≤_}
 use mathlib.Core.List.{List}
 use Rattle.model.specs.declared.Slot.{Slot}
-use Rattle.store.specs.Read.{oldest-of}
+use Rattle.store.proofs.laws.Read.{oldest-of}
 use mathlib.Core.Path.{_≡_, ap, ap₂, sym, _∙_}
 use native.Mathlib.Omega.{arith}
 use borrow.Author.Needs.{needs}
 use Rattle.quick.proofs.slots.slots_fine.Statement.{statement}
 use Rattle.quick.proofs.slots.slots_fine.Tie as tie
-use Rattle.quick.proofs.slots.slots_fine.Reads as reads
-use Rattle.quick.proofs.slots.slots_fine.Lts as lts
-use Rattle.quick.proofs.slots.slot_fine.Reads as slot-fine-reads
-use Rattle.quick.proofs.wide.Reads as wide-reads
-use Rattle.store.proofs.header.Reads as header-reads
 
 abbrev Inv-loop : tie.InvT-loop
 Inv-loop s l h roots i₀ i = (i ≤ roots) × (roots ≡ readHeader (l .least) s .roots) × (slotsFine (l .least) (decode (l .least) s .oldest) (decode (l .least) s .pages) (decode (l .least) s .slots) ≡ slotsFine (l .least) (h .oldest) (decode (l .least) s .pages) (readSlots s (512 * l .least + 32 * i) (roots - i)))
@@ -24,15 +19,12 @@ Inv-loop s l h roots i₀ i = (i ≤ roots) × (roots ≡ readHeader (l .least) 
 abbrev μ-loop : tie.MeasureT-loop
 μ-loop s l h roots i₀ i = roots - i
 
--- src/slots.rt:70:9
 header-requires : tie.Need-header-requires Inv-loop μ-loop
 header-requires c κs = (c .before .pre .0, omega (arith, c .before .pre .2 .front), omega (arith, c .before .pre .1 .linked .long))
 
--- src/slots.rt:71:9
 wide-requires : tie.Need-wide-requires Inv-loop μ-loop
 wide-requires c κs = search needs
 
--- src/slots.rt:73:5
 loop-holds : tie.Need-loop-holds Inv-loop μ-loop
 loop-holds c =
     let a = c .before .before .before .args in
@@ -40,25 +32,20 @@ loop-holds c =
     let o : decode (a .l .least) (a .s .now) .oldest ≡ c .before .header .result .oldest = oldest-of (a .l .least) (a .s .now) ∙ ap (λ (x : Header). x .oldest) (sym (c .before .header .ensures)) in
     (omega arith, e, ap₂ (λ (n : ℕ) (xs : List Slot). slotsFine (a .l .least) n (decode (a .l .least) (a .s .now) .pages) xs) o (slots-start (a .l .least) (a .s .now) (c .wide .result) e))
 
--- src/slots.rt:74:13
 slot-fine-requires : tie.Need-slot-fine-requires Inv-loop μ-loop
 slot-fine-requires c κs = (c .before .before .before .before .before .pre .0, c .before .before .before .before .before .pre .1, c .before .before .before .before .before .pre .2, c .before .loop .inv .1, omega (arith, c .loop-test .taken))
 
--- src/slots.rt:75:13
 returns : tie.Need-returns Inv-loop μ-loop
 returns c =
     let a = c .before .before .before .before .before .before .before .args in let k = c .before .before .before .loop in
     sym (k .inv .2 ∙ slots-fine-step (a .s .now) (512 * a .l .least) (k .i) (c .before .before .before .before .wide .result) (a .l .least) (c .before .before .before .before .before .header .result .oldest) (decode (a .l .least) (a .s .now) .pages) (c .before .before .loop-test .taken) ∙ rw (← c .before .slot-fine .ensures, not-true (c .before .slot-fine .result) (c .if1 .taken)))
 
--- src/slots.rt:77:9
 add-i : tie.Need-add-i Inv-loop μ-loop
 add-i c = omega (arith, c .before .before .loop-test .taken, c .before .before .before .loop .inv .1, c .before .before .before .before .before .before .before .pre .2 .roots, c .before .before .before .before .before .before .before .pre .0 .eight)
 
--- src/slots.rt:73:5
 loop-less : tie.Need-loop-less Inv-loop μ-loop
 loop-less c = omega (arith, c .before .before .loop-test .taken)
 
--- src/slots.rt:73:5
 loop-again : tie.Need-loop-again Inv-loop μ-loop
 loop-again c =
     let a = c .before .before .before .before .before .before .before .args in let k = c .before .before .before .loop in (
@@ -67,7 +54,6 @@ loop-again c =
       k .inv .2 ∙ slots-fine-step (a .s .now) (512 * a .l .least) (k .i) (c .before .before .before .before .wide .result) (a .l .least) (c .before .before .before .before .before .header .result .oldest) (decode (a .l .least) (a .s .now) .pages) (c .before .before .loop-test .taken) ∙ rw (← c .before .slot-fine .ensures, not-false (c .before .slot-fine .result) (c .if1 .left)),
     )
 
--- src/slots.rt:66:1
 returns-2 : tie.Need-returns-2 Inv-loop μ-loop
 returns-2 c = let a = c .before .before .before .before .before .args in let k = c .before .loop in sym (k .inv .2 ∙ slots-fine-end (a .s .now) (512 * a .l .least) (k .i) (c .before .before .wide .result) (a .l .least) (c .before .before .before .header .result .oldest) (decode (a .l .least) (a .s .now) .pages) (c .loop-test .left))
 

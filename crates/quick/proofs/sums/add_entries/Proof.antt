@@ -1,5 +1,6 @@
-use Rattle.quick.specs.Sums.{Sums, addTo, addEntries, add-entries-step, add-entries-end, one-more, fewer}
-use Rattle.page.specs.Read.{read-sized}
+use Rattle.quick.specs.Sums.{Sums, addTo, addEntries}
+use Rattle.quick.proofs.laws.Sums.{add-entries-step, add-entries-end, one-more, fewer}
+use Rattle.page.proofs.laws.Read.{read-sized}
 use Rattle.model.specs.Layout.{readEntry, readEntries}
 use Rattle.model.specs.declared.Entry.{Entry}
 use Prim.Native.Nat.{_+_, _*_, _-_, _≤_, _<_, max}
@@ -9,12 +10,6 @@ use native.Mathlib.Omega.{arith}
 use borrow.Author.Needs.{needs}
 use Rattle.quick.proofs.sums.add_entries.Statement.{statement}
 use Rattle.quick.proofs.sums.add_entries.Tie as tie
-use Rattle.quick.proofs.sums.add_entries.Reads as reads
-use Rattle.quick.proofs.sums.add_entries.Lts as lts
-use Rattle.page.proofs.entry_at.Reads as entry-at-reads
-use Rattle.quick.proofs.entry.span_from.Reads as span-from-reads
-use Rattle.quick.proofs.sums.add.Reads as add-reads
-use Rattle.quick.proofs.wide.Reads as wide-reads
 
 abbrev Inv-loop : tie.InvT-loop
 Inv-loop sums₀ page n old i₀ sums i = (i ≤ n) × Sums (200000 + i) sums × (addEntries old sums₀ (readEntries page 128 n) ≡ addEntries old sums (readEntries page (128 + 96 * i) (n - i)))
@@ -22,38 +17,30 @@ Inv-loop sums₀ page n old i₀ sums i = (i ≤ n) × Sums (200000 + i) sums ×
 abbrev μ-loop : tie.MeasureT-loop
 μ-loop sums₀ page n old i₀ sums i = n - i
 
--- src/sums.rt:46:5
 loop-holds : tie.Need-loop-holds Inv-loop μ-loop
 loop-holds c = (omega arith, fewer (c .before .before .args .sums .now) (c .before .before .pre .2) (omega arith), rw sub-zero)
 
--- src/sums.rt:47:13
 entry-at-requires : tie.Need-entry-at-requires Inv-loop μ-loop
 entry-at-requires c κs = (omega (arith, c .before .before .before .before .pre .0 .room, c .loop-test .taken), c .before .before .before .before .pre .0 .long)
 
--- src/sums.rt:48:13
 wide-requires : tie.Need-wide-requires Inv-loop μ-loop
 wide-requires c κs = search needs
 
--- src/sums.rt:49:13
 span-from-requires : tie.Need-span-from-requires Inv-loop μ-loop
 span-from-requires c κs = search needs
 
--- src/sums.rt:50:9
 add-requires : tie.Need-add-requires Inv-loop μ-loop
 add-requires c κs =
     let e = c .before .before .wide .ensures ∙ ap (λ (x : Entry). x .value) (c .before .before .before .entry-at .ensures) in
     let k : c .before .before .wide .result < 4096 = omega (arith, e, c .before .before .before .before .before .before .before .before .pre .3 (c .before .before .before .before .before .loop .i) (c .before .before .before .before .loop-test .taken)) in
     (omega (arith, k, c .before .before .before .before .before .loop .inv .1 .all), omega (arith, c .before .before .before .before .before .loop .inv .1 .most (c .before .before .wide .result) k, c .before .before .before .before .loop-test .taken, c .before .before .before .before .before .before .before .before .pre .1))
 
--- src/sums.rt:51:9
 add-i : tie.Need-add-i Inv-loop μ-loop
 add-i c = omega (arith, c .before .before .before .before .before .before .before .loop-test .taken, c .before .before .before .before .before .before .before .before .before .before .before .pre .1)
 
--- src/sums.rt:46:5
 loop-less : tie.Need-loop-less Inv-loop μ-loop
 loop-less c = omega (arith, c .before .before .before .before .before .before .before .loop-test .taken)
 
--- src/sums.rt:46:5
 loop-again : tie.Need-loop-again Inv-loop μ-loop
 loop-again c =
     let a = c .before .before .before .before .before .before .before .before .before .before .before .args in let k = c .before .before .before .before .before .before .before .before .loop in
@@ -64,11 +51,9 @@ loop-again c =
       k .inv .2 ∙ add-entries-step (a .old) (k .sums) (a .page .now) (k .i) (a .n) (c .before .before .before .before .before .before .before .loop-test .taken) ∙ rw q,
     )
 
--- src/sums.rt:41:1
 same-length : tie.Need-same-length Inv-loop μ-loop
 same-length c = c .before .loop .inv .1 .all ∙ sym (c .before .before .before .before .pre .2 .all)
 
--- src/sums.rt:41:1
 returns : tie.Need-returns Inv-loop μ-loop
 returns c = sym (c .before .loop .inv .2 ∙ add-entries-end (c .before .before .before .before .args .old) (c .before .loop .sums) (c .before .before .before .before .args .page .now) (c .before .loop .i) (c .before .before .before .before .args .n) (c .loop-test .left))
 

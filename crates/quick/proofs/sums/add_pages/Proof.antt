@@ -1,6 +1,7 @@
 use Rattle.page.specs.Head.{readHead}
-use Rattle.quick.specs.Sums.{Sums, addPage, addPages, add-pages-step, add-pages-end, page-more, fewer}
-use Rattle.store.specs.Read.{behind}
+use Rattle.quick.specs.Sums.{Sums, addPage, addPages}
+use Rattle.quick.proofs.laws.Sums.{add-pages-step, add-pages-end, page-more, fewer}
+use Rattle.store.proofs.laws.Read.{behind}
 use Rattle.model.specs.Layout.{pageOf, decode, decodePage, readPages, sizeOf}
 use lib.ListN.{drop}
 use Prim.Native.Nat.{_+_, _*_, _-_, _≤_}
@@ -8,10 +9,6 @@ use mathlib.Core.Path.{_≡_, ap, sym, _∙_}
 use native.Mathlib.Omega.{arith}
 use Rattle.quick.proofs.sums.add_pages.Statement.{statement}
 use Rattle.quick.proofs.sums.add_pages.Tie as tie
-use Rattle.quick.proofs.sums.add_pages.Reads as reads
-use Rattle.quick.proofs.sums.add_pages.Lts as lts
-use Rattle.quick.proofs.sums.add_page.Reads as add-page-reads
-use Rattle.store.proofs.size.Reads as size-reads
 
 abbrev Inv-loop : tie.InvT-loop
 Inv-loop sums₀ s l old size n₀ sums n =
@@ -21,27 +18,21 @@ Inv-loop sums₀ s l old size n₀ sums n =
 abbrev μ-loop : tie.MeasureT-loop
 μ-loop sums₀ s l old size n₀ sums n = size - n
 
--- src/sums.rt:72:9
 size-requires : tie.Need-size-requires Inv-loop μ-loop
 size-requires c κs = c .before .before .pre .0
 
--- src/sums.rt:74:5
 loop-holds : tie.Need-loop-holds Inv-loop μ-loop
 loop-holds c = (omega arith, c .size .ensures, fewer (c .before .before .before .args .sums .now) (c .before .before .before .pre .2) (omega arith), ap (addPages (c .before .before .before .args .old) (c .before .before .before .args .sums .now)) (behind (c .before .before .before .args .l .least) (c .before .before .before .args .s .now)) ∙ rw (c .size .ensures))
 
--- src/sums.rt:75:9
 add-page-requires : tie.Need-add-page-requires Inv-loop μ-loop
 add-page-requires c κs = (c .before .before .before .before .before .before .pre .0, c .before .before .before .before .before .before .pre .1, (c .before .before .loop .inv .0, omega (arith, c .before .loop-test .taken, c .before .before .loop .inv .1)), fewer (c .before .before .loop .sums) (c .before .before .loop .inv .2) (omega (arith, c .before .loop-test .taken, c .before .before .loop .inv .1, c .before .before .before .before .before .before .pre .1 .linked .most)))
 
--- src/sums.rt:76:9
 add-n : tie.Need-add-n Inv-loop μ-loop
 add-n c = omega (arith, c .before .before .before .before .loop-test .taken, c .before .before .before .before .before .loop .inv .1, c .before .before .before .before .before .before .before .before .before .pre .1 .linked .most)
 
--- src/sums.rt:74:5
 loop-less : tie.Need-loop-less Inv-loop μ-loop
 loop-less c = omega (arith, c .before .before .before .before .loop-test .taken)
 
--- src/sums.rt:74:5
 loop-again : tie.Need-loop-again Inv-loop μ-loop
 loop-again c =
     let a = c .before .before .before .before .before .before .before .before .before .args in let k = c .before .before .before .before .before .loop in
@@ -53,11 +44,9 @@ loop-again c =
       k .inv .3 ∙ add-pages-step (a .old) (k .sums) (a .l .least) (a .s .now) (k .n) (c .before .before .before .before .before .before .size .result) (c .before .before .before .before .loop-test .taken) ∙ rw (c .before .before .add-page .ensures),
     )
 
--- src/sums.rt:68:1
 same-length : tie.Need-same-length Inv-loop μ-loop
 same-length c = c .before .loop .inv .2 .all ∙ sym (c .before .before .before .before .before .pre .2 .all)
 
--- src/sums.rt:68:1
 returns : tie.Need-returns Inv-loop μ-loop
 returns c = sym (c .before .loop .inv .3 ∙ add-pages-end (c .before .before .before .before .before .args .old) (c .before .loop .sums) (c .before .before .before .before .before .args .l .least) (c .before .before .before .before .before .args .s .now) (c .before .loop .n) (c .before .before .size .result) (c .loop-test .left))
 

@@ -1,7 +1,8 @@
-use Rattle.quick.specs.Sums.{Sums, addTo, addSlots, add-slots-step, add-slots-end, one-more, upto-most}
-use Rattle.quick.specs.Slots.{slots-start}
+use Rattle.quick.specs.Sums.{Sums, addTo, addSlots}
+use Rattle.quick.proofs.laws.Sums.{add-slots-step, add-slots-end, one-more, upto-most}
+use Rattle.quick.proofs.laws.Slots.{slots-start}
 use Rattle.local.specs.Local.{slotAt}
-use Rattle.model.specs.Quick.{upto}
+use Rattle.spans.specs.Quick.{upto}
 use Rattle.model.specs.Layout.{readHeader, readSlots, decode}
 use Rattle.model.specs.declared.Header.{Header}
 use Rattle.model.specs.declared.Slot.{Slot}
@@ -12,14 +13,6 @@ use native.Mathlib.Omega.{arith}
 use borrow.Author.Needs.{needs}
 use Rattle.quick.proofs.sums.add_slots.Statement.{statement}
 use Rattle.quick.proofs.sums.add_slots.Tie as tie
-use Rattle.quick.proofs.sums.add_slots.Reads as reads
-use Rattle.quick.proofs.sums.add_slots.Lts as lts
-use Rattle.quick.proofs.entry.span_from.Reads as span-from-reads
-use Rattle.quick.proofs.slots.upto_at.Reads as upto-at-reads
-use Rattle.quick.proofs.sums.add.Reads as add-reads
-use Rattle.quick.proofs.wide.Reads as wide-reads
-use Rattle.store.proofs.header.Reads as header-reads
-use Rattle.store.proofs.slot.Reads as slot-reads
 
 abbrev Inv-loop : tie.InvT-loop
 Inv-loop sums₀ s l old roots i₀ sums i =
@@ -29,56 +22,44 @@ Inv-loop sums₀ s l old roots i₀ sums i =
 abbrev μ-loop : tie.MeasureT-loop
 μ-loop sums₀ s l old roots i₀ sums i = roots - i
 
--- src/sums.rt:27:9
 header-requires : tie.Need-header-requires Inv-loop μ-loop
 header-requires c κs = (c .before .before .pre .0, omega (arith, c .before .before .pre .2 .front), omega (arith, c .before .before .pre .1 .linked .long))
 
--- src/sums.rt:28:9
 wide-requires : tie.Need-wide-requires Inv-loop μ-loop
 wide-requires c κs = search needs
 
--- src/sums.rt:30:5
 loop-holds : tie.Need-loop-holds Inv-loop μ-loop
 loop-holds c =
     let e = c .wide .ensures ∙ ap (λ (x : Header). x .roots) (c .before .header .ensures) in
     (omega arith, e, c .before .before .before .before .pre .3, ap (addSlots (c .before .before .before .before .args .old) (c .before .before .before .before .args .sums .now)) (slots-start (c .before .before .before .before .args .l .least) (c .before .before .before .before .args .s .now) (c .wide .result) e))
 
--- src/sums.rt:31:13
 slot-requires : tie.Need-slot-requires Inv-loop μ-loop
 slot-requires c κs = (c .before .before .before .before .before .before .pre .0, omega (arith, c .before .before .before .before .before .before .pre .2 .front), omega (arith, c .loop-test .taken, c .before .loop .inv .1, c .before .before .before .before .before .before .pre .2 .roots), omega (arith, c .before .before .before .before .before .before .pre .1 .linked .long))
 
--- src/sums.rt:32:45
 add-upto-at : tie.Need-add-upto-at Inv-loop μ-loop
 add-upto-at c = omega (arith, c .before .loop-test .taken, c .before .before .loop .inv .1, c .before .before .before .before .before .before .before .pre .2 .roots, c .before .before .before .before .before .before .before .pre .0 .eight)
 
--- src/sums.rt:32:13
 upto-at-requires : tie.Need-upto-at-requires Inv-loop μ-loop
 upto-at-requires c κs = (c .before .before .before .before .before .before .before .pre .0, c .before .before .before .before .before .before .before .pre .1, c .before .before .before .before .before .before .before .pre .2, omega (arith, c .before .before .loop .inv .1, c .before .before .before .before .before .before .before .pre .2 .roots))
 
--- src/sums.rt:33:13
 wide-requires-2 : tie.Need-wide-requires-2 Inv-loop μ-loop
 wide-requires-2 c κs = search needs
 
--- src/sums.rt:34:13
 span-from-requires : tie.Need-span-from-requires Inv-loop μ-loop
 span-from-requires c κs = search needs
 
--- src/sums.rt:35:9
 add-requires : tie.Need-add-requires Inv-loop μ-loop
 add-requires c κs =
     let e = c .before .before .wide2 .ensures ∙ ap (λ (x : Slot). x .root) (c .before .before .before .before .slot .ensures) in
     let k : c .before .before .wide2 .result < 4096 = omega (arith, e, c .before .before .before .before .before .before .before .before .before .before .before .pre .1 .linked .most, c .before .before .before .before .before .before .before .before .before .before .before .pre .2 .root (c .before .before .before .before .before .before .loop .i) (omega (arith, c .before .before .before .before .before .loop-test .taken, c .before .before .before .before .before .before .loop .inv .1)) .1) in
     (omega (arith, k, c .before .before .before .before .before .before .loop .inv .2 .all), omega (arith, c .before .before .before .before .before .before .loop .inv .2 .most (c .before .before .wide2 .result) k, c .before .before .before .before .before .loop-test .taken, c .before .before .before .before .before .before .loop .inv .1, c .before .before .before .before .before .before .before .before .before .before .before .pre .2 .roots, c .before .before .before .before .before .before .before .before .before .before .before .pre .0 .eight))
 
--- src/sums.rt:36:9
 add-i : tie.Need-add-i Inv-loop μ-loop
 add-i c = omega (arith, c .before .before .before .before .before .before .before .before .loop-test .taken, c .before .before .before .before .before .before .before .before .before .loop .inv .1, c .before .before .before .before .before .before .before .before .before .before .before .before .before .before .pre .2 .roots, c .before .before .before .before .before .before .before .before .before .before .before .before .before .before .pre .0 .eight)
 
--- src/sums.rt:30:5
 loop-less : tie.Need-loop-less Inv-loop μ-loop
 loop-less c = omega (arith, c .before .before .before .before .before .before .before .before .loop-test .taken)
 
--- src/sums.rt:30:5
 loop-again : tie.Need-loop-again Inv-loop μ-loop
 loop-again c =
     let a = c .before .before .before .before .before .before .before .before .before .before .before .before .before .before .args in let k = c .before .before .before .before .before .before .before .before .before .loop in
@@ -91,11 +72,9 @@ loop-again c =
       k .inv .3 ∙ add-slots-step (a .old) (k .sums) (a .s .now) (512 * a .l .least) (k .i) (c .before .before .before .before .before .before .before .before .before .before .wide .result) (c .before .before .before .before .before .before .before .before .loop-test .taken) ∙ rw q,
     )
 
--- src/sums.rt:23:1
 same-length : tie.Need-same-length Inv-loop μ-loop
 same-length c = c .before .loop .inv .2 .all ∙ sym (c .before .before .before .before .before .before .pre .3 .all)
 
--- src/sums.rt:23:1
 returns : tie.Need-returns Inv-loop μ-loop
 returns c = sym (c .before .loop .inv .3 ∙ add-slots-end (c .before .before .before .before .before .before .args .old) (c .before .loop .sums) (c .before .before .before .before .before .before .args .s .now) (512 * c .before .before .before .before .before .before .args .l .least) (c .before .loop .i) (c .before .before .wide .result) (c .loop-test .left))
 

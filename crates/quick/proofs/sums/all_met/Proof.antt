@@ -1,5 +1,6 @@
-use Rattle.quick.specs.Sums.{allMet, met-step, met-end}
-use Rattle.store.specs.Read.{behind}
+use Rattle.quick.specs.Sums.{allMet}
+use Rattle.quick.proofs.laws.Sums.{met-step, met-end}
+use Rattle.store.proofs.laws.Read.{behind}
 use Rattle.model.specs.Layout.{readPages, decode, sizeOf}
 use borrow.Author.Tests.{not-true, not-false}
 use Prim.Native.Nat.{_-_, _≤_}
@@ -8,10 +9,6 @@ use mathlib.Core.Path.{_≡_, ap, sym, _∙_}
 use native.Mathlib.Omega.{arith}
 use Rattle.quick.proofs.sums.all_met.Statement.{statement}
 use Rattle.quick.proofs.sums.all_met.Tie as tie
-use Rattle.quick.proofs.sums.all_met.Reads as reads
-use Rattle.quick.proofs.sums.all_met.Lts as lts
-use Rattle.quick.proofs.sums.page_met.Reads as page-met-reads
-use Rattle.store.proofs.size.Reads as size-reads
 
 abbrev Inv-loop : tie.InvT-loop
 Inv-loop sums s l old size n₀ n = (5 ≤ n) × (size ≡ sizeOf (l .least) s) × (allMet old sums 5 (drop 5 (decode (l .least) s .pages)) ≡ allMet old sums n (readPages (l .least) s n (size - n)))
@@ -19,41 +16,32 @@ Inv-loop sums s l old size n₀ n = (5 ≤ n) × (size ≡ sizeOf (l .least) s) 
 abbrev μ-loop : tie.MeasureT-loop
 μ-loop sums s l old size n₀ n = size - n
 
--- src/sums.rt:96:9
 size-requires : tie.Need-size-requires Inv-loop μ-loop
 size-requires c κs = c .before .before .pre .0
 
--- src/sums.rt:98:5
 loop-holds : tie.Need-loop-holds Inv-loop μ-loop
 loop-holds c = (omega arith, c .size .ensures, ap (allMet (c .before .before .before .args .old) (c .before .before .before .args .sums .now) 5) (behind (c .before .before .before .args .l .least) (c .before .before .before .args .s .now)) ∙ rw (c .size .ensures))
 
--- src/sums.rt:99:31
 mul-page-met : tie.Need-mul-page-met Inv-loop μ-loop
 mul-page-met c = omega (arith, c .loop-test .taken, c .before .loop .inv .1, c .before .before .before .before .before .pre .1 .linked .most)
 
--- src/sums.rt:99:31
 shared-slice-read-page-met : tie.Need-shared-slice-read-page-met Inv-loop μ-loop
 shared-slice-read-page-met c = omega (arith, c .before .loop-test .taken, c .before .before .loop .inv .1, c .before .before .before .before .before .before .pre .1 .linked .most, c .before .before .before .before .before .before .pre .2)
 
--- src/sums.rt:99:13
 page-met-requires : tie.Need-page-met-requires Inv-loop μ-loop
 page-met-requires c κs = (c .before .before .before .before .before .before .pre .0, c .before .before .before .before .before .before .pre .1, (c .before .before .loop .inv .0, omega (arith, c .before .loop-test .taken, c .before .before .loop .inv .1)))
 
--- src/sums.rt:100:13
 returns : tie.Need-returns Inv-loop μ-loop
 returns c =
     let a = c .before .before .before .before .before .before .before .before .args in let k = c .before .before .before .before .loop in
     sym (k .inv .2 ∙ met-step (a .old) (a .sums .now) (a .l .least) (a .s .now) (k .n) (c .before .before .before .before .before .size .result) (c .before .before .before .loop-test .taken) ∙ rw (← c .before .page-met .ensures, not-true (c .before .page-met .result) (c .if1 .taken)))
 
--- src/sums.rt:102:9
 add-n : tie.Need-add-n Inv-loop μ-loop
 add-n c = omega (arith, c .before .before .before .loop-test .taken, c .before .before .before .before .loop .inv .1, c .before .before .before .before .before .before .before .before .pre .1 .linked .most)
 
--- src/sums.rt:98:5
 loop-less : tie.Need-loop-less Inv-loop μ-loop
 loop-less c = omega (arith, c .before .before .before .loop-test .taken)
 
--- src/sums.rt:98:5
 loop-again : tie.Need-loop-again Inv-loop μ-loop
 loop-again c =
     let a = c .before .before .before .before .before .before .before .before .args in let k = c .before .before .before .before .loop in (
@@ -62,7 +50,6 @@ loop-again c =
       k .inv .2 ∙ met-step (a .old) (a .sums .now) (a .l .least) (a .s .now) (k .n) (c .before .before .before .before .before .size .result) (c .before .before .before .loop-test .taken) ∙ rw (← c .before .page-met .ensures, not-false (c .before .page-met .result) (c .if1 .left)),
     )
 
--- src/sums.rt:92:1
 returns-2 : tie.Need-returns-2 Inv-loop μ-loop
 returns-2 c = let a = c .before .before .before .before .before .args in let k = c .before .loop in sym (k .inv .2 ∙ met-end (a .old) (a .sums .now) (a .l .least) (a .s .now) (k .n) (c .before .before .size .result) (c .loop-test .left))
 

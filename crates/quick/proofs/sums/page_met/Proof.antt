@@ -1,41 +1,30 @@
-use Rattle.quick.specs.Sums.{met-by}
-use Rattle.notes.specs.Here.{part-asks, head-asks, front-is}
+use Rattle.quick.proofs.laws.Sums.{met-by}
+use Rattle.notes.proofs.laws.Here.{part-asks, head-asks, front-is}
 use Rattle.model.specs.Layout.{pageOf}
 use borrow.Author.Tests.{eq-eqb, ne-eqb}
 use mathlib.Core.Path.{sym, _∙_}
 use borrow.Author.Needs.{needs}
 use Rattle.quick.proofs.sums.page_met.Statement.{statement}
 use Rattle.quick.proofs.sums.page_met.Tie as tie
-use Rattle.quick.proofs.sums.page_met.Reads as reads
-use Rattle.quick.proofs.sums.page_met.Lts as lts
-use Rattle.page.proofs.head_of.Reads as head-of-reads
-use Rattle.quick.proofs.entry.span_from.Reads as span-from-reads
-use Rattle.store.proofs.part.Reads as part-reads
 
--- src/sums.rt:85:27
 part-requires : tie.Need-part-requires
 part-requires c κs = let k = part-asks (c .before .pre .0) (c .before .args .s .now) (c .before .pre .1 .linked) (c .before .args .n) (c .before .pre .2) in (c .before .pre .0, k .0, k .1)
 
--- src/sums.rt:85:9
 head-of-requires : tie.Need-head-of-requires
 head-of-requires c κs = let k = head-asks (c .before .before .pre .0) (c .before .before .args .s .now) (c .before .before .pre .1 .linked) (c .before .before .args .n) (c .before .before .pre .2) (c .part .result .now) (c .part .ensures) in (c .before .before .pre .0, k .0, k .1)
 
--- src/sums.rt:87:9
 returns : tie.Need-returns
 returns c =
     let a = c .before .before .before .before .before .args in
     sym (met-by (a .l .least) (a .old) (pageOf (a .l .least) (a .s .now) (a .n)) (c .before .before .head-of .result) (front-is (c .before .before .before .before .before .pre .0) (a .s .now) (c .before .before .before .before .before .pre .1 .linked) (a .n) (c .before .before .before .before .before .pre .2) (c .before .before .before .part .result .now) (c .before .before .before .part .ensures) (c .before .before .head-of .result) (c .before .before .head-of .ensures)) (a .sum)
     ∙ rw (eq-eqb (c .before .before .head-of .result .level) 0 (c .if1 .taken)))
 
--- src/sums.rt:89:12
 span-from-requires : tie.Need-span-from-requires
 span-from-requires c κs = search needs
 
--- src/sums.rt:89:12
 cast-result : tie.Need-cast-result
 cast-result c = search needs
 
--- src/sums.rt:81:1
 returns-2 : tie.Need-returns-2
 returns-2 c =
     let a = c .before .before .before .before .before .before .args in

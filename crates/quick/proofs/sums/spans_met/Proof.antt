@@ -4,9 +4,9 @@ use native.Mathlib.Omega.{arith}
 use borrow.Author.Needs.{needs}
 use Rattle.model.specs.declared.Header.{Header}
 use Rattle.model.specs.Layout.{decode}
-use Rattle.store.specs.Read.{oldest-of}
-use Rattle.quick.specs.Sums.{none}
-use Rattle.quick.specs.Led.{slots-in, sums-long, met-all}
+use Rattle.store.proofs.laws.Read.{oldest-of}
+use Rattle.quick.proofs.laws.Sums.{none}
+use Rattle.quick.proofs.laws.Led.{slots-in, sums-long, met-all}
 use Rattle.quick.proofs.sums.spans_met.Statement.{statement}
 use Rattle.quick.proofs.sums.spans_met.Tie as tie
 

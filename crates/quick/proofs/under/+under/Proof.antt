@@ -10,12 +10,12 @@ use borrow.Fn.Kinds.{In}
 use borrow.Fn.PlainCycle.{Measures, is, falls, and}
 use Rattle.model.specs.Basic.{pick}
 use Rattle.model.specs.Layout.{decode, readEntry, readEntries}
-use Rattle.model.specs.Quick.{under as underOf, lasts}
+use Rattle.spans.specs.Quick.{under as underOf, lasts}
 use Rattle.quick.specs.Part.{highOver}
-use Rattle.notes.specs.Here.{part-asks, head-asks, stands-here, few, entries-are, entries-start, child-here}
-use Rattle.quick.specs.Here.{order-here}
-use Rattle.quick.specs.Under.{under-empty, under-leaf, under-start, lasts-step, lasts-end, way-page, way-late}
-use Rattle.quick.specs.Within.{spent, unspent, taken, given-up, settled, ends, goes-on}
+use Rattle.notes.proofs.laws.Here.{part-asks, head-asks, stands-here, few, entries-are, entries-start, child-here}
+use Rattle.quick.proofs.laws.Here.{order-here}
+use Rattle.quick.proofs.laws.Under.{under-empty, under-leaf, under-start, lasts-step, lasts-end, way-page, way-late}
+use Rattle.quick.proofs.laws.Within.{spent, unspent, taken, given-up, settled, ends, goes-on}
 use Rattle.quick.proofs.under.under.Reads as under
 use Rattle.quick.proofs.under.under.Kinds as under-kinds
 use Rattle.quick.proofs.under.+under.Lts-under as under-lts

@@ -1,5 +1,5 @@
 -- `difference_in` meets its contract. Assumes nothing.
-use Rattle.reads.specs.Differing.{difference-refused, difference-done, reads-old, reads-new}
+use Rattle.reads.proofs.laws.Differing.{difference-refused, difference-done, reads-old, reads-new}
 use mathlib.Core.Path.{sym, _∙_}
 use borrow.Author.Needs.{needs}
 use Rattle.reads.proofs.differing.difference_in.Statement.{statement}

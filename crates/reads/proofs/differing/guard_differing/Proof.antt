@@ -2,11 +2,12 @@
 use native.Mathlib.Omega.{arith}
 use mathlib.Core.Path.{sym, _∙_}
 use borrow.Author.Needs.{needs}
-use Rattle.store.specs.Sure.{few, front}
-use Rattle.store.specs.Read.{current-lt}
-use Rattle.reads.specs.Reading.{unread-of}
-use Rattle.reads.specs.Differing.{differing, gives-first, gives-second, gives-both}
-use Rattle.reads.specs.Guard.{judged-number, zero-sound}
+use Rattle.store.proofs.laws.Sure.{few, front}
+use Rattle.store.proofs.laws.Read.{current-lt}
+use Rattle.reads.proofs.laws.Reading.{unread-of}
+use Rattle.reads.specs.Differing.{differing}
+use Rattle.reads.proofs.laws.Differing.{gives-first, gives-second, gives-both}
+use Rattle.reads.proofs.laws.Guard.{judged-number, zero-sound}
 use Rattle.reads.proofs.differing.guard_differing.Statement.{statement}
 use Rattle.reads.proofs.differing.guard_differing.Tie as tie
 

@@ -1,8 +1,9 @@
 -- `guard_living` meets its contract. Assumes nothing.
 use mathlib.Core.Path.{sym, _∙_}
 use borrow.Author.Needs.{needs}
-use Rattle.reads.specs.Guard.{judged-number}
-use Rattle.reads.specs.Living.{living, gives-five, gives-none}
+use Rattle.reads.proofs.laws.Guard.{judged-number}
+use Rattle.reads.specs.Living.{living}
+use Rattle.reads.proofs.laws.Living.{gives-five, gives-none}
 use Rattle.reads.proofs.living.guard_living.Statement.{statement}
 use Rattle.reads.proofs.living.guard_living.Tie as tie
 

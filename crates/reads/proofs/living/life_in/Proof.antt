@@ -1,8 +1,9 @@
 -- `life_in` meets its contract. Assumes nothing.
 use mathlib.Core.Path.{sym, _∙_}
 use borrow.Author.Needs.{needs}
-use Rattle.reads.specs.Guard.{guard-sound}
-use Rattle.reads.specs.Living.{living, life-refused, life-done, key-right}
+use Rattle.reads.proofs.laws.Guard.{guard-sound}
+use Rattle.reads.specs.Living.{living}
+use Rattle.reads.proofs.laws.Living.{life-refused, life-done, key-right}
 use Rattle.reads.proofs.living.life_in.Statement.{statement}
 use Rattle.reads.proofs.living.life_in.Tie as tie
 

@@ -1,8 +1,8 @@
 -- `state_in` meets its contract. Assumes nothing.
 use mathlib.Core.Path.{sym, _∙_}
 use borrow.Author.Needs.{needs}
-use Rattle.reads.specs.Guard.{zero-sound}
-use Rattle.reads.specs.Stating.{state-refused, state-done}
+use Rattle.reads.proofs.laws.Guard.{zero-sound}
+use Rattle.reads.proofs.laws.Stating.{state-refused, state-done}
 use Rattle.reads.proofs.stating.state_in.Statement.{statement}
 use Rattle.reads.proofs.stating.state_in.Tie as tie
 

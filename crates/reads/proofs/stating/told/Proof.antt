@@ -2,13 +2,14 @@
 use native.Mathlib.Omega.{arith}
 use mathlib.Core.Path.{_∙_}
 use borrow.Author.Needs.{needs}
-use Rattle.store.specs.Sure.{few, front}
-use Rattle.parts.specs.Kept.{Kept, kept-sound}
-use Rattle.reads.specs.Stating.{free-fits, told}
+use Rattle.store.proofs.laws.Sure.{few, front}
+use Rattle.parts.specs.Kept.{ExactBytes}
+use Rattle.parts.proofs.laws.Kept.{kept-sound}
+use Rattle.reads.proofs.laws.Stating.{free-fits, told}
 use Rattle.reads.proofs.stating.told.Statement.{statement}
 use Rattle.reads.proofs.stating.told.Tie as tie
 
-kept : (c : tie.After-shared-slice-known) → Kept (c .before .args .l) (c .before .args .s .now)
+kept : (c : tie.After-shared-slice-known) → ExactBytes (c .before .args .l) (c .before .args .s .now)
 kept c = kept-sound (c .before .pre .0) (c .before .args .s .now) (c .before .pre .1) (λ i. c .shared-slice-known .given i .fits)
 
 header-requires : tie.Need-header-requires

@@ -5,11 +5,11 @@ use borrow.Author.Tests.{not-false}
 use borrow.Author.Needs.{needs}
 use Rattle.model.specs.Layout.{decode}
 use Rattle.model.specs.Calls.{unreadable}
-use Rattle.model.proofs.Given.{readable-of}
-use Rattle.store.specs.Read.{current-lt}
-use Rattle.store.specs.Sure.{few, front}
-use Rattle.reads.specs.Reading.{unread-of}
-use Rattle.reads.specs.Looking.{looks-five, looks-six, looks}
+use Rattle.model.proofs.sound.ByRule.{readable-of}
+use Rattle.store.proofs.laws.Read.{current-lt}
+use Rattle.store.proofs.laws.Sure.{few, front}
+use Rattle.reads.proofs.laws.Reading.{unread-of}
+use Rattle.reads.proofs.laws.Looking.{looks-five, looks-six, looks}
 use Rattle.reads.proofs.sure.lookup.Statement.{statement}
 use Rattle.reads.proofs.sure.lookup.Tie as tie
 

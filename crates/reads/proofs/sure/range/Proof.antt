@@ -4,12 +4,12 @@ use mathlib.Core.Path.{_≡_, sym, _∙_}
 use borrow.Author.Needs.{needs}
 use Rattle.model.specs.Layout.{decode}
 use Rattle.model.specs.Calls.{unreadable}
-use Rattle.model.proofs.Given.{readable-of}
-use Rattle.store.specs.Read.{current-lt}
-use Rattle.store.specs.Sure.{few, front}
-use Rattle.near.specs.Same.{low-in}
-use Rattle.reads.specs.Reading.{unread-of}
-use Rattle.reads.specs.Looking.{ranges-five, ranges-six, ranges}
+use Rattle.model.proofs.sound.ByRule.{readable-of}
+use Rattle.store.proofs.laws.Read.{current-lt}
+use Rattle.store.proofs.laws.Sure.{few, front}
+use Rattle.near.proofs.laws.Same.{low-in}
+use Rattle.reads.proofs.laws.Reading.{unread-of}
+use Rattle.reads.proofs.laws.Looking.{ranges-five, ranges-six, ranges}
 use Rattle.reads.proofs.sure.range.Statement.{statement}
 use Rattle.reads.proofs.sure.range.Tie as tie
 

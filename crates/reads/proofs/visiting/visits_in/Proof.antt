@@ -3,7 +3,7 @@ use mathlib.Core.Path.{sym, _∙_}
 use borrow.Author.Tests.{leb-false}
 use borrow.Author.Needs.{needs}
 use Rattle.model.specs.Walk.{keyLimit}
-use Rattle.reads.specs.Reading.{visits-refused, visits-done, reads, keys-right}
+use Rattle.reads.proofs.laws.Reading.{visits-refused, visits-done, reads, keys-right}
 use Rattle.reads.proofs.visiting.visits_in.Statement.{statement}
 use Rattle.reads.proofs.visiting.visits_in.Tie as tie
 

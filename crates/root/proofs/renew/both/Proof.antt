@@ -1,5 +1,5 @@
 -- `both` meets its contract. Assumes nothing.
-use Rattle.root.specs.Renew.{lists-two}
+use Rattle.root.proofs.laws.Renew.{lists-two}
 use borrow.Author.Needs.{needs}
 use Rattle.root.proofs.renew.both.Statement.{statement}
 use Rattle.root.proofs.renew.both.Tie as tie

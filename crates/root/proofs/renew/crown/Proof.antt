@@ -4,12 +4,13 @@ use native.Mathlib.Omega.{arith}
 use mathlib.Core.Path.{_∙_}
 use Prim.Native.Nat.{_+_}
 use Rattle.parts.specs.Kept.{pagesOf}
-use Rattle.parts.specs.Free.{freePast, free-all}
-use Rattle.parts.specs.Becomes.{stays, pages-are}
-use Rattle.gather.specs.Gather.{listed}
-use Rattle.climb.specs.Rebuild.{itself}
+use Rattle.parts.specs.Free.{freePast}
+use Rattle.parts.proofs.laws.Free.{free-all}
+use Rattle.parts.proofs.laws.Becomes.{stays, pages-are}
+use Rattle.gather.proofs.laws.Gather.{listed}
+use Rattle.climb.proofs.laws.Rebuild.{itself}
 use Rattle.root.specs.Root.{rootedOf}
-use Rattle.root.specs.Renew.{crown-one, crown-none, crown-two}
+use Rattle.root.proofs.laws.Renew.{crown-one, crown-none, crown-two}
 use borrow.Author.Needs.{needs}
 use Rattle.root.proofs.renew.crown.Statement.{statement}
 use Rattle.root.proofs.renew.crown.Tie as tie

@@ -5,12 +5,13 @@ use Rattle.model.specs.Needs.{fills}
 use Rattle.model.specs.Rules.{rebuild}
 use Rattle.group.specs.Group.{groupOf}
 use Rattle.parts.specs.Kept.{pagesOf}
-use Rattle.parts.specs.Becomes.{stays, then, kept-after}
-use Rattle.gather.specs.Gather.{pairsIn, length-pairs}
-use Rattle.climb.specs.Work.{usable-small}
-use Rattle.climb.specs.Rebuild.{rebuilt-short}
+use Rattle.parts.proofs.laws.Becomes.{stays, then, kept-after}
+use Rattle.gather.specs.Gather.{pairsIn}
+use Rattle.gather.proofs.laws.Gather.{length-pairs}
+use Rattle.climb.proofs.laws.Work.{usable-small}
+use Rattle.climb.proofs.laws.Rebuild.{rebuilt-short}
 use Rattle.root.specs.Root.{rootedOf}
-use Rattle.root.specs.Renew.{renew-lacks}
+use Rattle.root.proofs.laws.Renew.{renew-lacks}
 use borrow.Author.Needs.{needs}
 use Rattle.root.proofs.renew.new_root.Statement.{statement}
 use Rattle.root.proofs.renew.new_root.Tie as tie

@@ -2,10 +2,10 @@
 use native.Mathlib.Omega.{arith}
 use mathlib.Core.Path.{ap, _∙_}
 use Rattle.model.specs.declared.Header.{Header}
-use Rattle.store.specs.Header.{header-fits}
-use Rattle.page.specs.Editions.{root-bits}
-use Rattle.parts.specs.Kept.{front, short}
-use Rattle.root.specs.Slotted.{roots-are, next-is, added}
+use Rattle.store.proofs.laws.Header.{header-fits}
+use Rattle.page.proofs.laws.Editions.{root-bits}
+use Rattle.parts.proofs.laws.Kept.{front, short}
+use Rattle.root.proofs.laws.Slotted.{roots-are, next-is, added}
 use borrow.Author.Needs.{needs}
 use Rattle.root.proofs.slots.add_slot.Statement.{statement}
 use Rattle.root.proofs.slots.add_slot.Tie as tie

@@ -6,8 +6,8 @@ use Rattle.model.specs.Store.{next}
 use Rattle.model.specs.Layout.{decode}
 use native.Mathlib.Omega.{arith}
 use Rattle.model.specs.declared.Header.{Header}
-use Rattle.parts.specs.Kept.{front, short}
-use Rattle.root.specs.Slotted.{roots-are, next-is, has-slot-is}
+use Rattle.parts.proofs.laws.Kept.{front, short}
+use Rattle.root.proofs.laws.Slotted.{roots-are, next-is, has-slot-is}
 use borrow.Author.Needs.{needs}
 use Rattle.root.proofs.slots.has_slot.Statement.{statement}
 use Rattle.root.proofs.slots.has_slot.Tie as tie

@@ -2,8 +2,8 @@
 use native.Mathlib.Omega.{arith}
 use mathlib.Core.Path.{ap, _∙_}
 use Rattle.model.specs.declared.Header.{Header}
-use Rattle.parts.specs.Kept.{front, short}
-use Rattle.root.specs.Slotted.{roots-are, next-is, replaced}
+use Rattle.parts.proofs.laws.Kept.{front, short}
+use Rattle.root.proofs.laws.Slotted.{roots-are, next-is, replaced}
 use borrow.Author.Needs.{needs}
 use Rattle.root.proofs.slots.replace_slot.Statement.{statement}
 use Rattle.root.proofs.slots.replace_slot.Tie as tie

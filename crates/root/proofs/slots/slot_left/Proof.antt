@@ -2,9 +2,9 @@
 use native.Mathlib.Omega.{arith}
 use mathlib.Core.Path.{ap, _∙_}
 use Rattle.model.specs.declared.Header.{Header}
-use Rattle.page.specs.Editions.{slots-is}
-use Rattle.parts.specs.Kept.{front, short}
-use Rattle.root.specs.Slotted.{roots-are}
+use Rattle.page.proofs.laws.Editions.{slots-is}
+use Rattle.parts.proofs.laws.Kept.{front, short}
+use Rattle.root.proofs.laws.Slotted.{roots-are}
 use borrow.Author.Needs.{needs}
 use Rattle.root.proofs.slots.slot_left.Statement.{statement}
 use Rattle.root.proofs.slots.slot_left.Tie as tie

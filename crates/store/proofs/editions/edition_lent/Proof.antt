@@ -2,7 +2,7 @@
 use mathlib.Core.Path.{sym, _∙_}
 use borrow.Author.Tests.{not-true, not-false}
 use borrow.Author.Needs.{needs}
-use Rattle.store.specs.Editions.{lent-few, lent-other, lent-first, lent-second, lent-neither}
+use Rattle.store.proofs.laws.Editions.{lent-few, lent-other, lent-first, lent-second, lent-neither}
 use Rattle.store.proofs.editions.edition_lent.Statement.{statement}
 use Rattle.store.proofs.editions.edition_lent.Tie as tie
 

@@ -1,13 +1,15 @@
 -- `store::make::make` meets its contract: the stages of specs/Fresh, one call after the other. Assumes nothing.
-use Rattle.store.specs.Fresh.{rootHead, rootSlot, freshHeader, made}
-use Rattle.store.specs.Tested.{whole-least, whole-most}
-use Rattle.store.specs.Header.{namedBy, nameParts, putHeader}
+use Rattle.store.specs.Fresh.{rootHead}
+use Rattle.store.proofs.laws.Fresh.{rootSlot, freshHeader, made}
+use Rattle.store.proofs.laws.Tested.{whole-least, whole-most}
+use Rattle.store.specs.Header.{namedBy, putHeader}
+use Rattle.store.proofs.laws.Header.{nameParts}
 use Rattle.store.specs.Slots.{slotParts}
-use Rattle.page.specs.Editions.{root-bits, oldest-bits}
+use Rattle.page.proofs.laws.Editions.{root-bits, oldest-bits}
 use Rattle.page.specs.Head.{putHead}
 use Rattle.model.specs.Layout.{pageOf, withPage, sizeOf}
 use Rattle.model.specs.Field.{lay, zeros}
-use Rattle.bits.specs.Lay.{bytes-zeros}
+use Rattle.bits.proofs.laws.Lay.{bytes-zeros}
 use lib.ListN.{length}
 use Prim.Native.Nat.{ℕ, _+_, _*_}
 use mathlib.Core.List.{List}

@@ -1,5 +1,5 @@
 -- `store::make::put_name` meets its contract: five bytes are five fields of eight bits. Assumes nothing.
-use Rattle.store.specs.Fresh.{name-laid}
+use Rattle.store.proofs.laws.Fresh.{name-laid}
 use lib.ListN.{length-set}
 use native.Mathlib.Omega.{arith}
 use borrow.Author.Needs.{needs}

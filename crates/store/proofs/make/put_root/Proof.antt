@@ -1,6 +1,6 @@
 -- `store::make::put_root` meets its contract: what is lent is page 5, and it comes back in its place. Assumes nothing.
-use Rattle.store.specs.Parts.{part-page, part-back, length-page}
-use Rattle.page.specs.Editions.{bytes-is, count-bits}
+use Rattle.store.proofs.laws.Parts.{part-page, part-back, length-page}
+use Rattle.page.proofs.laws.Editions.{bytes-is, count-bits}
 use Rattle.model.specs.Layout.{pageOf, withPage}
 use lib.ListN.{length}
 use Prim.Native.Nat.{_*_}

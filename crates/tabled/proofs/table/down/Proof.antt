@@ -3,10 +3,12 @@ use Prim.Native.Nat.{ℕ, pred, _+_, _*_, _-_, _^_, _≤_, _<_}
 use native.Mathlib.Omega.{arith}
 use mathlib.Core.Path.{_≡_, ap, sym, _∙_}
 use borrow.Author.Needs.{needs}
-use Rattle.tabled.specs.Most.{found-most}
-use Rattle.tabled.specs.Cells.{table-fewer}
-use Rattle.tabled.specs.Table.{found, found-foot}
-use Rattle.tabled.specs.Told.{join, join-one, join-most, join-on}
+use Rattle.tabled.proofs.laws.Most.{found-most}
+use Rattle.tabled.proofs.laws.Cells.{table-fewer}
+use Rattle.tabled.specs.Table.{found}
+use Rattle.tabled.proofs.laws.Table.{found-foot}
+use Rattle.tabled.specs.Told.{join}
+use Rattle.tabled.proofs.laws.Told.{join-one, join-most, join-on}
 use Rattle.tabled.proofs.table.down.Statement.{statement}
 use Rattle.tabled.proofs.table.down.Tie as tie
 

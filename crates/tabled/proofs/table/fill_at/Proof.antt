@@ -3,7 +3,7 @@ use native.Mathlib.Omega.{arith}
 use mathlib.Core.Path.{sym, _∙_}
 use borrow.Author.Tests.{not-true, not-false}
 use borrow.Author.Needs.{needs}
-use Rattle.tabled.specs.Filling.{filled-not}
+use Rattle.tabled.proofs.laws.Filling.{filled-not}
 use Rattle.tabled.proofs.table.fill_at.Statement.{statement}
 use Rattle.tabled.proofs.table.fill_at.Tie as tie
 

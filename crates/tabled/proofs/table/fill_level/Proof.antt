@@ -3,7 +3,8 @@ use Prim.Native.Nat.{_+_, _*_, _-_, _≤_}
 use native.Mathlib.Omega.{arith}
 use mathlib.Core.Path.{_≡_, _∙_}
 use lib.ListN.{length}
-use Rattle.tabled.specs.Cells.{Table, table-fewer}
+use Rattle.tabled.specs.Cells.{Table}
+use Rattle.tabled.proofs.laws.Cells.{table-fewer}
 use Rattle.tabled.proofs.table.fill_level.Statement.{statement}
 use Rattle.tabled.proofs.table.fill_level.Tie as tie
 

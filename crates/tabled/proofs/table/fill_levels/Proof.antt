@@ -3,7 +3,8 @@ use Prim.Native.Nat.{_+_, _*_, _-_, _≤_}
 use native.Mathlib.Omega.{arith}
 use mathlib.Core.Path.{_≡_, refl, _∙_}
 use lib.ListN.{length}
-use Rattle.tabled.specs.Cells.{Table, table-start, table-fewer}
+use Rattle.tabled.specs.Cells.{Table}
+use Rattle.tabled.proofs.laws.Cells.{table-start, table-fewer}
 use Rattle.tabled.proofs.table.fill_levels.Statement.{statement}
 use Rattle.tabled.proofs.table.fill_levels.Tie as tie
 

@@ -9,11 +9,11 @@ use borrow.Author.Needs.{needs}
 use Rattle.model.specs.Layout.{readEntry}
 use Rattle.page.specs.Head.{readHead}
 use Rattle.page.specs.declared.Head.{Head}
-use Rattle.tabled.specs.Filling.{Filling, filling-start, filling-step, filling-end, filling-most, filling-below}
-use Rattle.tabled.specs.Most.{turn-most}
-use Rattle.tabled.specs.Cells.{right-low, right-count}
+use Rattle.tabled.proofs.laws.Filling.{Filling, filling-start, filling-step, filling-end, filling-most, filling-below}
+use Rattle.tabled.proofs.laws.Most.{turn-most}
+use Rattle.tabled.proofs.laws.Cells.{right-low, right-count}
 use Rattle.tabled.specs.Table.{turn}
-use Rattle.tabled.specs.Inside.{level-inside}
+use Rattle.tabled.proofs.laws.Inside.{level-inside}
 use Rattle.tabled.proofs.table.fill_page.Statement.{statement}
 use Rattle.tabled.proofs.table.fill_page.Tie as tie
 

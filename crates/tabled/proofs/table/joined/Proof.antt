@@ -1,7 +1,7 @@
 -- `table::joined` meets its contract. Assumes nothing.
 use native.Mathlib.Omega.{arith}
 use mathlib.Core.Path.{sym}
-use Rattle.tabled.specs.Told.{join-none, join-nothing, join-some}
+use Rattle.tabled.proofs.laws.Told.{join-none, join-nothing, join-some}
 use Rattle.tabled.proofs.table.joined.Statement.{statement}
 use Rattle.tabled.proofs.table.joined.Tie as tie
 

@@ -8,12 +8,12 @@ use borrow.Author.Tests.{not-true, not-false}
 use borrow.Author.Needs.{needs}
 use Rattle.model.specs.Walk.{between}
 use Rattle.model.specs.declared.Pair.{Pair}
-use Rattle.walk.specs.Counted.{counted}
-use Rattle.walk.specs.Written.{none-room}
-use Rattle.tabled.specs.Table.{found-wrong, found-leaf}
-use Rattle.tabled.specs.Bound.{right-few}
-use Rattle.tabled.specs.Across.{across-leaf}
-use Rattle.tabled.specs.Inside.{right-inside}
+use Rattle.walk.proofs.laws.Counted.{counted}
+use Rattle.walk.proofs.laws.Written.{none-room}
+use Rattle.tabled.proofs.laws.Table.{found-wrong, found-leaf}
+use Rattle.tabled.proofs.laws.Bound.{right-few}
+use Rattle.tabled.proofs.laws.Across.{across-leaf}
+use Rattle.tabled.proofs.laws.Inside.{right-inside}
 use Rattle.tabled.proofs.table.leaf.Statement.{statement}
 use Rattle.tabled.proofs.table.leaf.Tie as tie
 

@@ -2,7 +2,7 @@
 use Prim.Native.Nat.{_+_, _*_}
 use native.Mathlib.Omega.{arith}
 use borrow.Author.Needs.{needs}
-use Rattle.tabled.specs.Cells.{place-after}
+use Rattle.tabled.proofs.laws.Cells.{place-after}
 use Rattle.tabled.proofs.table.place.Statement.{statement}
 use Rattle.tabled.proofs.table.place.Tie as tie
 

@@ -6,11 +6,13 @@ use borrow.Author.Tests.{not-true, not-false}
 use borrow.Author.Needs.{needs}
 use Rattle.model.specs.Layout.{pageOf}
 use Rattle.page.specs.Head.{readHead}
-use Rattle.tabled.specs.Most.{cell-is}
-use Rattle.tabled.specs.Cells.{right-low, right-count}
-use Rattle.tabled.specs.Table.{found, found-wrong, found-none, found-on}
-use Rattle.tabled.specs.Told.{join, join-none}
-use Rattle.tabled.specs.Inside.{level-inside}
+use Rattle.tabled.proofs.laws.Most.{cell-is}
+use Rattle.tabled.proofs.laws.Cells.{right-low, right-count}
+use Rattle.tabled.specs.Table.{found}
+use Rattle.tabled.proofs.laws.Table.{found-wrong, found-none, found-on}
+use Rattle.tabled.specs.Told.{join}
+use Rattle.tabled.proofs.laws.Told.{join-none}
+use Rattle.tabled.proofs.laws.Inside.{level-inside}
 use Rattle.tabled.proofs.table.step.Statement.{statement}
 use Rattle.tabled.proofs.table.step.Tie as tie
 

@@ -3,7 +3,8 @@ use Prim.Native.Nat.{pred}
 use native.Mathlib.Omega.{arith}
 use mathlib.Core.Path.{ap, sym, _∙_}
 use borrow.Author.Needs.{needs}
-use Rattle.tabled.specs.Table.{found, turn-early, turn-late, turn-high, turn-on}
+use Rattle.tabled.specs.Table.{found}
+use Rattle.tabled.proofs.laws.Table.{turn-early, turn-late, turn-high, turn-on}
 use Rattle.tabled.proofs.table.through.Statement.{statement}
 use Rattle.tabled.proofs.table.through.Tie as tie
 

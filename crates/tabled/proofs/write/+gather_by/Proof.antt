@@ -16,12 +16,14 @@ use Rattle.local.specs.Local.{countAt}
 use Rattle.page.proofs.entry_at.Reads as entry-at-reads
 use Rattle.page.proofs.head_of.Reads as head-of-reads
 use Rattle.store.proofs.part.Reads as part-reads
-use Rattle.walk.specs.Written.{gathers-space, gathers-length, Gathering, space-front, gather-start, gather-same, gather-step, gather-end, gathers-append}
-use Rattle.tabled.specs.Here.{here-inside, here-stands, here-pairs, here-starts, here-own, here-all, here-range}
-use Rattle.tabled.specs.Across.{rightFrom, from-first}
-use Rattle.tabled.specs.Cells.{table-fewer}
-use Rattle.tabled.specs.Skips.{turns-here}
-use Rattle.walk.specs.Below.{later, later-step, later-end, leaf-range}
+use Rattle.walk.proofs.laws.Written.{gathers-space, gathers-length, PairGathering, space-front, gather-start, gather-same, gather-step, gather-end, gathers-append}
+use Rattle.tabled.proofs.laws.Here.{here-inside, here-stands, here-pairs, here-starts, here-own, here-all, here-range}
+use Rattle.tabled.specs.Across.{rightFrom}
+use Rattle.tabled.proofs.laws.Across.{from-first}
+use Rattle.tabled.proofs.laws.Cells.{table-fewer}
+use Rattle.tabled.proofs.laws.Skips.{turns-here}
+use Rattle.walk.specs.Below.{later}
+use Rattle.walk.proofs.laws.Below.{later-step, later-end, leaf-range}
 use Rattle.walk.specs.Scan.{from, entry}
 use Rattle.walk.specs.Live.{live}
 use Rattle.tabled.proofs.write.gather_by.Reads as gather-by
@@ -68,7 +70,7 @@ abbrev gather-by-Inv-loop : gather-by-lts.InvT-loop
 gather-by-Inv-loop table s l q n up at list₀ found p count k₀ i₀ list k i =
     (i ≤ countAt (l .least) s n)
     × (i < countAt (l .least) s n → between 0 (q .high) (live (q .version) (from (pageOf (l .least) s n) i (countAt (l .least) s n))) ≡ pairOf (entry (pageOf (l .least) s n) i) ∷ between 0 (q .high) (live (q .version) (from (pageOf (l .least) s n) (i + 1) (countAt (l .least) s n))))
-    × Gathering (q .write) list₀ list k₀ k (later (up - 1) (decode (l .least) s .pages) (q .version) (q .low) (q .high) (pageOf (l .least) s n) (countAt (l .least) s n) i₀)
+    × PairGathering (q .write) list₀ list k₀ k (later (up - 1) (decode (l .least) s .pages) (q .version) (q .low) (q .high) (pageOf (l .least) s n) (countAt (l .least) s n) i₀)
     (later (up - 1) (decode (l .least) s .pages) (q .version) (q .low) (q .high) (pageOf (l .least) s n) (countAt (l .least) s n) i)
     × (rightFrom (l .least) s (q .version) (q .high) (up - 1) (pageOf (l .least) s n) (countAt (l .least) s n) i ≡ true)
 

@@ -6,9 +6,10 @@ use lib.ListN.{getD}
 use Rattle.model.specs.Layout.{sizeOf}
 use Rattle.page.specs.Head.{readHead}
 use Rattle.page.specs.declared.Head.{Head}
-use Rattle.tabled.specs.Skips.{Skips, skips-next, skips-on, skips-none}
-use Rattle.tabled.specs.Cells.{right-low, right-count}
-use Rattle.tabled.specs.Inside.{right-inside}
+use Rattle.tabled.specs.Skips.{Skips}
+use Rattle.tabled.proofs.laws.Skips.{skips-next, skips-on, skips-none}
+use Rattle.tabled.proofs.laws.Cells.{right-low, right-count}
+use Rattle.tabled.proofs.laws.Inside.{right-inside}
 use Rattle.tabled.proofs.write.next_some.Statement.{statement}
 use Rattle.tabled.proofs.write.next_some.Tie as tie
 

@@ -1,5 +1,5 @@
 -- `raw_delete` meets its contract. Assumes nothing.
-use Rattle.update.specs.Single.{delete-leaves, comes-to}
+use Rattle.update.proofs.laws.Single.{delete-leaves, comes-to}
 use borrow.Author.Needs.{needs}
 use Rattle.update.proofs.single.raw_delete.Statement.{statement}
 use Rattle.update.proofs.single.raw_delete.Tie as tie

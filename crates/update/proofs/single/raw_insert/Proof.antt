@@ -1,5 +1,5 @@
 -- `raw_insert` meets its contract. Assumes nothing.
-use Rattle.update.specs.Single.{insert-leaves, comes-to}
+use Rattle.update.proofs.laws.Single.{insert-leaves, comes-to}
 use borrow.Author.Needs.{needs}
 use Rattle.update.proofs.single.raw_insert.Statement.{statement}
 use Rattle.update.proofs.single.raw_insert.Tie as tie

@@ -1,14 +1,14 @@
 -- `note` meets its contract. Assumes nothing.
-use Prim.Native.Nat.{ℕ, _-_, _+_}
+use Prim.Native.Nat.{_-_, _+_}
 use native.Mathlib.Omega.{arith}
 use mathlib.Core.Path.{_∙_}
 use borrow.Author.Needs.{needs}
 use lib.ListN.{length-set}
 use Rattle.model.specs.Layout.{decode}
-use Rattle.store.specs.Sure.{few}
-use Rattle.walk.specs.Sure.{covers-inside}
-use Rattle.walk.specs.Covers.{covers-starts}
-use Rattle.walk.specs.Visited.{covers-number, Noting, noting-start, noting-covers, noting-step, noting-end}
+use Rattle.store.proofs.laws.Sure.{few}
+use Rattle.walk.proofs.laws.Sure.{covers-inside}
+use Rattle.walk.proofs.laws.Covers.{covers-starts}
+use Rattle.walk.proofs.laws.Visited.{covers-number, Noting, noting-start, noting-covers, noting-step, noting-end}
 use Rattle.walk.proofs.visiting.note.Statement.{statement}
 use Rattle.walk.proofs.visiting.note.Tie as tie
 

@@ -2,9 +2,9 @@
 use native.Mathlib.Omega.{arith}
 use borrow.Author.Needs.{needs}
 use Rattle.model.specs.Layout.{decode}
-use Rattle.store.specs.Sure.{few}
-use Rattle.walk.specs.Sure.{root-covers, covers-inside}
-use Rattle.walk.specs.Visited.{visits-short, visits-all, root-height}
+use Rattle.store.proofs.laws.Sure.{few}
+use Rattle.walk.proofs.laws.Sure.{root-covers, covers-inside}
+use Rattle.walk.proofs.laws.Visited.{visits-short, visits-all, root-height}
 use Rattle.walk.proofs.visiting.visits.Statement.{statement}
 use Rattle.walk.proofs.visiting.visits.Tie as tie
 

@@ -1,0 +1,5 @@
+pub mod Both
+pub mod Due
+pub mod Single
+pub mod Going
+pub mod Pass

@@ -1,0 +1,5 @@
+pub mod Committing
+pub mod Pruning
+pub mod Returning
+pub mod Turning
+pub mod Updating

@@ -1,0 +1,4 @@
+pub mod Stretch
+pub mod First
+pub mod Leaf
+pub mod Reaches

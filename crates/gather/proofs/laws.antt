@@ -1,0 +1,4 @@
+pub mod Tests
+pub mod Gather
+pub mod Kept
+pub mod Place

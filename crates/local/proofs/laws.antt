@@ -1,0 +1,13 @@
+pub mod Linked
+pub mod Loops
+pub mod Pages
+pub mod Ruled
+pub mod Sizes
+pub mod Third
+pub mod Eighth
+pub mod First
+pub mod Front
+pub mod Local
+pub mod Right
+pub mod Second
+pub mod Seventh

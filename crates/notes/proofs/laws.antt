@@ -1,0 +1,12 @@
+pub mod Given
+pub mod Here
+pub mod Laws
+pub mod Means
+pub mod Six
+pub mod Versions
+pub mod Both
+pub mod Kept
+pub mod Notes
+pub mod Over
+pub mod Pass
+pub mod Ready

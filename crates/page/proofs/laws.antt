@@ -1,0 +1,12 @@
+pub mod Clean
+pub mod Editions
+pub mod Entries
+pub mod Front
+pub mod Passes
+pub mod Words
+pub mod Exact
+pub mod Head
+pub mod Insert
+pub mod Over
+pub mod Read
+pub mod Stage

@@ -1,0 +1,3 @@
+pub mod Becomes
+pub mod Free
+pub mod Kept

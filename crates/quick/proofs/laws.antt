@@ -1,0 +1,13 @@
+pub mod Given
+pub mod Here
+pub mod Led
+pub mod Order
+pub mod Noted
+pub mod Number
+pub mod Pages
+pub mod Part
+pub mod Routers
+pub mod Slots
+pub mod Sums
+pub mod Under
+pub mod Within

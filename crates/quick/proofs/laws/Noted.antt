@@ -1,0 +1,20 @@
+-- Laws about quick/specs/Noted. Assumes nothing.
+use Prim.Native.Nat.{ℕ}
+use mathlib.Core.Bool.{Bool, true, false, _&&_}
+use mathlib.Core.Path.{_≡_, ap, sym, _∙_}
+use lib.ListN.{drop}
+use Rattle.model.specs.Store.{Store}
+use Rattle.model.specs.Sound.{rule4, rule5}
+use Rattle.spans.specs.Quick.{spansMet, slotsFine, quick}
+use Rattle.notes.proofs.laws.Six.{quick-by}
+use Rattle.quick.specs.Noted.{ThreeRules}
+
+module _ (least : ℕ) (s : Store) (h : ThreeRules least s) where
+  by : quick least s ≡ (spansMet s 5 (drop 5 (s .pages)) && slotsFine least (s .oldest) (s .pages) (s .slots) && (rule4 s && rule5 least s))
+  by = quick-by least (h .two) s (h .first) (h .second) (h .third)
+
+  pub not-led : (spansMet s 5 (drop 5 (s .pages)) && slotsFine least (s .oldest) (s .pages) (s .slots)) ≡ false → false ≡ quick least s
+  not-led e = sym (by ∙ ap (λ (b : Bool). b && (rule4 s && rule5 least s)) e)
+
+  pub noted : (r : Bool) → r ≡ (rule4 s && rule5 least s) → (spansMet s 5 (drop 5 (s .pages)) && slotsFine least (s .oldest) (s .pages) (s .slots)) ≡ true → r ≡ quick least s
+  noted r q e = q ∙ sym (by ∙ ap (λ (b : Bool). b && (rule4 s && rule5 least s)) e)

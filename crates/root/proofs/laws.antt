@@ -1,0 +1,4 @@
+pub mod Moved
+pub mod Renew
+pub mod Root
+pub mod Slotted

@@ -1,0 +1,12 @@
+pub mod RulesGive
+pub mod Stretches
+pub mod HighKeys
+pub mod ToWalks
+pub mod Sums
+pub mod OneWay
+pub mod AddedUp
+pub mod FromWalks
+pub mod Quick
+pub mod OfBytes
+pub mod Neighbours
+pub mod Short

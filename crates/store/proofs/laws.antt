@@ -1,0 +1,15 @@
+pub mod Answers
+pub mod Counted
+pub mod Exactly
+pub mod Inside
+pub mod Parts
+pub mod Read
+pub mod Sure
+pub mod Editions
+pub mod Fresh
+pub mod Header
+pub mod Holds
+pub mod Pages
+pub mod Set
+pub mod Slots
+pub mod Tested

@@ -1,0 +1,11 @@
+pub mod Bound
+pub mod Filling
+pub mod Inside
+pub mod Most
+pub mod Starts
+pub mod Across
+pub mod Cells
+pub mod Here
+pub mod Skips
+pub mod Table
+pub mod Told

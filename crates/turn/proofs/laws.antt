@@ -1,0 +1,7 @@
+pub mod Abandoned
+pub mod Ended
+pub mod Partly
+pub mod Touched
+pub mod Undone
+pub mod Slotted
+pub mod Turned

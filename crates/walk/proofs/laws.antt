@@ -1,0 +1,13 @@
+pub mod Bound
+pub mod Here
+pub mod Visited
+pub mod Below
+pub mod Counted
+pub mod Covers
+pub mod Down
+pub mod Ends
+pub mod Live
+pub mod Places
+pub mod Scan
+pub mod Sure
+pub mod Written

@@ -1,0 +1,4 @@
+pub mod Counted
+pub mod Encoded
+pub mod Holding
+pub mod Spare

@@ -1,4 +1,0 @@
-pub mod Holding
-pub mod Spare
-pub mod Counted
-pub mod Encoded
