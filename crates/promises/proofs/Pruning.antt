@@ -43,7 +43,7 @@ use Rattle.promises.proofs.Agreed.{lent-agreed}
 use Rattle.promises.proofs.Answering.{answers}
 use Rattle.promises.proofs.Stays.{views-stay, answers-stay}
 use Rattle.promises.proofs.Unpruned.{never-seven}
-use Rattle.promises.proofs.Unexpired.{Unexpired, MadeSo, made-by-calls, pruned-same}
+use Rattle.promises.proofs.Unexpired.{MadeSo, made-by-calls, pruned-same}
 
 -- ---- which edition
 
@@ -337,7 +337,7 @@ idle-so b m e shut ns =
     q = record { accepted = m .accepted; edition = e; from = omega arith; upto = old-current (leastOf b) (storeOf b) (d .old-low); shut = shut }
 
 prune-idle : PruneIdle
-prune-idle least e n six most ts f b z = idle-so b (subst MadeSo z (made-by-calls least e n six most ts f))
+prune-idle least e n low high ts f b z = idle-so b (subst MadeSo z (made-by-calls least e n low high ts f))
 
 pub prunes-keep : Lacking → Prunes
 prunes-keep lacking = record { done = prune-done; first = prune-first; leaves = prune-leaves lacking; idle = prune-idle; never-seven = never-seven }

@@ -17,7 +17,7 @@ use Rattle.model.specs.Entry.{alive}
 use Rattle.model.specs.Page.{Page, free, isFree, active}
 use Rattle.model.specs.Store.{Store, page, next, last, fresh}
 use Rattle.model.specs.Sound.{sound}
-use Rattle.model.specs.Layout.{sizeOf, encode}
+use Rattle.model.specs.Layout.{encode}
 use Rattle.model.specs.Judged.{lengthOk}
 use Rattle.model.specs.Editions.{leastOf}
 use Rattle.model.specs.Climb.{Result, done, refused}
@@ -42,7 +42,7 @@ use Rattle.promises.specs.Accepts.{Accepts, storeOf, OfEdition, Written}
 use Rattle.promises.specs.Runs.{Turn, turned, runBytes, kindOf, fitting, each}
 use Rattle.promises.proofs.Known.{four}
 use Rattle.promises.proofs.Encoded.{encoded-sound}
-use Rattle.promises.proofs.Lending.{kind-asks, by-kind, Makes, made-wrong, Leaves, held-sound, change-leaves, fresh-leaves, call-accepts, call-bytes}
+use Rattle.promises.proofs.Lending.{kind-asks, by-kind, made-wrong, held-sound, change-leaves, fresh-leaves, call-accepts, call-bytes}
 
 pub record Unexpired (s : Store) : Type 0 where
   pub later : (n : ℕ) → isFree (page (s .pages) n) ≡ false → s .oldest < page (s .pages) n .end
