@@ -32,6 +32,7 @@ pub mod Releasing
 pub mod Returning
 pub mod Singly
 pub mod Unpruned
+pub mod Unexpired
 pub mod Pruning
 pub mod Promises
 pub mod Sampled

@@ -277,7 +277,7 @@ returns = record {
 -- ---- 2026-12, drop what the law lets us drop
 
 pub prunes : Prunes
-prunes = pruning.prunes-keep
+prunes = pruning.prunes-keep lacking
 
 -- ---- 2026-08, the converter
 

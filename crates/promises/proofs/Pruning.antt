@@ -1,41 +1,49 @@
 -- 2026-12: a prune's promise. Assumes nothing.
-use Prim.Native.Nat.{ℕ, zero, suc, _≤_, _<_}
+use Prim.Native.Nat.{ℕ, zero, suc, _+_, _-_, _≤_, _<_}
 use native.Mathlib.Omega.{arith}
 use mathlib.Core.Bool.{Bool, true, false, _||_, not}
 use mathlib.Core.Path.{_≡_, refl, ap, ap₂, sym, _∙_, subst}
-use mathlib.Core.Logic.{_⊎_, inl, inr, _≢_}
+use mathlib.Core.Logic.{_⊎_, inl, inr, _↔_, _≢_}
 use mathlib.Core.List.{List, [], _∷_, map}
 use lib.Dec.{leb, ltb}
-use lib.ListN.{getD, List·getD-map}
-use borrow.Author.Tests.{leb-false, le-leb, lt-leb, le-ltb, lt-ltb}
-use Rattle.model.specs.Basic.{pick}
+use lib.ListN.{length, drop, length-drop, length-map, getD, List·getD-map}
+use lib.Seq.{getD-drop}
+use borrow.Author.Tests.{leb-true, leb-false, eq-eqb, le-leb, lt-leb, le-ltb, lt-ltb}
+use Rattle.model.specs.Basic.{pick, keep, has}
 use Rattle.model.specs.declared.Slot.{Slot}
-use Rattle.model.specs.Page.{Page, free}
-use Rattle.model.specs.Store.{Store, page, last, lastOf}
+use Rattle.model.specs.Page.{Page, free, isFree}
+use Rattle.model.specs.Store.{Store, page, freeFrom, freeOnes, last, lastOf}
+use Rattle.model.specs.Sound.{sound}
 use Rattle.model.specs.Walk.{keyLimit}
 use Rattle.model.specs.Layout.{encode}
 use Rattle.model.specs.Editions.{leastOf, lentNumber}
-use Rattle.model.specs.Climb.{done}
+use Rattle.model.specs.Climb.{Result, done}
 use Rattle.model.specs.Calls
 use Rattle.model.specs.Calls.{rule, firstOf, numbered, beyond, unreadable, pruneTests, prunedPage, needed, pruned, prune, lookedBy, lookedNumber}
 use Rattle.model.specs.Return.{Came, gave}
-use Rattle.model.specs.Histories.{prunes, callBy, after}
+use Rattle.model.specs.Histories.{begins, prunes, callBy, after}
 use Rattle.model.specs.Lent
 use Rattle.model.specs.Lent.{leftBy, leaving}
-use Rattle.model.specs.Ended.{toPrune, toLookup, Ended, ofOutcome, ended}
-use Rattle.model.proofs.sound.ByRule.{kept-of}
+use Rattle.model.specs.Ended.{toOpen, toPrune, toLookup, Ended, ofOutcome, ended}
+use Rattle.model.proofs.lists.Members.{holds-true, not-both, bool-cases, In, has-in, in-has}
+use Rattle.model.proofs.tree.GroupPages.{in-frees}
+use Rattle.model.proofs.sound.ByRule.{kept-of, Sound, from-tests, old-current, used-in, high-used}
+use Rattle.model.proofs.sound.Ready.{numbered-by}
 use Rattle.model.proofs.theorems.Editions.{least-is, ended-goes, ended-refuses}
 use Rattle.promises.specs.Accepts.{Accepts, storeOf}
-use Rattle.promises.specs.Runs.{Turn}
+use Rattle.promises.specs.Runs.{Turn, runBytes}
 use Rattle.promises.specs.Beside.{fromLent}
 use Rattle.promises.specs.Views.{SameView, SameAnswers}
-use Rattle.promises.specs.Prunes.{Prunable, PruneDone, PruneFirst, Pruned, PruneLeaves, Prunes}
-use Rattle.promises.proofs.Lending.{change-is, change-leaves, Leaves}
+use Rattle.promises.specs.Demand2.{Lacking}
+use Rattle.promises.specs.Prunes.{Prunable, PruneDone, PruneFirst, Pruned, PruneLeaves, PruneIdle, Prunes}
+use Rattle.promises.proofs.Encoded.{accepted}
+use Rattle.promises.proofs.Lending.{change-is, change-leaves, Leaves, held-sound}
 use Rattle.promises.proofs.Judges.{zero-accepts}
 use Rattle.promises.proofs.Agreed.{lent-agreed}
 use Rattle.promises.proofs.Answering.{answers}
 use Rattle.promises.proofs.Stays.{views-stay, answers-stay}
 use Rattle.promises.proofs.Unpruned.{never-seven}
+use Rattle.promises.proofs.Unexpired.{MadeSo, made-by-calls, pruned-same}
 
 -- ---- which edition
 
@@ -126,6 +134,62 @@ idle-slots v (x ∷ y ∷ zs) = at (leb (y .version) v) refl (idle-slots v (y �
 idle : (s : Store) (v : ℕ) → pruned (pruned s v) v ≡ pruned s v
 unfolding pruned
 idle s v = λ i. record { current = s .current; opened = s .opened; oldest = v; slots = idle-slots v (s .slots) i; pages = idle-pages v (s .pages) i }
+
+-- ---- the free pages after it
+
+free-in : (k : ℕ) (ps : List Page) (i : ℕ) → i < length ps → isFree (page ps i) ≡ true → In (k + i) (freeFrom k ps)
+free-in k [] i h e = absurd (omega arith)
+free-in k (p ∷ ps) zero h e = subst (λ (b : Bool). In (k + 0) (keep b k (freeFrom (suc k) ps))) (sym e) (inl (omega arith))
+free-in k (p ∷ ps) (suc i) h e = at (isFree p) (subst (λ (n : ℕ). In n (freeFrom (suc k) ps)) next-is (free-in (suc k) ps i (omega arith) e))
+  where
+    next-is : suc k + i ≡ k + suc i
+    next-is = omega arith
+
+    at : (b : Bool) → In (k + suc i) (freeFrom (suc k) ps) → In (k + suc i) (keep b k (freeFrom (suc k) ps))
+    at true j = inr j
+    at false j = j
+
+frees-in : (ps : List Page) (n : ℕ) → 5 ≤ n → n < length ps → isFree (page ps n) ≡ true → has n (freeOnes ps) ≡ true
+frees-in ps n five inn e =
+    in-has n (freeOnes ps) (subst (λ (m : ℕ). In m (freeOnes ps)) is
+    (free-in 5 (drop 5 ps) (n - 5) (omega (arith, length-drop 5 ps)) (ap isFree (getD-drop 5 ps (n - 5) free ∙ ap (page ps) is) ∙ e)))
+  where
+    is : 5 + (n - 5) ≡ n
+    is = omega arith
+
+module _ (least : ℕ) (s : Store) (d : Sound least s) (v : ℕ) (qs : List Page) (long : length qs ≡ length (s .pages)) (is : (n : ℕ) → page qs n ≡ prunedPage v (page (s .pages) n)) where
+  abbrev ps : List Page
+  ps = s .pages
+
+  freed-at : (n : ℕ) → page (s .pages) n .end ≤ v → page qs n ≡ free
+  freed-at n h = is n ∙ ap (λ (t : Bool). pick t free (page ps n)) (le-leb (page ps n .end) v h)
+
+  was-spare : (n : ℕ) → has n (freeOnes qs) ≡ true → (has n (freeOnes (s .pages)) ≡ true) ⊎ ((isFree (page (s .pages) n) ≡ false) × (page (s .pages) n .end ≤ v))
+  was-spare n h = at (bool-cases (isFree (page ps n))) (leb (page ps n .end) v) refl (in-frees qs n (has-in n (freeOnes qs) h))
+    where
+      at : (isFree (page ps n) ≡ true) ⊎ (isFree (page ps n) ≡ false) → (t : Bool) → leb (page ps n .end) v ≡ t → (page qs n .level ≡ 0) × (5 ≤ n) × (n < length qs)
+          → (has n (freeOnes ps) ≡ true) ⊎ ((isFree (page ps n) ≡ false) × (page ps n .end ≤ v))
+      at (inl z) t e (a, five, inn) = inl (frees-in ps n five (omega (arith, long, inn)) z)
+      at (inr u) true e q = inr (u, leb-true (page ps n .end) v e)
+      at (inr u) false e (a, five, inn) =
+          let same : page qs n ≡ page ps n = is n ∙ ap (λ (t : Bool). pick t free (page ps n)) e in
+          absurd (not-both (isFree (page ps n)) (eq-eqb (page ps n .level) 0 (ap (λ (p : Page). p .level) (sym same) ∙ a)) u)
+
+  is-spare : (n : ℕ) → (has n (freeOnes (s .pages)) ≡ true) ⊎ ((isFree (page (s .pages) n) ≡ false) × (page (s .pages) n .end ≤ v)) → has n (freeOnes qs) ≡ true
+  is-spare n (inl h) =
+      let (a, five, inn) = in-frees ps n (has-in n (freeOnes ps) h) in
+      let z : page ps n ≡ free = d .zeros n (eq-eqb (page ps n .level) 0 a) in
+      frees-in qs n five (omega (arith, long, inn)) (ap isFree (freed-at n (omega (arith, ap (λ (p : Page). p .end) z))))
+  is-spare n (inr (u, h)) = frees-in qs n (high-used s n (d .front) u) (omega (arith, long, used-in ps n u)) (ap isFree (freed-at n h))
+
+-- ---- an open leaves the pages
+
+open-pages : (least : ℕ) (s : Store) → after s (callBy least s begins) .store .pages ≡ s .pages
+unfolding Calls.begin
+open-pages least s =
+    numbered-by (λ (r : Result). after s (gave r) .store .pages ≡ s .pages) (rule 8 (s .opened) ∷ rule 9 (leb 1048574 (s .current)) ∷ []) (done (record { current = s .current; opened = true; oldest = s .oldest; slots = s .slots; pages = s .pages })) (λ n. refl) (λ f. refl)
+
+-- ---- the call
 
 module _ (b : List ℕ) (v : ℕ) (p : Prunable b v) (ns : List ℕ) where
   abbrev l : ℕ
@@ -219,8 +283,22 @@ module _ (b : List ℕ) (v : ℕ) (p : Prunable b v) (ns : List ℕ) where
       } in
       whole-is b′ v q ms ∙ ap (λ (x : List ℕ). record { number = 0; results = []; store = x; list = ms }) (ap (λ (n : ℕ). encode n (pruned (storeOf b′) v)) (left-so .edition) ∙ ap (encode (leastOf b)) (ap (λ (t : Store). pruned t v) holds ∙ idle st v))
 
-  pub left-pruned : Pruned b v (encode (leastOf b) (pruned (storeOf b) v))
-  left-pruned = record {
+  long-is : length (storeOf (encode (leastOf b) (pruned (storeOf b) v)) .pages) ≡ length (storeOf b .pages)
+  unfolding pruned
+  long-is = ap (λ (t : Store). length (t .pages)) holds ∙ length-map (st .pages) (prunedPage v)
+
+  was-sound : Sound (leastOf b) (storeOf b)
+  was-sound = from-tests (leastOf b) st (holds-true (sound (leastOf b) st) (held-sound b (p .accepted)))
+
+  spare : (n : ℕ) → has n (freeOnes (storeOf (encode (leastOf b) (pruned (storeOf b) v)) .pages)) ≡ true
+      ↔ ((has n (freeOnes (storeOf b .pages)) ≡ true) ⊎ ((isFree (page (storeOf b .pages) n) ≡ false) × (page (storeOf b .pages) n .end ≤ v)))
+  spare n = (was-spare (leastOf b) st was-sound v (storeOf b′ .pages) long-is page-is n, is-spare (leastOf b) st was-sound v (storeOf b′ .pages) long-is page-is n)
+
+  begun : (ms : List ℕ) → storeOf (ended toOpen (encode (leastOf b) (pruned (storeOf b) v)) ms .store) .pages ≡ storeOf (encode (leastOf b) (pruned (storeOf b) v)) .pages
+  begun ms = ap (λ (t : Store). t .pages) (change-leaves b′ (left-so .accepts) begins refl ms .holds) ∙ open-pages (leastOf b′) (storeOf b′)
+
+  pub left-pruned : Lacking → Pruned b v (encode (leastOf b) (pruned (storeOf b) v))
+  left-pruned lacking = record {
     accepted = left-so .accepts;
     oldest = old-is;
     current = current-is;
@@ -232,10 +310,34 @@ module _ (b : List ℕ) (v : ℕ) (p : Prunable b v) (ns : List ℕ) where
     answers = says;
     gone = gone;
     again = again;
+    spare = spare;
+    begun = begun;
+    lacks = λ ts ms. lacking (runBytes b′ ts) ms;
   }
 
-prune-leaves : PruneLeaves
-prune-leaves b v ns z = let p = prunable b v ns z in subst (Pruned b v) (sym (ran b v p ns)) (left-pruned b v p ns)
+prune-leaves : Lacking → PruneLeaves
+prune-leaves lacking b v ns z = let p = prunable b v ns z in subst (Pruned b v) (sym (ran b v p ns)) (left-pruned b v p ns lacking)
 
-pub prunes-keep : Prunes
-prunes-keep = record { done = prune-done; first = prune-first; leaves = prune-leaves; never-seven = never-seven }
+-- ---- to the oldest version
+
+idle-so : (b : List ℕ) → MadeSo b → leastOf b ≡ 8 → storeOf b .opened ≡ false
+    → (ns : List ℕ) → ended (toPrune (storeOf b .oldest)) b ns ≡ record { number = 0; results = []; store = b; list = ns }
+idle-so b m e shut ns =
+    whole-is b (s .oldest) q ns
+    ∙ ap (λ (x : List ℕ). record { number = 0; results = []; store = x; list = ns })
+    (ap (encode (leastOf b)) (pruned-same (leastOf b) s d (m .unexpired)) ∙ accepted b (m .bytes) (m .accepted) .same)
+  where
+    s : Store
+    s = storeOf b
+
+    d : Sound (leastOf b) (storeOf b)
+    d = from-tests (leastOf b) (storeOf b) (holds-true (sound (leastOf b) (storeOf b)) (held-sound b (m .accepted)))
+
+    q : Prunable b (storeOf b .oldest)
+    q = record { accepted = m .accepted; edition = e; from = omega arith; upto = old-current (leastOf b) (storeOf b) (d .old-low); shut = shut }
+
+prune-idle : PruneIdle
+prune-idle least e n low high ts f b z = idle-so b (subst MadeSo z (made-by-calls least e n low high ts f))
+
+pub prunes-keep : Lacking → Prunes
+prunes-keep lacking = record { done = prune-done; first = prune-first; leaves = prune-leaves lacking; idle = prune-idle; never-seven = never-seven }

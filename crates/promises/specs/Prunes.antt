@@ -1,20 +1,24 @@
 -- 2026-12, "drop what the law lets us drop": when a prune is done, and what it leaves, whatever bytes it was lent. That later calls keep to the
--- rules, freed pages among the free ones, is said of every call (`Lacking`, `HistoryLent`).
+-- rules is said of every call (`HistoryLent`).
 -- Assumes nothing.
 use Prim.Native.Nat.{ℕ, _≤_, _<_}
-use mathlib.Core.Bool.{false}
+use mathlib.Core.Bool.{true, false}
 use mathlib.Core.Path.{_≡_}
-use mathlib.Core.Logic.{_↔_, _≢_}
+use mathlib.Core.Logic.{_⊎_, _↔_, _≢_}
 use mathlib.Core.List.{List, []}
-use Rattle.model.specs.Page.{free}
-use Rattle.model.specs.Store.{page}
+use Rattle.model.specs.Basic.{has}
+use Rattle.model.specs.Page.{free, isFree}
+use Rattle.model.specs.Store.{page, freeOnes, fresh}
 use Rattle.model.specs.Walk.{keyLimit}
+use Rattle.model.specs.Layout.{encode}
 use Rattle.model.specs.Editions.{leastOf}
 use Rattle.model.specs.Calls.{needed}
 use Rattle.model.specs.Any.{judgedAny}
-use Rattle.model.specs.Ended.{toPrune, toLookup, ended}
-use Rattle.promises.specs.Accepts.{Accepts, storeOf}
+use Rattle.model.specs.Ended.{toOpen, toPrune, toLookup, ended}
+use Rattle.promises.specs.Accepts.{Accepts, storeOf, OfEdition}
+use Rattle.promises.specs.Runs.{Turn, runBytes, fitting, each}
 use Rattle.promises.specs.Views.{SameView, SameAnswers}
+use Rattle.promises.specs.Demand2.{LackRefused}
 
 -- ---- done exactly when: "A call with one version, at most the current one", not "below" the oldest, with no update open, in edition 2
 
@@ -52,9 +56,24 @@ pub record Pruned (b : List ℕ) (v : ℕ) (b′ : List ℕ) : Type 0 where
   pub gone : (k u : ℕ) (ns : List ℕ) → k < keyLimit → u < v → ended (toLookup k u) b′ ns .number ≡ 6
   -- the same prune again is done, and changes no byte
   pub again : (ns : List ℕ) → ended (toPrune v) b′ ns ≡ record { number = 0; results = []; store = b′; list = ns }
+  -- "freed pages are used again". The free pages then are those that were free, and those that were used and ended at or before the version ..
+  pub spare : (n : ℕ) → has n (freeOnes (storeOf b′ .pages)) ≡ true
+      ↔ ((has n (freeOnes (storeOf b .pages)) ≡ true) ⊎ ((isFree (page (storeOf b .pages) n) ≡ false) × (page (storeOf b .pages) n .end ≤ v)))
+  -- .. an update that is opened next begins with them ..
+  pub begun : (ns : List ℕ) → storeOf (ended toOpen b′ ns .store) .pages ≡ storeOf b′ .pages
+  -- .. and after it, whatever calls come between, 12 is given exactly when the rules need a page and none is free, 13 so for a slot
+  pub lacks : (ts : List Turn) (ns : List ℕ) → LackRefused (runBytes b′ ts) ns
 
 abbrev pub PruneLeaves : Type 0
 PruneLeaves = (b : List ℕ) (v : ℕ) (ns : List ℕ) → ended (toPrune v) b ns .number ≡ 0 → Pruned b v (ended (toPrune v) b ns .store)
+
+-- ---- To the oldest version itself: done, and on a store that calls made, from a fresh one of either edition on, it changes no byte. (A store
+-- lent from elsewhere can hold pages that ended by its oldest version; there they are freed.)
+
+abbrev pub PruneIdle : Type 0
+PruneIdle = (least : ℕ) → OfEdition least → (n : ℕ) → 6 ≤ n → n ≤ 4096 → (ts : List Turn) → each fitting ts ≡ true
+    → (b : List ℕ) → runBytes (encode least (fresh n)) ts ≡ b → leastOf b ≡ 8 → storeOf b .opened ≡ false
+    → (ns : List ℕ) → ended (toPrune (storeOf b .oldest)) b ns ≡ record { number = 0; results = []; store = b; list = ns }
 
 -- ---- what a store that was never pruned keeps: check never answers 7 of it. Any store of edition 1 is one.
 
@@ -66,4 +85,5 @@ pub record Prunes : Type 0 where
   pub done : PruneDone
   pub first : PruneFirst
   pub leaves : PruneLeaves
+  pub idle : PruneIdle
   pub never-seven : NeverSeven
