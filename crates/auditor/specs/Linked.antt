@@ -49,5 +49,9 @@ mayInsert (toVisits k v) ns ms = 0
 mayInsert (toDifference u v) ns ms = 0
 mayInsert (toLife k) ns ms = 0
 
+-- "one item for each accepted insert": a call that is refused needs no room
+abbrev pub HasRoom : Asked → List ℕ → List ℕ → List ℕ → Type 0
+HasRoom c ns ms us = plainly c (readPlain ns ms) us .number ≡ 0 → 4 * (stateOf ms .count + mayInsert c ns ms) ≤ length ns
+
 abbrev pub Linked : Type 0
-Linked = (c : Asked) (ns ms us : List ℕ) → isLent ns ms ≡ true → 4 * (stateOf ms .count + mayInsert c ns ms) ≤ length ns → guardedly c ns ms us ≡ plainly c (readPlain ns ms) us
+Linked = (c : Asked) (ns ms us : List ℕ) → isLent ns ms ≡ true → HasRoom c ns ms us → guardedly c ns ms us ≡ plainly c (readPlain ns ms) us
