@@ -1,2 +1,3 @@
 pub mod SideBySide
 pub mod Linked
+pub mod LinkedRun

@@ -4,9 +4,9 @@ use Prim.Native.Nat.{ℕ, _+_, _*_, _≤_}
 use mathlib.Core.Bool.{Bool, true, false, _&&_}
 use mathlib.Core.Path.{_≡_, refl, ap, _∙_}
 use mathlib.Core.List.{List}
-use lib.Dec.{eqb, leb}
+use lib.Dec.{eqb, ltb, leb}
 use lib.ListN.{length, getD}
-use borrow.Author.Tests.{le-ltb}
+use borrow.Author.Tests.{le-ltb, eqb-true}
 use Rattle.model.specs.Basic.{pick}
 use Rattle.model.specs.Calls.{Ranged}
 use Rattle.model.specs.declared.Looked.the-variants.{Refused}
@@ -31,13 +31,12 @@ module _ (ns ms us : List ℕ) (lent : isLent ns ms ≡ true) where
   given : (g : Given) → ofGiven us (guarded (isLent ns ms) own g) ≡ ofGiven us g
   given g = ap (λ (b : Bool). ofGiven us (guarded b own g)) lent
 
-  roomy : (n : ℕ) (g : Given) → 4 * n ≤ length ns → fitted ns n own g ≡ g
-  roomy n g h =
-      ap (λ (b : Bool). pick (eqb (g .number) 0 && b) (refusing 14 own) g) (le-ltb (length ns) (4 * n) h) ∙ at (eqb (g .number) 0)
+  roomy : (n : ℕ) (g : Given) → (g .number ≡ 0 → 4 * n ≤ length ns) → fitted ns n own g ≡ g
+  roomy n g h = at (eqb (g .number) 0) refl
     where
-      at : (b : Bool) → pick (b && false) (refusing 14 own) g ≡ g
-      at true = refl
-      at false = refl
+      at : (b : Bool) → eqb (g .number) 0 ≡ b → pick (b && ltb (length ns) (4 * n)) (refusing 14 own) g ≡ g
+      at true e = ap (λ (c : Bool). pick c (refusing 14 own) g) (le-ltb (length ns) (4 * n) (h (eqb-true (g .number) 0 e)))
+      at false e = refl
 
   tells : (f : ℕ → Ranged) → ofListed own (pick (isLent ns ms) (listed us (f (length us))) (record { number = 4; count = 0; list = us })) ≡ ofListed own (listed us (f (length us)))
   tells f = ap (λ (b : Bool). ofListed own (pick b (listed us (f (length us))) (record { number = 4; count = 0; list = us }))) lent

@@ -49,20 +49,22 @@ use Rattle.promises.proofs.Agreed.{Agreed, fresh-agreed, one-turn}
 use Rattle.promises.proofs.Promises.{encoded-sound, edition-stays}
 use Rattle.promises.proofs.Answering.{answers}
 use Rattle.plain.specs.Plain.{Plain, empty, valueAt, settings, differs, setKey, endKey, backTo, keptFrom, Given, unless, standing, holding, pruned, begin, insert, delete, commit, abandon, return, prune, lookup, range, difference, life}
+use Rattle.plain.specs.Guard.{ownInserts}
 use Rattle.plain.proofs.Keys.{settings-are, differs-are}
 use Rattle.plain.proofs.Values.{kept-shorter}
 use Rattle.plain.proofs.Backs.{back-few}
 use Rattle.plain.proofs.Shows.{ItemsShow, shows-start, shows-begins, shows-commits, shows-abandons, shows-inserts, shows-deletes, shows-returns, shows-prunes}
 use Rattle.auditor.specs.Engine.{has, ofGiven, ofListed, plainly}
+use Rattle.auditor.specs.Linked.{mayInsert}
 use Rattle.auditor.specs.SideBySide.{Equal, OneCall, followed, insertsBy, acceptedIn, FitsRoom, EachCall, SideBySide}
 
 -- ---- the plain store beside the machine
 
 -- d is the edition
-abbrev plainBy : ℕ → Machine → List Entry → Plain
+abbrev pub plainBy : ℕ → Machine → List Entry → Plain
 plainBy d m es = record { current = m .current; opened = m .opened; oldest = m .oldest; edition = d; items = es }
 
-record Follows (d : ℕ) (m : Machine) (p : Plain) : Type 0 where
+pub record Follows (d : ℕ) (m : Machine) (p : Plain) : Type 0 where
   pub items : List Entry
   pub is : p ≡ plainBy d m items
   pub shows : ItemsShow m items
@@ -106,11 +108,11 @@ gives-number (suc f) n e l = e
 -- ---- after a call that gave n
 
 -- the machine and the plain store after it, with so many more items at the most
-record After (d : ℕ) (m : Machine) (q p : Plain) (more : ℕ) : Type 0 where
+pub record After (d : ℕ) (m : Machine) (q p : Plain) (more : ℕ) : Type 0 where
   pub follows : Follows d m q
   pub few : length (q .items) ≤ length (p .items) + more
 
-abbrev Then : ℕ → Kind → Machine → ℕ → Plain → Plain → ℕ → Type 0
+abbrev pub Then : ℕ → Kind → Machine → ℕ → Plain → Plain → ℕ → Type 0
 Then d k m n p q cost = After d (whenDone n (stepped k m) (undone k n m)) (pick (lacking n) (pick (givesUp k n) (abandon p .plain) p) q) p (whenDone n cost 0)
 
 stay : (d : ℕ) (m : Machine) (p : Plain) → Follows d m p → After d m p p 0
@@ -420,7 +422,7 @@ module _ (x : Beside) (a : Agreed x) (es : List Entry) (s : ItemsShow (x .machin
   abbrev turn : Asked → List ℕ → Turn
   turn c ns = record { call = c; list = ns }
 
-  record Goes (c : Asked) (ns : List ℕ) : Type 0 where
+  pub record Goes (c : Asked) (ns : List ℕ) : Type 0 where
     pub one : OneCall (x .bytes) p (turn c ns)
     pub later : Then d (kindOf c) m (ended c (x .bytes) ns .number) p (plainly c p ns .plain) (insertsBy (kindOf c) (storeOf (x .bytes)))
 
@@ -543,6 +545,37 @@ module _ (x : Beside) (a : Agreed x) (es : List Entry) (s : ItemsShow (x .machin
           by-tests (λ f. (n : ℕ) → Gives f n → lacking n ≡ true → abandon p .number ≡ 0) (returnTests (m .oldest) (m .current) (m .opened) v) (stopped 5 refl, (stopped 6 refl, 0))
           (λ f n g l. ap (λ (g : Given). g .number) (abandon-open (not-false (m .opened) (f .1 .0))))
 
+  -- what a call asks room for, where it is done, is what the tree's inserts
+  returns-room : (v : ℕ) → return p v .number ≡ 0 → ownInserts p v ≤ insertsBy (changing (returns v)) (storeOf (x .bytes))
+  unfolding return
+  returns-room v z =
+      let f = firstOf (returnTests (m .oldest) (m .current) (m .opened) v) in
+      by-tests (λ n. n ≡ 0 → ownInserts p v ≤ insertsBy (changing (returns v)) (storeOf (x .bytes))) (returnTests (m .oldest) (m .current) (m .opened) v)
+      (λ e. absurd (omega (arith, e)), (λ e. absurd (omega (arith, e)), 0))
+      (λ g e.
+      let h = either-fails (ltb (m .current) v) (ltb v (m .oldest)) (g .0) in
+      let same = ap (λ (ds : List Delta). length (those comes ds)) (own-inserts v (ltb-false v (m .oldest) (h .1)) (ltb-false (m .current) v (h .0)) (not-false (m .opened) (g .1 .0))) in
+      omega (arith, same))
+      (sym (unless-number f p (holding p (backTo w v es))) ∙ z)
+
+  pub own-room : (c : Asked) (ns : List ℕ) → plainly c p ns .number ≡ 0 → mayInsert c p ≤ insertsBy (kindOf c) (storeOf (x .bytes))
+  own-room toFresh ns z = omega arith
+  own-room toFreshSecond ns z = omega arith
+  own-room toCheck ns z = omega arith
+  own-room toState ns z = omega arith
+  own-room toOpen ns z = omega arith
+  own-room toCommit ns z = omega arith
+  own-room toAbandon ns z = omega arith
+  own-room (toInsert k y) ns z = omega arith
+  own-room (toDelete k) ns z = omega arith
+  own-room (toReturn v) ns z = returns-room v z
+  own-room (toPrune v) ns z = omega arith
+  own-room (toLookup k v) ns z = omega arith
+  own-room (toRange lo hi v) ns z = omega arith
+  own-room (toVisits k v) ns z = omega arith
+  own-room (toDifference u v) ns z = omega arith
+  own-room (toLife k) ns z = omega arith
+
   -- the tree's edition and the plain store's
   edition-one : eqb d 1 ≡ leb (leastOf (x .bytes)) 4
   edition-one = at (leb (leastOf (x .bytes)) 4)
@@ -559,7 +592,7 @@ module _ (x : Beside) (a : Agreed x) (es : List Entry) (s : ItemsShow (x .machin
       let gives = of-equal f _ (says .prunes v ns ∙ sym same) in
       record { one = record { equal = equal-given (ended (toPrune v) (x .bytes) ns) ns f (prune p v) (unless-number f _ _) gives refl refl; abandons = never }; later = prunes-then v _ gives }
 
-  goes : (c : Asked) → has c ≡ true → (ns : List ℕ) → Goes c ns
+  pub goes : (c : Asked) → has c ≡ true → (ns : List ℕ) → Goes c ns
   goes toFresh h ns = never h
   goes toFreshSecond h ns = never h
   goes toCheck h ns = never h
@@ -605,7 +638,7 @@ has-not-making (toVisits k v) h = refl
 has-not-making (toDifference u v) h = refl
 has-not-making (toLife k) h = refl
 
-same-edition : (x : Beside) → Agreed x → (t : Turn) → fitting (kindOf (t .call)) ≡ true → has (t .call) ≡ true → leastOf (x .bytes) ≡ leastOf (onward x t .bytes)
+pub same-edition : (x : Beside) → Agreed x → (t : Turn) → fitting (kindOf (t .call)) ≡ true → has (t .call) ≡ true → leastOf (x .bytes) ≡ leastOf (onward x t .bytes)
 same-edition x a t fit own =
     sym (edition-stays (x .bytes) (a .accepted) (t ∷ []) (both-intro (fitting (kindOf (t .call))) true fit refl) (both-intro (notMaking (kindOf (t .call))) true (has-not-making (t .call) own) refl))
 
@@ -629,7 +662,7 @@ each-call (t ∷ ts) f h x a p follows room fits =
         let few = now .later .few in
         (fits-by (editionOf (leastOf (x .bytes))) (x .machine) (follows .items) (follows .shows) room (omega (arith, i)), now .one, rest (followed (turned (x .bytes) t .number) (plainBy (editionOf (leastOf (x .bytes))) (x .machine) (follows .items)) t) (now .later .follows) (omega (arith, few)))
 
-fresh-edition : (least : ℕ) → OfEdition least → (n : ℕ) → 6 ≤ n → n ≤ 4096 → leastOf (encode least (fresh n)) ≡ least
+pub fresh-edition : (least : ℕ) → OfEdition least → (n : ℕ) → 6 ≤ n → n ≤ 4096 → leastOf (encode least (fresh n)) ≡ least
 fresh-edition least e n six most =
     let four : 4 ≤ least = edition-four least e in
     encoded-sound least e (fresh n) (true-holds (sound least (fresh n)) (to-tests least (fresh n) (fresh-sound least (omega arith) n six most))) .edition

@@ -1,3 +1,4 @@
 pub mod Engine
 pub mod SideBySide
 pub mod Linked
+pub mod LinkedRun

@@ -7,7 +7,7 @@ use mathlib.Core.Path.{_≡_}
 use mathlib.Core.List.{List}
 use lib.ListN.{length}
 use Rattle.model.specs.Ended.{Asked, toFresh, toFreshSecond, toCheck, toState, toOpen, toCommit, toAbandon, toInsert, toDelete, toReturn, toPrune, toLookup, toRange, toVisits, toDifference, toLife}
-use Rattle.plain.specs.Plain.{begin}
+use Rattle.plain.specs.Plain.{Plain, begin}
 use Rattle.plain.specs.Guard.{stateOf, isState, isLent, readPlain, guarded, ownInserts, insertGuarded, deleteGuarded, commitGuarded, abandonGuarded, returnGuarded, pruneGuarded, lookupGuarded, rangeGuarded, differenceGuarded, lifeGuarded}
 use Rattle.auditor.specs.Engine.{Plainly, ofGiven, ofLooked, ofListed, nothing, plainly}
 
@@ -31,23 +31,27 @@ guardedly (toDifference u v) ns ms us = ofListed (readPlain ns ms) (differenceGu
 guardedly (toLife k) ns ms us = ofListed (readPlain ns ms) (lifeGuarded ns ms k us)
 
 -- the inserts that a call may make
-abbrev pub mayInsert : Asked → List ℕ → List ℕ → ℕ
-mayInsert toFresh ns ms = 0
-mayInsert toFreshSecond ns ms = 0
-mayInsert toCheck ns ms = 0
-mayInsert toState ns ms = 0
-mayInsert toOpen ns ms = 0
-mayInsert toCommit ns ms = 0
-mayInsert toAbandon ns ms = 0
-mayInsert (toInsert k x) ns ms = 1
-mayInsert (toDelete k) ns ms = 0
-mayInsert (toReturn v) ns ms = ownInserts (readPlain ns ms) v
-mayInsert (toPrune v) ns ms = 0
-mayInsert (toLookup k v) ns ms = 0
-mayInsert (toRange lo hi v) ns ms = 0
-mayInsert (toVisits k v) ns ms = 0
-mayInsert (toDifference u v) ns ms = 0
-mayInsert (toLife k) ns ms = 0
+abbrev pub mayInsert : Asked → Plain → ℕ
+mayInsert toFresh p = 0
+mayInsert toFreshSecond p = 0
+mayInsert toCheck p = 0
+mayInsert toState p = 0
+mayInsert toOpen p = 0
+mayInsert toCommit p = 0
+mayInsert toAbandon p = 0
+mayInsert (toInsert k x) p = 1
+mayInsert (toDelete k) p = 0
+mayInsert (toReturn v) p = ownInserts p v
+mayInsert (toPrune v) p = 0
+mayInsert (toLookup k v) p = 0
+mayInsert (toRange lo hi v) p = 0
+mayInsert (toVisits k v) p = 0
+mayInsert (toDifference u v) p = 0
+mayInsert (toLife k) p = 0
+
+-- "one item for each accepted insert": a call that is refused needs no room
+abbrev pub HasRoom : Asked → List ℕ → List ℕ → List ℕ → Type 0
+HasRoom c ns ms us = plainly c (readPlain ns ms) us .number ≡ 0 → 4 * (stateOf ms .count + mayInsert c (readPlain ns ms)) ≤ length ns
 
 abbrev pub Linked : Type 0
-Linked = (c : Asked) (ns ms us : List ℕ) → isLent ns ms ≡ true → 4 * (stateOf ms .count + mayInsert c ns ms) ≤ length ns → guardedly c ns ms us ≡ plainly c (readPlain ns ms) us
+Linked = (c : Asked) (ns ms us : List ℕ) → isLent ns ms ≡ true → HasRoom c ns ms us → guardedly c ns ms us ≡ plainly c (readPlain ns ms) us

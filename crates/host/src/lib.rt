@@ -1,6 +1,6 @@
 // The calls for programs in other languages: numbers and byte slices, any of them. include/rcst.h says the same to a C programmer.
 mod naming;
-mod plainly;
+pub mod plainly;
 
 use model::Looked;
 ghost use mathlib.Core.Path.{_≡_};

@@ -3,13 +3,14 @@
 ghost use mathlib.Core.Path.{_≡_};
 ghost use Rattle.model.specs.Layout.{bit};
 ghost use Rattle.model.specs.Calls.{lookedNumber, lookedFound, lookedValue};
-ghost use Rattle.plain.specs.Guard.{isState, isLent, leftLent, insertGuarded, deleteGuarded, commitGuarded, abandonGuarded, returnGuarded, pruneGuarded, lookupGuarded, rangeGuarded, differenceGuarded, lifeGuarded, OpensGuarded, Spared};
+ghost use Rattle.plain.specs.Guard.{isState, isLent, leftLent, insertGuarded, deleteGuarded, commitGuarded, abandonGuarded, returnGuarded, pruneGuarded, lookupGuarded, rangeGuarded, differenceGuarded, lifeGuarded, OpensGuarded, Spared, StateAgain, LentAgain};
 
 // Opens an update.
 #[no_mangle]
 pub extern "C" fn rcst_plain_open(state: &mut [u32; 5]) -> u32
     ensures given { λ r. ⌜ OpensGuarded (now (state .entry)) r (now (state .exit)) ⌝ }
     ensures spared { λ _. ⌜ Spared (isState (now (state .entry))) (now (state .entry)) (now (state .exit)) ⌝ }
+    ensures again { λ _. ⌜ StateAgain (now (state .entry)) (now (state .exit)) ⌝ }
 {
     plain::lent::open(state)
 }
@@ -25,6 +26,7 @@ pub extern "C" fn rcst_plain_insert(
     ensures given { λ r. ⌜ leftLent r (now (items .exit)) (now (state .exit)) ≡ insertGuarded (now (items .entry)) (now (state .entry)) key value ⌝ }
     ensures spared { λ _. ⌜ Spared (isLent (now (items .entry)) (now (state .entry))) (now (state .entry)) (now (state .exit)) ⌝ }
     ensures untouched { λ _. ⌜ Spared (isLent (now (items .entry)) (now (state .entry))) (now (items .entry)) (now (items .exit)) ⌝ }
+    ensures again { λ _. ⌜ LentAgain (now (items .entry)) (now (state .entry)) (now (items .exit)) (now (state .exit)) ⌝ }
 {
     plain::lent::insert(items, state, key, value)
 }
@@ -35,6 +37,7 @@ pub extern "C" fn rcst_plain_delete(items: &mut [u32], state: &mut [u32; 5], key
     ensures given { λ r. ⌜ leftLent r (now (items .exit)) (now (state .exit)) ≡ deleteGuarded (now (items .entry)) (now (state .entry)) key ⌝ }
     ensures spared { λ _. ⌜ Spared (isLent (now (items .entry)) (now (state .entry))) (now (state .entry)) (now (state .exit)) ⌝ }
     ensures untouched { λ _. ⌜ Spared (isLent (now (items .entry)) (now (state .entry))) (now (items .entry)) (now (items .exit)) ⌝ }
+    ensures again { λ _. ⌜ LentAgain (now (items .entry)) (now (state .entry)) (now (items .exit)) (now (state .exit)) ⌝ }
 {
     plain::lent::delete(items, state, key)
 }
@@ -44,6 +47,7 @@ pub extern "C" fn rcst_plain_delete(items: &mut [u32], state: &mut [u32; 5], key
 pub extern "C" fn rcst_plain_commit(items: &[u32], state: &mut [u32; 5]) -> u32
     ensures given { λ r. ⌜ leftLent r (now (items .entry)) (now (state .exit)) ≡ commitGuarded (now (items .entry)) (now (state .entry)) ⌝ }
     ensures spared { λ _. ⌜ Spared (isLent (now (items .entry)) (now (state .entry))) (now (state .entry)) (now (state .exit)) ⌝ }
+    ensures again { λ _. ⌜ LentAgain (now (items .entry)) (now (state .entry)) (now (items .entry)) (now (state .exit)) ⌝ }
 {
     plain::lent::commit(items, state)
 }
@@ -54,6 +58,7 @@ pub extern "C" fn rcst_plain_abandon(items: &mut [u32], state: &mut [u32; 5]) ->
     ensures given { λ r. ⌜ leftLent r (now (items .exit)) (now (state .exit)) ≡ abandonGuarded (now (items .entry)) (now (state .entry)) ⌝ }
     ensures spared { λ _. ⌜ Spared (isLent (now (items .entry)) (now (state .entry))) (now (state .entry)) (now (state .exit)) ⌝ }
     ensures untouched { λ _. ⌜ Spared (isLent (now (items .entry)) (now (state .entry))) (now (items .entry)) (now (items .exit)) ⌝ }
+    ensures again { λ _. ⌜ LentAgain (now (items .entry)) (now (state .entry)) (now (items .exit)) (now (state .exit)) ⌝ }
 {
     plain::lent::abandon(items, state)
 }
@@ -64,6 +69,7 @@ pub extern "C" fn rcst_plain_return(items: &mut [u32], state: &mut [u32; 5], ver
     ensures given { λ r. ⌜ leftLent r (now (items .exit)) (now (state .exit)) ≡ returnGuarded (now (items .entry)) (now (state .entry)) version ⌝ }
     ensures spared { λ _. ⌜ Spared (isLent (now (items .entry)) (now (state .entry))) (now (state .entry)) (now (state .exit)) ⌝ }
     ensures untouched { λ _. ⌜ Spared (isLent (now (items .entry)) (now (state .entry))) (now (items .entry)) (now (items .exit)) ⌝ }
+    ensures again { λ _. ⌜ LentAgain (now (items .entry)) (now (state .entry)) (now (items .exit)) (now (state .exit)) ⌝ }
 {
     plain::lent::return_to(items, state, version)
 }
@@ -74,6 +80,7 @@ pub extern "C" fn rcst_plain_prune(items: &mut [u32], state: &mut [u32; 5], vers
     ensures given { λ r. ⌜ leftLent r (now (items .exit)) (now (state .exit)) ≡ pruneGuarded (now (items .entry)) (now (state .entry)) version ⌝ }
     ensures spared { λ _. ⌜ Spared (isLent (now (items .entry)) (now (state .entry))) (now (state .entry)) (now (state .exit)) ⌝ }
     ensures untouched { λ _. ⌜ Spared (isLent (now (items .entry)) (now (state .entry))) (now (items .entry)) (now (items .exit)) ⌝ }
+    ensures again { λ _. ⌜ LentAgain (now (items .entry)) (now (state .entry)) (now (items .exit)) (now (state .exit)) ⌝ }
 {
     plain::lent::prune(items, state, version)
 }

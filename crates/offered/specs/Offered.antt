@@ -39,8 +39,31 @@ use Rattle.host.proofs.rcst_life as rcst-life
 use Rattle.host.proofs.rcst_life.Symbol as rcst-life-code
 use Rattle.host.proofs.rcst_state as rcst-state
 use Rattle.host.proofs.rcst_state.Symbol as rcst-state-code
+use Rattle.host.proofs.plainly.rcst_plain_open as rcst-plain-open
+use Rattle.host.proofs.plainly.rcst_plain_open.Symbol as rcst-plain-open-code
+use Rattle.host.proofs.plainly.rcst_plain_insert as rcst-plain-insert
+use Rattle.host.proofs.plainly.rcst_plain_insert.Symbol as rcst-plain-insert-code
+use Rattle.host.proofs.plainly.rcst_plain_delete as rcst-plain-delete
+use Rattle.host.proofs.plainly.rcst_plain_delete.Symbol as rcst-plain-delete-code
+use Rattle.host.proofs.plainly.rcst_plain_commit as rcst-plain-commit
+use Rattle.host.proofs.plainly.rcst_plain_commit.Symbol as rcst-plain-commit-code
+use Rattle.host.proofs.plainly.rcst_plain_abandon as rcst-plain-abandon
+use Rattle.host.proofs.plainly.rcst_plain_abandon.Symbol as rcst-plain-abandon-code
+use Rattle.host.proofs.plainly.rcst_plain_return as rcst-plain-return
+use Rattle.host.proofs.plainly.rcst_plain_return.Symbol as rcst-plain-return-code
+use Rattle.host.proofs.plainly.rcst_plain_prune as rcst-plain-prune
+use Rattle.host.proofs.plainly.rcst_plain_prune.Symbol as rcst-plain-prune-code
+use Rattle.host.proofs.plainly.rcst_plain_lookup as rcst-plain-lookup
+use Rattle.host.proofs.plainly.rcst_plain_lookup.Symbol as rcst-plain-lookup-code
+use Rattle.host.proofs.plainly.rcst_plain_range as rcst-plain-range
+use Rattle.host.proofs.plainly.rcst_plain_range.Symbol as rcst-plain-range-code
+use Rattle.host.proofs.plainly.rcst_plain_difference as rcst-plain-difference
+use Rattle.host.proofs.plainly.rcst_plain_difference.Symbol as rcst-plain-difference-code
+use Rattle.host.proofs.plainly.rcst_plain_life as rcst-plain-life
+use Rattle.host.proofs.plainly.rcst_plain_life.Symbol as rcst-plain-life-code
+use Rattle.plain.specs.Guard.{isState, isLent}
 use Rattle.offered.specs.Does.{Says, Does}
-use Rattle.offered.specs.Promised.{Promised, gave, Conversion}
+use Rattle.offered.specs.Promised.{Promised, gave, Conversion, PlainPromised, plainGave}
 
 abbrev pub Fresh : Says rcst-fresh.ended
 Fresh κs a r e = (ns : List ℕ) → Promised toFresh (now (a .0)) ns (gave r [] (now (e .0)) ns)
@@ -93,6 +116,41 @@ State κs a r e = (ns : List ℕ) → Promised toState (now (a .0)) ns (gave r (
 abbrev pub Convert : Says rcst-convert.ended
 Convert κs a r e = Conversion (now (a .0)) (now (a .1 .0)) r (now (e .1 .0))
 
+-- ---- the plain engine (2026-10): items and state are lent, where an open has no list any will do
+
+abbrev pub PlainOpen : Says rcst-plain-open.ended
+PlainOpen κs a r e = (ns us : List ℕ) → PlainPromised (isState (now (a .0))) toOpen ns (now (a .0)) us (plainGave r [] ns (now (e .0)) us) ns (now (e .0))
+
+abbrev pub PlainInsert : Says rcst-plain-insert.ended
+PlainInsert κs a r e = (us : List ℕ) → PlainPromised (isLent (now (a .0)) (now (a .1 .0))) (toInsert (a .1 .1 .0) (a .1 .1 .1 .0)) (now (a .0)) (now (a .1 .0)) us (plainGave r [] (now (e .0)) (now (e .1 .0)) us) (now (e .0)) (now (e .1 .0))
+
+abbrev pub PlainDelete : Says rcst-plain-delete.ended
+PlainDelete κs a r e = (us : List ℕ) → PlainPromised (isLent (now (a .0)) (now (a .1 .0))) (toDelete (a .1 .1 .0)) (now (a .0)) (now (a .1 .0)) us (plainGave r [] (now (e .0)) (now (e .1 .0)) us) (now (e .0)) (now (e .1 .0))
+
+abbrev pub PlainCommit : Says rcst-plain-commit.ended
+PlainCommit κs a r e = (us : List ℕ) → PlainPromised (isLent (now (a .0)) (now (a .1 .0))) toCommit (now (a .0)) (now (a .1 .0)) us (plainGave r [] (now (a .0)) (now (e .1 .0)) us) (now (a .0)) (now (e .1 .0))
+
+abbrev pub PlainAbandon : Says rcst-plain-abandon.ended
+PlainAbandon κs a r e = (us : List ℕ) → PlainPromised (isLent (now (a .0)) (now (a .1 .0))) toAbandon (now (a .0)) (now (a .1 .0)) us (plainGave r [] (now (e .0)) (now (e .1 .0)) us) (now (e .0)) (now (e .1 .0))
+
+abbrev pub PlainReturn : Says rcst-plain-return.ended
+PlainReturn κs a r e = (us : List ℕ) → PlainPromised (isLent (now (a .0)) (now (a .1 .0))) (toReturn (a .1 .1 .0)) (now (a .0)) (now (a .1 .0)) us (plainGave r [] (now (e .0)) (now (e .1 .0)) us) (now (e .0)) (now (e .1 .0))
+
+abbrev pub PlainPrune : Says rcst-plain-prune.ended
+PlainPrune κs a r e = (us : List ℕ) → PlainPromised (isLent (now (a .0)) (now (a .1 .0))) (toPrune (a .1 .1 .0)) (now (a .0)) (now (a .1 .0)) us (plainGave r [] (now (e .0)) (now (e .1 .0)) us) (now (e .0)) (now (e .1 .0))
+
+abbrev pub PlainLookup : Says rcst-plain-lookup.ended
+PlainLookup κs a r e = (us : List ℕ) → PlainPromised (isLent (now (a .0)) (now (a .1 .0))) (toLookup (a .1 .1 .0) (a .1 .1 .1 .0)) (now (a .0)) (now (a .1 .0)) us (plainGave r (now (e .1 .1 .1 .1 .0) ∷ now (e .1 .1 .1 .1 .1 .0) ∷ []) (now (a .0)) (now (a .1 .0)) us) (now (a .0)) (now (a .1 .0))
+
+abbrev pub PlainRange : Says rcst-plain-range.ended
+PlainRange κs a r e = PlainPromised (isLent (now (a .0)) (now (a .1 .0))) (toRange (a .1 .1 .0) (a .1 .1 .1 .0) (a .1 .1 .1 .1 .0)) (now (a .0)) (now (a .1 .0)) (now (a .1 .1 .1 .1 .1 .0)) (plainGave r (now (e .1 .1 .1 .1 .1 .1 .0) ∷ []) (now (a .0)) (now (a .1 .0)) (now (e .1 .1 .1 .1 .1 .0))) (now (a .0)) (now (a .1 .0))
+
+abbrev pub PlainDifference : Says rcst-plain-difference.ended
+PlainDifference κs a r e = PlainPromised (isLent (now (a .0)) (now (a .1 .0))) (toDifference (a .1 .1 .0) (a .1 .1 .1 .0)) (now (a .0)) (now (a .1 .0)) (now (a .1 .1 .1 .1 .0)) (plainGave r (now (e .1 .1 .1 .1 .1 .0) ∷ []) (now (a .0)) (now (a .1 .0)) (now (e .1 .1 .1 .1 .0))) (now (a .0)) (now (a .1 .0))
+
+abbrev pub PlainLife : Says rcst-plain-life.ended
+PlainLife κs a r e = PlainPromised (isLent (now (a .0)) (now (a .1 .0))) (toLife (a .1 .1 .0)) (now (a .0)) (now (a .1 .0)) (now (a .1 .1 .1 .0)) (plainGave r (now (e .1 .1 .1 .1 .0) ∷ []) (now (a .0)) (now (a .1 .0)) (now (e .1 .1 .1 .0))) (now (a .0)) (now (a .1 .0))
+
 -- what all of them do
 pub record AllOffered (M : Type 1) : Type 2 where
   pub fresh : Does rcst-fresh.ended rcst-fresh-code.routine Fresh M
@@ -112,3 +170,14 @@ pub record AllOffered (M : Type 1) : Type 2 where
   pub life : Does rcst-life.ended rcst-life-code.routine Life M
   pub state : Does rcst-state.ended rcst-state-code.routine State M
   pub convert : Does rcst-convert.ended rcst-convert-code.routine Convert M
+  pub plain-open : Does rcst-plain-open.ended rcst-plain-open-code.routine PlainOpen M
+  pub plain-insert : Does rcst-plain-insert.ended rcst-plain-insert-code.routine PlainInsert M
+  pub plain-delete : Does rcst-plain-delete.ended rcst-plain-delete-code.routine PlainDelete M
+  pub plain-commit : Does rcst-plain-commit.ended rcst-plain-commit-code.routine PlainCommit M
+  pub plain-abandon : Does rcst-plain-abandon.ended rcst-plain-abandon-code.routine PlainAbandon M
+  pub plain-return : Does rcst-plain-return.ended rcst-plain-return-code.routine PlainReturn M
+  pub plain-prune : Does rcst-plain-prune.ended rcst-plain-prune-code.routine PlainPrune M
+  pub plain-lookup : Does rcst-plain-lookup.ended rcst-plain-lookup-code.routine PlainLookup M
+  pub plain-range : Does rcst-plain-range.ended rcst-plain-range-code.routine PlainRange M
+  pub plain-difference : Does rcst-plain-difference.ended rcst-plain-difference-code.routine PlainDifference M
+  pub plain-life : Does rcst-plain-life.ended rcst-plain-life-code.routine PlainLife M

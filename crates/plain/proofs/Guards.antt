@@ -101,7 +101,7 @@ lent-by ns ms e h =
 pub lent-none : (ns ms : List ℕ) → isState ms ≡ false → isLent ns ms ≡ false
 lent-none ns ms e = ap (λ (b : Bool). b && (leb (length ns) longest && leb (4 * getD ms 2 0) (length ns))) e
 
-both : (b c : Bool) → (b && c) ≡ true → (b ≡ true) × (c ≡ true)
+pub both : (b c : Bool) → (b && c) ≡ true → (b ≡ true) × (c ≡ true)
 both true c e = (refl, e)
 both false c e = absurd (let z : _≡_ {A = ℕ} 0 1 = cc in omega arith)
 

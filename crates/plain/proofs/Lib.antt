@@ -4,3 +4,4 @@ pub mod Keys
 pub mod Backs
 pub mod Shows
 pub mod Guards
+pub mod Again

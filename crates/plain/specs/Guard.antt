@@ -1,7 +1,7 @@
 -- The plain store as other languages lend it: any five numbers for a state, and any list. "No `requires`" there: what the calls ask is tested.
 -- Assumes nothing.
 use Prim.Native.Nat.{ℕ, _+_, _*_}
-use mathlib.Core.Bool.{Bool, false, _&&_}
+use mathlib.Core.Bool.{Bool, true, false, _&&_}
 use mathlib.Core.Path.{_≡_}
 use mathlib.Core.List.{List, [], _∷_}
 use lib.Dec.{leb, ltb, eqb}
@@ -124,6 +124,13 @@ OpensGuarded ms r ms′ = (ns : List ℕ) → leftLent r ns ms′ ≡ guarded (i
 -- what is no plain store is left as it is, number for number
 abbrev pub Spared : Bool → List ℕ → List ℕ → Type 0
 Spared lent ns ns′ = lent ≡ false → ns′ ≡ ns
+
+-- what is left of a plain store is one again: five numbers that are a state, the flag among them, and a list as long as it was that holds the items
+abbrev pub StateAgain : List ℕ → List ℕ → Type 0
+StateAgain ms ms′ = isState ms ≡ true → isState ms′ ≡ true
+
+abbrev pub LentAgain : List ℕ → List ℕ → List ℕ → List ℕ → Type 0
+LentAgain ns ms ns′ ms′ = isLent ns ms ≡ true → (isLent ns′ ms′ ≡ true) × (length ns′ ≡ length ns)
 
 -- whether a key comes with a return: it has a value there, and not this one now
 abbrev pub comesBy : Found → Found → ℕ

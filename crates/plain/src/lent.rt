@@ -5,7 +5,7 @@ use crate::guard;
 use model::Looked;
 ghost use mathlib.Core.Path.{_≡_};
 ghost use Rattle.plain.specs.Tell.{toldWith};
-ghost use Rattle.plain.specs.Guard.{isState, isLent, leftLent, insertGuarded, deleteGuarded, commitGuarded, abandonGuarded, returnGuarded, pruneGuarded, lookupGuarded, rangeGuarded, differenceGuarded, lifeGuarded, OpensGuarded, Spared};
+ghost use Rattle.plain.specs.Guard.{isState, isLent, leftLent, insertGuarded, deleteGuarded, commitGuarded, abandonGuarded, returnGuarded, pruneGuarded, lookupGuarded, rangeGuarded, differenceGuarded, lifeGuarded, OpensGuarded, Spared, StateAgain, LentAgain};
 
 // No state, or the list does not hold its items.
 const NONE: u32 = 4;
@@ -16,6 +16,7 @@ const SHORT: u32 = 14;
 pub fn open(state: &mut [u32; 5]) -> u32
     ensures given { λ r. ⌜ OpensGuarded (now (state .entry)) r (now (state .exit)) ⌝ }
     ensures spared { λ _. ⌜ Spared (isState (now (state .entry))) (now (state .entry)) (now (state .exit)) ⌝ }
+    ensures again { λ _. ⌜ StateAgain (now (state .entry)) (now (state .exit)) ⌝ }
 {
     if !guard::is_state(state) {
         return NONE;
@@ -28,6 +29,7 @@ pub fn insert(items: &mut [u32], state: &mut [u32; 5], key: u32, value: u32) -> 
     ensures given { λ r. ⌜ leftLent r (now (items .exit)) (now (state .exit)) ≡ insertGuarded (now (items .entry)) (now (state .entry)) key value ⌝ }
     ensures spared { λ _. ⌜ Spared (isLent (now (items .entry)) (now (state .entry))) (now (state .entry)) (now (state .exit)) ⌝ }
     ensures untouched { λ _. ⌜ Spared (isLent (now (items .entry)) (now (state .entry))) (now (items .entry)) (now (items .exit)) ⌝ }
+    ensures again { λ _. ⌜ LentAgain (now (items .entry)) (now (state .entry)) (now (items .exit)) (now (state .exit)) ⌝ }
 {
     if !guard::is_lent(items, state) {
         return NONE;
@@ -44,6 +46,7 @@ pub fn delete(items: &mut [u32], state: &mut [u32; 5], key: u32) -> u32
     ensures given { λ r. ⌜ leftLent r (now (items .exit)) (now (state .exit)) ≡ deleteGuarded (now (items .entry)) (now (state .entry)) key ⌝ }
     ensures spared { λ _. ⌜ Spared (isLent (now (items .entry)) (now (state .entry))) (now (state .entry)) (now (state .exit)) ⌝ }
     ensures untouched { λ _. ⌜ Spared (isLent (now (items .entry)) (now (state .entry))) (now (items .entry)) (now (items .exit)) ⌝ }
+    ensures again { λ _. ⌜ LentAgain (now (items .entry)) (now (state .entry)) (now (items .exit)) (now (state .exit)) ⌝ }
 {
     if !guard::is_lent(items, state) {
         return NONE;
@@ -56,6 +59,7 @@ pub fn delete(items: &mut [u32], state: &mut [u32; 5], key: u32) -> u32
 pub fn commit(items: &[u32], state: &mut [u32; 5]) -> u32
     ensures given { λ r. ⌜ leftLent r (now (items .entry)) (now (state .exit)) ≡ commitGuarded (now (items .entry)) (now (state .entry)) ⌝ }
     ensures spared { λ _. ⌜ Spared (isLent (now (items .entry)) (now (state .entry))) (now (state .entry)) (now (state .exit)) ⌝ }
+    ensures again { λ _. ⌜ LentAgain (now (items .entry)) (now (state .entry)) (now (items .entry)) (now (state .exit)) ⌝ }
 {
     if !guard::is_lent(items, state) {
         return NONE;
@@ -69,6 +73,7 @@ pub fn abandon(items: &mut [u32], state: &mut [u32; 5]) -> u32
     ensures given { λ r. ⌜ leftLent r (now (items .exit)) (now (state .exit)) ≡ abandonGuarded (now (items .entry)) (now (state .entry)) ⌝ }
     ensures spared { λ _. ⌜ Spared (isLent (now (items .entry)) (now (state .entry))) (now (state .entry)) (now (state .exit)) ⌝ }
     ensures untouched { λ _. ⌜ Spared (isLent (now (items .entry)) (now (state .entry))) (now (items .entry)) (now (items .exit)) ⌝ }
+    ensures again { λ _. ⌜ LentAgain (now (items .entry)) (now (state .entry)) (now (items .exit)) (now (state .exit)) ⌝ }
 {
     if !guard::is_lent(items, state) {
         return NONE;
@@ -82,6 +87,7 @@ pub fn return_to(items: &mut [u32], state: &mut [u32; 5], version: u32) -> u32
     ensures given { λ r. ⌜ leftLent r (now (items .exit)) (now (state .exit)) ≡ returnGuarded (now (items .entry)) (now (state .entry)) version ⌝ }
     ensures spared { λ _. ⌜ Spared (isLent (now (items .entry)) (now (state .entry))) (now (state .entry)) (now (state .exit)) ⌝ }
     ensures untouched { λ _. ⌜ Spared (isLent (now (items .entry)) (now (state .entry))) (now (items .entry)) (now (items .exit)) ⌝ }
+    ensures again { λ _. ⌜ LentAgain (now (items .entry)) (now (state .entry)) (now (items .exit)) (now (state .exit)) ⌝ }
 {
     if !guard::is_lent(items, state) {
         return NONE;
@@ -98,6 +104,7 @@ pub fn prune(items: &mut [u32], state: &mut [u32; 5], version: u32) -> u32
     ensures given { λ r. ⌜ leftLent r (now (items .exit)) (now (state .exit)) ≡ pruneGuarded (now (items .entry)) (now (state .entry)) version ⌝ }
     ensures spared { λ _. ⌜ Spared (isLent (now (items .entry)) (now (state .entry))) (now (state .entry)) (now (state .exit)) ⌝ }
     ensures untouched { λ _. ⌜ Spared (isLent (now (items .entry)) (now (state .entry))) (now (items .entry)) (now (items .exit)) ⌝ }
+    ensures again { λ _. ⌜ LentAgain (now (items .entry)) (now (state .entry)) (now (items .exit)) (now (state .exit)) ⌝ }
 {
     if !guard::is_lent(items, state) {
         return NONE;

@@ -6,6 +6,7 @@ use Rattle.plain.specs.Plain.{Plain, commit}
 use Rattle.plain.specs.Items.{plainOf}
 use Rattle.plain.specs.Guard.{isLent, readPlain}
 use Rattle.plain.proofs.Guards as guards
+use Rattle.plain.proofs.Again as again
 use borrow.Author.Needs.{needs}
 use Rattle.plain.proofs.lent.commit.Statement.{statement}
 use Rattle.plain.proofs.lent.commit.Tie as tie
@@ -18,7 +19,7 @@ returns c =
     let a = c .before .before .before .before .args in
     let p = readPlain (a .items .now) (a .state .now) in
     let none = sym (c .before .is-lent .ensures) ∙ not-true (c .before .is-lent .result) (c .if1 .taken) in
-    (guards.guarded-none (isLent (a .items .now) (a .state .now)) p (commit p) none, λ e. refl)
+    (guards.guarded-none (isLent (a .items .now) (a .state .now)) p (commit p) none, (λ e. refl, λ e. guards.not-both (isLent (a .items .now) (a .state .now)) e none))
 
 state-of-requires : tie.Need-state-of-requires
 state-of-requires c κs = search needs
@@ -50,7 +51,9 @@ returns-2 c =
     let call = c .before .before .commit in
     let p = readPlain ns ms in
     let left = guards.own-left ns ms yes (s .result) (s .ensures .0) (call .result) ns (λ (q : Plain). commit q) (call .ensures) (c .keep .result) (c .keep .last .0) (c .keep .ensures .0) (c .keep .ensures .1) in
-    (left ∙ guards.guarded-some (isLent ns ms) p (commit p) yes, λ e. guards.not-both (isLent ns ms) yes e)
+    let lent = again.lent-again ns ms yes (s .result) (s .ensures .0) (call .result) ns (commit (plainOf (s .result) ns)) (call .ensures) (λ h. again.commit-stands (plainOf (s .result) ns) h)
+    (omega (arith, guards.commit-few (plainOf (s .result) ns), guards.own-items ns ms yes (s .result) (s .ensures .0))) refl (c .keep .last .0) (c .keep .ensures .1) in
+    (left ∙ guards.guarded-some (isLent ns ms) p (commit p) yes, (λ e. guards.not-both (isLent ns ms) yes e, lent))
 
 pub commit-spec : {M : Type 1} → statement M
 commit-spec = tie.close (tie.spec is-lent-requires returns state-of-requires commit-requires keep-requires returns-2)

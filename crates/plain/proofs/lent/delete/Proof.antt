@@ -6,6 +6,7 @@ use Rattle.plain.specs.Plain.{Plain, delete}
 use Rattle.plain.specs.Items.{plainOf}
 use Rattle.plain.specs.Guard.{isLent, readPlain}
 use Rattle.plain.proofs.Guards as guards
+use Rattle.plain.proofs.Again as again
 use borrow.Author.Needs.{needs}
 use Rattle.plain.proofs.lent.delete.Statement.{statement}
 use Rattle.plain.proofs.lent.delete.Tie as tie
@@ -21,7 +22,7 @@ returns c =
     let a = c .before .before .before .before .before .args in
     let p = readPlain (a .items .now) (a .state .now) in
     let none = sym (c .before .is-lent .ensures) ∙ not-true (c .before .is-lent .result) (c .if1 .taken) in
-    (guards.guarded-none (isLent (a .items .now) (a .state .now)) p (delete p (a .key)) none, (λ e. refl, λ e. refl))
+    (guards.guarded-none (isLent (a .items .now) (a .state .now)) p (delete p (a .key)) none, (λ e. refl, (λ e. refl, λ e. guards.not-both (isLent (a .items .now) (a .state .now)) e none)))
 
 state-of-requires : tie.Need-state-of-requires
 state-of-requires c κs = search needs
@@ -56,7 +57,9 @@ returns-2 c =
     let call = c .before .before .before .before .delete in
     let p = readPlain ns ms in
     let left = guards.own-left ns ms yes (s .result) (s .ensures .0) (call .result) (call .last .0) (λ (q : Plain). delete q (a .key)) (call .ensures) (c .keep .result) (c .keep .last .0) (c .keep .ensures .0) (c .keep .ensures .1) in
-    (left ∙ guards.guarded-some (isLent ns ms) p (delete p (a .key)) yes, (λ e. guards.not-both (isLent ns ms) yes e, λ e. guards.not-both (isLent ns ms) yes e))
+    let lent = again.lent-again ns ms yes (s .result) (s .ensures .0) (call .result) (call .last .0) (delete (plainOf (s .result) ns) (a .key)) (call .ensures) (λ h. again.delete-stands (plainOf (s .result) ns) h (a .key))
+    (omega (arith, guards.delete-few (plainOf (s .result) ns) (a .key), guards.own-items ns ms yes (s .result) (s .ensures .0))) (call .kept .0) (c .keep .last .0) (c .keep .ensures .1) in
+    (left ∙ guards.guarded-some (isLent ns ms) p (delete p (a .key)) yes, (λ e. guards.not-both (isLent ns ms) yes e, (λ e. guards.not-both (isLent ns ms) yes e, lent)))
 
 pub delete-spec : {M : Type 1} → statement M
 delete-spec = tie.close (tie.spec is-lent-requires same-length returns state-of-requires delete-requires keep-requires same-length-2 returns-2)

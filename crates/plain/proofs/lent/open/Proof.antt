@@ -6,6 +6,7 @@ use Rattle.plain.specs.Plain.{begin}
 use Rattle.plain.specs.Items.{plainOf}
 use Rattle.plain.specs.Guard.{isState, readPlain}
 use Rattle.plain.proofs.Guards as guards
+use Rattle.plain.proofs.Again as again
 use borrow.Author.Needs.{needs}
 use Rattle.plain.proofs.lent.open.Statement.{statement}
 use Rattle.plain.proofs.lent.open.Tie as tie
@@ -17,7 +18,7 @@ returns : tie.Need-returns
 returns c =
     let ms = c .before .before .before .args .state .now in
     let none = sym (c .before .is-state .ensures) ∙ not-true (c .before .is-state .result) (c .if1 .taken) in
-    (λ ns. guards.guarded-none (isState ms) (readPlain ns ms) (begin (readPlain ns ms)) none, λ e. refl)
+    (λ ns. guards.guarded-none (isState ms) (readPlain ns ms) (begin (readPlain ns ms)) none, (λ e. refl, λ e. guards.not-both (isState ms) e none))
 
 state-of-requires : tie.Need-state-of-requires
 state-of-requires c κs = search needs
@@ -39,7 +40,7 @@ returns-2 c =
     let call = c .before .before .«open» in (
       λ ns. guards.kept-given (call .result) (c .keep .result) ns (c .keep .last .0) (c .keep .ensures .0) (c .keep .ensures .1) ∙ call .ensures ns
           ∙ ap (λ (t : State). begin (plainOf t ns)) (s .ensures .0) ∙ guards.guarded-some (isState ms) (readPlain ns ms) (begin (readPlain ns ms)) yes,
-      λ e. guards.not-both (isState ms) yes e,
+      (λ e. guards.not-both (isState ms) yes e, again.state-again ms (s .result) (s .ensures .0) (call .result) (call .ensures) (c .keep .last .0) (c .keep .ensures .1)),
     )
 
 pub open-spec : {M : Type 1} → statement M

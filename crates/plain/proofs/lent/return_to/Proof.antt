@@ -3,8 +3,10 @@ use Prim.Native.Nat.{_+_}
 use mathlib.Core.Path.{refl, sym, _∙_}
 use borrow.Author.Tests.{not-true, not-false}
 use Rattle.plain.specs.Plain.{Plain, return}
+use Rattle.plain.specs.Items.{plainOf}
 use Rattle.plain.specs.Guard.{stateOf, isLent, readPlain, fitted, ownInserts}
 use Rattle.plain.proofs.Guards as guards
+use Rattle.plain.proofs.Again as again
 use borrow.Author.Needs.{needs}
 use Rattle.plain.proofs.lent.return_to.Statement.{statement}
 use Rattle.plain.proofs.lent.return_to.Tie as tie
@@ -20,7 +22,7 @@ returns c =
     let a = c .before .before .before .before .before .args in
     let p = readPlain (a .items .now) (a .state .now) in
     let none = sym (c .before .is-lent .ensures) ∙ not-true (c .before .is-lent .result) (c .if1 .taken) in
-    (guards.guarded-none (isLent (a .items .now) (a .state .now)) p (fitted (a .items .now) (stateOf (a .state .now) .count + ownInserts p (a .version)) p (return p (a .version))) none, (λ e. refl, λ e. refl))
+    (guards.guarded-none (isLent (a .items .now) (a .state .now)) p (fitted (a .items .now) (stateOf (a .state .now) .count + ownInserts p (a .version)) p (return p (a .version))) none, (λ e. refl, (λ e. refl, λ e. guards.not-both (isLent (a .items .now) (a .state .now)) e none)))
 
 state-of-requires : tie.Need-state-of-requires
 state-of-requires c κs = search needs
@@ -42,7 +44,7 @@ returns-2 c =
     let s = c .before .before .before .state-of in
     let lack = c .before .return-lacks in
     let p = readPlain ns ms in
-    (guards.own-return-short ns ms yes (s .result) (s .ensures .0) (a .version) (lack .result) (lack .ensures) (c .if2 .taken) ∙ guards.guarded-some (isLent ns ms) p (fitted (a .items .now) (stateOf (a .state .now) .count + ownInserts p (a .version)) p (return p (a .version))) yes, (λ e. refl, λ e. refl))
+    (guards.own-return-short ns ms yes (s .result) (s .ensures .0) (a .version) (lack .result) (lack .ensures) (c .if2 .taken) ∙ guards.guarded-some (isLent ns ms) p (fitted (a .items .now) (stateOf (a .state .now) .count + ownInserts p (a .version)) p (return p (a .version))) yes, (λ e. refl, (λ e. refl, λ e. (e, refl))))
 
 return-to-requires : tie.Need-return-to-requires
 return-to-requires c κs =
@@ -81,7 +83,9 @@ returns-3 c =
     let p = readPlain ns ms in
     let left = guards.own-left ns ms yes (s .result) (s .ensures .0) (call .result) (call .last .0) (λ (q : Plain). return q (a .version)) (call .ensures) (c .keep .result) (c .keep .last .0) (c .keep .ensures .0) (c .keep .ensures .1) in
     let roomy = guards.own-return-roomy ns ms yes (s .result) (s .ensures .0) (a .version) (lack .result) (lack .ensures) (c .before .before .before .before .before .before .if2 .left) in
-    (left ∙ roomy ∙ guards.guarded-some (isLent ns ms) p (fitted (a .items .now) (stateOf (a .state .now) .count + ownInserts p (a .version)) p (return p (a .version))) yes, (λ e. guards.not-both (isLent ns ms) yes e, λ e. guards.not-both (isLent ns ms) yes e))
+    let lent = again.lent-again ns ms yes (s .result) (s .ensures .0) (call .result) (call .last .0) (return (plainOf (s .result) ns) (a .version)) (call .ensures) (λ h. again.return-stands (plainOf (s .result) ns) h (a .version))
+    (guards.own-return-room ns ms yes (s .result) (s .ensures .0) (a .version) (lack .result) (lack .ensures) (c .before .before .before .before .before .before .if2 .left)) (call .kept .0) (c .keep .last .0) (c .keep .ensures .1) in
+    (left ∙ roomy ∙ guards.guarded-some (isLent ns ms) p (fitted (a .items .now) (stateOf (a .state .now) .count + ownInserts p (a .version)) p (return p (a .version))) yes, (λ e. guards.not-both (isLent ns ms) yes e, (λ e. guards.not-both (isLent ns ms) yes e, lent)))
 
 pub return-to-spec : {M : Type 1} → statement M
 return-to-spec = tie.close (tie.spec is-lent-requires same-length returns state-of-requires return-lacks-requires same-length-2 returns-2 return-to-requires keep-requires same-length-3 returns-3)
