@@ -13,7 +13,7 @@ use Rattle.model.specs.Layout.{readEntry, decode}
 use Rattle.model.specs.Inner.{Out}
 use Rattle.model.proofs.sound.ByRule.{numbers}
 use Rattle.page.specs.Head.{readHead}
-use Rattle.judge.specs.Pending.{passes}
+use Rattle.reach.specs.Pending.{passes}
 
 -- rule 4, 5 or 6 at version v
 unfoldable pub versionOk : ℕ → ℕ → List ℕ → ℕ → Bool

@@ -6,7 +6,7 @@ ghost use lib.ListN.{length};
 ghost use Rattle.model.specs.Limits.{Edition};
 ghost use Rattle.page.specs.Head.{readHead};
 ghost use Rattle.notes.specs.Ready.{BehindUpto};
-ghost use Rattle.judge.specs.Versions.{QuietPart};
+ghost use Rattle.reach.specs.Versions.{QuietPart};
 
 // A version up to r such that nothing of the page starts or ends before it and behind v. For a single version nothing is read.
 pub fn page_change(page: &[u8], l: Limits, v: u32, r: u32) -> u32

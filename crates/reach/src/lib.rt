@@ -1,4 +1,10 @@
-// Rule 6 at one version, by a walk and its marks.
+// Rule 6 at one version, by a walk and its marks, for any version from the oldest on: `check` asks it at the last one, judging where the
+// notes met a page that had gone out of reach.
+mod change;
+mod live;
+mod walk;
+
+pub use change::page_change;
 use model::Header;
 use model::Limits;
 use page::Head;
@@ -11,7 +17,13 @@ ghost use Rattle.model.specs.Limits.{Edition};
 ghost use Rattle.model.specs.Sound.{same};
 ghost use Rattle.model.specs.Layout.{readPages, sizeOf};
 ghost use Rattle.notes.specs.Ready.{Ready};
-ghost use Rattle.judge.specs.Versions.{versionOk, markedWell};
+ghost use Rattle.reach.specs.Versions.{versionOk, markedWell};
+
+pub(crate) fn wide(x: u32) -> usize
+    ensures { λ r. ⌜ r ≡ x ⌝ }
+{
+    x as usize
+}
 
 fn used_at(h: Head, v: u32) -> bool
     ensures { λ r. ⌜ r ≡ (not (eqb (h .level) 0) && within (h .start) (h .end) v) ⌝ }
@@ -53,7 +65,7 @@ fn reached(s: &[u8], l: Limits, h: Header, marks: [bool; 4096], v: u32) -> bool
 }
 
 // Rule 6 at one version.
-pub(crate) fn version_ok(s: &[u8], l: Limits, h: Header, v: u32) -> bool
+pub fn version_ok(s: &[u8], l: Limits, h: Header, v: u32) -> bool
     requires { ⌜ Edition l × Ready (l .least) (now s) h × (v ≤ 1048574) × (h .oldest ≤ v) ⌝ }
     ensures { λ r. ⌜ r ≡ versionOk (l .least) 6 (now (s .entry)) v ⌝ }
 {

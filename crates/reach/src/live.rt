@@ -10,7 +10,7 @@ ghost use Rattle.model.specs.Basic.{pick};
 ghost use Rattle.model.specs.Entry.{liveAt};
 ghost use Rattle.model.specs.Sound.{fewest};
 ghost use Rattle.model.specs.Layout.{readEntry};
-ghost use Rattle.judge.specs.Pending.{NextLive, pairsFrom, openOk, stepOk};
+ghost use Rattle.reach.specs.Pending.{NextLive, pairsFrom, openOk, stepOk};
 
 // "A span runs from start up to but not including end."
 fn is_live(e: Entry, v: u32) -> bool

@@ -9,7 +9,7 @@ ghost use Rattle.model.specs.Limits.{Edition};
 ghost use Rattle.model.specs.Layout.{readHeader};
 ghost use Rattle.local.specs.Local.{IsPage, levelAt};
 ghost use Rattle.notes.specs.Linked.{Linked};
-ghost use Rattle.judge.specs.Pending.{Tells, restOf};
+ghost use Rattle.reach.specs.Pending.{Tells, restOf};
 
 // A page that waits for the walk, at each version from `from` up to, not including, `upto`: how far above the leaves, whether it is the
 // root, and the keys that it may hold.
@@ -97,7 +97,7 @@ pub(crate) fn walk(s: &[u8], l: Limits, root: usize, up: usize, a: u32, b: u32, 
         let p = store::part(s, l, n);
         let h = page::head_of(p, l);
         let count = h.count;
-        let c = crate::changes::page_change(p, l, it.from, it.upto);
+        let c = crate::change::page_change(p, l, it.from, it.upto);
         items[top] = rest(it, c);
         top += more(c, it.upto);
         if !crate::live::opens(p, l, it.from, count, rule, it) {

@@ -21,8 +21,8 @@ use Rattle.model.proofs.sound.Judging.{clean-first, lower-four, lower-five, low
 use Rattle.model.specs.Inner.{lowerIn}
 use Rattle.notes.specs.Pass.{told}
 use Rattle.notes.proofs.laws.Six.{six-by}
-use Rattle.judge.specs.Versions.{versionOk}
-use Rattle.judge.proofs.laws.Rules.{six-is}
+use Rattle.reach.specs.Versions.{versionOk}
+use Rattle.reach.proofs.laws.Rules.{six-is}
 
 -- ---- rule 7, once all lower ones hold
 

@@ -14,7 +14,7 @@ use Rattle.model.specs.Entry.{pairOf, liveAt}
 use Rattle.model.specs.Sound.{fewest, startsAt}
 use Rattle.model.specs.Layout.{readEntry}
 use Rattle.page.proofs.laws.Read.{entries-step, entries-end}
-use Rattle.judge.specs.Pending.{pairsFrom, NextLive, firstKey, openOk}
+use Rattle.reach.specs.Pending.{pairsFrom, NextLive, firstKey, openOk}
 
 module _ (p : List ℕ) (v k n : ℕ) where
   pub pairs-live : k < n → liveAt v (readEntry p (128 + 96 * k)) ≡ true → pairsFrom p v k n ≡ pairOf (readEntry p (128 + 96 * k)) ∷ pairsFrom p v (k + 1) n

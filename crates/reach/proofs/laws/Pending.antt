@@ -1,4 +1,4 @@
--- Laws about judge/specs/Pending. Assumes nothing.
+-- Laws about reach/specs/Pending. Assumes nothing.
 use Prim.Native.Nat.{ℕ, zero, suc, _+_, _*_, _-_, _<_, _≤_}
 use mathlib.Core.Bool.{Bool, false}
 use mathlib.Core.Path.{_≡_}
@@ -11,8 +11,8 @@ use Rattle.model.specs.Store.{page}
 use Rattle.model.specs.Walk.{Seen, spread, seenAs, seenBelow}
 use Rattle.model.specs.Layout.{readHeader}
 use Rattle.local.specs.Local.{IsPage, levelAt}
-use Rattle.judge.specs.declared.walk.Item.{Item}
-use Rattle.judge.specs.Pending.{over}
+use Rattle.reach.specs.declared.walk.Item.{Item}
+use Rattle.reach.specs.Pending.{over}
 
 -- ---- what is seen of a page that waits, and below it
 

@@ -16,7 +16,7 @@ use Rattle.page.specs.Head.{readHead}
 use Rattle.page.proofs.laws.Read.{start-of, end-of, entries-of}
 use Rattle.store.proofs.laws.Read.{page-at}
 use Rattle.local.specs.Local.{IsPage}
-use Rattle.judge.specs.Versions.{QuietEntries, QuietPart}
+use Rattle.reach.specs.Versions.{QuietEntries, QuietPart}
 
 -- ---- one more
 

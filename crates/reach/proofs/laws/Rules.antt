@@ -17,9 +17,9 @@ use Rattle.model.specs.Layout.{readHeader, decode}
 use Rattle.model.proofs.sound.ByRule.{numbers}
 use Rattle.store.proofs.laws.Read.{oldest-of}
 use Rattle.local.proofs.laws.First.{last-is}
-use Rattle.judge.specs.Pending.{openOk, stepOk, chainOk, passes}
-use Rattle.judge.specs.Versions.{versionOk}
-use Rattle.judge.proofs.laws.Tests.{all-ext, all-true}
+use Rattle.reach.specs.Pending.{openOk, stepOk, chainOk, passes}
+use Rattle.reach.specs.Versions.{versionOk}
+use Rattle.reach.proofs.laws.Tests.{all-ext, all-true}
 
 chain-other : (rule low high : ℕ) (xs : List Pair) → (rule ≡ 4 → ⊥) → chainOk rule low high xs ≡ true
 unfolding chainOk stepOk

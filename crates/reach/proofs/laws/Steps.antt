@@ -20,13 +20,13 @@ use Rattle.model.specs.Walk.{Seen}
 use Rattle.model.specs.Layout.{readEntry, readHeader, decode}
 use Rattle.model.proofs.lists.Lists.{both-true}
 use Rattle.local.specs.Local.{IsPage, countAt, levelAt, entryAt}
-use Rattle.judge.specs.declared.walk.Item.{Item}
+use Rattle.reach.specs.declared.walk.Item.{Item}
 use Rattle.notes.specs.Linked.{Linked}
-use Rattle.judge.specs.Pending.{firstKey, stepOk, chainOk, passes, restOf, pairsFrom, NextLive, wholeIn}
-use Rattle.judge.proofs.laws.Pending.{here, spanOf, kidsIn, none, pend, weight, heft, weigh, Fine}
-use Rattle.judge.proofs.laws.Live.{pairs-end, upper-first}
-use Rattle.judge.proofs.laws.Tests.{any-append, same-all}
-use Rattle.judge.proofs.laws.Walking.{Walking, Entering, kidWeight, weight-kids, pend-push, weigh-push, kids-none, kids-leaf, kids-next, pairs-here}
+use Rattle.reach.specs.Pending.{firstKey, stepOk, chainOk, passes, restOf, pairsFrom, NextLive, wholeIn}
+use Rattle.reach.proofs.laws.Pending.{here, spanOf, kidsIn, none, pend, weight, heft, weigh, Fine}
+use Rattle.reach.proofs.laws.Live.{pairs-end, upper-first}
+use Rattle.reach.proofs.laws.Tests.{any-append, same-all}
+use Rattle.reach.proofs.laws.Walking.{Walking, Entering, kidWeight, weight-kids, pend-push, weigh-push, kids-none, kids-leaf, kids-next, pairs-here}
 
 rotate : (a p c k : Bool) → (a || (p || (c || k))) ≡ (a || ((c || p) || k))
 rotate true p c k = refl

@@ -6,8 +6,8 @@ use mathlib.Core.List.{List, [], _∷_, _++_, append-nil}
 use native.Mathlib.Omega.{arith}
 use Rattle.model.specs.Basic.{any, flatMap, count}
 use Rattle.model.specs.Walk.{Seen}
-use Rattle.judge.specs.Pending.{over}
-use Rattle.judge.proofs.laws.Tests.{any-append, or-assoc}
+use Rattle.reach.specs.Pending.{over}
+use Rattle.reach.proofs.laws.Tests.{any-append, or-assoc}
 
 -- x and what is behind it, twice
 twice : (x a b : Bool) → ((x || a) || (x || b)) ≡ (x || (a || b))

@@ -18,17 +18,17 @@ use Rattle.model.specs.Store.{page}
 use Rattle.model.specs.Walk.{Seen}
 use Rattle.model.specs.Layout.{readHeader, pageOf, decode}
 use Rattle.local.specs.Local.{IsPage, countAt, levelAt}
-use Rattle.judge.specs.declared.walk.Item.{Item}
+use Rattle.reach.specs.declared.walk.Item.{Item}
 use Rattle.notes.specs.Linked.{Linked}
-use Rattle.judge.specs.Pending.{openOk, chainOk, passes, restOf, pairsFrom, NextLive, whole, wholeIn, isNumber, Tells}
-use Rattle.judge.proofs.laws.Pending.{here, seenOf, kids, spanOf, kidsIn, none, pend, Same, weight, heft, weigh, Fine}
+use Rattle.reach.specs.Pending.{openOk, chainOk, passes, restOf, pairsFrom, NextLive, whole, wholeIn, isNumber, Tells}
+use Rattle.reach.proofs.laws.Pending.{here, seenOf, kids, spanOf, kidsIn, none, pend, Same, weight, heft, weigh, Fine}
 use Rattle.notes.specs.Ready.{BehindUpto}
-use Rattle.judge.specs.Versions.{QuietPart}
-use Rattle.judge.proofs.laws.Quiet.{pairs-quiet}
-use Rattle.judge.proofs.laws.Tests.{any-append, same-all, all-true}
-use Rattle.judge.proofs.laws.Rules.{passes-six}
-use Rattle.judge.proofs.laws.Stretch.{over-split, over-here}
-use Rattle.judge.proofs.laws.Walking.{Walking, Entering, weight-kids, weigh-top, pend-top, pend-put, seen-item, leaf-number, pairs-here}
+use Rattle.reach.specs.Versions.{QuietPart}
+use Rattle.reach.proofs.laws.Quiet.{pairs-quiet}
+use Rattle.reach.proofs.laws.Tests.{any-append, same-all, all-true}
+use Rattle.reach.proofs.laws.Rules.{passes-six}
+use Rattle.reach.proofs.laws.Stretch.{over-split, over-here}
+use Rattle.reach.proofs.laws.Walking.{Walking, Entering, weight-kids, weigh-top, pend-top, pend-put, seen-item, leaf-number, pairs-here}
 
 all-same : {A : Type 0} (n i : ℕ) (a : A) → getD (replicate n a) i a ≡ a
 all-same zero i a = refl

@@ -7,8 +7,8 @@ use Rattle.model.specs.declared.Pair.{Pair}
 use Rattle.model.specs.Basic.{all, any}
 use Rattle.model.specs.Walk.{Seen, spread}
 use Rattle.local.proofs.laws.Loops.{and-assoc}
-use Rattle.judge.specs.Pending.{firstKey}
-use Rattle.judge.proofs.laws.Pending.{Same}
+use Rattle.reach.specs.Pending.{firstKey}
+use Rattle.reach.proofs.laws.Pending.{Same}
 
 pub or-assoc : (a b c : Bool) → ((a || b) || c) ≡ (a || (b || c))
 or-assoc true b c = refl

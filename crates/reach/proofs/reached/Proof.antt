@@ -1,4 +1,4 @@
--- `judge::reach::reached` meets its contract: the pages from n on answer as all. Assumes nothing.
+-- `reach::reached` meets its contract: the pages from n on answer as all. Assumes nothing.
 use Prim.Native.Nat.{_≤_, _-_}
 use mathlib.Core.Path.{_≡_, ap, sym, _∙_}
 use mathlib.Core.Bool.{Bool, false, _&&_, not}
@@ -6,8 +6,8 @@ use lib.ListN.{getD}
 use lib.Dec.{eqb}
 use native.Mathlib.Omega.{arith}
 use borrow.Author.Tests.{not-true, not-false}
-use Rattle.judge.proofs.laws.Marked.{marked-step, marked-end}
-use Rattle.judge.specs.Versions.{markedWell}
+use Rattle.reach.proofs.laws.Marked.{marked-step, marked-end}
+use Rattle.reach.specs.Versions.{markedWell}
 use Rattle.local.proofs.laws.Sizes.{part-fits}
 use Rattle.local.specs.Local.{headAt, levelAt}
 use Rattle.model.specs.Layout.{readPages, sizeOf}
@@ -16,8 +16,8 @@ use Rattle.model.specs.Entry.{within}
 use Rattle.page.specs.declared.Head.{Head}
 use Rattle.page.specs.Head.{readHead}
 use borrow.Author.Needs.{needs}
-use Rattle.judge.proofs.reach.reached.Statement.{statement}
-use Rattle.judge.proofs.reach.reached.Tie as tie
+use Rattle.reach.proofs.reached.Statement.{statement}
+use Rattle.reach.proofs.reached.Tie as tie
 
 abbrev Inv-loop : tie.InvT-loop
 Inv-loop s l v marks pages n₀ n = (5 ≤ n) × (n ≤ pages) × (markedWell v marks 5 (readPages (l .least) s 5 (sizeOf (l .least) s - 5)) ≡ markedWell v marks n (readPages (l .least) s n (pages - n)))

@@ -1,7 +1,7 @@
--- `judge::reach::used_at` meets its contract: each way out by the tests taken. Assumes nothing.
+-- `reach::used_at` meets its contract: each way out by the tests taken. Assumes nothing.
 use borrow.Author.Tests.{eq-eqb, ne-eqb, lt-leb, le-leb}
-use Rattle.judge.proofs.reach.used_at.Statement.{statement}
-use Rattle.judge.proofs.reach.used_at.Tie as tie
+use Rattle.reach.proofs.used_at.Statement.{statement}
+use Rattle.reach.proofs.used_at.Tie as tie
 
 returns : tie.Need-returns
 returns c = simp (eq-eqb _ _ (c .if1 .taken))

@@ -1,17 +1,17 @@
--- `judge::reach::version_ok` meets its contract: what the walk tells, and the marks. Assumes nothing.
+-- `reach::version_ok` meets its contract: what the walk tells, and the marks. Assumes nothing.
 use Prim.Native.Nat.{ℕ, _-_}
 use mathlib.Core.Path.{_≡_, ap, sym, _∙_}
 use mathlib.Core.List.{List}
 use native.Mathlib.Omega.{arith}
-use Rattle.judge.proofs.laws.Marked.{fails, passes-six}
+use Rattle.reach.proofs.laws.Marked.{fails, passes-six}
 use Rattle.local.proofs.laws.Sizes.{part-fits}
 use Rattle.local.specs.Local.{levelAt}
 use Rattle.page.specs.Head.{readHead}
 use Rattle.model.specs.declared.Header.{Header}
 use Rattle.page.specs.declared.Head.{Head}
 use borrow.Author.Needs.{needs}
-use Rattle.judge.proofs.reach.version_ok.Statement.{statement}
-use Rattle.judge.proofs.reach.version_ok.Tie as tie
+use Rattle.reach.proofs.version_ok.Statement.{statement}
+use Rattle.reach.proofs.version_ok.Tie as tie
 
 root-at-requires : tie.Need-root-at-requires
 root-at-requires c κs = let r = c .before .pre in (r .0, r .1, r .3)

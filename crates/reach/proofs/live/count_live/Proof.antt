@@ -1,15 +1,15 @@
--- `judge::live::count_live` meets its contract: those counted and those from k on are all. Assumes nothing.
+-- `reach::live::count_live` meets its contract: those counted and those from k on are all. Assumes nothing.
 use Prim.Native.Nat.{_≤_, _<_, _-_, _+_, _*_}
 use mathlib.Core.Path.{_≡_, ap}
 use mathlib.Core.List.{_∷_}
 use lib.ListN.{length}
 use native.Mathlib.Omega.{arith}
-use Rattle.judge.proofs.laws.Live.{pairs-end}
-use Rattle.judge.specs.Pending.{pairsFrom}
+use Rattle.reach.proofs.laws.Live.{pairs-end}
+use Rattle.reach.specs.Pending.{pairsFrom}
 use Rattle.model.specs.Layout.{readEntry}
 use Rattle.model.specs.Entry.{pairOf}
-use Rattle.judge.proofs.live.count_live.Statement.{statement}
-use Rattle.judge.proofs.live.count_live.Tie as tie
+use Rattle.reach.proofs.live.count_live.Statement.{statement}
+use Rattle.reach.proofs.live.count_live.Tie as tie
 
 abbrev Inv-loop : tie.InvT-loop
 Inv-loop page v n c₀ k₀ c k = (k ≤ n) × (c ≤ k) × (length (pairsFrom page v 0 n) ≡ c + length (pairsFrom page v k n)) × (k < n → pairsFrom page v k n ≡ pairOf (readEntry page (128 + 96 * k)) ∷ pairsFrom page v (k + 1) n)

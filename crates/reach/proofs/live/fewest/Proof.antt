@@ -1,9 +1,9 @@
--- `judge::live::fewest` meets its contract: each way out by the tests taken. Assumes nothing.
+-- `reach::live::fewest` meets its contract: each way out by the tests taken. Assumes nothing.
 use mathlib.Core.Path.{sym}
 use borrow.Author.Tests.{not-true, not-false}
-use Rattle.judge.proofs.laws.Live.{fewest-inner, fewest-leaf, fewest-index}
-use Rattle.judge.proofs.live.fewest.Statement.{statement}
-use Rattle.judge.proofs.live.fewest.Tie as tie
+use Rattle.reach.proofs.laws.Live.{fewest-inner, fewest-leaf, fewest-index}
+use Rattle.reach.proofs.live.fewest.Statement.{statement}
+use Rattle.reach.proofs.live.fewest.Tie as tie
 
 returns : tie.Need-returns
 returns c = let a = c .before .args in sym (fewest-inner (a .l .least) (a .root) (a .up) (not-true (a .root) (c .if1 .taken)))

@@ -1,7 +1,7 @@
--- `judge::live::is_live` meets its contract: each way out by the tests taken. Assumes nothing.
+-- `reach::live::is_live` meets its contract: each way out by the tests taken. Assumes nothing.
 use borrow.Author.Tests.{lt-leb, le-leb}
-use Rattle.judge.proofs.live.is_live.Statement.{statement}
-use Rattle.judge.proofs.live.is_live.Tie as tie
+use Rattle.reach.proofs.live.is_live.Statement.{statement}
+use Rattle.reach.proofs.live.is_live.Tie as tie
 
 returns : tie.Need-returns
 returns c = simp (lt-leb _ _ (c .if1 .taken))

@@ -1,12 +1,12 @@
--- `judge::live::next_live` meets its contract: no entry from i up to k is alive. Assumes nothing.
+-- `reach::live::next_live` meets its contract: no entry from i up to k is alive. Assumes nothing.
 use Prim.Native.Nat.{_≤_, _-_}
 use mathlib.Core.Path.{_≡_, refl, sym, _∙_}
 use native.Mathlib.Omega.{arith}
-use Rattle.judge.proofs.laws.Live.{pairs-live, pairs-dead}
-use Rattle.judge.specs.Pending.{pairsFrom}
+use Rattle.reach.proofs.laws.Live.{pairs-live, pairs-dead}
+use Rattle.reach.specs.Pending.{pairsFrom}
 use borrow.Author.Needs.{needs}
-use Rattle.judge.proofs.live.next_live.Statement.{statement}
-use Rattle.judge.proofs.live.next_live.Tie as tie
+use Rattle.reach.proofs.live.next_live.Statement.{statement}
+use Rattle.reach.proofs.live.next_live.Tie as tie
 
 abbrev Inv-loop : tie.InvT-loop
 Inv-loop page v i n k₀ k = (i ≤ k) × (k ≤ n) × (pairsFrom page v i n ≡ pairsFrom page v k n)

@@ -1,12 +1,12 @@
--- `judge::live::opens` meets its contract: each way out is a law of what the rule asks. Assumes nothing.
+-- `reach::live::opens` meets its contract: each way out is a law of what the rule asks. Assumes nothing.
 use mathlib.Core.Path.{ap, sym, _∙_}
 use lib.Dec.{eqb}
 use native.Mathlib.Omega.{arith}
-use Rattle.judge.proofs.laws.Live.{open-leaf, open-starts, open-counts, open-other, starts-none, starts-first}
+use Rattle.reach.proofs.laws.Live.{open-leaf, open-starts, open-counts, open-other, starts-none, starts-first}
 use Rattle.model.specs.declared.Entry.{Entry}
 use borrow.Author.Needs.{needs}
-use Rattle.judge.proofs.live.opens.Statement.{statement}
-use Rattle.judge.proofs.live.opens.Tie as tie
+use Rattle.reach.proofs.live.opens.Statement.{statement}
+use Rattle.reach.proofs.live.opens.Tie as tie
 
 returns : tie.Need-returns
 returns c = open-leaf _ _ _ _ _ _ (c .before .before .if1 .taken) (c .if2 .taken)

@@ -1,8 +1,8 @@
--- `judge::live::steps` meets its contract: each way out by the tests taken. Assumes nothing.
+-- `reach::live::steps` meets its contract: each way out by the tests taken. Assumes nothing.
 use borrow.Author.Tests.{eq-eqb, ne-eqb, lt-leb, le-leb, lt-ltb, le-ltb}
-use Rattle.judge.specs.Pending.{stepOk}
-use Rattle.judge.proofs.live.steps.Statement.{statement}
-use Rattle.judge.proofs.live.steps.Tie as tie
+use Rattle.reach.specs.Pending.{stepOk}
+use Rattle.reach.proofs.live.steps.Statement.{statement}
+use Rattle.reach.proofs.live.steps.Tie as tie
 
 returns : tie.Need-returns
 unfolding stepOk

@@ -1,8 +1,8 @@
--- `judge::live::upper` meets its contract: each way out by the test taken. Assumes nothing.
+-- `reach::live::upper` meets its contract: each way out by the test taken. Assumes nothing.
 use native.Mathlib.Omega.{arith}
 use borrow.Author.Tests.{lt-ltb, le-ltb}
-use Rattle.judge.proofs.live.upper.Statement.{statement}
-use Rattle.judge.proofs.live.upper.Tie as tie
+use Rattle.reach.proofs.live.upper.Statement.{statement}
+use Rattle.reach.proofs.live.upper.Tie as tie
 
 entry-at-requires : tie.Need-entry-at-requires
 entry-at-requires c κs = (omega (arith, c .before .before .pre .0, c .if1 .taken), c .before .before .pre .1)

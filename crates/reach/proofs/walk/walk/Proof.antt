@@ -1,4 +1,4 @@
--- `judge::walk::walk` meets its contract: what is done and what waits are the whole walk (specs/Walking), and each step keeps it so (specs/Taking, Steps). Assumes nothing.
+-- `reach::walk::walk` meets its contract: what is done and what waits are the whole walk (specs/Walking), and each step keeps it so (specs/Taking, Steps). Assumes nothing.
 use Prim.Native.Nat.{ℕ, _≤_, _<_, _-_, _+_, _*_}
 use mathlib.Core.Path.{_≡_, refl, ap, sym, _∙_}
 use mathlib.Core.List.{List}
@@ -8,11 +8,11 @@ use lib.ListN.{length, getD, set}
 use native.Mathlib.Omega.{arith}
 use borrow.Author.Tests.{not-true, not-false, eqb-true, lt-ltb, le-ltb}
 use Rattle.bits.proofs.laws.Put.{less}
-use Rattle.judge.proofs.laws.Taking.{start, fewer, leaf-marked, enter, shut, finish, stopped}
-use Rattle.judge.proofs.laws.Steps.{stops, passed, pushed, left, lighter}
-use Rattle.judge.proofs.laws.Walking.{Walking, Entering, weigh-top, weigh-put}
-use Rattle.judge.specs.Pending.{restOf, stepOk}
-use Rattle.judge.proofs.laws.Pending.{none, heft, weigh}
+use Rattle.reach.proofs.laws.Taking.{start, fewer, leaf-marked, enter, shut, finish, stopped}
+use Rattle.reach.proofs.laws.Steps.{stops, passed, pushed, left, lighter}
+use Rattle.reach.proofs.laws.Walking.{Walking, Entering, weigh-top, weigh-put}
+use Rattle.reach.specs.Pending.{restOf, stepOk}
+use Rattle.reach.proofs.laws.Pending.{none, heft, weigh}
 use Rattle.local.proofs.laws.Sizes.{part-fits}
 use Rattle.local.specs.Local.{IsPage, countAt}
 use Rattle.model.proofs.lists.Lists.{both-true}
@@ -21,8 +21,8 @@ use Rattle.model.specs.declared.Entry.{Entry}
 use Rattle.page.specs.Head.{readHead}
 use Rattle.page.specs.declared.Head.{Head}
 use borrow.Author.Needs.{needs}
-use Rattle.judge.proofs.walk.walk.Statement.{statement}
-use Rattle.judge.proofs.walk.walk.Tie as tie
+use Rattle.reach.proofs.walk.walk.Statement.{statement}
+use Rattle.reach.proofs.walk.walk.Tie as tie
 
 abbrev Inv-loop : tie.InvT-loop
 Inv-loop s l root up a b rule marks items₀ top₀ it n p count c j₀ items top j = Entering (l .least) s root up a b rule marks items₀ top₀ it n p count c items top j
