@@ -12,8 +12,8 @@ use Rattle.model.specs.Store.{page}
 use Rattle.model.specs.Walk.{Seen, seenBelow, keyLimit}
 use Rattle.model.specs.Sound.{startsAt, fewest}
 use Rattle.model.specs.Layout.{readEntry, readEntries, decode}
-use Rattle.reach.specs.declared.walk.Item.{Item}
-use Rattle.reach.specs.declared.walk.Walked.{Walked}
+use Rattle.reach.specs.declared.marks.Item.{Item}
+use Rattle.reach.specs.declared.marks.Walked.{Walked}
 
 -- ---- what rule 4 or 5 asks of a page that is reached, in the order of the walk: once, then of each live entry
 

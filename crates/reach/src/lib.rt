@@ -2,7 +2,7 @@
 // notes met a page that had gone out of reach.
 mod change;
 mod live;
-mod walk;
+mod marks;
 
 pub use change::page_change;
 use model::Header;
@@ -72,7 +72,7 @@ pub fn version_ok(s: &[u8], l: Limits, h: Header, v: u32) -> bool
     let root = notes::root_at(s, l, h, v);
     let f = page::head_of(store::part(s, l, root), l);
     let up = crate::wide(f.level) - 1;
-    let w = crate::walk::walk(s, l, root, up, v, v + 1, 6);
+    let w = crate::marks::walk(s, l, root, up, v, v + 1, 6);
     if w.broken != 0 {
         return false;
     }

@@ -1,5 +1,5 @@
 // The live entries of one page, and what a rule asks of them.
-use crate::walk::Item;
+use crate::marks::Item;
 use model::Entry;
 use model::Limits;
 ghost use mathlib.Core.Path.{_≡_};

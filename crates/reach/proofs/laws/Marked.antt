@@ -16,7 +16,7 @@ use Rattle.model.specs.Layout.{pageOf, readPages, decode, sizeOf}
 use Rattle.page.proofs.laws.Read.{level-of, start-of, end-of}
 use Rattle.store.proofs.laws.Read.{pages-step, pages-end, behind, page-at}
 use Rattle.local.specs.Local.{headAt, levelAt}
-use Rattle.reach.specs.declared.walk.Walked.{Walked}
+use Rattle.reach.specs.declared.marks.Walked.{Walked}
 use Rattle.reach.specs.Pending.{passes, whole, wholeIn, isNumber, Tells}
 use Rattle.reach.proofs.laws.Stretch.{over-one}
 use Rattle.notes.specs.Ready.{RootFine}

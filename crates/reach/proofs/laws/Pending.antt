@@ -11,7 +11,7 @@ use Rattle.model.specs.Store.{page}
 use Rattle.model.specs.Walk.{Seen, spread, seenAs, seenBelow}
 use Rattle.model.specs.Layout.{readHeader}
 use Rattle.local.specs.Local.{IsPage, levelAt}
-use Rattle.reach.specs.declared.walk.Item.{Item}
+use Rattle.reach.specs.declared.marks.Item.{Item}
 use Rattle.reach.specs.Pending.{over}
 
 -- ---- what is seen of a page that waits, and below it

@@ -1,8 +1,9 @@
 -- Rule 6 said by the walk's tests. Assumes nothing.
-use Prim.Native.Nat.{ℕ, suc, _+_, _-_}
-use mathlib.Core.Bool.{Bool, true, _&&_}
+use Prim.Native.Nat.{ℕ, suc, _+_, _-_, _≤_}
+use mathlib.Core.Bool.{Bool, true, false, _&&_}
 use mathlib.Core.Path.{_≡_, refl, ap, ap₂, sym, _∙_}
 use mathlib.Core.List.{List, [], _∷_}
+use mathlib.Core.Logic.{_⊎_, inl, inr}
 use native.Mathlib.Omega.{arith}
 use native.Mathlib.Numerals.{add-one}
 use lib.ListN.{drop}
@@ -15,6 +16,7 @@ use Rattle.model.specs.Walk.{Seen, seen}
 use Rattle.model.specs.Sound.{reachedWell, versions, rule6}
 use Rattle.model.specs.Layout.{readHeader, decode}
 use Rattle.model.proofs.sound.ByRule.{numbers}
+use Rattle.model.proofs.lists.Members.{bool-cases, not-both, all-in, in-count}
 use Rattle.store.proofs.laws.Read.{oldest-of}
 use Rattle.local.proofs.laws.First.{last-is}
 use Rattle.reach.specs.Pending.{openOk, stepOk, chainOk, passes}
@@ -47,3 +49,11 @@ module _ (least : ℕ) where
         all-ext (λ (v : ℕ). reachedWell v (numbers (decode least s) v) 5 (drop 5 (decode least s .pages))) (versionOk least 6 s)
         (λ v. sym (ap (λ (b : Bool). b && reachedWell v (numbers (decode least s) v) 5 (drop 5 (decode least s .pages))) (all-true (passes least 6) passes-six (seen (decode least s) v)))) (versions (decode least s))
         ∙ ap (all (versionOk least 6 s)) versions-are
+
+    -- a version at which it is broken
+    pub six-missed : (v : ℕ) → h .oldest ≤ v → v ≤ lastOf (h .opened) (h .current) → versionOk least 6 s v ≡ false → rule6 (decode least s) ≡ false
+    six-missed v low high f = at (bool-cases (rule6 (decode least s)))
+      where
+        at : (rule6 (decode least s) ≡ true) ⊎ (rule6 (decode least s) ≡ false) → rule6 (decode least s) ≡ false
+        at (inl t) = absurd (not-both (versionOk least 6 s v) (all-in (versionOk least 6 s) v upto (sym six-is ∙ t) (in-count v (h .oldest) (lastOf (h .opened) (h .current) + 1 - h .oldest) (omega (arith, low, high)) (omega (arith, low, high)))) f)
+        at (inr t) = t

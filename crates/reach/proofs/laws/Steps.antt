@@ -20,7 +20,7 @@ use Rattle.model.specs.Walk.{Seen}
 use Rattle.model.specs.Layout.{readEntry, readHeader, decode}
 use Rattle.model.proofs.lists.Lists.{both-true}
 use Rattle.local.specs.Local.{IsPage, countAt, levelAt, entryAt}
-use Rattle.reach.specs.declared.walk.Item.{Item}
+use Rattle.reach.specs.declared.marks.Item.{Item}
 use Rattle.notes.specs.Linked.{Linked}
 use Rattle.reach.specs.Pending.{firstKey, stepOk, chainOk, passes, restOf, pairsFrom, NextLive, wholeIn}
 use Rattle.reach.proofs.laws.Pending.{here, spanOf, kidsIn, none, pend, weight, heft, weigh, Fine}

@@ -18,7 +18,7 @@ use Rattle.model.specs.Store.{page}
 use Rattle.model.specs.Walk.{Seen}
 use Rattle.model.specs.Layout.{readHeader, pageOf, decode}
 use Rattle.local.specs.Local.{IsPage, countAt, levelAt}
-use Rattle.reach.specs.declared.walk.Item.{Item}
+use Rattle.reach.specs.declared.marks.Item.{Item}
 use Rattle.notes.specs.Linked.{Linked}
 use Rattle.reach.specs.Pending.{openOk, chainOk, passes, restOf, pairsFrom, NextLive, whole, wholeIn, isNumber, Tells}
 use Rattle.reach.proofs.laws.Pending.{here, seenOf, kids, spanOf, kidsIn, none, pend, Same, weight, heft, weigh, Fine}

@@ -22,7 +22,7 @@ use Rattle.model.specs.Layout.{readEntry, pageOf, decode}
 use Rattle.page.proofs.laws.Read.{entries-of}
 use Rattle.store.proofs.laws.Read.{page-at}
 use Rattle.local.specs.Local.{IsPage, countAt}
-use Rattle.reach.specs.declared.walk.Item.{Item}
+use Rattle.reach.specs.declared.marks.Item.{Item}
 use Rattle.reach.specs.Pending.{firstKey, openOk, chainOk, passes, over, pairsFrom, wholeIn, isNumber}
 use Rattle.reach.proofs.laws.Pending.{here, seenOf, kids, spanOf, kidsIn, none, pend, Same, weight, heft, weigh, Fine}
 use Rattle.reach.proofs.laws.Tests.{spread-cons}

@@ -1,4 +1,4 @@
--- `reach::walk::walk` meets its contract: what is done and what waits are the whole walk (specs/Walking), and each step keeps it so (specs/Taking, Steps). Assumes nothing.
+-- `reach::marks::walk` meets its contract: what is done and what waits are the whole walk (specs/Walking), and each step keeps it so (specs/Taking, Steps). Assumes nothing.
 use Prim.Native.Nat.{ℕ, _≤_, _<_, _-_, _+_, _*_}
 use mathlib.Core.Path.{_≡_, refl, ap, sym, _∙_}
 use mathlib.Core.List.{List}
@@ -21,8 +21,8 @@ use Rattle.model.specs.declared.Entry.{Entry}
 use Rattle.page.specs.Head.{readHead}
 use Rattle.page.specs.declared.Head.{Head}
 use borrow.Author.Needs.{needs}
-use Rattle.reach.proofs.walk.walk.Statement.{statement}
-use Rattle.reach.proofs.walk.walk.Tie as tie
+use Rattle.reach.proofs.marks.walk.Statement.{statement}
+use Rattle.reach.proofs.marks.walk.Tie as tie
 
 abbrev Inv-loop : tie.InvT-loop
 Inv-loop s l root up a b rule marks items₀ top₀ it n p count c j₀ items top j = Entering (l .least) s root up a b rule marks items₀ top₀ it n p count c items top j

@@ -1,7 +1,7 @@
--- `reach::walk::more` meets its contract. Assumes nothing.
+-- `reach::marks::more` meets its contract. Assumes nothing.
 use borrow.Author.Tests.{lt-ltb, le-ltb}
-use Rattle.reach.proofs.walk.more.Statement.{statement}
-use Rattle.reach.proofs.walk.more.Tie as tie
+use Rattle.reach.proofs.marks.more.Statement.{statement}
+use Rattle.reach.proofs.marks.more.Tie as tie
 
 returns : tie.Need-returns
 returns c = rw (lt-ltb (c .before .args .c) (c .before .args .upto) (c .if1 .taken))

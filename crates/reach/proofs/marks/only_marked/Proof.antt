@@ -1,7 +1,7 @@
--- `reach::walk::only_marked` meets its contract. Assumes nothing.
+-- `reach::marks::only_marked` meets its contract. Assumes nothing.
 use borrow.Author.Tests.{eq-eqb, ne-eqb}
-use Rattle.reach.proofs.walk.only_marked.Statement.{statement}
-use Rattle.reach.proofs.walk.only_marked.Tie as tie
+use Rattle.reach.proofs.marks.only_marked.Statement.{statement}
+use Rattle.reach.proofs.marks.only_marked.Tie as tie
 
 returns : tie.Need-returns
 returns c = rw (ne-eqb (c .before .args .rule) 6 (c .if1 .taken))
