@@ -9,7 +9,7 @@ use Rattle.model.specs.Layout.{pageOf, readHeader, sizeOf, decode}
 use Rattle.model.specs.Convert.{replay}
 use Rattle.model.specs.Inner.{Out}
 use Rattle.local.specs.Local.{slotAt}
-use Rattle.judge.specs.Versions.{QuietPart}
+use Rattle.reach.specs.Versions.{QuietPart}
 use Rattle.convert.specs.Version.{Replaying}
 
 -- ---- the header alone, at version n

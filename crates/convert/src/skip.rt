@@ -48,7 +48,7 @@ fn next_change(s: &[u8], k: Limits, v: u32, r: u32) -> u32
     let mut q = slots_change(s, k, h, v, r);
     let mut n = 5;
     while n < size {
-        q = judge::page_change(store::part(s, k, n), k, v, q);
+        q = reach::page_change(store::part(s, k, n), k, v, q);
         n += 1;
     }
     q

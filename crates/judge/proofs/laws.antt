@@ -1,12 +1,2 @@
 pub mod Judge
-pub mod Live
-pub mod Marked
 pub mod Named
-pub mod Quiet
-pub mod Rules
-pub mod Steps
-pub mod Stretch
-pub mod Taking
-pub mod Tests
-pub mod Walking
-pub mod Pending

@@ -2,12 +2,6 @@
 //
 // The rules are asked from 1 on, each "on its own, once all lower ones hold", to tell the lowest broken one; a store that `quick` surely
 // finds sound is asked for no more. What it costs is told in docs/CHECK-COST.md.
-mod changes;
-mod live;
-mod reach;
-mod walk;
-
-pub use changes::page_change;
 use model::Header;
 use model::Limits;
 use model::Verdict;
@@ -20,12 +14,6 @@ ghost use Rattle.model.specs.Inner.{lowerIn};
 ghost use Rattle.model.specs.Judged.{brokenIn, judged};
 ghost use Rattle.model.specs.Any.{judgedAny};
 ghost use Rattle.local.specs.Local.{Sized, Held};
-
-pub(crate) fn wide(x: u32) -> usize
-    ensures { λ r. ⌜ r ≡ x ⌝ }
-{
-    x as usize
-}
 
 // 7 if the bytes break that rule, else 0.
 fn seventh(s: &[u8], l: Limits, h: Header) -> u32

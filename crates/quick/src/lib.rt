@@ -15,11 +15,12 @@ use model::Header;
 use model::Limits;
 use within::Within;
 ghost use mathlib.Core.Path.{_≡_};
-ghost use mathlib.Core.Bool.{true, _&&_};
+ghost use mathlib.Core.Bool.{true, false, _&&_};
 ghost use Prim.Native.Nat.{_+_, _*_, _≤_, _<_};
 ghost use lib.ListN.{drop};
 ghost use Rattle.model.specs.Limits.{Edition};
 ghost use Rattle.model.specs.Layout.{decode};
+ghost use Rattle.model.specs.Sound.{rule6};
 ghost use Rattle.model.specs.Judged.{lengthOk, magicOk, editionOk, judged};
 ghost use Rattle.spans.specs.Quick.{spansMet, slotsFine, quick, quickIn};
 ghost use Rattle.local.specs.Local.{Sized};
@@ -80,6 +81,37 @@ pub fn surely(s: &[u8], l: Limits, fit: bool) -> bool
     w.fine
 }
 
+// Whether rule 6 is found to be broken at v. Only `true` tells: any number may be asked, also one that is no version of the store.
+fn missed(s: &[u8], l: Limits, h: Header, v: u32) -> bool
+    requires { ⌜ Edition l × Ready (l .least) (now s) h ⌝ }
+    ensures { λ r. ⌜ (r ≡ true → rule6 (decode (l .least) (now (s .entry))) ≡ false) ⌝ }
+{
+    if v < h.oldest {
+        return false;
+    }
+    if h.last() < v {
+        return false;
+    }
+    !reach::version_ok(s, l, h, v)
+}
+
+// Rules 4 to 6 by the notes, where rules 1 to 3 hold and the sums and the slots are right. Where the pass left because a page had gone out
+// of reach, rule 6 is broken there, and the walk finds that out: the last line is never reached (docs/CHECK-COST.md, argued). That the
+// answer is right does not rest on it.
+fn by_notes(s: &[u8], l: Limits, h: Header) -> bool
+    requires { ⌜ Edition l × Ready (l .least) (now s) h × ThreeRules (l .least) (decode (l .least) (now s)) × ((spansMet (decode (l .least) (now s)) 5 (drop 5 (decode (l .least) (now s) .pages)) && slotsFine (l .least) (decode (l .least) (now s) .oldest) (decode (l .least) (now s) .pages) (decode (l .least) (now s) .slots)) ≡ true) ⌝ }
+    ensures { λ r. ⌜ r ≡ quick (l .least) (decode (l .least) (now (s .entry))) ⌝ }
+{
+    let b = notes::both_hold(s, l, h);
+    if b.away == 0 {
+        return b.hold;
+    }
+    if missed(s, l, h, b.away) {
+        return false;
+    }
+    notes::broken(s, l, h) == 0
+}
+
 // Rules 4 to 6, where rules 1 to 3 hold. Both ways are exact: the pages within the budget, which is quick on what a history leaves, and,
 // where that is used up, the notes, which no bytes can keep busy.
 fn quick(s: &[u8], l: Limits, h: Header) -> bool
@@ -93,7 +125,7 @@ fn quick(s: &[u8], l: Limits, h: Header) -> bool
     if 0 < w.left {
         return w.fine;
     }
-    notes::both_hold(s, l, h)
+    by_notes(s, l, h)
 }
 
 // Rules 1 to 7 of lent bytes, which make `size` pages.

@@ -1,8 +1,6 @@
 //! What bounds the notes, said of a store before it is walked: the points of
 //! docs/CHECK-COST.md.
 
-use std::ops::RangeInclusive;
-
 use reference::edition::Edition;
 use reference::image::Image;
 use reference::layout::{Page, ALIVE, FIRST_PAGE, HIGHEST_LEVEL, LEAF};
@@ -18,7 +16,7 @@ pub struct Bound {
     /// Of any store: a note ends only by a start or an end at or below its page, and
     /// each of these versions ends it once; a root is visited once more for its slot.
     pub any: u64,
-    /// Of any store, argued: judging's pass, and check's.
+    /// Of any store, argued: judging's pass, in proportion to the store, and check's.
     pub judging: u64,
     pub check: u64,
     /// Most entries of a page.
@@ -77,11 +75,6 @@ impl Levels {
         (2.0 * self.pages[level] as f64 * turns as f64 * pairs as f64).sqrt()
     }
 
-    fn judging(&self, slots: u64) -> u64 {
-        let back = |level| self.back(level, slots, self.changes[1..level].iter().sum());
-        (2..=6).map(back).sum::<f64>() as u64
-    }
-
     fn check(&self, slots: u64) -> u64 {
         let back = |level| {
             let shown: u64 = self.changes[1..level - 1].iter().sum();
@@ -118,15 +111,10 @@ impl Bound {
             slots,
             changes,
             any: pages + slots + ends.iter().sum::<u64>(),
-            judging: once + levels.judging(slots),
+            judging: once,
             check: once + levels.check(slots),
             entries: image.edition().most_entries as u64,
         }
-    }
-
-    /// Where every page is reached while it shows something.
-    pub fn where_reached(self) -> u64 {
-        7 * self.changes + 2 * self.pages + self.slots
     }
 
     /// Whether that much work is within what is said of any store.
@@ -137,7 +125,7 @@ impl Bound {
     }
 
     pub fn holds_judging(self, work: Work) -> bool {
-        self.holds(work) && work.notes <= self.judging.min(self.check)
+        self.holds(work) && work.notes <= self.judging
     }
 
     pub fn holds_check(self, work: Work) -> bool {
@@ -150,15 +138,11 @@ pub fn most(edition: &Edition, pages: u64) -> (u64, u64) {
     let [pages, slots] = [pages as f64, f64::from(edition.slots)];
     let entries = edition.most_entries as f64;
     let changes = 2.0 * entries;
-    let back = |levels: RangeInclusive<u32>, pairs: f64| {
-        let levels = levels.count() as f64;
-        let by_routers =
-            (2.0 * entries * pairs * levels * 5.0 / 49.0).sqrt() * pages * pages.sqrt();
-        let by_slots = (2.0 * slots * pairs * levels * 3.0 / 7.0).sqrt() * pages;
-        by_routers + by_slots
-    };
-    let once = (7.0 * changes + 2.0) * pages + slots;
-    let judging = once + back(2..=6, changes);
-    let check = once + entries * changes * pages + back(3..=6, entries * entries + changes);
+    let judging = (7.0 * changes + 2.0) * pages + slots;
+    // levels 3 to 6, and what a visit may take there
+    let (levels, pairs) = (4.0, entries * entries + changes);
+    let by_routers = (2.0 * entries * pairs * levels * 5.0 / 49.0).sqrt() * pages * pages.sqrt();
+    let by_slots = (2.0 * slots * pairs * levels * 3.0 / 7.0).sqrt() * pages;
+    let check = judging + entries * changes * pages + by_routers + by_slots;
     (judging as u64, check as u64)
 }

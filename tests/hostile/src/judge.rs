@@ -5,13 +5,13 @@ use reference::edition::FIRST;
 use reference::layout::PAGE_BYTES;
 use reference::number;
 
-use crate::notes::{self, Work};
-use crate::quick::read::{Loads, Reading};
+use crate::notes::{self, Both, Work};
+use crate::quick::read::{header, Loads, Reading};
 use crate::quick::{budget, led, quick, rules, surely};
 use crate::reach;
 
 /// What a call took: pages that `under` read; the notes where these were too many, in
-/// judging; the notes that name a rule and the walk at the last version, in check.
+/// judging; the notes that name a rule, in check; the reach walk at one version.
 #[derive(Clone, Copy, Debug, Default, PartialEq, Eq)]
 pub struct Taken {
     pub under: u32,
@@ -55,13 +55,26 @@ pub fn judged<R: Reading>(store: &[u8], budget: u32) -> (u32, Taken) {
     let mut left = budget;
     let quick = quick::<R>(store, &mut left);
     taken.under = budget - left;
-    let sound = quick.unwrap_or_else(|| {
-        let (sound, work) = notes::both_hold(store);
-        taken.judging = work;
-        sound
-    });
+    let sound = quick.unwrap_or_else(|| by_notes(store, &mut taken));
     let number = if sound { number::DONE } else { number::UNSOUND };
     (number, taken)
+}
+
+/// Rules 4 to 6, where rules 1 to 3 hold, the sums and the slots are right and nothing
+/// of the budget is left.
+fn by_notes(store: &[u8], taken: &mut Taken) -> bool {
+    let (told, work) = notes::both_hold(store);
+    taken.judging = work;
+    match told {
+        Both::Hold(hold) => hold,
+        Both::Away(version) => {
+            let (reached, pages) = reach::at(store, version);
+            taken.reached = pages;
+            // the proved code would ask check's notes here: it never comes to that
+            assert!(!reached, "a page that came back was not reached");
+            false
+        }
+    }
 }
 
 /// Check: the number and, with 4, the lowest rule that is broken. Where the pages do
@@ -87,7 +100,7 @@ pub fn check(store: &[u8], budget: u32) -> (u32, u32, Taken) {
     if rule != 0 {
         return (number::UNSOUND, rule, taken);
     }
-    let (reached, pages) = reach::at_last(store);
+    let (reached, pages) = reach::at(store, header(store).last);
     taken.reached = pages;
     // what the walk finds the sums and the slots find too
     assert!(reached || !fit);

@@ -37,38 +37,58 @@ pub struct Work {
     pub looks: u64,
 }
 
+/// What judging's pass tells: a version at which a page that came back was not
+/// reached, and then no more; or whether rules 4 and 5 both hold.
+#[derive(Clone, Copy, Debug, PartialEq, Eq)]
+pub enum Both {
+    Away(u32),
+    Hold(bool),
+}
+
 struct Walk {
     image: Image,
     notes: Vec<Note>,
     work: Work,
-    /// Whether it ends where rule 5 is broken too, and does not go on to name rule 4.
-    either: bool,
+    /// Judging's pass: it ends where rule 5 is broken too, and does not go on to name
+    /// rule 4, and where a page comes back.
+    judging: bool,
+    /// The end of a note that had ended before its page was visited again, or 0; and
+    /// whether the pass ended for it.
+    away: u32,
+    left: bool,
 }
 
 /// The lower of rules 4 and 5 that a store breaks, or 0, where rules 1 to 3 hold.
 pub fn broken(store: &[u8]) -> (u32, Work) {
-    over(store, false)
-}
-
-/// Whether both hold: judging asks no more.
-pub fn both_hold(store: &[u8]) -> (bool, Work) {
-    let (rule, work) = over(store, true);
-    (rule == 0, work)
-}
-
-fn over(store: &[u8], either: bool) -> (u32, Work) {
-    let until = 0;
-    let mut walk = Walk {
-        image: Image::read(store),
-        notes: vec![Note { until, ..NOTHING }; MOST_PAGES],
-        work: Work::default(),
-        either,
-    };
+    let mut walk = Walk::new(store, false);
     let rule = walk.over_slots();
     (rule, walk.work)
 }
 
+/// Whether both hold: judging asks no more.
+pub fn both_hold(store: &[u8]) -> (Both, Work) {
+    let mut walk = Walk::new(store, true);
+    let rule = walk.over_slots();
+    let told = match walk.left {
+        true => Both::Away(walk.away),
+        false => Both::Hold(rule == 0),
+    };
+    (told, walk.work)
+}
+
 impl Walk {
+    fn new(store: &[u8], judging: bool) -> Walk {
+        let until = 0;
+        Walk {
+            image: Image::read(store),
+            notes: vec![Note { until, ..NOTHING }; MOST_PAGES],
+            work: Work::default(),
+            judging,
+            away: 0,
+            left: false,
+        }
+    }
+
     fn over_slots(&mut self) -> u32 {
         let mut full = true;
         for place in 0..self.image.slots.len() {
@@ -89,7 +109,7 @@ impl Walk {
     }
 
     /// The versions from one up to, not including, another, which have one root:
-    /// whether rule 5 holds; none where rule 4 does not.
+    /// whether rule 5 holds; none where rule 4 does not, and where judging leaves.
     fn stretch(&mut self, root: u32, from: u32, end: u32) -> Option<bool> {
         let level = self.image.page(root).level;
         let fewest = if level == LEAF { 0 } else { 2 };
@@ -102,7 +122,11 @@ impl Walk {
                 return None;
             }
             full &= note.full && fewest <= note.live;
-            if self.either && !full {
+            if self.judging && !full {
+                return None;
+            }
+            self.left = self.judging && self.away != 0;
+            if self.left {
                 return None;
             }
             version = note.until.min(end);
@@ -140,6 +164,9 @@ impl Walk {
         if version < known.until {
             self.work.looks += 1;
             return joined(level, fewest, note, entry, known);
+        }
+        if 0 < known.until && known.until < version {
+            self.away = known.until;
         }
         let made = self.visit(entry.value, level - 1, version)?;
         joined(level, fewest, note, entry, made)

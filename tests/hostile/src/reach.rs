@@ -1,5 +1,5 @@
-//! Rule 6 at the last version: a walk from the root that marks what it reaches. Asked
-//! where rules 4 and 5 hold, so that no page is met twice.
+//! Rule 6 at one version: a walk from the root that marks what it reaches. Asked where
+//! rules 4 and 5 hold, so that no page is met twice.
 
 use reference::layout::{FREE, LEAF, MOST_PAGES};
 
@@ -7,14 +7,15 @@ use crate::quick::read::{header, slot, Loads, Reading};
 use crate::quick::{numbers, part};
 
 /// Whether the marks are those of the pages alive, and how many there are.
-pub fn at_last(store: &[u8]) -> (bool, u64) {
-    let header = header(store);
+pub fn at(store: &[u8], version: u32) -> (bool, u64) {
     let mut marks = [false; MOST_PAGES];
-    let root = slot(store, header.roots - 1).root;
-    let count = mark(store, root, header.last, &mut marks);
+    let slots = (0..header(store).roots).map(|place| slot(store, place));
+    let begun = slots.take_while(|slot| slot.version <= version);
+    let root = begun.last().expect("a slot of version 0").root;
+    let count = mark(store, root, version, &mut marks);
     let well = numbers(store).all(|number| {
         let head = Loads::head(part(store, number));
-        let alive = head.level != FREE && head.start <= header.last && header.last < head.end;
+        let alive = head.level != FREE && head.start <= version && version < head.end;
         marks[number] == alive
     });
     (well, count)

@@ -141,6 +141,7 @@ pub const FAMILIES: [Family; 12] = [
             ("staying", 0, 19),
             ("lives", 1, 20),
             ("fan", 1, 20),
+            ("above", 1, 20),
             ("height", 2, 7),
             STORM,
         ],
@@ -150,9 +151,10 @@ pub const FAMILIES: [Family; 12] = [
                 staying: n[1],
                 lives: n[2],
                 fan: n[3],
-                height: n[4],
+                above: n[4],
+                height: n[5],
             });
-            stormed(store?, n[5])
+            stormed(store?, n[6])
         },
     },
     Family {
@@ -285,7 +287,7 @@ const fn row(
     }
 }
 
-pub const ROWS: [Row; 18] = [
+pub const ROWS: [Row; 19] = [
     row(
         "storm",
         "storm",
@@ -330,8 +332,8 @@ pub const ROWS: [Row; 18] = [
     row(
         "tower",
         "tower",
-        &[220, 0, 20, 20, 7, 0],
-        &[3840, 0, 20, 20, 7, 0],
+        &[220, 0, 20, 20, 20, 7, 0],
+        &[3840, 0, 20, 20, 20, 7, 0],
     ),
     row(
         "turns",
@@ -360,8 +362,14 @@ pub const ROWS: [Row; 18] = [
     row(
         "tower with four staying, a storm behind it",
         "tower",
-        &[200, 4, 16, 20, 3, 1],
-        &[3820, 4, 16, 20, 4, 1],
+        &[200, 4, 16, 20, 20, 3, 1],
+        &[3820, 4, 16, 20, 20, 4, 1],
+    ),
+    row(
+        "tower of few routers, a storm behind it",
+        "tower",
+        &[160, 4, 16, 5, 4, 5, 1],
+        &[3072, 4, 16, 6, 4, 7, 1],
     ),
     row(
         "turns, a storm behind them",

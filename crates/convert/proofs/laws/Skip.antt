@@ -39,8 +39,8 @@ use Rattle.store.proofs.laws.Set.{state-set}
 use Rattle.store.proofs.laws.Sure.{sure, whole}
 use Rattle.notes.proofs.laws.Ready.{quiet-slots}
 use Rattle.notes.specs.Ready.{BehindUpto}
-use Rattle.judge.specs.Versions.{QuietPart}
-use Rattle.judge.proofs.laws.Quiet.{pairs-quiet}
+use Rattle.reach.specs.Versions.{QuietPart}
+use Rattle.reach.proofs.laws.Quiet.{pairs-quiet}
 use Rattle.turn.specs.Turned.{HeadedBytes}
 use Rattle.convert.proofs.laws.Ready.{is-sound, is-held}
 use Rattle.convert.specs.Version.{Replaying}

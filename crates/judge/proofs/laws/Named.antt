@@ -1,28 +1,26 @@
 -- Rules 4 to 7 as `check` names them: where `quick` says that 4 to 6 hold, rule 7 is left, else they are named by the notes, by the reach walk at
 -- the last version, by the sums and the slots. Assumes nothing.
-use Prim.Native.Nat.{ℕ, _+_, _-_, _≤_}
+use Prim.Native.Nat.{ℕ, _≤_}
 use native.Mathlib.Omega.{arith}
 use mathlib.Core.Bool.{Bool, true, false, _&&_}
 use mathlib.Core.Path.{_≡_, refl, sym, _∙_}
-use mathlib.Core.Logic.{_⊎_, inl, inr}
 use mathlib.Core.List.{List}
 use lib.ListN.{drop}
 use Rattle.model.specs.declared.Header.{Header}
-use Rattle.model.specs.Basic.{pick, count}
+use Rattle.model.specs.Basic.{pick}
 use Rattle.model.specs.Store.{lastOf}
 use Rattle.model.specs.Sound.{rule2, rule3, rule4, rule5, rule6, rule7}
 use Rattle.model.specs.Layout.{decode, readHeader}
 use Rattle.model.specs.Clean.{clean}
 use Rattle.spans.specs.Quick.{spansMet, slotsFine, quick}
-use Rattle.model.proofs.lists.Members.{bool-cases, not-both, all-in, in-count}
 use Rattle.model.proofs.lists.Lists.{both-true}
 use Rattle.spans.proofs.laws.Quick.{quick-rules}
 use Rattle.model.proofs.sound.Judging.{clean-first, lower-four, lower-five, lower-six, lower-seven, lower-none}
 use Rattle.model.specs.Inner.{lowerIn}
 use Rattle.notes.specs.Pass.{told}
 use Rattle.notes.proofs.laws.Six.{six-by}
-use Rattle.judge.specs.Versions.{versionOk}
-use Rattle.judge.proofs.laws.Rules.{six-is}
+use Rattle.reach.specs.Versions.{versionOk}
+use Rattle.reach.proofs.laws.Rules.{six-missed}
 
 -- ---- rule 7, once all lower ones hold
 
@@ -67,11 +65,7 @@ module _ (least : ℕ) (b : List ℕ) (r1 : clean least b ≡ true) (r2 : rule2 
 
   module _ (z : r ≡ 0) where
     pub six-last : (h : Header) (v : ℕ) → h ≡ readHeader least b → v ≡ lastOf (h .opened) (h .current) → h .oldest ≤ v → versionOk least 6 b v ≡ false → 6 ≡ lowerIn least b
-    six-last h v q k low f = let (r4, r5) = named-none z in sym (lower-six least b r1 r2 r3 r4 r5 (at (bool-cases (rule6 (decode least b)))))
-      where
-        at : (rule6 (decode least b) ≡ true) ⊎ (rule6 (decode least b) ≡ false) → rule6 (decode least b) ≡ false
-        at (inl t) = absurd (not-both (versionOk least 6 b v) (all-in (versionOk least 6 b) v (count (h .oldest) (lastOf (h .opened) (h .current) + 1 - h .oldest)) (sym (six-is least b h q) ∙ t) (in-count v (h .oldest) (lastOf (h .opened) (h .current) + 1 - h .oldest) (omega (arith, low, k)) (omega (arith, low, k)))) f)
-        at (inr t) = t
+    six-last h v q k low f = let (r4, r5) = named-none z in sym (lower-six least b r1 r2 r3 r4 r5 (six-missed least b h q v low (omega (arith, k)) f))
 
     module _ (two : 2 ≤ least) (d : Bool) (q : d ≡ (spansMet (decode least b) 5 (drop 5 (decode least b .pages)) && slotsFine least (decode least b .oldest) (decode least b .pages) (decode least b .slots))) where
       sixth : rule6 (decode least b) ≡ d

@@ -2,7 +2,7 @@
 use Prim.Native.Nat.{ℕ, zero, suc, _+_, _*_, _-_, _<_, _≤_}
 use native.Mathlib.Omega.{arith}
 use native.Mathlib.Numerals.{sub-one}
-use mathlib.Core.Bool.{Bool, true, false, _&&_}
+use mathlib.Core.Bool.{Bool, true, false, _&&_, _||_}
 use mathlib.Core.Path.{_≡_, refl, ap, sym, _∙_, subst}
 use mathlib.Core.Logic.{_⊎_, inl, inr, ⊎-elim}
 use mathlib.Core.List.{List}
@@ -24,7 +24,7 @@ use Rattle.notes.specs.declared.Note.{Note}
 use Rattle.notes.specs.Notes.{nothing, bad, stepIf, joinedIf, joins, step, row, noteAt}
 use Rattle.notes.proofs.laws.Laws.{note-still, row-bad}
 use Rattle.notes.specs.Linked.{Leads}
-use Rattle.notes.specs.Kept.{noteIn, putNote, Kept, kidsAt}
+use Rattle.notes.specs.Kept.{noteIn, putNote, putAway, Kept, kidsAt}
 
 module _ (ns : List ℕ) (n : ℕ) (x : Note) where
   abbrev s1 : List ℕ
@@ -95,10 +95,10 @@ module _ (ns : List ℕ) (n : ℕ) (x : Note) where
     pub put-same : x .keys ≡ true → noteIn (putNote ns n x) n ≡ x
     put-same k = rw (until-in, live-in, first-in, high-in, full-in) (ap (λ (b : Bool). record { until = x .until; live = x .live; first = x .first; high = x .high; full = x .full; keys = b }) (sym k))
 
-pub kept-none : (least : ℕ) (ps : List Page) (v : ℕ) → Kept least ps v (replicate 20480 0)
+pub kept-none : (least : ℕ) (ps : List Page) (v : ℕ) → Kept least ps v (replicate 20481 0)
 kept-none least ps v = record {
-  long = length-replicate {A = ℕ} 20480 0;
-  holds = λ m l h. absurd (omega (arith, getD-replicate {A = ℕ} 20480 (5 * m) 0 0 (omega arith)));
+  long = length-replicate {A = ℕ} 20481 0;
+  holds = λ m l h. absurd (omega (arith, getD-replicate {A = ℕ} 20481 (5 * m) 0 0 (omega arith)));
 }
 
 pub kept-later : (least : ℕ) (ps : List Page) (v w : ℕ) (ns : List ℕ) → v ≤ w → Kept least ps v ns → Kept least ps w ns
@@ -124,6 +124,22 @@ kept-put least ps v n x ns low is ok k = record {
     at m l h (inr a) (inr b) =
         let e : n ≡ m = omega arith in
         subst (λ (j : ℕ). noteIn (putNote ns n x) j ≡ noteAt least (heightOf ps j) ps v j) e (put-same ns n x (omega (arith, k .long)) ok ∙ is)
+
+-- what stands behind the notes is none of them
+pub kept-away : (least : ℕ) (ps : List Page) (v until w : ℕ) (ns ms : List ℕ) → ms ≡ putAway ns until w → Kept least ps v ns → Kept least ps v ms
+unfolding putAway
+kept-away least ps v until w ns ms q k = subst (Kept least ps v) (sym q) (at (eqb until 0 || leb w until))
+  where
+    same : (m : ℕ) → m < 4096 → noteIn (set ns 20480 until) m ≡ noteIn ns m
+    same m l =
+        rw (getD-set-other ns 20480 (5 * m) until 0 (λ e. omega arith), getD-set-other ns 20480 (5 * m + 1) until 0 (λ e. omega arith), getD-set-other ns 20480 (5 * m + 2) until 0 (λ e. omega arith), getD-set-other ns 20480 (5 * m + 3) until 0 (λ e. omega arith), getD-set-other ns 20480 (5 * m + 4) until 0 (λ e. omega arith))
+
+    at : (b : Bool) → Kept least ps v (pick b ns (set ns 20480 until))
+    at true = k
+    at false = record {
+      long = length-set ns 20480 until ∙ k .long;
+      holds = λ m l h. same m l ∙ k .holds m l (subst (λ (x : Note). v < x .until) (same m l) h);
+    }
 
 pub kids-none : (least : ℕ) (up : ℕ) (ps : List Page) (v m : ℕ) → up ≡ 0 → kidsAt least up ps v m ≡ nothing
 unfolding kidsAt

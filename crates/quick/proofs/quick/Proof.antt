@@ -2,7 +2,7 @@
 use mathlib.Core.Path.{sym, _∙_}
 use borrow.Author.Tests.{not-true, not-false}
 use Rattle.model.specs.Layout.{decode}
-use Rattle.quick.proofs.laws.Noted.{not-led, noted}
+use Rattle.quick.proofs.laws.Noted.{not-led}
 use Rattle.quick.proofs.quick.Statement.{statement}
 use Rattle.quick.proofs.quick.Tie as tie
 
@@ -18,16 +18,15 @@ pages-within-requires c κs = let r = c .before .before .before .pre in (r .0, r
 returns-2 : tie.Need-returns-2
 returns-2 c = c .before .before .pages-within .ensures (sym (c .before .before .before .before .led .ensures) ∙ not-false (c .before .before .before .before .led .result) (c .before .before .before .if1 .left)) (c .if2 .taken)
 
-both-hold-requires : tie.Need-both-hold-requires
-both-hold-requires c κs = let r = c .before .before .before .before .before .before .pre in (r .0, r .3)
+by-notes-requires : tie.Need-by-notes-requires
+by-notes-requires c κs =
+    let at-if = c .before .before .before in
+    let at-led = at-if .before in
+    let r = at-led .before .before .pre in
+    (r .0, r .3, r .4, sym (at-led .led .ensures) ∙ not-false (at-led .led .result) (at-if .if1 .left))
 
 returns-3 : tie.Need-returns-3
-returns-3 c =
-    let at-if = c .before .before .before .before in
-    let at-led = at-if .before in
-    let e = at-led .before .before in
-    let a = e .args in
-    noted (a .l .least) (decode (a .l .least) (a .s .now)) (e .pre .4) (c .both-hold .result) (c .both-hold .ensures) (sym (at-led .led .ensures) ∙ not-false (at-led .led .result) (at-if .if1 .left))
+returns-3 c = c .by-notes .ensures
 
 pub quick-spec : {M : Type 1} → statement M
-quick-spec = tie.close (tie.spec led-requires returns pages-within-requires returns-2 both-hold-requires returns-3)
+quick-spec = tie.close (tie.spec led-requires returns pages-within-requires returns-2 by-notes-requires returns-3)

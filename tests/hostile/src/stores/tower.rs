@@ -12,8 +12,10 @@ pub struct Tower {
     /// Settings of a leaf that stay, and lives of one more.
     pub staying: u32,
     pub lives: u32,
-    /// Most routers of a page; where few pages are left, one page leads to one.
+    /// Most routers of a page of level 2, and of one above; where few pages are left, one
+    /// page leads to one.
     pub fan: u32,
+    pub above: u32,
     /// The root's level.
     pub height: u32,
 }
@@ -42,7 +44,13 @@ pub fn tower(numbers: Tower) -> Option<Vec<u8>> {
         row.push((low, sketch.page(LEAF, staying.chain(lives).collect())));
     }
     for level in LEAF + 1..=numbers.height {
-        let parts = row.chunks(numbers.fan as usize);
+        let above_leaves = level == LEAF + 1;
+        let fan = if above_leaves {
+            numbers.fan
+        } else {
+            numbers.above
+        };
+        let parts = row.chunks(fan as usize);
         row = parts
             .map(|own| {
                 let routers = own.iter().map(|(low, page)| entry(*low, all, *page));

@@ -8,7 +8,7 @@ use Rattle.model.specs.Inner.{Out}
 use Rattle.store.proofs.laws.Sure.{front, few, part-in, whole}
 use Rattle.local.specs.Local.{slotAt}
 use Rattle.notes.specs.Ready.{BehindUpto}
-use Rattle.judge.specs.Versions.{QuietPart}
+use Rattle.reach.specs.Versions.{QuietPart}
 use Rattle.convert.proofs.laws.Skip.{room, slots-less, parts-more}
 use Rattle.convert.proofs.skip.next_change.Statement.{statement}
 use Rattle.convert.proofs.skip.next_change.Tie as tie

@@ -56,8 +56,8 @@ both-on-requires c κs =
 -- from v on: the versions up to the next slot, which have one root, and those behind them
 slot : (c : tie.After-both-on Inv-loop μ-loop) → let at-change = c .before .before .before .before in let at-loop = at-change .before .before in let a = at-loop .before .before .before .before .args in
     let end = at-loop .before .last .result + 1 in
-    bothAt (a .l .least) (decode (a .l .least) (a .s .now)) (at-loop .loop .v) end ≡ (c .both-on .result && bothAt (a .l .least) (decode (a .l .least) (a .s .now)) (at-change .slot-change .result) end)
-slot c =
+    c .both-on .result .away ≡ 0 → bothAt (a .l .least) (decode (a .l .least) (a .s .now)) (at-loop .loop .v) end ≡ (c .both-on .result .hold && bothAt (a .l .least) (decode (a .l .least) (a .s .now)) (at-change .slot-change .result) end)
+slot c stayed =
     let at-height = c .before .before in
     let at-root = at-height .before in
     let at-change = at-root .before in
@@ -72,46 +72,52 @@ slot c =
     let next = at-change .slot-change .ensures in
     both-slot (a .l .least) st (at-height .height .result) root v q end (height-here (a .l .least) (a .s .now) root (at-root .root-at .ensures .1 .isPage) (at-height .height .result) (at-height .height .ensures))
     (λ x low high. at-root .root-at .ensures .0 ∙ root-quiet (a .l .least) (a .s .now) (a .h) v x q (e .pre .1) low high (next .1)) (omega (arith, next .0 .above)) (next .0 .below)
-    ∙ ap (λ (b : Bool). b && bothAt (a .l .least) st q end) (sym (c .both-on .ensures .0))
+    ∙ ap (λ (b : Bool). b && bothAt (a .l .least) st q end) (sym (c .both-on .ensures .0 stayed))
 
 same-length : tie.Need-same-length Inv-loop μ-loop
-same-length c = let at-on = c .before .before .before in let at-loop = at-on .before .before .before .before .before .before in at-on .both-on .ensures .1 .long ∙ sym (at-loop .before .before .before .before .pre .2 .long)
+same-length c = let at-on = c .before .before .before .before in let at-loop = at-on .before .before .before .before .before .before in at-on .both-on .ensures .1 .long ∙ sym (at-loop .before .before .before .before .pre .2 .long)
 
+-- where it leaves, no more is told than that
 returns : tie.Need-returns Inv-loop μ-loop
-returns c =
-    let at-on = c .before .before .before in
+returns c e = absurd (c .if1 .taken e)
+
+same-length-2 : tie.Need-same-length-2 Inv-loop μ-loop
+same-length-2 c = let at-on = c .before .before .before .before .before .before in let at-loop = at-on .before .before .before .before .before .before in at-on .both-on .ensures .1 .long ∙ sym (at-loop .before .before .before .before .pre .2 .long)
+
+returns-2 : tie.Need-returns-2 Inv-loop μ-loop
+returns-2 c e =
+    let at-on = c .before .before .before .before .before .before in
     let at-change = at-on .before .before .before .before in
     let at-loop = at-change .before .before in
     let a = at-loop .before .before .before .before .args in
-    sym
-    (at-loop .loop .inv .3 ∙ slot at-on
-    ∙ ap (λ (b : Bool). b && bothAt (a .l .least) (decode (a .l .least) (a .s .now)) (at-change .slot-change .result) (at-loop .before .last .result + 1)) (not-true (at-on .both-on .result) (c .if1 .taken)))
+    let fails = not-true (at-on .both-on .result .hold) (c .if2 .taken) in
+    fails ∙ sym (at-loop .loop .inv .3 ∙ slot at-on e ∙ ap (λ (b : Bool). b && bothAt (a .l .least) (decode (a .l .least) (a .s .now)) (at-change .slot-change .result) (at-loop .before .last .result + 1)) fails)
 
 loop-less : tie.Need-loop-less Inv-loop μ-loop
-loop-less c = let next = c .before .before .before .before .before .before .before .slot-change .ensures .0 in omega (arith, next .above, next .below)
+loop-less c = let next = c .before .before .before .before .before .before .before .before .before .before .slot-change .ensures .0 in omega (arith, next .above, next .below)
 
 loop-again : tie.Need-loop-again Inv-loop μ-loop
 loop-again c =
-    let at-on = c .before .before .before in
+    let at-on = c .before .before .before .before .before .before in
     let at-change = at-on .before .before .before .before in
     let at-loop = at-change .before .before in
     let a = at-loop .before .before .before .before .args in (
       at-change .slot-change .ensures .0 .below,
       omega (arith, at-change .slot-change .ensures .0 .above, at-loop .loop .inv .1),
       at-on .both-on .ensures .1,
-      at-loop .loop .inv .3 ∙ slot at-on
-          ∙ ap (λ (b : Bool). b && bothAt (a .l .least) (decode (a .l .least) (a .s .now)) (at-change .slot-change .result) (at-loop .before .last .result + 1)) (not-false (at-on .both-on .result) (c .if1 .left)),
+      at-loop .loop .inv .3 ∙ slot at-on (c .before .before .if1 .left)
+          ∙ ap (λ (b : Bool). b && bothAt (a .l .least) (decode (a .l .least) (a .s .now)) (at-change .slot-change .result) (at-loop .before .last .result + 1)) (not-false (at-on .both-on .result .hold) (c .if2 .left)),
     )
 
-same-length-2 : tie.Need-same-length-2 Inv-loop μ-loop
-same-length-2 c = let at-loop = c .before in at-loop .loop .inv .2 .long ∙ sym (at-loop .before .before .before .before .pre .2 .long)
+same-length-3 : tie.Need-same-length-3 Inv-loop μ-loop
+same-length-3 c = let at-loop = c .before in at-loop .loop .inv .2 .long ∙ sym (at-loop .before .before .before .before .pre .2 .long)
 
-returns-2 : tie.Need-returns-2 Inv-loop μ-loop
-returns-2 c =
+returns-3 : tie.Need-returns-3 Inv-loop μ-loop
+returns-3 c e =
     let at-loop = c .before in
     let a = at-loop .before .before .before .before .args in
     sym (at-loop .loop .inv .3 ∙ both-done (a .l .least) (decode (a .l .least) (a .s .now)) (at-loop .loop .v) (at-loop .before .last .result + 1) (c .loop-test .left))
 
 pub both-over-spec : {M : Type 1} → statement M
 both-over-spec =
-    tie.close (tie.spec Inv-loop μ-loop last-requires add-end loop-holds slot-change-requires root-at-requires height-requires both-on-requires same-length returns loop-less loop-again same-length-2 returns-2)
+    tie.close (tie.spec Inv-loop μ-loop last-requires add-end loop-holds slot-change-requires root-at-requires height-requires both-on-requires same-length returns same-length-2 returns-2 loop-less loop-again same-length-3 returns-3)

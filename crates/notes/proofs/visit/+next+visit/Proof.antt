@@ -9,7 +9,7 @@ use Rattle.notes.specs.declared.Note.{Note}
 use Rattle.notes.specs.Notes.{nothing, noteAt, row}
 use Rattle.notes.proofs.laws.Here.{part-asks, head-asks, stands-here, few, entries-start, leads-here}
 use Rattle.notes.specs.Kept.{Kept, kidsAt}
-use Rattle.notes.proofs.laws.Kept.{below-leaf, below-dead, below-live, leads-on, known-is, note-row, step-kid, row-end, row-next, row-stops, live-next, kept-after, entries-here, height-here}
+use Rattle.notes.proofs.laws.Kept.{below-leaf, below-dead, below-live, leads-on, known-is, note-row, step-kid, row-end, row-next, row-stops, live-next, kept-away, kept-after, entries-here, height-here}
 use borrow.Author.Needs.{needs}
 use Prim.Native.Nat.{ℕ, _<_, _≤_, _+_, _*_, _-_}
 use borrow.Fn.Kinds.{In}
@@ -22,6 +22,7 @@ use Rattle.notes.proofs.visit.visit.Kinds as visit-kinds
 use Rattle.notes.proofs.visit.+next+visit.Lts-visit as visit-lts
 use Rattle.notes.proofs.keep.note_at.Reads as note-at-reads
 use Rattle.notes.proofs.keep.put.Reads as put-reads
+use Rattle.notes.proofs.keep.put_away.Reads as put-away-reads
 use Rattle.notes.proofs.step.is_live.Reads as is-live-reads
 use Rattle.notes.proofs.step.nothing.Reads as nothing-reads
 use Rattle.notes.proofs.step.step.Reads as step-reads
@@ -63,6 +64,8 @@ next-claims t = (
   wide-reads.Learnt,
   note-at-reads.Asked,
   note-at-reads.Learnt,
+  put-away-reads.Asked,
+  put-away-reads.Learnt,
   visit-below t,
   visit.Post,
 )
@@ -121,20 +124,23 @@ next-same-length t c = search needs
 next-returns-3 : (t : ℕ) → next-lts.Need-returns-3 (next-claims t) (next-at t) next.Post
 next-returns-3 t c = let a = c .before .before .before .before .before .before .before .before .before .before .before .args in let r = c .before .before .before .before .before .before .before .before .before .before .before .pre .1 in let (x, y) = leads-on (a .l .least) (a .s .now) (a .v) (a .up) (c .before .before .before .before .before .wide .result) (a .e) (r .2) (c .before .before .before .before .before .wide .ensures) (c .before .before .before .before .before .before .before .before .if1 .left) (sym (c .before .before .before .before .before .before .before .is-live .ensures) ∙ not-false (c .before .before .before .before .before .before .before .is-live .result) (c .before .before .before .before .before .before .if2 .left)) in (step-kid (a .l .least) (a .up) (a .v) (decode (a .l .least) (a .s .now) .pages) (a .x) (c .step3 .result) (c .before .before .before .note-at .result) (a .e) (known-is (a .l .least) (a .up - 1) (decode (a .l .least) (a .s .now) .pages) (a .v) (c .before .before .before .before .before .wide .result) (a .notes .now) (c .before .before .before .note-at .result) (r .3) (omega (arith, x .1, r .1 .most)) (height-here (a .l .least) (a .s .now) (c .before .before .before .before .before .wide .result) x (a .up - 1) y) (c .before .before .before .note-at .ensures) (c .before .if3 .taken) ∙ sym (below-live (a .l .least) (a .up) (decode (a .l .least) (a .s .now) .pages) (a .v) (a .e) (c .before .before .before .before .before .wide .result) (sym (c .before .before .before .before .before .before .before .is-live .ensures) ∙ not-false (c .before .before .before .before .before .before .before .is-live .result) (c .before .before .before .before .before .before .if2 .left)) (c .before .before .before .before .before .before .before .before .if1 .left) (c .before .before .before .before .before .wide .ensures))) (c .step3 .ensures), r .3)
 
+next-put-away-requires : (t : ℕ) → next-lts.Need-put-away-requires (next-claims t) (next-at t) next.Post
+next-put-away-requires t c κs = c .before .before .before .before .before .before .before .before .before .before .before .pre .1 .3 .long
+
 next-sub-visit : (t : ℕ) → next-lts.Need-sub-visit (next-claims t) (next-at t) next.Post
 next-sub-visit t c = search needs
 
 next-visit-requires : (t : ℕ) → next-lts.Need-visit-requires (next-claims t) (next-at t) next.Post
-next-visit-requires t c κs = let a = c .before .before .before .before .before .before .before .before .before .before .before .args in let r = c .before .before .before .before .before .before .before .before .before .before .before .pre .1 in let (x, y) = leads-on (a .l .least) (a .s .now) (a .v) (a .up) (c .before .before .before .before .before .wide .result) (a .e) (r .2) (c .before .before .before .before .before .wide .ensures) (c .before .before .before .before .before .before .before .before .if1 .left) (sym (c .before .before .before .before .before .before .before .is-live .ensures) ∙ not-false (c .before .before .before .before .before .before .before .is-live .result) (c .before .before .before .before .before .before .if2 .left)) in (omega (arith, c .before .before .before .before .before .before .before .before .if1 .left, c .before .before .before .before .before .before .before .before .before .before .before .pre .0), (r .0, r .1, x, y, r .3, r .6))
+next-visit-requires t c κs = let a = c .before .before .before .before .before .before .before .before .before .before .before .before .before .before .before .args in let r = c .before .before .before .before .before .before .before .before .before .before .before .before .before .before .before .pre .1 in let (x, y) = leads-on (a .l .least) (a .s .now) (a .v) (a .up) (c .before .before .before .before .before .before .before .before .before .wide .result) (a .e) (r .2) (c .before .before .before .before .before .before .before .before .before .wide .ensures) (c .before .before .before .before .before .before .before .before .before .before .before .before .if1 .left) (sym (c .before .before .before .before .before .before .before .before .before .before .before .is-live .ensures) ∙ not-false (c .before .before .before .before .before .before .before .before .before .before .before .is-live .result) (c .before .before .before .before .before .before .before .before .before .before .if2 .left)) in (omega (arith, c .before .before .before .before .before .before .before .before .before .before .before .before .if1 .left, c .before .before .before .before .before .before .before .before .before .before .before .before .before .before .before .pre .0), (r .0, r .1, x, y, kept-away (a .l .least) (decode (a .l .least) (a .s .now) .pages) (a .v) _ _ _ _ (c .before .before .before .put-away .ensures) (r .3), r .6))
 
 next-step-requires-4 : (t : ℕ) → next-lts.Need-step-requires-4 (next-claims t) (next-at t) next.Post
-next-step-requires-4 t c κs = let a = c .before .before .before .before .before .before .before .before .before .before .before .before .before .before .args in let r = c .before .before .before .before .before .before .before .before .before .before .before .before .before .before .pre .1 in (r .4, r .5)
+next-step-requires-4 t c κs = let a = c .before .before .before .before .before .before .before .before .before .before .before .before .before .before .before .before .before .before .args in let r = c .before .before .before .before .before .before .before .before .before .before .before .before .before .before .before .before .before .before .pre .1 in (r .4, r .5)
 
 next-same-length-2 : (t : ℕ) → next-lts.Need-same-length-2 (next-claims t) (next-at t) next.Post
 next-same-length-2 t c = search needs
 
 next-returns-4 : (t : ℕ) → next-lts.Need-returns-4 (next-claims t) (next-at t) next.Post
-next-returns-4 t c = let a = c .before .before .before .before .before .before .before .before .before .before .before .before .before .before .before .args in let r = c .before .before .before .before .before .before .before .before .before .before .before .before .before .before .before .pre .1 in (step-kid (a .l .least) (a .up) (a .v) (decode (a .l .least) (a .s .now) .pages) (a .x) (c .step4 .result) (c .before .before .before .visit .result) (a .e) (c .before .before .before .visit .ensures .0 ∙ sym (below-live (a .l .least) (a .up) (decode (a .l .least) (a .s .now) .pages) (a .v) (a .e) (c .before .before .before .before .before .before .before .before .before .wide .result) (sym (c .before .before .before .before .before .before .before .before .before .before .before .is-live .ensures) ∙ not-false (c .before .before .before .before .before .before .before .before .before .before .before .is-live .result) (c .before .before .before .before .before .before .before .before .before .before .if2 .left)) (c .before .before .before .before .before .before .before .before .before .before .before .before .if1 .left) (c .before .before .before .before .before .before .before .before .before .wide .ensures))) (c .step4 .ensures), c .before .before .before .visit .ensures .1)
+next-returns-4 t c = let a = c .before .before .before .before .before .before .before .before .before .before .before .before .before .before .before .before .before .before .before .args in let r = c .before .before .before .before .before .before .before .before .before .before .before .before .before .before .before .before .before .before .before .pre .1 in (step-kid (a .l .least) (a .up) (a .v) (decode (a .l .least) (a .s .now) .pages) (a .x) (c .step4 .result) (c .before .before .before .visit .result) (a .e) (c .before .before .before .visit .ensures .0 ∙ sym (below-live (a .l .least) (a .up) (decode (a .l .least) (a .s .now) .pages) (a .v) (a .e) (c .before .before .before .before .before .before .before .before .before .before .before .before .before .wide .result) (sym (c .before .before .before .before .before .before .before .before .before .before .before .before .before .before .before .is-live .ensures) ∙ not-false (c .before .before .before .before .before .before .before .before .before .before .before .before .before .before .before .is-live .result) (c .before .before .before .before .before .before .before .before .before .before .before .before .before .before .if2 .left)) (c .before .before .before .before .before .before .before .before .before .before .before .before .before .before .before .before .if1 .left) (c .before .before .before .before .before .before .before .before .before .before .before .before .before .wide .ensures))) (c .step4 .ensures), c .before .before .before .visit .ensures .1)
 
 -- ---- a page
 
@@ -231,6 +237,7 @@ pub +next+visit-spec : {M : Type 1} → statement M
     (next-step-requires-3 t)
     (next-same-length t)
     (next-returns-3 t)
+    (next-put-away-requires t)
     (next-sub-visit t)
     (next-visit-requires t)
     (next-step-requires-4 t)

@@ -1,0 +1,10 @@
+pub mod Live
+pub mod Marked
+pub mod Pending
+pub mod Quiet
+pub mod Rules
+pub mod Steps
+pub mod Stretch
+pub mod Taking
+pub mod Tests
+pub mod Walking

@@ -1,0 +1,64 @@
+-- `reach::live::next_live` meets its contract: no entry from i up to k is alive. Assumes nothing.
+use Prim.Native.Nat.{_≤_, _-_}
+use mathlib.Core.Path.{_≡_, refl, sym, _∙_}
+use native.Mathlib.Omega.{arith}
+use Rattle.reach.proofs.laws.Live.{pairs-live, pairs-dead}
+use Rattle.reach.specs.Pending.{pairsFrom}
+use borrow.Author.Needs.{needs}
+use Rattle.reach.proofs.live.next_live.Statement.{statement}
+use Rattle.reach.proofs.live.next_live.Tie as tie
+
+abbrev Inv-loop : tie.InvT-loop
+Inv-loop page v i n k₀ k = (i ≤ k) × (k ≤ n) × (pairsFrom page v i n ≡ pairsFrom page v k n)
+
+abbrev μ-loop : tie.MeasureT-loop
+μ-loop page v i n k₀ k = n - k
+
+loop-holds : tie.Need-loop-holds Inv-loop μ-loop
+loop-holds c = (omega arith, c .before .pre .2, refl)
+
+entry-at-requires : tie.Need-entry-at-requires Inv-loop μ-loop
+entry-at-requires c κs = (omega (arith, c .before .before .before .pre .0, c .loop-test .taken), c .before .before .before .pre .1)
+
+is-live-requires : tie.Need-is-live-requires Inv-loop μ-loop
+is-live-requires c κs = search needs
+
+returns : tie.Need-returns Inv-loop μ-loop
+returns c =
+    let a = c .before .before .before .before .before .before .args in let l = c .before .before .before .before .loop in
+    record {
+      low = l .inv .0;
+      high = l .inv .1;
+      same = l .inv .2;
+      live = λ h. pairs-live (a .page .now) (a .v) (l .k) (a .n) h (rw (c .before .before .entry-at .ensures) at (sym (c .before .is-live .ensures)) ∙ c .if1 .taken);
+      alive = λ h. rw (c .before .before .entry-at .ensures) at (sym (c .before .is-live .ensures)) ∙ c .if1 .taken;
+    }
+
+add-k : tie.Need-add-k Inv-loop μ-loop
+add-k c = omega (arith, c .before .before .before .loop-test .taken, c .before .before .before .before .before .before .pre .0, c .before .before .before .before .before .before .pre .1)
+
+loop-less : tie.Need-loop-less Inv-loop μ-loop
+loop-less c = omega (arith, c .before .before .before .loop-test .taken)
+
+loop-again : tie.Need-loop-again Inv-loop μ-loop
+loop-again c =
+    let a = c .before .before .before .before .before .before .args in let l = c .before .before .before .before .loop in
+    (omega (arith, l .inv .0), omega (arith, c .before .before .before .loop-test .taken), l .inv .2 ∙ pairs-dead (a .page .now) (a .v) (l .k) (a .n) (c .before .before .before .loop-test .taken) (rw (c .before .before .entry-at .ensures) at (sym (c .before .is-live .ensures)) ∙ c .if1 .left))
+
+returns-2 : tie.Need-returns-2 Inv-loop μ-loop
+returns-2 c = let l = c .before .loop in record { low = l .inv .0; high = l .inv .1; same = l .inv .2; live = λ h. absurd (omega (arith, c .loop-test .left)); alive = λ h. absurd (omega (arith, c .loop-test .left)) }
+
+pub next-live-spec : {M : Type 1} → statement M
+next-live-spec =
+    tie.close
+    (tie.spec
+    Inv-loop
+    μ-loop
+    loop-holds
+    entry-at-requires
+    is-live-requires
+    returns
+    add-k
+    loop-less
+    loop-again
+    returns-2)
