@@ -50,11 +50,11 @@ pub fn insert(s: &mut [u8], l: Limits, key: u32, value: u32, sure: bool) -> u32
     requires { ⌜ Edition l × Sure l (now s) sure ⌝ }
     ensures { λ r. ⌜ leaving r (now (s .exit)) ≡ insertLent (l .least) (now (s .entry)) key value ⌝ }
 {
-    let n = crate::updating::guard_updating(s, l, key, true, sure);
-    if n != 0 {
-        return n;
+    let r = crate::updating::guard_updating(s, l, key, true, sure);
+    if r.number != 0 {
+        return r.number;
     }
-    update::raw_insert(s, l, key, value)
+    update::insert_at(s, l, r.version, r.leaf, key, value)
 }
 
 // Deletes a setting in the open update.
@@ -62,9 +62,9 @@ pub fn delete(s: &mut [u8], l: Limits, key: u32, sure: bool) -> u32
     requires { ⌜ Edition l × Sure l (now s) sure ⌝ }
     ensures { λ r. ⌜ leaving r (now (s .exit)) ≡ deleteLent (l .least) (now (s .entry)) key ⌝ }
 {
-    let n = crate::updating::guard_updating(s, l, key, false, sure);
-    if n != 0 {
-        return n;
+    let r = crate::updating::guard_updating(s, l, key, false, sure);
+    if r.number != 0 {
+        return r.number;
     }
-    update::raw_delete(s, l, key)
+    update::delete_at(s, l, r.version, r.leaf, key)
 }

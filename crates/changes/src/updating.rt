@@ -6,21 +6,39 @@ ghost use Prim.Native.Nat.{_<_};
 ghost use Rattle.model.specs.Limits.{Edition};
 ghost use Rattle.model.specs.Walk.{keyLimit, lookup};
 ghost use Rattle.model.specs.Layout.{decode};
-ghost use Rattle.model.specs.Calls.{isSome};
+ghost use Rattle.model.specs.Calls.{isSome, lookedAt};
 ghost use Rattle.model.specs.Lent.{leaving, insertLent, deleteLent};
+ghost use Rattle.walk.specs.Down.{Leaf};
 ghost use Rattle.walk.specs.Sure.{Walkable};
 ghost use Rattle.reads.specs.Guard.{guarded, Sure};
-ghost use Rattle.changes.specs.Updating.{updating, limitOf, against};
+ghost use Rattle.changes.specs.Updating.{updating, limitOf, against, At};
 
 // "Keys 16,776,960 and above belong to our test bench. Insert refuses them with 5."
 const BENCH: u32 = 16776960;
 
-// Whether a key is alive at version w.
-fn is_alive(s: &[u8], l: Limits, key: u32, w: u32) -> bool
-    requires { ⌜ Walkable l (now s) w × (key < keyLimit) ⌝ }
+// What the guard of an update found: its number, and where that is 0 the open version and the leaf for the key then.
+pub struct Reached {
+    pub number: u32,
+    pub version: u32,
+    pub leaf: usize,
+}
+
+// What the leaf for a key, page n, answers to a lookup.
+fn lookup_at(s: &[u8], l: Limits, n: usize, key: u32, w: u32) -> Looked
+    requires { ⌜ Walkable l (now s) w × Leaf l (now s) w key n ⌝ }
+    ensures { λ r. ⌜ r ≡ lookedAt (lookup (decode (l .least) (now (s .entry))) key w) ⌝ }
+{
+    let p = store::part(s, l, n);
+    let h = page::head_of(p, l);
+    walk::find(p, h.count, w, key)
+}
+
+// Whether the key is alive there.
+fn is_alive(s: &[u8], l: Limits, n: usize, key: u32, w: u32) -> bool
+    requires { ⌜ Walkable l (now s) w × Leaf l (now s) w key n ⌝ }
     ensures { λ r. ⌜ r ≡ isSome (lookup (decode (l .least) (now (s .entry))) key w) ⌝ }
 {
-    match walk::lookup(s, l, key, w) {
+    match lookup_at(s, l, n, key, w) {
         Looked::Value(_) => true,
         Looked::Absent => false,
         Looked::Refused(_) => false,
@@ -53,23 +71,51 @@ fn limit_of(insert: bool) -> u32
     near::KEYS
 }
 
+// The last test, and the leaf that it asks.
+fn by_leaf(s: &[u8], l: Limits, key: u32, insert: bool, w: u32) -> Reached
+    requires { ⌜ Walkable l (now s) w × (key < keyLimit) ⌝ }
+    ensures number { λ r. ⌜ r .number ≡ against insert (isSome (lookup (decode (l .least) (now (s .entry))) key w)) ⌝ }
+    ensures leaf { λ r. ⌜ (r .version ≡ w) × Leaf l (now (s .entry)) (r .version) key (r .leaf) ⌝ }
+{
+    let leaf = walk::leaf_for(s, l, w, key);
+    let number = against(insert, is_alive(s, l, leaf, key, w));
+    Reached {
+        number,
+        version: w,
+        leaf,
+    }
+}
+
 // The guard of insert and delete: judging, then 5, 7, and 10 or 11.
-pub(crate) fn guard_updating(s: &[u8], l: Limits, key: u32, insert: bool, sure: bool) -> u32
+pub(crate) fn guard_updating(s: &[u8], l: Limits, key: u32, insert: bool, sure: bool) -> Reached
     requires { ⌜ Edition l × Sure l (now s) sure ⌝ }
-    ensures { λ r. ⌜ r ≡ guarded (l .least) (now (s .entry)) (updating insert key) ⌝ }
+    ensures number { λ r. ⌜ r .number ≡ guarded (l .least) (now (s .entry)) (updating insert key) ⌝ }
+    ensures leaf { λ r. ⌜ (r .number ≡ 0 → At l (now (s .entry)) key (r .version) (r .leaf)) ⌝ }
 {
     let n = crate::judge(s, l, sure);
     if n != 0 {
-        return n;
+        return Reached {
+            number: n,
+            version: 0,
+            leaf: 0,
+        };
     }
     if limit_of(insert) <= key {
-        return 5;
+        return Reached {
+            number: 5,
+            version: 0,
+            leaf: 0,
+        };
     }
     let h = store::header(s, l);
     if !h.opened {
-        return 7;
+        return Reached {
+            number: 7,
+            version: 0,
+            leaf: 0,
+        };
     }
-    against(insert, is_alive(s, l, key, h.current + 1))
+    by_leaf(s, l, key, insert, h.current + 1)
 }
 
 // Inserts a setting in the open update.

@@ -7,10 +7,12 @@ use lib.ListN.{length, take}
 use lib.Seq.{take-at, length-take-le}
 use native.Mathlib.Omega.{arith}
 use borrow.Author.Tests.{le-leb, lt-leb}
-use Rattle.model.specs.Store.{fresh}
-use Rattle.model.specs.Layout.{sizeOf, encode}
-use Rattle.model.specs.Judged.{isSound, lengthOk}
-use Rattle.model.specs.Lent.{Outcome, leaving, freshLent}
+use Rattle.model.specs.Store.{Store, fresh}
+use Rattle.model.specs.Layout.{sizeOf, encode, decode}
+use Rattle.model.specs.Judged.{judged, isSound, lengthOk}
+use Rattle.model.specs.Climb.{Result}
+use Rattle.model.specs.Calls.{insert, delete, begin, commit, abandon}
+use Rattle.model.specs.Lent.{Outcome, leaving, left, judgedFirst, lent, openLent, insertLent, deleteLent, commitLent, abandonLent, freshLent}
 use Rattle.store.proofs.laws.Answers.{length-rest, done-store}
 use Rattle.lines.specs.declared.Answer.{Answer}
 use Rattle.lines.specs.declared.Answer.the-variants.{Done, Refused}
@@ -41,6 +43,47 @@ updated o n pages q z a e f g h stays =
       pages = h;
       sure = λ t. subst (λ (b : List ℕ). isSound 4 b ≡ true) (sym (back q z pages g ∙ ap (λ (x : Outcome). x .store) e)) (stays t);
     })
+
+-- ---- before an accepted `store`
+
+judged-none : judged 4 [] .number ≡ 1
+unfolding judged lengthOk
+judged-none = refl
+
+none-lent : (f : Store → Result) → lent 4 f [] ≡ leaving 1 []
+unfolding lent
+none-lent f = ap (λ (n : ℕ). judgedFirst n (λ (m : ℕ). leaving m []) (left 4 [] (f (decode 4 [])))) judged-none
+
+module _ (bytes : List ℕ) (pages : ℕ) (z : pages ≡ 0) where
+  none-kept : (f : Store → Result) → Single (outcome (lent 4 f (storeIn bytes pages))) bytes (record { pages = pages; answer = Refused 1; count = 0 })
+  none-kept f =
+      subst
+      (λ (p : ℕ). Single (outcome (lent 4 f (storeIn bytes p))) bytes (record { pages = p; answer = Refused 1; count = 0 }))
+      (sym z)
+      (subst
+      (λ (o : Outcome). Single (outcome o) bytes (record { pages = 0; answer = Refused 1; count = 0 }))
+      (sym (none-lent f))
+      (record { store = refl; answers = refl; alone = refl; pages = omega arith; sure = λ t. absurd (omega arith) }))
+
+  pub open-none : Single (outcome (openLent 4 (storeIn bytes pages))) bytes (record { pages = pages; answer = Refused 1; count = 0 })
+  unfolding openLent
+  open-none = none-kept begin
+
+  pub commit-none : Single (outcome (commitLent 4 (storeIn bytes pages))) bytes (record { pages = pages; answer = Refused 1; count = 0 })
+  unfolding commitLent
+  commit-none = none-kept commit
+
+  pub abandon-none : Single (outcome (abandonLent 4 (storeIn bytes pages))) bytes (record { pages = pages; answer = Refused 1; count = 0 })
+  unfolding abandonLent
+  abandon-none = none-kept abandon
+
+  pub insert-none : (k x : ℕ) → Single (outcome (insertLent 4 (storeIn bytes pages) k x)) bytes (record { pages = pages; answer = Refused 1; count = 0 })
+  unfolding insertLent
+  insert-none k x = none-kept (λ (s : Store). insert 4 s k x)
+
+  pub delete-none : (k : ℕ) → Single (outcome (deleteLent 4 (storeIn bytes pages) k)) bytes (record { pages = pages; answer = Refused 1; count = 0 })
+  unfolding deleteLent
+  delete-none k = none-kept (λ (s : Store). delete 4 s k)
 
 -- ---- making a store
 

@@ -19,13 +19,28 @@ fn answer(n: u32) -> Answer
     Answer::Refused(n)
 }
 
+// "before an accepted `store` .. the answer is `refused 1`". It is told here, and not by a call that is not sure: so no judging, which
+// keeps 80 kB on the stack, is compiled into the program.
+fn none(pages: usize) -> Reply
+    ensures { λ r. ⌜ r ≡ record { pages = pages; answer = Answer.Refused 1; count = 0 } ⌝ }
+{
+    Reply {
+        pages,
+        answer: Answer::Refused(1),
+        count: 0,
+    }
+}
+
 pub(crate) fn open(pages: usize, bytes: &mut [u8]) -> Reply
     requires { ⌜ (pages ≤ 256) × (length (now bytes) ≡ 65536) × Sure (now bytes) pages ⌝ }
     ensures { λ r. ⌜ Single (outcome (openLent 4 (storeIn (now (bytes .entry)) pages))) (now (bytes .exit)) r ⌝ }
 {
+    if pages == 0 {
+        return none(pages);
+    }
     let l = model::edition_one();
     let e = pages * 256;
-    let n = changes::sure::open(&mut bytes[..e], l, 0 < pages);
+    let n = changes::sure::open(&mut bytes[..e], l, true);
     Reply {
         pages,
         answer: answer(n),
@@ -37,9 +52,12 @@ pub(crate) fn insert(key: u32, value: u32, pages: usize, bytes: &mut [u8]) -> Re
     requires { ⌜ (pages ≤ 256) × (length (now bytes) ≡ 65536) × Sure (now bytes) pages ⌝ }
     ensures { λ r. ⌜ Single (outcome (insertLent 4 (storeIn (now (bytes .entry)) pages) key value)) (now (bytes .exit)) r ⌝ }
 {
+    if pages == 0 {
+        return none(pages);
+    }
     let l = model::edition_one();
     let e = pages * 256;
-    let n = changes::sure::insert(&mut bytes[..e], l, key, value, 0 < pages);
+    let n = changes::sure::insert(&mut bytes[..e], l, key, value, true);
     Reply {
         pages,
         answer: answer(n),
@@ -51,9 +69,12 @@ pub(crate) fn delete(key: u32, pages: usize, bytes: &mut [u8]) -> Reply
     requires { ⌜ (pages ≤ 256) × (length (now bytes) ≡ 65536) × Sure (now bytes) pages ⌝ }
     ensures { λ r. ⌜ Single (outcome (deleteLent 4 (storeIn (now (bytes .entry)) pages) key)) (now (bytes .exit)) r ⌝ }
 {
+    if pages == 0 {
+        return none(pages);
+    }
     let l = model::edition_one();
     let e = pages * 256;
-    let n = changes::sure::delete(&mut bytes[..e], l, key, 0 < pages);
+    let n = changes::sure::delete(&mut bytes[..e], l, key, true);
     Reply {
         pages,
         answer: answer(n),
@@ -65,9 +86,12 @@ pub(crate) fn commit(pages: usize, bytes: &mut [u8]) -> Reply
     requires { ⌜ (pages ≤ 256) × (length (now bytes) ≡ 65536) × Sure (now bytes) pages ⌝ }
     ensures { λ r. ⌜ Single (outcome (commitLent 4 (storeIn (now (bytes .entry)) pages))) (now (bytes .exit)) r ⌝ }
 {
+    if pages == 0 {
+        return none(pages);
+    }
     let l = model::edition_one();
     let e = pages * 256;
-    let n = changes::sure::commit(&mut bytes[..e], l, 0 < pages);
+    let n = changes::sure::commit(&mut bytes[..e], l, true);
     Reply {
         pages,
         answer: answer(n),
@@ -79,9 +103,12 @@ pub(crate) fn abandon(pages: usize, bytes: &mut [u8]) -> Reply
     requires { ⌜ (pages ≤ 256) × (length (now bytes) ≡ 65536) × Sure (now bytes) pages ⌝ }
     ensures { λ r. ⌜ Single (outcome (abandonLent 4 (storeIn (now (bytes .entry)) pages))) (now (bytes .exit)) r ⌝ }
 {
+    if pages == 0 {
+        return none(pages);
+    }
     let l = model::edition_one();
     let e = pages * 256;
-    let n = changes::sure::abandon(&mut bytes[..e], l, 0 < pages);
+    let n = changes::sure::abandon(&mut bytes[..e], l, true);
     Reply {
         pages,
         answer: answer(n),

@@ -6,11 +6,12 @@ use model::Entry;
 use model::Limits;
 use model::Looked;
 ghost use mathlib.Core.Path.{_≡_};
-ghost use Prim.Native.Nat.{_≤_, _<_};
+ghost use Prim.Native.Nat.{_+_, _*_, _^_, _≤_, _<_};
+ghost use lib.ListN.{length};
 ghost use Rattle.model.specs.Basic.{all};
 ghost use Rattle.model.specs.Store.{page};
 ghost use Rattle.model.specs.Walk.{keyLimit};
-ghost use Rattle.model.specs.Layout.{sizeOf, decode};
+ghost use Rattle.model.specs.Layout.{sizeOf, readEntry, decode};
 ghost use Rattle.model.specs.Calls.{unchanged};
 ghost use Rattle.walk.specs.Sure.{Walkable};
 ghost use Rattle.release.specs.Settled.{has, settled, leafSettled};
@@ -48,6 +49,17 @@ fn settled(s: &[u8], l: Limits, c: u32, e: Entry) -> bool
     true
 }
 
+// Whether entry i of a leaf's part p does. One that does not start or end at the open version is not read further.
+fn entry_settled(s: &[u8], l: Limits, c: u32, p: &[u8], i: usize) -> bool
+    requires { ⌜ Opened l (now s) c × (16 + 12 * i + 12 ≤ length (now p)) × (length (now p) ≤ 2 ^ 40) ⌝ }
+    ensures { λ r. ⌜ r ≡ settled (decode (l .least) (now (s .entry))) (readEntry (now (p .entry)) (128 + 96 * i)) ⌝ }
+{
+    if !turn::may_turn(p, i, c + 1) {
+        return true;
+    }
+    settled(s, l, c, page::entry_at(p, i))
+}
+
 // Whether each entry of the leaf n does: at most as many steps as a page has entries.
 fn entries_settled(s: &[u8], l: Limits, c: u32, n: usize) -> bool
     requires { ⌜ Opened l (now s) c × (page (decode (l .least) (now s) .pages) n .level ≡ 1) ⌝ }
@@ -58,8 +70,7 @@ fn entries_settled(s: &[u8], l: Limits, c: u32, n: usize) -> bool
     let count = h.count;
     let mut i = 0;
     while i < count {
-        let e = page::entry_at(p, i);
-        if !settled(s, l, c, e) {
+        if !entry_settled(s, l, c, p, i) {
             return false;
         }
         i += 1;

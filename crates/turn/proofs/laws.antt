@@ -5,3 +5,4 @@ pub mod Touched
 pub mod Undone
 pub mod Slotted
 pub mod Turned
+pub mod Whole

@@ -8,6 +8,8 @@ use model::Limits;
 use plan::Outlook;
 use plan::Way;
 use root::Rooted;
+pub use single::delete_at;
+pub use single::insert_at;
 pub use single::raw_delete;
 pub use single::raw_insert;
 ghost use mathlib.Core.Path.{_≡_};
@@ -23,6 +25,7 @@ ghost use Rattle.model.specs.Climb.{climb, workRoot, rooted, update};
 ghost use Rattle.model.specs.Plan.{planUp, slotLeft, outlookNumber};
 ghost use Rattle.model.specs.Lent.{left};
 ghost use Rattle.edit.specs.Change.{changeOf};
+ghost use Rattle.walk.specs.Down.{Leaf};
 ghost use Rattle.gather.specs.Kept.{Fits};
 ghost use Rattle.parts.specs.Kept.{ExactBytes, pagesOf};
 ghost use Rattle.plan.specs.Plan.{upsOf, Led};
@@ -104,8 +107,21 @@ fn rise(s: &mut [u8], l: Limits, w: u32, key: u32, c: Change) -> u32
     0
 }
 
-// The change made at the leaf for a key, or the number that speaks against it. Most leaves take it in place: then no page above is
-// asked, and no free one is counted.
+// The change made at the leaf for a key, page n, or the number that speaks against it. Most leaves take it in place: then no page above
+// is asked, and no free one is counted.
+fn update_at(s: &mut [u8], l: Limits, w: u32, n: usize, key: u32, c: Change) -> u32
+    requires { ⌜ Edition l × (isSound (l .least) (now s) ≡ true) × (decode (l .least) (now s) .opened ≡ true) × (key < keyLimit) × Fits c × LeavesSound (l .least) (update (l .least) (decode (l .least) (now s)) key (changeOf c)) × (w ≡ next (decode (l .least) (now s))) × Leaf l (now s) w key n ⌝ }
+    ensures number { λ r. ⌜ r ≡ left (l .least) (now (s .entry)) (update (l .least) (decode (l .least) (now (s .entry))) key (changeOf c)) .number ⌝ }
+    ensures bytes { λ _. ⌜ now (s .exit) ≡ left (l .least) (now (s .entry)) (update (l .least) (decode (l .least) (now (s .entry))) key (changeOf c)) .store ⌝ }
+{
+    if group::takes_in_place(s, l, n, w, c) {
+        parts::change_in(s, l, n, w, c);
+        return 0;
+    }
+    rise(s, l, w, key, c)
+}
+
+// The same by the way down to the leaf.
 pub fn update(s: &mut [u8], l: Limits, key: u32, c: Change) -> u32
     requires { ⌜ Edition l × (isSound (l .least) (now s) ≡ true) × (decode (l .least) (now s) .opened ≡ true) × (key < keyLimit) × Fits c × LeavesSound (l .least) (update (l .least) (decode (l .least) (now s)) key (changeOf c)) ⌝ }
     ensures number { λ r. ⌜ r ≡ left (l .least) (now (s .entry)) (update (l .least) (decode (l .least) (now (s .entry))) key (changeOf c)) .number ⌝ }
@@ -114,9 +130,5 @@ pub fn update(s: &mut [u8], l: Limits, key: u32, c: Change) -> u32
     let h = store::header(s, l);
     let w = h.current + 1;
     let n = walk::leaf_for(s, l, w, key);
-    if group::takes_in_place(s, l, n, w, c) {
-        parts::change_in(s, l, n, w, c);
-        return 0;
-    }
-    rise(s, l, w, key, c)
+    update_at(s, l, w, n, key, c)
 }

@@ -19,13 +19,14 @@ use Rattle.model.specs.Calls.{isSome, rule, firstOf, rawInsert, insert, delete,
 use Rattle.model.specs.Needs.{deleting}
 use Rattle.model.specs.Lent.{leaving, left, insertLent, deleteLent}
 use Rattle.model.proofs.sound.ByRule.{old-last}
+use Rattle.walk.specs.Down.{Leaf}
 use Rattle.walk.specs.Sure.{Walkable}
 use Rattle.store.proofs.laws.Sure.{sure}
 use Rattle.update.specs.Single.{Enters, Ends}
 use Rattle.reads.specs.Guard.{guarded}
 use Rattle.reads.proofs.laws.Guard.{zero-sound, chain-number, lent-guard, guard-chain, guard-sound}
 use Rattle.changes.proofs.laws.Turning.{Goes, refused-so, done-so, flag, version}
-use Rattle.changes.specs.Updating.{speaks, limitOf, updating, against}
+use Rattle.changes.specs.Updating.{speaks, limitOf, updating, against, At}
 
 pub limit-low : (b : Bool) → limitOf b ≤ keyLimit
 limit-low true = omega arith
@@ -101,6 +102,12 @@ open-readable {l} d b j h e f =
     let z : isSound (l .least) b ≡ true = zero-sound (l .least) b j in
     let o = old-last (l .least) (decode (l .least) b) (sure d b z .old-low) in
     (omega (arith, sure d b z .last-low), record { edition = d; sound = z; version = record { from = omega arith; upto = omega arith } })
+
+-- what it finds
+pub open-at : {l : Limits} (b : List ℕ) (j : judged (l .least) b .number ≡ 0) (h : Header) → h ≡ readHeader (l .least) b → (k w n : ℕ) → w ≡ h .current + 1 → Leaf l b w k n → At l b k w n
+open-at {l} b j h e k w n f g =
+    let q : h .current + 1 ≡ next (decode (l .least) b) = omega (arith, version (l .least) b j h e) in
+    record { version = f ∙ q; leaf = g }
 
 -- ---- what the guard's 0 says
 

@@ -39,7 +39,7 @@ undo-pages-requires c κs =
       omega (arith, e, next-low d (a .s .now) (c .before .before .before .before .before .before .pre .1)),
       k,
       c .wide .ensures ∙ ap (λ (h : Header). h .pages) (c .before .before .before .header .ensures ∙ sym (k .header)),
-      all-past (a .l .least) (decode (a .l .least) (a .s .now)) sound _ (omega (arith, e, current-of (a .l .least) (a .s .now), old-current (a .l .least) (decode (a .l .least) (a .s .now)) (sound .old-low))),
+      all-past (a .l .least) (decode (a .l .least) (a .s .now)) sound _ (omega (arith, e, current-of (a .l .least) (a .s .now), old-current (a .l .least) (decode (a .l .least) (a .s .now)) (sound .old-low))) (omega (arith, e, current-of (a .l .least) (a .s .now))),
     )
 
 drop-slot-requires : tie.Need-drop-slot-requires

@@ -1,5 +1,5 @@
 -- Every page of a sound store is so: "An entry's span lies in its page's span", and a free page has no entries. Assumes nothing.
-use Prim.Native.Nat.{ℕ, _<_}
+use Prim.Native.Nat.{ℕ, _≤_, _<_}
 use native.Mathlib.Omega.{arith}
 use mathlib.Core.Bool.{Bool, true, false}
 use mathlib.Core.Path.{_≡_, refl}
@@ -10,8 +10,9 @@ use lib.ListN.{length}
 use borrow.Author.Tests.{leb-true, leb-false}
 use Rattle.model.specs.Basic.{all}
 use Rattle.model.specs.declared.Entry.{Entry}
+use Rattle.model.specs.Entry.{alive}
 use Rattle.model.specs.Page.{Page, free, isFree}
-use Rattle.model.specs.Store.{Store, page, last}
+use Rattle.model.specs.Store.{Store, page, lastOf, last}
 use Rattle.model.specs.Sound.{entryOk, liesWell}
 use Rattle.model.specs.Layout.{decodePage}
 use Rattle.model.specs.Calls.{back}
@@ -24,9 +25,9 @@ use Rattle.turn.proofs.laws.Touched.{Still, still-more, still-page}
 use Rattle.turn.specs.Past.{Past, AllPast}
 
 -- by the front as it is read
-pub past-read : (least w : ℕ) (p : List ℕ) → readHead least p .end < w → Past w (decodePage least p) → back w (decodePage least p) ≡ decodePage least p
+pub past-read : (least w : ℕ) (p : List ℕ) → (readHead least p .end ≡ alive → ⊥) → (readHead least p .end ≡ w → ⊥) → Past w (decodePage least p) → back w (decodePage least p) ≡ decodePage least p
 unfolding decodePage readHead
-past-read least w p h x = x .stays h
+past-read least w p g h x = x .stays g h
 
 -- An entry that rule 3 speaks of ends with its page at the latest; one that it skips, by the oldest version.
 module _ (s : Store) (p : Page) (w : ℕ) (h : p .end < w) (o : s .oldest < w) where
@@ -46,17 +47,36 @@ module _ (s : Store) (p : Page) (w : ℕ) (h : p .end < w) (o : s .oldest < w) w
       let f = ends-before e g in
       still-more w e es (λ (z : e .start ≡ w). omega (arith, z, g .span .some, f)) (λ (z : e .end ≡ w). omega (arith, z, f)) (stills es xs ys)
 
-module _ (least : ℕ) (s : Store) (d : Sound least s) (w : ℕ) (some : s .oldest < w) where
+-- an end that is neither comes before w
+earlier : (l b w : ℕ) → l ≤ w → (b ≤ l) ⊎ (b ≡ alive) → (b ≡ alive → ⊥) → (b ≡ w → ⊥) → b < w
+earlier l b w h (inr x) g f = absurd (g x)
+earlier l b w h (inl x) g f = at (bool-cases (leb w b))
+  where
+    at : (leb w b ≡ true) ⊎ (leb w b ≡ false) → b < w
+    at (inl z) = absurd (f (omega (arith, h, x, leb-true w b z)))
+    at (inr z) = leb-false w b z
+
+last-most : (s : Store) (w : ℕ) → s .current < w → last s ≤ w
+last-most s w h = at (s .opened)
+  where
+    at : (b : Bool) → lastOf b (s .current) ≤ w
+    at true = omega (arith, h)
+    at false = omega (arith, h)
+
+module _ (least : ℕ) (s : Store) (d : Sound least s) (w : ℕ) (some : s .oldest < w) (open-now : s .current < w) where
   past : (n : ℕ) → Past w (page (s .pages) n)
   past n = by (isFree (page (s .pages) n)) refl
     where
       by : (f : Bool) → isFree (page (s .pages) n) ≡ f → Past w (page (s .pages) n)
-      by true e = rw (d .zeros n e) (record { stays = λ (h : free .end < w). free-back w (omega (arith, some)) })
+      by true e = rw (d .zeros n e) (record { stays = λ (g : free .end ≡ alive → ⊥) (f : free .end ≡ w → ⊥). free-back w (omega (arith, some)) })
       by false e =
           let p : Page = page (s .pages) n in
           let g = d .pages n e in
           let t = span-of (last s) (p .start) (p .end) (g .span) in
-          record { stays = λ (h : p .end < w). still-page w p (λ (z : p .start ≡ w). omega (arith, z, h, t .some)) (λ (z : p .end ≡ w). omega (arith, z, h)) (stills s p w h some (p .entries) (g .entries) (d .spans n e)) }
+          record { stays = λ (x : p .end ≡ alive → ⊥) (f : p .end ≡ w → ⊥). stay p (earlier (last s) (p .end) w (last-most s w open-now) (t .ends) x f) (t .some) (stills s p w (earlier (last s) (p .end) w (last-most s w open-now) (t .ends) x f) some (p .entries) (g .entries) (d .spans n e)) }
+        where
+          stay : (p : Page) → p .end < w → p .start < p .end → Still w (p .entries) → back w p ≡ p
+          stay p h t = still-page w p (λ (z : p .start ≡ w). omega (arith, z, h, t)) (λ (z : p .end ≡ w). omega (arith, z, h))
 
   pub all-past : AllPast w (s .pages)
   all-past = record { at = past }

@@ -4,7 +4,6 @@ use native.Mathlib.Omega.{arith}
 use mathlib.Core.Path.{_≡_, ap, sym, _∙_, subst}
 use mathlib.Core.Bool.{true, false}
 use borrow.Author.Needs.{needs}
-use Rattle.model.specs.declared.Entry.{Entry}
 use Rattle.page.specs.declared.Head.{Head}
 use Rattle.turn.proofs.laws.Touched.{Still, from, still-more, from-step, from-end, count-is, still-read}
 use Rattle.turn.proofs.touched.Statement.{statement}
@@ -26,24 +25,18 @@ head-of-requires c κs = let p = c .before .pre in (p .0, omega (arith, p .1 .si
 returns : tie.Need-returns Inv-loop μ-loop
 returns c = nothing
 
-returns-2 : tie.Need-returns-2 Inv-loop μ-loop
-returns-2 c = nothing
-
 loop-holds : tie.Need-loop-holds Inv-loop μ-loop
 loop-holds c = (omega arith, λ h. h)
 
-entry-at-requires : tie.Need-entry-at-requires Inv-loop μ-loop
-entry-at-requires c κs =
-    let s = c .before .before .before .before .before .before .before .before in
+may-turn-requires : tie.Need-may-turn-requires Inv-loop μ-loop
+may-turn-requires c κs =
+    let s = c .before .before .before .before .before .before in
     let p = s .pre in
-    let e = ap (λ (x : Head). x .count) (c .before .before .before .before .before .before .head-of .ensures) ∙ count-is (s .args .l .least) (s .args .page .now) in
-    (omega (arith, p .1 .size, p .1 .room, p .0 .four, e, c .loop-test .taken), omega (arith, p .1 .size, p .0 .eight))
+    let e = ap (λ (x : Head). x .count) (c .before .before .before .before .head-of .ensures) ∙ count-is (s .args .l .least) (s .args .page .now) in
+    (omega (arith, p .1 .size, p .1 .room, p .0 .four, e, c .loop-test .taken), omega (arith, p .1 .size, p .0 .eight), p .2)
 
-returns-3 : tie.Need-returns-3 Inv-loop μ-loop
-returns-3 c = nothing
-
-returns-4 : tie.Need-returns-4 Inv-loop μ-loop
-returns-4 c = nothing
+returns-2 : tie.Need-returns-2 Inv-loop μ-loop
+returns-2 c = nothing
 
 add-i : tie.Need-add-i Inv-loop μ-loop
 add-i c = search needs
@@ -53,23 +46,23 @@ loop-less c = search needs
 
 loop-again : tie.Need-loop-again Inv-loop μ-loop
 loop-again c =
-    let l = c .before .before .before .before .before .before .loop in
-    let a = c .before .before .before .before .before .before .before .before .before .before .before .before .before .args in
-    let n : ℕ = c .before .before .before .before .before .before .before .before .before .before .before .head-of .result .count in
-    let e = c .before .before .before .before .entry-at .ensures in
-    let t : l .i < n = c .before .before .before .before .before .loop-test .taken in (
+    let l = c .before .before .before .loop in
+    let a = c .before .before .before .before .before .before .before .before .args in
+    let n : ℕ = c .before .before .before .before .before .before .head-of .result .count in
+    let f = c .before .may-turn .ensures (c .if2 .left) in
+    let t : l .i < n = c .before .before .loop-test .taken in (
       omega arith,
-      λ h. l .inv .1 (subst (Still (a .w)) (sym (from-step (a .page .now) (l .i) n t))
-          (still-more (a .w) _ (from (a .page .now) (l .i + 1) n) (λ z. c .before .before .if3 .left (ap (λ (x : Entry). x .start) e ∙ z)) (λ z. c .if4 .left (ap (λ (x : Entry). x .end) e ∙ z)) h)),
+      λ h. l .inv .1 (subst (Still (a .w)) (sym (from-step (a .page .now) (l .i) n t)) (still-more (a .w) _ (from (a .page .now) (l .i + 1) n) (f .start) (f .end) h)),
     )
 
-returns-5 : tie.Need-returns-5 Inv-loop μ-loop
-returns-5 c = λ h.
-    let a = c .before .before .before .before .before .before .before .before .args in
-    let e = c .before .before .before .before .before .before .head-of .ensures in
+returns-3 : tie.Need-returns-3 Inv-loop μ-loop
+returns-3 c = λ h.
+    let s = c .before .before .before .before .before .before in
+    let a = s .args in
+    let e = c .before .before .before .before .head-of .ensures in
     let l = c .before .loop in
-    still-read (a .l .least) (a .w) (a .page .now) (λ z. c .before .before .before .before .if1 .left (ap (λ (x : Head). x .start) e ∙ z)) (λ z. c .before .before .if2 .left (ap (λ (x : Head). x .end) e ∙ z))
-    (subst (λ (k : ℕ). Still (a .w) (from (a .page .now) 0 k)) (ap (λ (x : Head). x .count) e) (l .inv .1 (from-end (a .page .now) (a .w) (l .i) (c .before .before .before .before .before .before .head-of .result .count) (omega (arith, c .loop-test .left)))))
+    still-read (a .l .least) (a .w) (a .page .now) (λ z. c .before .before .if1 .left (ap (λ (x : Head). x .start) e ∙ z)) (s .pre .3)
+    (subst (λ (k : ℕ). Still (a .w) (from (a .page .now) 0 k)) (ap (λ (x : Head). x .count) e) (l .inv .1 (from-end (a .page .now) (a .w) (l .i) (c .before .before .before .before .head-of .result .count) (omega (arith, c .loop-test .left)))))
 
 pub touched-spec : {M : Type 1} → statement M
 touched-spec =
@@ -79,12 +72,10 @@ touched-spec =
     μ-loop
     head-of-requires
     returns
-    returns-2
     loop-holds
-    entry-at-requires
-    returns-3
-    returns-4
+    may-turn-requires
+    returns-2
     add-i
     loop-less
     loop-again
-    returns-5)
+    returns-3)

@@ -14,7 +14,7 @@ part-requires : tie.Need-part-requires
 part-requires c κs = let s = c .before .before in (s .pre .0, s .pre .2, s .pre .3)
 
 may-move-requires : tie.Need-may-move-requires
-may-move-requires c κs = let s = c .before .before .before in (s .pre .0, rw (c .part .ensures .0) (s .pre .4), rw (c .part .ensures .0) (s .pre .5))
+may-move-requires c κs = let s = c .before .before .before in (s .pre .0, rw (c .part .ensures .0) (s .pre .4), s .pre .1, rw (c .part .ensures .0) (s .pre .5))
 
 same-length : tie.Need-same-length
 same-length c = search needs

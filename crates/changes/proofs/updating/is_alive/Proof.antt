@@ -8,8 +8,8 @@ use borrow.Author.Needs.{needs}
 use Rattle.changes.proofs.updating.is_alive.Statement.{statement}
 use Rattle.changes.proofs.updating.is_alive.Tie as tie
 
-lookup-requires : tie.Need-lookup-requires
-lookup-requires c κs = search needs
+lookup-at-requires : tie.Need-lookup-at-requires
+lookup-at-requires c κs = search needs
 
 enum-told : tie.Need-enum-told
 enum-told c = search needs
@@ -21,15 +21,15 @@ enum-told-3 : tie.Need-enum-told-3
 enum-told-3 c = search needs
 
 returns : tie.Need-returns
-returns c = sym (ap lookedFound (c .enum-told .given .1)) ∙ ap lookedFound (c .before .before .lookup .ensures) ∙ found-is (lookup (decode (c .before .before .before .before .args .l .least) (c .before .before .before .before .args .s .now)) (c .before .before .before .before .args .key) (c .before .before .before .before .args .w))
+returns c = sym (ap lookedFound (c .enum-told .given .1)) ∙ ap lookedFound (c .before .before .lookup-at .ensures) ∙ found-is (lookup (decode (c .before .before .before .before .args .l .least) (c .before .before .before .before .args .s .now)) (c .before .before .before .before .args .key) (c .before .before .before .before .args .w))
 
 returns-2 : tie.Need-returns-2
-returns-2 c = sym (ap lookedFound (c .enum-told2 .given .1)) ∙ ap lookedFound (c .before .before .lookup .ensures) ∙ found-is (lookup (decode (c .before .before .before .before .args .l .least) (c .before .before .before .before .args .s .now)) (c .before .before .before .before .args .key) (c .before .before .before .before .args .w))
+returns-2 c = sym (ap lookedFound (c .enum-told2 .given .1)) ∙ ap lookedFound (c .before .before .lookup-at .ensures) ∙ found-is (lookup (decode (c .before .before .before .before .args .l .least) (c .before .before .before .before .args .s .now)) (c .before .before .before .before .args .key) (c .before .before .before .before .args .w))
 
 returns-3 : tie.Need-returns-3
-returns-3 c = sym (ap lookedFound (c .enum-told3 .given .1)) ∙ ap lookedFound (c .before .before .lookup .ensures) ∙ found-is (lookup (decode (c .before .before .before .before .args .l .least) (c .before .before .before .before .args .s .now)) (c .before .before .before .before .args .key) (c .before .before .before .before .args .w))
+returns-3 c = sym (ap lookedFound (c .enum-told3 .given .1)) ∙ ap lookedFound (c .before .before .lookup-at .ensures) ∙ found-is (lookup (decode (c .before .before .before .before .args .l .least) (c .before .before .before .before .args .s .now)) (c .before .before .before .before .args .key) (c .before .before .before .before .args .w))
 
 pub is-alive-spec : {M : Type 1} → statement M
 is-alive-spec =
     tie.close
-    (tie.spec lookup-requires enum-told enum-told-2 enum-told-3 returns returns-2 returns-3)
+    (tie.spec lookup-at-requires enum-told enum-told-2 enum-told-3 returns returns-2 returns-3)
