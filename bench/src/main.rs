@@ -15,6 +15,7 @@ mod program;
 mod proved;
 mod prunes;
 mod returns;
+mod svg;
 mod updates;
 mod versions;
 mod worst;

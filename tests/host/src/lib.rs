@@ -67,22 +67,13 @@ impl Engine for Proved {
 }
 
 fn as_reference(told: State) -> reference::state::State {
-    let State {
-        pages,
-        current,
-        open,
-        roots,
-        edition,
-        free,
-        oldest,
-    } = told;
     reference::state::State {
-        pages,
-        current,
-        open,
-        roots,
-        edition,
-        free,
-        oldest,
+        pages: told.pages,
+        current: told.current,
+        open: told.open,
+        roots: told.roots,
+        edition: told.edition,
+        free: told.free,
+        oldest: told.oldest,
     }
 }

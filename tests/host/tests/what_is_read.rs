@@ -111,12 +111,7 @@ fn damaged_stores_by_the_hundred_thousand() {
         }
         for _ in 0..70 {
             let mut bytes = sound.clone();
-            for _ in 0..rng.between(1, 4) {
-                match rng.once_in(3) {
-                    true => tamper::flip_bit(&mut bytes, &mut rng),
-                    false => tamper::set_some_field(&mut bytes, &mut rng),
-                }
-            }
+            tamper::change_some(&mut bytes, 4, 3, &mut rng);
             read.some(&bytes, &mut rng);
         }
     }

@@ -161,35 +161,35 @@ fn sound_stores_are_sound_to_both_judges() {
     }
 }
 
-#[test]
-fn flipped_bits() {
-    let mut met = BTreeMap::<(u32, u32), u64>::new();
-    for seed in 0..rounds(3000) {
+/// What the judges say of stores that were changed in up to `most` places, and how
+/// often.
+fn judged_after(
+    change: fn(&mut [u8], &mut Rng),
+    most: u32,
+    stores: u64,
+) -> BTreeMap<(u32, u32), u64> {
+    let mut met = BTreeMap::new();
+    for seed in 0..stores {
         let mut rng = Rng::new(seed);
         let mut bytes = some_store(&mut rng);
-        for _ in 0..rng.between(1, 2) {
-            flip_bit(&mut bytes, &mut rng);
+        for _ in 0..rng.between(1, most) {
+            change(&mut bytes, &mut rng);
         }
         let judged = calls::check(&bytes);
         judges_agree(&bytes, judged);
         *met.entry(judged).or_default() += 1;
     }
-    println!("{met:?}");
+    met
+}
+
+#[test]
+fn flipped_bits() {
+    println!("{:?}", judged_after(flip_bit, 2, rounds(3000)));
 }
 
 #[test]
 fn fields_set_to_likely_numbers() {
-    let mut met = BTreeMap::<(u32, u32), u64>::new();
-    for seed in 0..rounds(20_000) {
-        let mut rng = Rng::new(seed);
-        let mut bytes = some_store(&mut rng);
-        for _ in 0..rng.between(1, 3) {
-            set_some_field(&mut bytes, &mut rng);
-        }
-        let judged = calls::check(&bytes);
-        judges_agree(&bytes, judged);
-        *met.entry(judged).or_default() += 1;
-    }
+    let met = judged_after(set_some_field, 3, rounds(20_000));
     println!("{met:?}");
     for rule in [1, 2, 3, 4, 5, 6, 8] {
         assert!(met[&(4, rule)] > 50, "{met:?}");

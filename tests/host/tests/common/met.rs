@@ -5,9 +5,11 @@ use std::collections::BTreeMap;
 use super::may_write;
 use host::Proved;
 use reference::beside::{compare, Tally};
+use reference::edition::Edition;
 use reference::engine::{Answer, Call, Reference};
-use reference::history::History;
+use reference::history::{History, Kind};
 use reference::layout::ALIVE;
+use reference::model::Model;
 use reference::{store, walk};
 
 /// How often each number was given, and how often an accepted insert or delete
@@ -29,6 +31,22 @@ impl Met {
 
     pub fn did(&self, work: &str) -> u64 {
         self.works.get(work).copied().unwrap_or(0)
+    }
+
+    /// Pages were split, merged and copied, and a root grew.
+    pub fn rebuilt(&self) {
+        for work in ["page split", "pages merged", "root grown", "page for page"] {
+            assert!(self.did(work) > 0, "{work}: {self:?}");
+        }
+    }
+
+    /// Runs `count` calls of a history that goes on from `bytes`; the store at the
+    /// end.
+    pub fn go_on(&mut self, bytes: Vec<u8>, seed: u64, kind: Kind, count: usize) -> Vec<u8> {
+        let pages = store::page_count(&bytes) as usize;
+        let model = Model::of_store(&bytes);
+        let mut history = History::on_store_of(Edition::of(&bytes), seed, kind, pages, model);
+        self.run(&mut history, bytes, count)
     }
 
     /// Runs `count` calls of `history` from `bytes` on; the store at the end.

@@ -15,20 +15,6 @@ fn prune(bytes: &mut [u8], version: u32) {
     assert_sound(bytes);
 }
 
-/// Keys 1 to 41 in version 1, 22 to 34 gone in version 2: pages 5 (0 to 1), 6, 7
-/// and 8 (1 to 2), 9 from 2 on.
-fn two_releases() -> Vec<u8> {
-    let mut bytes = fresh_second(12);
-    open(&mut bytes);
-    insert_all(&mut bytes, 1..=41);
-    commit(&mut bytes);
-    open(&mut bytes);
-    delete_all(&mut bytes, 22..=34);
-    commit(&mut bytes);
-    assert_eq!(slots(&bytes), [(0, 5), (1, 8), (2, 9)]);
-    bytes
-}
-
 fn is_zero(bytes: &[u8], number: u32) -> bool {
     page_bytes(bytes, number).iter().all(|byte| *byte == 0)
 }

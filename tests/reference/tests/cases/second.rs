@@ -55,21 +55,11 @@ fn golden_heads_of_a_split_root() {
 
 /// Keys 1 to 40 inserted in version 1 of a fresh store.
 fn p1(pages: usize) -> Vec<u8> {
-    let mut bytes = fresh_second(pages);
-    open(&mut bytes);
-    insert_all(&mut bytes, 1..=40);
-    bytes
+    opened_with(fresh_second(pages), 1..=40)
 }
 
 fn p2(pages: usize) -> Vec<u8> {
-    let mut bytes = p1(pages);
-    insert_all(&mut bytes, [41]);
-    bytes
-}
-
-fn keys_from(page: &Page, keys: impl Iterator<Item = u32>, start: u32) {
-    let expected = keys.map(|key| entry(key, start, ALIVE, value_of(key)));
-    assert_eq!(page.entries, expected.collect::<Vec<_>>());
+    opened_with(fresh_second(pages), 1..=41)
 }
 
 #[test]

@@ -306,7 +306,7 @@ fn dumped_and_loaded() {
 fn texts_that_no_pruned_store_has() {
     let folder = Folder::new();
     let head = "rcst-dump 1\nedition 2\npages 16\n";
-    for (text, status, sentence) in [
+    let wrong = [
         ("HEADoldest 0\nend 0\n", 65, "line 4: oldest 0"),
         (
             "HEADoldest 1048575\nversion 1048575\n",
@@ -327,10 +327,8 @@ fn texts_that_no_pruned_store_has() {
             3,
             "oldest 3: 3",
         ),
-    ] {
-        let text = text.replace("HEAD", head);
-        folder.refused(&["load", "t"], &text, status, sentence);
-    }
+    ];
+    folder.loads_none(head, &wrong);
     // whatever the oldest version has at the key that the dropped ones use, and more of
     // these than the pages hold at once
     for settings in ["", "set 0 0\n", "set 0 1\n", "set 0 0\nset 1 1\n"] {
