@@ -493,38 +493,43 @@ fn one_two_three_before_four() {
     assert_eq!(calls::lookup(&[], 0, 0), (1, false, 0));
 }
 
+type PageDamage = fn(&mut Page);
+
+/// Of any page, each breaks rule 1.
+const OF_ANY_PAGE: [PageDamage; 12] = [
+    |page| page.span.start = 4,
+    |page| page.span.end = 4,
+    |page| page.span.end = ALIVE - 1,
+    |page| (page.span.start, page.span.end) = (2, 2),
+    |page| page.entries[1].span.start = 4,
+    |page| page.entries[1].span.end = 4,
+    |page| page.entries[1].span = Span { start: 2, end: 2 },
+    |page| page.entries[1].span = Span { start: 3, end: 2 },
+    |page| page.entries.swap(1, 2),
+    |page| page.entries[2] = page.entries[1],
+    |page| page.level = 8,
+    |page| page.level = 15,
+];
+
+const OF_A_LEAF: [PageDamage; 2] = [
+    |page| page.entries[1].span.start = 0,
+    |page| page.entries[1].span = Span { start: 0, end: 1 },
+];
+
+const OF_AN_INDEX_PAGE: [PageDamage; 5] = [
+    |page| page.entries[2].value = 4,
+    |page| page.entries[2].value = 11,
+    |page| page.entries[2].value = u32::MAX,
+    |page| page.entries[2].span = Span { start: 1, end: 4 },
+    // A dead router's page number.
+    |page| page.entries.push(entry(900, 1, 2, 0)),
+];
+
 /// Reading 04.2: rule 1 of a walked page, its dead entries too.
 #[test]
 fn rule_1_of_a_walked_page() {
-    type Damage = fn(&mut Page);
-    let of_any_page: [Damage; 12] = [
-        |page| page.span.start = 4,
-        |page| page.span.end = 4,
-        |page| page.span.end = ALIVE - 1,
-        |page| (page.span.start, page.span.end) = (2, 2),
-        |page| page.entries[1].span.start = 4,
-        |page| page.entries[1].span.end = 4,
-        |page| page.entries[1].span = Span { start: 2, end: 2 },
-        |page| page.entries[1].span = Span { start: 3, end: 2 },
-        |page| page.entries.swap(1, 2),
-        |page| page.entries[2] = page.entries[1],
-        |page| page.level = 8,
-        |page| page.level = 15,
-    ];
-    let of_a_leaf: [Damage; 2] = [
-        |page| page.entries[1].span.start = 0,
-        |page| page.entries[1].span = Span { start: 0, end: 1 },
-    ];
-    let of_an_index_page: [Damage; 5] = [
-        |page| page.entries[2].value = 4,
-        |page| page.entries[2].value = 11,
-        |page| page.entries[2].value = u32::MAX,
-        |page| page.entries[2].span = Span { start: 1, end: 4 },
-        // A dead router's page number.
-        |page| page.entries.push(entry(900, 1, 2, 0)),
-    ];
     let base = under_one_root();
-    for damage in of_any_page.iter().chain(&of_a_leaf) {
+    for damage in OF_ANY_PAGE.iter().chain(&OF_A_LEAF) {
         let bytes = changed(&base, |image| damage(image.page_mut(6)));
         assert_eq!(calls::check(&bytes), (4, 1));
         assert_eq!(calls::lookup(&bytes, 40, 3), UNSOUND);
@@ -532,15 +537,19 @@ fn rule_1_of_a_walked_page() {
         assert_eq!(calls::lookup(&bytes, 100, 3), found(1000));
         assert_eq!(ranged(&bytes, 100, 220, 3).len(), 7);
     }
-    for damage in of_any_page.iter().chain(&of_an_index_page) {
+    for damage in OF_ANY_PAGE.iter().chain(&OF_AN_INDEX_PAGE) {
         let bytes = changed(&base, |image| damage(image.page_mut(9)));
         assert_eq!(calls::lookup(&bytes, 40, 3), UNSOUND);
         assert_eq!(range_refused(&bytes, 0, 99, 3), 4);
         // Version 0 has a root of its own.
         assert_eq!(calls::lookup(&bytes, 40, 0), ABSENT);
     }
-    // A count above 20, spare bits of the head, unused entries.
-    let sound = base.write();
+}
+
+/// A count above 20, spare bits of the head, unused entries.
+#[test]
+fn rule_1_of_the_bits_of_a_walked_page() {
+    let sound = under_one_root().write();
     for page in [6, 9] {
         let bits = (49..128)
             .chain(16 * 8 + 4 * 96..2048)
@@ -559,34 +568,37 @@ fn rule_1_of_a_walked_page() {
     }
 }
 
+type ImageChange = fn(&mut Image);
+
+/// What rules 3 to 6 speak against, and no walk asks.
+const BEYOND_RULE_2: [(u32, ImageChange); 7] = [
+    // An entry's span beyond its page's; a router's beyond its child's.
+    (3, |image| {
+        image.page_mut(6).span = Span { start: 2, end: 3 }
+    }),
+    (3, |image| {
+        image.page_mut(9).span = Span { start: 2, end: 3 }
+    }),
+    // Pages that ended before the version, with all that is in them.
+    (3, |image| {
+        image.page_mut(6).span.end = 2;
+        image.page_mut(7).span.end = 2;
+    }),
+    // Too few that live.
+    (5, |image| image.page_mut(6).entries.truncate(1)),
+    // A key beyond its page's bounds.
+    (4, |image| image.page_mut(6).entries[3].key = 150),
+    (4, |image| image.page_mut(9).entries[1].key = 115),
+    // A page that is never reached.
+    (6, |image| {
+        *image.page_mut(10) = leaf(1, ALIVE, [1, 2, 3, 4])
+    }),
+];
+
 /// Reading 04.2, the other half: what rules 3 to 6 say is not asked.
 #[test]
 fn what_is_not_judged_on_the_walk() {
-    type Change = fn(&mut Image);
-    let changes: [(u32, Change); 7] = [
-        // An entry's span beyond its page's; a router's beyond its child's.
-        (3, |image| {
-            image.page_mut(6).span = Span { start: 2, end: 3 }
-        }),
-        (3, |image| {
-            image.page_mut(9).span = Span { start: 2, end: 3 }
-        }),
-        // Pages that ended before the version, with all that is in them.
-        (3, |image| {
-            image.page_mut(6).span.end = 2;
-            image.page_mut(7).span.end = 2;
-        }),
-        // Too few that live.
-        (5, |image| image.page_mut(6).entries.truncate(1)),
-        // A key beyond its page's bounds.
-        (4, |image| image.page_mut(6).entries[3].key = 150),
-        (4, |image| image.page_mut(9).entries[1].key = 115),
-        // A page that is never reached.
-        (6, |image| {
-            *image.page_mut(10) = leaf(1, ALIVE, [1, 2, 3, 4])
-        }),
-    ];
-    for (rule, change) in changes {
+    for (rule, change) in BEYOND_RULE_2 {
         let bytes = changed(&under_one_root(), change);
         assert_eq!(calls::check(&bytes), (4, rule));
         assert_eq!(calls::lookup(&bytes, 10, 3), found(100));
@@ -594,8 +606,12 @@ fn what_is_not_judged_on_the_walk() {
         assert_eq!(ranged(&bytes, 0, 10, 3), [10]);
         assert_eq!(ranged(&bytes, 220, 300, 3), [220, 230]);
     }
-    // A key in a page that the walk for it does not meet is absent, and a range
-    // shows it where it stands.
+}
+
+/// A key in a page that the walk for it does not meet is absent, and a range shows it
+/// where it stands.
+#[test]
+fn a_key_where_its_walk_does_not_come() {
     let bytes = changed(&under_one_root(), |image| {
         image.page_mut(6).entries[3].key = 150;
     });

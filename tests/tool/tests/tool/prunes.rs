@@ -144,6 +144,11 @@ fn refusals() {
     let first = ["prune", "old", "0"];
     folder.refused(&first, "", 3, "old: prune to 0: 3, edition");
     folder.refused(&first, "", 3, "\nonly edition 2 has an oldest version;");
+}
+
+#[test]
+fn refusals_while_an_update_is_open() {
+    let folder = released(2);
     let mut open = folder.bytes("s");
     assert_eq!(plain::open(&mut open), 0);
     folder.put("open", open);
@@ -161,6 +166,11 @@ fn refusals() {
         "\nthere is no version 3; 2 is the last",
     );
     folder.refused(&["prune", "open", "1", "--dry-run"], "", 8, "prune to 1: 8");
+}
+
+#[test]
+fn refusals_of_what_is_no_sound_store() {
+    let folder = released(2);
     for (place, status, sentence) in [
         (0, 2, "prune to 1: 2, first four bytes wrong"),
         (4, 3, "prune to 1: 3, edition neither"),
