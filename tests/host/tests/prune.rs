@@ -142,6 +142,7 @@ fn every_call_on_each_kind_of_damage() {
             made.then_some(bytes)
         });
         let bytes = damaged.unwrap_or_else(|| panic!("{}: no place in 200 stores", kind.name));
+        assert_eq!(judged(&bytes), (4, kind.rule), "{}", kind.name);
         all_alike(&bytes, &mut Rng::new(u64::from(kind.rule)), &mut tally);
     }
     println!("numbers given, times: {tally:?}");
