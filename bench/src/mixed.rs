@@ -73,6 +73,7 @@ fn row(name: &str, kind: Kind, versions: u32) {
 
 pub fn mixed() {
     held(Kind::Releases, 64, 2 * KEPT + 10);
+    held(Kind::Steady, 128, 2 * KEPT + 10);
     println!("## Prunes, on the mixes of updates\n");
     println!("| mix | versions | pages | with a page less | never pruned, in 4,096 pages |");
     println!("|---|---|---|---|---|");
