@@ -3,6 +3,8 @@
 
 use hostile::measure::told;
 
+use crate::svg::{begun, frame, line, text, ACROSS, LEFTS, LINES, TOP, WIDTH};
+
 pub struct Chart {
     pub title: String,
     /// What stands below all panels.
@@ -64,16 +66,10 @@ impl Point {
     }
 }
 
-const WIDTH: f64 = 980.0;
 const HEIGHT: f64 = 470.0;
-/// The inside of a panel.
-const ACROSS: f64 = 380.0;
-const TOP: f64 = 92.0;
 const BOTTOM: f64 = 400.0;
 /// From one row of a legend to the next.
 const ROW: f64 = 20.0;
-const INK: &str = "#222222";
-const LINES: &str = "#dddddd";
 
 /// Powers of ten from the first to the last, as seconds or bytes.
 struct Scale {
@@ -103,18 +99,6 @@ impl Scale {
         let part = (number.log10() - f64::from(self.first)) / f64::from(self.last - self.first);
         BOTTOM - part * (BOTTOM - TOP)
     }
-}
-
-/// A line of text; `anchor` is start, middle or end.
-fn text(x: f64, y: f64, anchor: &str, size: u32, words: &str) -> String {
-    format!("<text x=\"{x:.1}\" y=\"{y:.1}\" text-anchor=\"{anchor}\" font-size=\"{size}\">{words}</text>\n")
-}
-
-fn line(from: (f64, f64), to: (f64, f64), colour: &str, width: f64) -> String {
-    format!(
-        "<line x1=\"{:.1}\" y1=\"{:.1}\" x2=\"{:.1}\" y2=\"{:.1}\" stroke=\"{colour}\" stroke-width=\"{width}\"/>\n",
-        from.0, from.1, to.0, to.1
-    )
 }
 
 /// As long as it goes, or in dashes.
@@ -152,16 +136,12 @@ impl Chart {
             true => HEIGHT,
             false => HEIGHT + ROW * self.rows() as f64 + 12.0,
         };
-        let mut svg = format!(
-            "<svg xmlns=\"http://www.w3.org/2000/svg\" viewBox=\"0 0 {WIDTH} {height}\" width=\"{WIDTH}\" height=\"{height}\" font-family=\"sans-serif\" fill=\"{INK}\">\n<title>{}</title>\n<rect width=\"{WIDTH}\" height=\"{height}\" fill=\"#ffffff\"/>\n",
-            self.title
-        );
-        svg += &text(WIDTH / 2.0, 26.0, "middle", 17, &self.title);
+        let mut svg = begun(&self.title, height);
         svg += &text(WIDTH / 2.0, height - 8.0, "middle", 11, &self.note);
         if self.one_legend() {
             svg += &self.panels[0].legend((80.0, 48.0), 300.0, usize::MAX);
         }
-        for (panel, left) in self.panels.iter().zip([80.0, 80.0 + ACROSS + 110.0]) {
+        for (panel, left) in self.panels.iter().zip(LEFTS) {
             svg += &panel.svg(left, &Scale::of(&self.panels, panel.measure));
             if !self.one_legend() {
                 svg += &panel.legend((left, BOTTOM + 66.0), 0.0, 1);
@@ -236,15 +216,7 @@ impl Panel {
             svg += &line((x, TOP), (x, BOTTOM), LINES, 1.0);
             svg += &text(x, BOTTOM + 18.0, "middle", 11, &short(place));
         }
-        svg += &line((left, BOTTOM), (left + ACROSS, BOTTOM), INK, 1.2);
-        svg += &line((left, TOP), (left, BOTTOM), INK, 1.2);
-        svg += &text(left + ACROSS / 2.0, BOTTOM + 42.0, "middle", 13, &self.axis);
-        let middle = (TOP + BOTTOM) / 2.0;
-        svg + &format!(
-            "<text transform=\"translate({:.1} {middle:.1}) rotate(-90)\" text-anchor=\"middle\" font-size=\"13\">{}</text>\n",
-            left - 62.0,
-            self.measure.words()
-        )
+        svg + &frame(left, BOTTOM, &self.axis, self.measure.words(), 62.0)
     }
 
     /// The medians, joined, each with its quartiles as an upright line.

@@ -1,6 +1,8 @@
 //! Counts over releases as plain SVG: panels side by side, both axes of each from 0
 //! on, a joined line for each way.
 
+use crate::svg::{begun, frame, line, text, ACROSS, LEFTS, LINES, TOP};
+
 pub struct Curves {
     pub title: &'static str,
     /// What each curve of a panel is.
@@ -23,24 +25,8 @@ pub struct Curve {
     pub ends: Option<String>,
 }
 
-const WIDTH: f64 = 980.0;
 const HEIGHT: f64 = 430.0;
-const ACROSS: f64 = 380.0;
-const TOP: f64 = 92.0;
 const BOTTOM: f64 = 370.0;
-const INK: &str = "#222222";
-const LINES: &str = "#dddddd";
-
-fn text(x: f64, y: f64, anchor: &str, size: u32, words: &str) -> String {
-    format!("<text x=\"{x:.1}\" y=\"{y:.1}\" text-anchor=\"{anchor}\" font-size=\"{size}\">{words}</text>\n")
-}
-
-fn line(from: (f64, f64), to: (f64, f64), colour: &str, width: f64) -> String {
-    format!(
-        "<line x1=\"{:.1}\" y1=\"{:.1}\" x2=\"{:.1}\" y2=\"{:.1}\" stroke=\"{colour}\" stroke-width=\"{width}\"/>\n",
-        from.0, from.1, to.0, to.1
-    )
-}
 
 /// A number with a comma before its last three digits.
 fn told(number: usize) -> String {
@@ -52,18 +38,14 @@ fn told(number: usize) -> String {
 
 impl Curves {
     pub fn svg(&self) -> String {
-        let mut svg = format!(
-            "<svg xmlns=\"http://www.w3.org/2000/svg\" viewBox=\"0 0 {WIDTH} {HEIGHT}\" width=\"{WIDTH}\" height=\"{HEIGHT}\" font-family=\"sans-serif\" fill=\"{INK}\">\n<title>{}</title>\n<rect width=\"{WIDTH}\" height=\"{HEIGHT}\" fill=\"#ffffff\"/>\n",
-            self.title
-        );
-        svg += &text(WIDTH / 2.0, 26.0, "middle", 17, self.title);
+        let mut svg = begun(self.title, HEIGHT);
         for (place, name) in self.names.iter().enumerate() {
             let x = 80.0 + 300.0 * place as f64;
             let colour = self.panels[0].curves[place].colour;
             svg += &line((x - 14.0, 48.0), (x + 14.0, 48.0), colour, 2.0);
             svg += &text(x + 22.0, 52.5, "start", 13, name);
         }
-        for (panel, left) in self.panels.iter().zip([80.0, 80.0 + ACROSS + 110.0]) {
+        for (panel, left) in self.panels.iter().zip(LEFTS) {
             svg += &panel.svg(left);
         }
         svg + "</svg>\n"
@@ -103,14 +85,7 @@ impl Panel {
             let (x, _) = self.at(left, release, 0);
             svg += &text(x, BOTTOM + 18.0, "middle", 11, &told(release));
         }
-        svg += &line((left, BOTTOM), (left + ACROSS, BOTTOM), INK, 1.2);
-        svg += &line((left, TOP), (left, BOTTOM), INK, 1.2);
-        svg += &text(left + ACROSS / 2.0, BOTTOM + 42.0, "middle", 13, "releases");
-        let middle = (TOP + BOTTOM) / 2.0;
-        svg + &format!(
-            "<text transform=\"translate({:.1} {middle:.1}) rotate(-90)\" text-anchor=\"middle\" font-size=\"13\">pages in use</text>\n",
-            left - 56.0
-        )
+        svg + &frame(left, BOTTOM, "releases", "pages in use", 56.0)
     }
 
     /// A point for every fifth release is as fine as the picture is.

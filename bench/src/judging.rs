@@ -90,6 +90,18 @@ fn hostile_rows() {
         "255 roots over two leaves, routers cut to pieces",
         &shared::cut_roots(ROOTS),
     );
+    shared_rows();
+    let name = "100 pages over the same twenty at the same versions (unsound)";
+    let numbers = Crowd {
+        crowd: 100,
+        shared: 20,
+        lives: 17,
+    };
+    row(name, &crowd(numbers).expect("room"));
+}
+
+/// Pages that many others lead to, in turn.
+fn shared_rows() {
     let shape = |shared_level, shared, lives, wide| Shape {
         shared_level,
         shared,
@@ -113,13 +125,6 @@ fn hostile_rows() {
     ] {
         row(name, &shared::in_turn(shape).expect("room"));
     }
-    let name = "100 pages over the same twenty at the same versions (unsound)";
-    let numbers = Crowd {
-        crowd: 100,
-        shared: 20,
-        lives: 17,
-    };
-    row(name, &crowd(numbers).expect("room"));
 }
 
 /// Two stores judged in turn, by the proved library and then in Rust.

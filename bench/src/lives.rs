@@ -74,53 +74,51 @@ fn in_lists(lists: &[List], current: u32, key: u32) -> Vec<u32> {
     told
 }
 
+/// A line of the table: a key's life in a store whose versions behind `last` change
+/// nothing.
+fn row(name: &str, bytes: &[u8], last: u32, key: u32) {
+    let lists = lists(bytes, last);
+    let current = store::header(bytes).current;
+    let stretches = in_lists(&lists, current, key);
+    let mut list = vec![0; stretches.len()];
+    assert_eq!(
+        proved::life(bytes, key, &mut list),
+        (0, stretches.len() / 3)
+    );
+    assert_eq!(list, stretches);
+    let mut judged = bytes.to_vec();
+    let taken = in_turn(&mut [
+        &mut || proved::life(black_box(bytes), key, &mut list).1 as u64,
+        &mut || in_lists(black_box(&lists), current, key).len() as u64,
+        &mut || proved::commit(black_box(&mut judged)).into(),
+    ]);
+    let one = taken.of(0) - taken.of(2);
+    println!(
+        "| {name} | {} | {} | {} | {} | {} |",
+        stretches.len() / 3,
+        times(one / taken.of(1)),
+        told(one),
+        told(taken.of(1)),
+        told(taken.of(2))
+    );
+}
+
 pub fn lives() {
     println!("## The life of a key\n");
     println!("Times as long as a search in one sorted list for each version, judging left out.\n");
     println!("| | stretches | ratio | proved | sorted lists | judging |");
     println!("|---|---|---|---|---|---|");
     let often = changed(105, 1000);
+    row("a key changed in each of 1,000 versions", &often, 1000, 105);
+    row("its neighbour, which stays", &often, 1000, 100);
+    let mut later = often;
+    raise_current(&mut later, HIGHEST_VERSION);
+    let name = "the same two with a million empty versions behind";
+    row(name, &later, 1000, 105);
+    row("", &later, 1000, 100);
     let grown = stores::grown(256, 1024);
     let some = Model::of_store(&grown);
     let some = *some.at(512).keys().next().expect("it has settings");
-    let mut later = often.clone();
-    raise_current(&mut later, HIGHEST_VERSION);
-    for (name, bytes, last, key) in [
-        ("a key changed in each of 1,000 versions", &often, 1000, 105),
-        ("its neighbour, which stays", &often, 1000, 100),
-        (
-            "the same two with a million empty versions behind",
-            &later,
-            1000,
-            105,
-        ),
-        ("", &later, 1000, 100),
-        ("a key of a history of 1,024 versions", &grown, 1024, some),
-    ] {
-        let lists = lists(bytes, last);
-        let current = store::header(bytes).current;
-        let stretches = in_lists(&lists, current, key);
-        let mut list = vec![0; stretches.len()];
-        assert_eq!(
-            proved::life(bytes, key, &mut list),
-            (0, stretches.len() / 3)
-        );
-        assert_eq!(list, stretches);
-        let mut judged = bytes.clone();
-        let taken = in_turn(&mut [
-            &mut || proved::life(black_box(bytes), key, &mut list).1 as u64,
-            &mut || in_lists(black_box(&lists), current, key).len() as u64,
-            &mut || proved::commit(black_box(&mut judged)).into(),
-        ]);
-        let one = taken.of(0) - taken.of(2);
-        println!(
-            "| {name} | {} | {} | {} | {} | {} |",
-            stretches.len() / 3,
-            times(one / taken.of(1)),
-            told(one),
-            told(taken.of(1)),
-            told(taken.of(2))
-        );
-    }
+    row("a key of a history of 1,024 versions", &grown, 1024, some);
     println!();
 }

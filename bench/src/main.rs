@@ -9,12 +9,14 @@ mod differences;
 mod judging;
 mod lives;
 mod lookups;
+mod mixed;
 mod plain;
 mod plot;
 mod program;
 mod proved;
 mod prunes;
 mod returns;
+mod svg;
 mod updates;
 mod versions;
 mod worst;
@@ -31,7 +33,7 @@ use reference::{calls, store};
 
 /// All tables, or the one that the first argument names.
 fn main() {
-    let tables: [(&str, fn()); 16] = [
+    let tables: [(&str, fn()); 17] = [
         ("bytes", byte_layer),
         ("quick", judging::judging),
         ("check", check_of_histories),
@@ -46,6 +48,7 @@ fn main() {
         ("updates", updates::updates),
         ("program", program::program),
         ("prunes", prunes::prunes),
+        ("mixed", mixed::mixed),
         ("versions", versions::versions),
         ("plot", plot::plot),
     ];

@@ -6,7 +6,10 @@
 
 use reference::layout::HIGHEST_KEY;
 
-pub use rcst::{check, commit, delete, difference, insert, life, lookup, open, prune, return_to};
+pub use rcst::{
+    abandon, check, commit, delete, difference, fresh_second, insert, life, lookup, open, prune,
+    return_to,
+};
 
 mod c {
     extern "C" {

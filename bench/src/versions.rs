@@ -6,7 +6,7 @@
 
 use std::hint::black_box;
 
-use hostile::measure::{in_turn, times, told};
+use hostile::measure::{in_turn, times, told, Times};
 use reference::layout::{FIRST_BENCH_KEY, PAGE_BYTES};
 use reference::rng::Rng;
 use reference::{calls, number, store, unjudged};
@@ -234,26 +234,20 @@ fn on_judged(history: &History) -> Quartiles {
     taken.more(0, 1).map(|more| more / count)
 }
 
-fn measured(history: &mut History) -> Measured {
+/// The next releases on lists and on the store, each taken back: times of all of them.
+fn released(history: &mut History) -> Times {
     let changes: Vec<(u32, u32)> = (0..RELEASES).map(|_| history.drawn()).collect();
-    let asked = history.asked();
-    for one in &asked {
-        assert_eq!(
-            in_store(&history.store, *one),
-            in_lists(&history.lists, *one)
-        );
-    }
-    let (versions, lists_bytes) = (history.versions(), history.bytes_of_lists());
+    let versions = history.versions();
     let mut restored = Restored::of(&history.store);
     let pages: Vec<Vec<usize>> = changes
         .iter()
         .map(|(key, value)| restored.changed(|store| release_proved(store, *key, *value)))
         .collect();
-    let mut lists = std::mem::take(&mut history.lists);
-    let released = in_turn(&mut [
+    let lists = &mut history.lists;
+    in_turn(&mut [
         &mut || {
             for (key, value) in &changes {
-                release_lists(black_box(&mut lists), *key, *value);
+                release_lists(black_box(&mut *lists), *key, *value);
             }
             lists.truncate(versions + 1);
             lists.len() as u64
@@ -265,22 +259,35 @@ fn measured(history: &mut History) -> Measured {
             }
             restored.now[0].into()
         },
-    ]);
-    history.lists = lists;
+    ])
+}
+
+/// The lookups asked for, in lists and in the store: times of all of them.
+fn looked(history: &History, asked: &[(u32, u32)]) -> Times {
+    let (lists, store) = (&history.lists, &history.store);
+    for one in asked {
+        assert_eq!(in_store(store, *one), in_lists(lists, *one));
+    }
     let sum = |of: &dyn Fn((u32, u32)) -> Option<u32>| {
         let values = asked.iter().map(|one| u64::from(of(*one).unwrap_or(0)));
         values.sum()
     };
-    let looked = in_turn(&mut [
-        &mut || sum(&|one| in_lists(black_box(&history.lists), one)),
-        &mut || sum(&|one| in_store(black_box(&history.store), one)),
-    ]);
-    let each = |taken: &hostile::measure::Times, way: usize, count: usize| {
+    in_turn(&mut [
+        &mut || sum(&|one| in_lists(black_box(lists), one)),
+        &mut || sum(&|one| in_store(black_box(store), one)),
+    ])
+}
+
+fn measured(history: &mut History) -> Measured {
+    let released = released(history);
+    let asked = history.asked();
+    let looked = looked(history, &asked);
+    let each = |taken: &Times, way: usize, count: usize| {
         taken.quartiles(way).map(|all| all / count as f64)
     };
     Measured {
-        versions,
-        lists_bytes,
+        versions: history.versions(),
+        lists_bytes: history.bytes_of_lists(),
         used_bytes: history.bytes_in_use(),
         release: [0, 1].map(|way| each(&released, way, RELEASES)),
         step: step(history),

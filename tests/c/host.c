@@ -130,6 +130,18 @@ static void settings(void) {
     expect(memcmp(before, store, sizeof store) == 0, "every byte is what it was");
 }
 
+/* Last month's release, in which setting 40 is 7, 41 is 300 and 43 is 1; and this month's update, open, in which 40 is 9. */
+static void two_months(uint8_t *store, size_t n) {
+    rcst_open(store, n);
+    rcst_insert(store, n, 40, 7);
+    rcst_insert(store, n, 41, 300);
+    rcst_insert(store, n, 43, 1);
+    expect(rcst_commit(store, n) == 0, "last month's release");
+    rcst_open(store, n);
+    rcst_delete(store, n, 40);
+    rcst_insert(store, n, 40, 9);
+}
+
 /* What changed between last month's release and this one. */
 static void differences(void) {
     static uint8_t store[16 * RCST_PAGE_BYTES];
@@ -138,14 +150,7 @@ static void differences(void) {
     size_t count = 9;
 
     rcst_fresh(store, sizeof store);
-    rcst_open(store, sizeof store);
-    rcst_insert(store, sizeof store, 40, 7);
-    rcst_insert(store, sizeof store, 41, 300);
-    rcst_insert(store, sizeof store, 43, 1);
-    expect(rcst_commit(store, sizeof store) == 0, "last month's release");
-    rcst_open(store, sizeof store);
-    rcst_delete(store, sizeof store, 40);
-    rcst_insert(store, sizeof store, 40, 9);
+    two_months(store, sizeof store);
     rcst_delete(store, sizeof store, 41);
     rcst_insert(store, sizeof store, 42, 5);
     expect(rcst_commit(store, sizeof store) == 0, "this month's release");
@@ -163,20 +168,14 @@ static void differences(void) {
 
 /* Back to last month's settings: a release like any other. */
 static void returns(void) {
-    static uint8_t store[16 * RCST_PAGE_BYTES], small[6 * RCST_PAGE_BYTES], before[16 * RCST_PAGE_BYTES];
-    uint32_t found = 9, value = 9, list[4] = {0}, key;
+    static uint8_t store[16 * RCST_PAGE_BYTES], before[16 * RCST_PAGE_BYTES];
+    uint32_t found = 9, value = 9, list[4] = {0};
     size_t count = 9;
 
     rcst_fresh(store, sizeof store);
     expect(rcst_return(store, sizeof store, 0) == 7, "no update is open");
     expect(rcst_return(store, sizeof store, 1) == 6, "a version above the current one comes first");
-    rcst_open(store, sizeof store);
-    rcst_insert(store, sizeof store, 40, 7);
-    rcst_insert(store, sizeof store, 41, 300);
-    expect(rcst_commit(store, sizeof store) == 0, "last month's release");
-    rcst_open(store, sizeof store);
-    rcst_delete(store, sizeof store, 40);
-    rcst_insert(store, sizeof store, 40, 9);
+    two_months(store, sizeof store);
     expect(rcst_commit(store, sizeof store) == 0, "this month's release");
     rcst_open(store, sizeof store);
     expect(rcst_return(store, sizeof store, 3) == 6, "the open version is above the current one");
@@ -190,8 +189,13 @@ static void returns(void) {
     expect(rcst_commit(store, sizeof store) == 0, "and it is a release");
     expect(rcst_lookup(store, sizeof store, 40, 3, &found, &value) == 0 && value == 7, "7 again");
     expect(rcst_lookup(store, sizeof store, 40, 2, &found, &value) == 0 && value == 9, "and 9 in the one between");
+}
 
-    /* one page for settings: twelve that are gone take room there, and to come back they need another */
+/* One page for settings: twelve that are gone take room there, and to come back they need another. */
+static void a_return_that_stops(void) {
+    static uint8_t small[6 * RCST_PAGE_BYTES], before[6 * RCST_PAGE_BYTES];
+    uint32_t key;
+
     rcst_fresh(small, sizeof small);
     rcst_open(small, sizeof small);
     for (key = 1; key <= 12; key++) {
@@ -249,6 +253,7 @@ int main(void) {
     settings();
     differences();
     returns();
+    a_return_that_stops();
     lives();
     return failures != 0;
 }

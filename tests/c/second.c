@@ -104,6 +104,21 @@ static void pages(void) {
     expect(rcst_difference(store, n, 1, 3, list, 4, &count) == 0 && count == 0, "nothing differs");
 }
 
+/* From a fresh store: keys 1 to 41 in the first release, 22 to 34 gone in the second. No prune while an update is open. */
+static void two_releases(uint8_t *store, size_t n) {
+    uint32_t key;
+
+    expect(rcst_open(store, n) == 0 && rcst_prune(store, n, 0) == 8, "not while an update is open");
+    for (key = 1; key <= 41; key += 1) {
+        expect(rcst_insert(store, n, key, 10 * key) == 0, "an insert");
+    }
+    expect(rcst_commit(store, n) == 0 && rcst_open(store, n) == 0, "a release");
+    for (key = 22; key <= 34; key += 1) {
+        expect(rcst_delete(store, n, key) == 0, "a delete");
+    }
+    expect(rcst_commit(store, n) == 0, "a second one");
+}
+
 /* Pruned to a version: what ended at or before it goes, what is kept reads as before, and freed pages are used again. */
 static void prunes(void) {
     static uint8_t store[12 * PAGE], expected[12 * PAGE], first[12 * RCST_PAGE_BYTES];
@@ -114,15 +129,7 @@ static void prunes(void) {
     size_t count = 9, n = sizeof store;
 
     expect(rcst_fresh_second(store, n) == 0 && rcst_prune(store, n, 0) == 0, "a fresh store, pruned to version 0");
-    expect(rcst_open(store, n) == 0 && rcst_prune(store, n, 0) == 8, "not while an update is open");
-    for (key = 1; key <= 41; key += 1) {
-        expect(rcst_insert(store, n, key, 10 * key) == 0, "an insert");
-    }
-    expect(rcst_commit(store, n) == 0 && rcst_open(store, n) == 0, "a release");
-    for (key = 22; key <= 34; key += 1) {
-        expect(rcst_delete(store, n, key) == 0, "a delete");
-    }
-    expect(rcst_commit(store, n) == 0, "a second one");
+    two_releases(store, n);
     memcpy(expected, store, n);
     expect(rcst_prune(store, n, 3) == 6 && memcmp(store, expected, n) == 0, "a version above the current one");
     expect(rcst_prune(store, n, 1) == 0, "the first release becomes the oldest");

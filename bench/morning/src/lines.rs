@@ -2,18 +2,9 @@
 
 use std::io::{self, BufRead, Write};
 
-const MOST_BYTES: usize = 80;
+pub use reference::console::Command;
 
-pub enum Command {
-    Store(u32),
-    Open,
-    Insert(u32, u32),
-    Delete(u32),
-    Commit,
-    Abandon,
-    Get(u32, u32),
-    Range(u32, u32, u32),
-}
+const MOST_BYTES: usize = 80;
 
 /// "a number has 1 to 10 decimal digits and is at most 4,294,967,295"
 #[inline]

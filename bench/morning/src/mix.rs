@@ -1,9 +1,10 @@
 //! Ten thousand updates that a store of 256 pages takes, in four mixes. The
 //! independent program's calls run beside, so that every line is accepted:
-//! none gives 12, 13 or 15.
+//! none gives 12, 13 or 15. And the same mixes without end, on a store of edition 2.
 
 use std::io::Write;
 
+use reference::edition::SECOND;
 use reference::rng::Rng;
 use reference::{calls, number, store, unjudged};
 
@@ -45,11 +46,20 @@ pub enum Spread {
 }
 
 pub struct Mix {
-    bytes: Vec<u8>,
+    kind: Kind,
+    pub bytes: Vec<u8>,
     live: Vec<u32>,
     rng: Rng,
     pub lines: Vec<u8>,
     done: usize,
+    /// So many updates are wanted.
+    wanted: usize,
+    /// Whether rounds mind how many pages are free; else they go on as if enough were.
+    minds: bool,
+    /// The number that stopped the last round, if one did.
+    stopped: Option<u32>,
+    /// The highest page that was ever in use.
+    pub highest: u32,
     /// The keys alive at each version.
     pub versions: Vec<Vec<u32>>,
 }
@@ -57,25 +67,54 @@ pub struct Mix {
 impl Mix {
     /// The mix, from a seed.
     pub fn new(kind: Kind, seed: u64) -> Mix {
-        let mut mix = Mix {
-            bytes: vec![0; PAGES * 256],
+        let mut mix = Mix::begun(kind, seed, vec![0; PAGES * 256]);
+        assert_eq!(calls::fresh(&mut mix.bytes), number::DONE);
+        mix.say(format_args!("store {PAGES}"));
+        while mix.done < mix.wanted {
+            mix.round();
+        }
+        mix
+    }
+
+    /// The same on a store of edition 2 with so many pages, round by round as the
+    /// caller asks for them: no round minds how many of them are free.
+    pub fn endless(kind: Kind, seed: u64, pages: usize) -> Mix {
+        let mut mix = Mix::begun(kind, seed, vec![0; pages * SECOND.page_bytes]);
+        store::write_fresh(&SECOND, &mut mix.bytes);
+        (mix.wanted, mix.minds) = (usize::MAX, false);
+        mix
+    }
+
+    fn begun(kind: Kind, seed: u64, bytes: Vec<u8>) -> Mix {
+        Mix {
+            kind,
+            bytes,
             live: Vec::new(),
             rng: Rng::new(seed),
             lines: Vec::new(),
             done: 0,
+            wanted: UPDATES,
+            minds: true,
+            stopped: None,
+            highest: 5,
             versions: vec![Vec::new()],
-        };
-        assert_eq!(calls::fresh(&mut mix.bytes), number::DONE);
-        mix.say(format_args!("store {PAGES}"));
-        while mix.done < UPDATES {
-            match kind {
-                Kind::Releases => mix.release(),
-                Kind::Steady => mix.steady(),
-                Kind::Sessions => mix.session(),
-                Kind::Bulk => mix.bulk(),
-            }
         }
-        mix
+    }
+
+    /// An update from its open to its end; the number that stopped it, if one did.
+    pub fn round(&mut self) -> Option<u32> {
+        match self.kind {
+            Kind::Releases => self.release(),
+            Kind::Steady => self.steady(),
+            Kind::Sessions => self.session(),
+            Kind::Bulk => self.bulk(),
+        }
+        self.stopped
+    }
+
+    /// The current version.
+    pub fn current(&self) -> u32 {
+        self.versions.len() as u32 - 1
     }
 
     /// The lookups behind the updates: four of five at keys that are alive.
@@ -111,8 +150,29 @@ impl Mix {
     }
 
     fn free(&self) -> usize {
-        let levels = (5..PAGES as u32).map(|page| store::level(&self.bytes, page));
+        let pages = store::page_numbers(&self.bytes);
+        let levels = pages.map(|page| store::level(&self.bytes, page));
         levels.filter(|level| *level == 0).count()
+    }
+
+    /// Whether more than so many pages are free, if that is minded.
+    fn has_room(&self, pages: usize) -> bool {
+        !self.minds || self.free() > pages
+    }
+
+    /// Behind an insert or delete that gave this number; whether it is done. The lowest
+    /// free page is taken, so no page above one that never was in use is in use.
+    fn is_done(&mut self, given: u32) -> bool {
+        if given != number::DONE {
+            self.stopped = Some(given);
+            return false;
+        }
+        self.done += 1;
+        let pages = store::page_count(&self.bytes);
+        while self.highest + 1 < pages && store::level(&self.bytes, self.highest + 1) != 0 {
+            self.highest += 1;
+        }
+        true
     }
 
     fn absent(&mut self) -> u32 {
@@ -126,24 +186,24 @@ impl Mix {
 
     fn insert(&mut self, key: u32) -> bool {
         let value = self.rng.below(VALUES);
-        if unjudged::insert(&mut self.bytes, key, value) != number::DONE {
+        let given = unjudged::insert(&mut self.bytes, key, value);
+        if !self.is_done(given) {
             return false;
         }
         let at = self.live.binary_search(&key).expect_err("absent");
         self.live.insert(at, key);
         self.say(format_args!("insert {key} {value}"));
-        self.done += 1;
         true
     }
 
     fn delete(&mut self, at: usize) -> bool {
         let key = self.live[at];
-        if unjudged::delete(&mut self.bytes, key) != number::DONE {
+        let given = unjudged::delete(&mut self.bytes, key);
+        if !self.is_done(given) {
             return false;
         }
         self.live.remove(at);
         self.say(format_args!("delete {key}"));
-        self.done += 1;
         true
     }
 
@@ -169,11 +229,13 @@ impl Mix {
 
     fn open(&mut self) {
         assert_eq!(unjudged::open(&mut self.bytes), number::DONE);
+        self.stopped = None;
         self.say(format_args!("open"));
     }
 
     /// Kept as a version, if it is to be and anything changed.
     fn close(&mut self, keep: bool) {
+        let keep = keep && (self.minds || self.stopped.is_none());
         if keep && unjudged::commit(&mut self.bytes) == number::DONE {
             self.say(format_args!("commit"));
             self.versions.push(self.live.clone());
@@ -184,9 +246,9 @@ impl Mix {
         self.live = self.versions.last().expect("version 0").clone();
     }
 
-    fn round(&mut self, updates: usize, most: usize, keep: bool) {
+    fn some(&mut self, updates: usize, most: usize, keep: bool) {
         self.open();
-        for _ in 0..updates.min(UPDATES - self.done) {
+        for _ in 0..updates.min(self.wanted - self.done) {
             if !self.update(most) {
                 break;
             }
@@ -196,23 +258,23 @@ impl Mix {
 
     fn release(&mut self) {
         let updates = 1 + self.rng.below(3) as usize;
-        let keep = self.free() > 12;
-        self.round(updates, 300, keep);
+        let keep = self.has_room(12);
+        self.some(updates, 300, keep);
     }
 
     fn steady(&mut self) {
-        let keep = self.free() > 20 && self.rng.below(2) == 0;
-        self.round(10, 1000, keep);
+        let keep = self.has_room(20) && self.rng.below(2) == 0;
+        self.some(10, 1000, keep);
     }
 
     fn session(&mut self) {
         self.open();
-        let end = UPDATES.min(self.done + 220);
-        while self.done + 1 < end {
+        let end = self.wanted.min(self.done + 220);
+        while self.done + 1 < end && self.stopped.is_none() {
             self.tried_out();
         }
         for _ in 0..30 {
-            if self.done < UPDATES && self.free() > 12 {
+            if self.done < self.wanted && self.stopped.is_none() && self.has_room(12) {
                 self.update(1200);
             }
         }
@@ -221,9 +283,9 @@ impl Mix {
 
     fn bulk(&mut self) {
         self.open();
-        let end = UPDATES.min(self.done + 1250);
-        while self.done < end {
-            if self.free() > 20 {
+        let end = self.wanted.min(self.done + 1250);
+        while self.done < end && self.stopped.is_none() {
+            if self.has_room(20) {
                 self.update(1500);
             } else {
                 self.tried_out();

@@ -20,44 +20,13 @@ impl Engine for Proved {
             Call::Delete(key) => Answer::of(delete(store, key)),
             Call::Return(version) => Answer::of(return_to(store, version)),
             Call::Prune(version) => Answer::of(prune(store, version)),
-            Call::Check => {
-                let (number, rule) = check(store);
-                Answer {
-                    rule,
-                    ..Answer::of(number)
-                }
-            }
-            Call::State => {
-                let (number, told) = state(store);
-                Answer {
-                    state: as_reference(told),
-                    ..Answer::of(number)
-                }
-            }
-            Call::Lookup(key, version) => {
-                let (number, found, value) = lookup(store, key, version);
-                Answer {
-                    found,
-                    value,
-                    ..Answer::of(number)
-                }
-            }
-            Call::Range(low, high, version, _) => {
-                let (number, count) = range(store, low, high, version, list);
-                Answer::counted((number, count as u64))
-            }
-            Call::Life(key, _) => {
-                let (number, count) = life(store, key, list);
-                Answer::counted((number, count as u64))
-            }
-            Call::Difference(old, new, _) => {
-                let (number, count) = difference(store, old, new, list);
-                Answer::counted((number, count as u64))
-            }
-            Call::Visits(key, version, _) => {
-                let (number, count) = visits(store, key, version, list);
-                Answer::counted((number, count as u64))
-            }
+            Call::Check => Answer::judged(check(store)),
+            Call::State => Answer::told(as_reference(state(store))),
+            Call::Lookup(key, version) => Answer::looked(lookup(store, key, version)),
+            Call::Range(low, high, version, _) => listed(range(store, low, high, version, list)),
+            Call::Life(key, _) => listed(life(store, key, list)),
+            Call::Difference(old, new, _) => listed(difference(store, old, new, list)),
+            Call::Visits(key, version, _) => listed(visits(store, key, version, list)),
         }
     }
 
@@ -66,23 +35,19 @@ impl Engine for Proved {
     }
 }
 
-fn as_reference(told: State) -> reference::state::State {
-    let State {
-        pages,
-        current,
-        open,
-        roots,
-        edition,
-        free,
-        oldest,
-    } = told;
-    reference::state::State {
-        pages,
-        current,
-        open,
-        roots,
-        edition,
-        free,
-        oldest,
-    }
+fn listed((number, count): (u32, usize)) -> Answer {
+    Answer::counted((number, count as u64))
+}
+
+fn as_reference((number, told): (u32, State)) -> (u32, reference::state::State) {
+    let told = reference::state::State {
+        pages: told.pages,
+        current: told.current,
+        open: told.open,
+        roots: told.roots,
+        edition: told.edition,
+        free: told.free,
+        oldest: told.oldest,
+    };
+    (number, told)
 }

@@ -3,56 +3,36 @@
 
 mod common;
 
+use common::stores::{each_kind_by_its_rule, judged, nearly_sound, Verdicts};
 use common::{both, rounds};
-use reference::damage::{kinds, tamper};
+use reference::damage::tamper;
 use reference::engine::Call;
 use reference::rng::Rng;
 use reference::samples::sound_store;
 
-/// Both judge `store`, and leave it alone; the number and the rule.
-fn judged(store: &[u8]) -> (u32, u32) {
-    let (answer, after) = both(Call::Check, store);
-    assert_eq!(after, store);
-    (answer.number, answer.rule)
-}
-
 #[test]
 fn each_kind_of_damage() {
-    let kinds = kinds();
-    let mut times = [0u64; 9];
+    let mut verdicts = Verdicts::new();
     for seed in 0..rounds(500) {
         let sound = sound_store(seed);
         assert_eq!(judged(&sound), (0, 0), "seed {seed}");
-        for kind in &kinds {
-            let mut store = sound.clone();
-            if kind.make(&mut store, &mut Rng::new(seed)) {
-                assert_eq!(judged(&store), (4, kind.rule), "{} seed {seed}", kind.name);
-                times[kind.rule as usize] += 1;
-            }
-        }
+        each_kind_by_its_rule(&sound, &mut Rng::new(seed), &mut verdicts);
     }
-    println!("lowest broken rule, times: {:?}", &times[1..7]);
-    assert!(times[1..7].iter().all(|&count| count >= 300), "{times:?}");
+    println!("number and rule, times: {verdicts:?}");
+    for rule in 1..=6 {
+        assert!(verdicts[&(4, rule)] >= 300, "{verdicts:?}");
+    }
 }
 
 /// Stores that are nearly sound: a bit or two flipped, a field or two set to a
 /// likely number. Most break a rule, some none.
 #[test]
 fn nearly_sound_stores() {
-    let mut verdicts = std::collections::BTreeMap::new();
+    let mut verdicts = Verdicts::new();
     for seed in 0..rounds(250) {
-        let sound = sound_store(seed);
         let mut rng = Rng::new(seed);
-        for _ in 0..400 {
-            let mut store = sound.clone();
-            for _ in 0..rng.between(1, 3) {
-                match rng.once_in(4) {
-                    true => tamper::flip_bit(&mut store, &mut rng),
-                    false => tamper::set_some_field(&mut store, &mut rng),
-                }
-            }
-            *verdicts.entry(judged(&store)).or_insert(0u64) += 1;
-        }
+        let change = |store: &mut [u8]| tamper::change_some(store, 3, 4, &mut rng);
+        nearly_sound(&sound_store(seed), 400, change, &mut verdicts);
     }
     println!("number and rule, times: {verdicts:?}");
     for rule in 1..=6 {

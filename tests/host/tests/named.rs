@@ -164,27 +164,25 @@ fn readings(
     tally: &mut BTreeMap<u32, u64>,
 ) {
     let viewer = Viewer::unasked(store, version, table);
+    let of_kind = |kind| named::lookup_kind(store, table, kind, key, version);
     assert_eq!(
         naming::opens(store, version),
         named::open_viewer(store, version)
     );
     assert_eq!(viewer.value(key), named::lookup(store, table, key, version));
-    assert_eq!(
-        viewer.whole(key),
-        named::lookup_kind(store, table, 0, key, version)
-    );
-    assert_eq!(
-        viewer.switch(key),
-        named::lookup_kind(store, table, 1, key, version)
-    );
+    assert_eq!(viewer.whole(key), of_kind(0));
+    assert_eq!(viewer.switch(key), of_kind(1));
     let (number, found, bits, level) = viewer.level(key);
-    assert_eq!(
-        (number, found, bits),
-        named::lookup_kind(store, table, 2, key, version)
-    );
+    assert_eq!((number, found, bits), of_kind(2));
     let float = f32::from_bits(bits);
     assert!(level.to_bits() == bits || level.is_nan() && float.is_nan());
     count(tally, number);
+    count(tally, ranged(store, table, version, rng));
+}
+
+/// Some range by both: the number, and every number of the list.
+fn ranged(store: &[u8], table: &[u32], version: u32, rng: &mut Rng) -> u32 {
+    let viewer = Viewer::unasked(store, version, table);
     let low = rng.below(60);
     let (high, room) = (low + rng.below(60), rng.below(90) as usize);
     let (mut ours, mut theirs) = (vec![0xEEEE_EEEE; room], vec![0xEEEE_EEEE; room]);
@@ -197,7 +195,41 @@ fn readings(
     if number != 0 {
         assert!(ours.iter().all(|&word| word == 0xEEEE_EEEE));
     }
-    count(tally, number);
+    number
+}
+
+/// A small number or any, as often.
+fn small_or_any(below: u32, rng: &mut Rng) -> u32 {
+    if rng.once_in(2) {
+        rng.below(below)
+    } else {
+        rng.word()
+    }
+}
+
+/// One call of an update by name, by each program on a store of its own: the two
+/// numbers.
+fn one_call(
+    ours: &mut [u8],
+    theirs: &mut [u8],
+    table: &[u32],
+    key: u32,
+    rng: &mut Rng,
+) -> (u32, u32) {
+    let value = small_or_any(3, rng);
+    match rng.below(12) {
+        0 => (host::open(ours), calls::open(theirs)),
+        1 if rng.once_in(3) => (host::abandon(ours), calls::abandon(theirs)),
+        1 => (host::commit(ours), calls::commit(theirs)),
+        2 | 3 => (
+            naming::delete(ours, table, key),
+            named::delete(theirs, table, key),
+        ),
+        _ => (
+            naming::insert(ours, table, key, value),
+            named::insert(theirs, table, key, value),
+        ),
+    }
 }
 
 #[test]
@@ -215,24 +247,7 @@ fn histories_by_two_tables() {
         for _ in 0..200 {
             let table = if rng.once_in(4) { &older } else { &newer };
             let key = rng.below(70);
-            let value = if rng.once_in(2) {
-                rng.below(3)
-            } else {
-                rng.word()
-            };
-            let (one, other) = match rng.below(12) {
-                0 => (host::open(&mut ours), calls::open(&mut theirs)),
-                1 if rng.once_in(3) => (host::abandon(&mut ours), calls::abandon(&mut theirs)),
-                1 => (host::commit(&mut ours), calls::commit(&mut theirs)),
-                2 | 3 => (
-                    naming::delete(&mut ours, table, key),
-                    named::delete(&mut theirs, table, key),
-                ),
-                _ => (
-                    naming::insert(&mut ours, table, key, value),
-                    named::insert(&mut theirs, table, key, value),
-                ),
-            };
+            let (one, other) = one_call(&mut ours, &mut theirs, table, key, &mut rng);
             assert_eq!(one, other, "seed {seed}");
             assert_eq!(ours, theirs, "seed {seed}");
             count(&mut tally, one);
@@ -245,6 +260,45 @@ fn histories_by_two_tables() {
     }
 }
 
+/// Six updates by name on a fresh store of 64 pages, and the last version.
+fn some_releases(table: &[u32], rng: &mut Rng) -> (Vec<u8>, u32) {
+    let mut store = vec![0; 256 * 64];
+    host::fresh(&mut store);
+    let mut last = 0;
+    for _ in 0..6 {
+        host::open(&mut store);
+        for _ in 0..40 {
+            let key = rng.below(64);
+            if rng.once_in(4) {
+                naming::delete(&mut store, table, key);
+            } else {
+                naming::insert(&mut store, table, key, small_or_any(30, rng));
+            }
+        }
+        if host::commit(&mut store) == 0 {
+            last += 1;
+        } else {
+            host::abandon(&mut store);
+        }
+    }
+    (store, last)
+}
+
+/// How many settings a version has: each of a known key, with a value it admits.
+fn admitted(store: &[u8], version: u32, table: &[u32]) -> usize {
+    let mut list = vec![0; 400];
+    let (number, count) = host::range(store, 0, 16_777_215, version, &mut list);
+    assert_eq!(number, 0);
+    for setting in list.chunks(2).take(count) {
+        let kind = named::kind_of(table, setting[0]).expect("a known key");
+        assert!(named::admits(kind, setting[1]), "{kind:?} {}", setting[1]);
+        if let Kind::Level(..) = kind {
+            assert!(!f32::from_bits(setting[1]).is_nan());
+        }
+    }
+    count
+}
+
 /// After any history by name, every setting of every version has a known key
 /// and an admitted value.
 #[test]
@@ -254,42 +308,9 @@ fn only_admitted_settings() {
         let mut rng = Rng::new(1000 + seed);
         let keys: Vec<u32> = (0..60).collect();
         let table = some_table(&keys, &mut rng);
-        let mut store = vec![0; 256 * 64];
-        host::fresh(&mut store);
-        let mut last = 0;
-        for _ in 0..6 {
-            host::open(&mut store);
-            for _ in 0..40 {
-                let key = rng.below(64);
-                if rng.once_in(4) {
-                    naming::delete(&mut store, &table, key);
-                } else {
-                    let value = if rng.once_in(2) {
-                        rng.below(30)
-                    } else {
-                        rng.word()
-                    };
-                    naming::insert(&mut store, &table, key, value);
-                }
-            }
-            if host::commit(&mut store) == 0 {
-                last += 1;
-            } else {
-                host::abandon(&mut store);
-            }
-        }
+        let (store, last) = some_releases(&table, &mut rng);
         for version in 0..=last {
-            let mut list = vec![0; 400];
-            let (number, count) = host::range(&store, 0, 16_777_215, version, &mut list);
-            assert_eq!(number, 0);
-            for setting in list.chunks(2).take(count) {
-                let kind = named::kind_of(&table, setting[0]).expect("a known key");
-                assert!(named::admits(kind, setting[1]), "{kind:?} {}", setting[1]);
-                if let Kind::Level(..) = kind {
-                    assert!(!f32::from_bits(setting[1]).is_nan());
-                }
-                settings += 1;
-            }
+            settings += admitted(&store, version, &table);
         }
     }
     println!("settings: {settings}");

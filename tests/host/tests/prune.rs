@@ -15,14 +15,13 @@ use std::collections::BTreeMap;
 
 use beside::calls;
 use beside::met::Met;
-use beside::stores::all_alike;
+use beside::stores::{all_alike, each_kind_by_its_rule, judged, nearly_sound, Verdicts};
 use beside::{both, rounds};
 use reference::damage::{kinds, tamper};
 use reference::edition::SECOND;
 use reference::engine::Call;
 use reference::history::{History, Kind, KINDS};
 use reference::layout::HIGHEST_KEY;
-use reference::model::Model;
 use reference::rng::Rng;
 use reference::samples::pruned_store;
 use reference::wild::wild_store_of;
@@ -53,9 +52,7 @@ fn histories() {
     }
     tell(&met);
     assert!(met.given(12) > 0, "{met:?}");
-    for work in ["page split", "pages merged", "root grown", "page for page"] {
-        assert!(met.did(work) > 0, "{work}: {met:?}");
-    }
+    met.rebuilt();
 }
 
 /// Larger ones that grow to level 3.
@@ -76,11 +73,8 @@ fn grown() {
 fn histories_from_elsewhere() {
     let mut met = Met::default();
     for seed in 0..rounds(100) {
-        let bytes = pruned_store(seed);
-        let pages = store::page_count(&bytes) as usize;
-        let (kind, model) = (KINDS[seed as usize % 4], Model::of_store(&bytes));
-        let mut history = History::on_store_of(&SECOND, pruning(seed), kind, pages, model);
-        met.run(&mut history, bytes, 60);
+        let kind = KINDS[seed as usize % 4];
+        met.go_on(pruned_store(seed), pruning(seed), kind, 60);
     }
     tell(&met);
 }
@@ -148,51 +142,43 @@ fn every_call_on_each_kind_of_damage() {
             made.then_some(bytes)
         });
         let bytes = damaged.unwrap_or_else(|| panic!("{}: no place in 200 stores", kind.name));
+        assert_eq!(judged(&bytes), (4, kind.rule), "{}", kind.name);
         all_alike(&bytes, &mut Rng::new(u64::from(kind.rule)), &mut tally);
     }
     println!("numbers given, times: {tally:?}");
     assert!(tally[&4] > 1000, "{tally:?}");
 }
 
+/// Changes up to three places: a bit, the oldest version, else a field.
+fn change_some(bytes: &mut [u8], rng: &mut Rng) {
+    for _ in 0..rng.between(1, 3) {
+        match rng.below(6) {
+            0 => tamper::flip_bit(bytes, rng),
+            1 => {
+                let version = rng.between(0, store::header(bytes).last() + 1);
+                SECOND.oldest.expect("it has").set(bytes, version);
+            }
+            _ => tamper::set_some_field(bytes, rng),
+        }
+    }
+}
+
 /// Check on pruned stores: each kind of damage by the lowest rule that it breaks,
 /// what breaks none, and stores that are nearly sound.
 #[test]
 fn damage() {
-    let judged = |bytes: &[u8]| {
-        let (answer, _) = both(Call::Check, bytes);
-        (answer.number, answer.rule)
-    };
-    let kinds = kinds();
-    let mut times = BTreeMap::new();
+    let mut times = Verdicts::new();
     for seed in 0..rounds(160) {
         let sound = pruned_store(seed);
         let mut rng = Rng::new(seed);
-        for kind in &kinds {
-            let mut bytes = sound.clone();
-            if kind.make(&mut bytes, &mut rng) {
-                assert_eq!(judged(&bytes), (4, kind.rule), "{} {seed}", kind.name);
-                *times.entry((4, kind.rule)).or_insert(0u64) += 1;
-            }
-        }
+        each_kind_by_its_rule(&sound, &mut rng, &mut times);
         for _ in 0..8 {
             let mut bytes = sound.clone();
             let name = pruned::unsettle(&mut bytes, &mut rng);
             assert_eq!(judged(&bytes), (0, 0), "{name:?} {seed}");
         }
-        for _ in 0..60 {
-            let mut bytes = sound.clone();
-            for _ in 0..rng.between(1, 3) {
-                match rng.below(6) {
-                    0 => tamper::flip_bit(&mut bytes, &mut rng),
-                    1 => {
-                        let version = rng.between(0, store::header(&bytes).last() + 1);
-                        SECOND.oldest.expect("it has").set(&mut bytes, version);
-                    }
-                    _ => tamper::set_some_field(&mut bytes, &mut rng),
-                }
-            }
-            *times.entry(judged(&bytes)).or_insert(0) += 1;
-        }
+        let change = |store: &mut [u8]| change_some(store, &mut rng);
+        nearly_sound(&sound, 60, change, &mut times);
     }
     println!("number and rule, times: {times:?}");
     for (rule, fewest) in (1..=8).zip([100, 100, 100, 100, 100, 100, 5, 100]) {

@@ -15,13 +15,14 @@ use std::collections::BTreeMap;
 
 use beside::calls;
 use beside::met::Met;
-use beside::stores::{all_alike, border_calls, stores_of};
+use beside::stores::{
+    all_alike, border_calls, each_kind_by_its_rule, judged, nearly_sound, stores_of, Verdicts,
+};
 use beside::{both, rounds};
-use reference::damage::{kinds, tamper};
+use reference::damage::tamper;
 use reference::edition::{Edition, EDITIONS, SECOND};
 use reference::engine::Call;
 use reference::history::{History, Kind, KINDS};
-use reference::model::Model;
 use reference::rng::Rng;
 use reference::samples::second_store;
 use reference::wild::wild_store_of;
@@ -41,9 +42,7 @@ fn histories() {
     for number in [0, 5, 6, 7, 8, 10, 11, 12, 14, 15] {
         assert!(met.given(number) > 0, "{number}: {met:?}");
     }
-    for work in ["page split", "pages merged", "root grown", "page for page"] {
-        assert!(met.did(work) > 0, "{work}: {met:?}");
-    }
+    met.rebuilt();
 }
 
 /// Larger ones that grow to level 3 and shrink again.
@@ -66,12 +65,7 @@ fn grown_and_shrunk() {
 fn histories_from_elsewhere() {
     let mut met = Met::default();
     for seed in 0..rounds(60) {
-        let bytes = second_store(seed);
-        let pages = store::page_count(&bytes) as usize;
-        let kind = KINDS[seed as usize % 4];
-        let model = Model::of_store(&bytes);
-        let mut history = History::on_store_of(&SECOND, seed, kind, pages, model);
-        met.run(&mut history, bytes, 60);
+        met.go_on(second_store(seed), seed, KINDS[seed as usize % 4], 60);
     }
     println!("{met:?}");
 }
@@ -100,33 +94,14 @@ fn every_call_on_sound_and_damaged_stores() {
 /// are nearly sound.
 #[test]
 fn damage() {
-    let judged = |bytes: &[u8]| {
-        let (answer, _) = both(Call::Check, bytes);
-        (answer.number, answer.rule)
-    };
-    let kinds = kinds();
-    let mut times = BTreeMap::new();
+    let mut times = Verdicts::new();
     for seed in 0..rounds(160) {
         let sound = second_store(seed);
         assert_eq!(judged(&sound), (0, 0), "seed {seed}");
         let mut rng = Rng::new(seed);
-        for kind in &kinds {
-            let mut bytes = sound.clone();
-            if kind.make(&mut bytes, &mut rng) {
-                assert_eq!(judged(&bytes), (4, kind.rule), "{} {seed}", kind.name);
-                *times.entry((4, kind.rule)).or_insert(0u64) += 1;
-            }
-        }
-        for _ in 0..60 {
-            let mut bytes = sound.clone();
-            for _ in 0..rng.between(1, 3) {
-                match rng.once_in(4) {
-                    true => tamper::flip_bit(&mut bytes, &mut rng),
-                    false => tamper::set_some_field(&mut bytes, &mut rng),
-                }
-            }
-            *times.entry(judged(&bytes)).or_insert(0) += 1;
-        }
+        each_kind_by_its_rule(&sound, &mut rng, &mut times);
+        let change = |store: &mut [u8]| tamper::change_some(store, 3, 4, &mut rng);
+        nearly_sound(&sound, 60, change, &mut times);
     }
     println!("number and rule, times: {times:?}");
     for rule in [1, 2, 3, 4, 5, 6, 8] {

@@ -7,7 +7,6 @@ use common::met::Met;
 use common::rounds;
 use reference::foreign::unsettle;
 use reference::history::{calls, History, Kind, KINDS};
-use reference::model::Model;
 use reference::rng::Rng;
 use reference::samples::sound_store;
 use reference::store;
@@ -57,10 +56,7 @@ fn from_tall_stores() {
         let top = fills.len() - 1;
         fills[top] = Fill::new(2, 3);
         let built = tall(&fills, spine, 60).expect("fits");
-        let pages = built.store.len() / 256;
-        let model = Model::of_store(&built.store);
-        let mut history = History::on_store(seed, Kind::Mixed, pages, model);
-        met.run(&mut history, built.store, 60);
+        met.go_on(built.store, seed, Kind::Mixed, 60);
     }
     println!("{met:?}");
     assert!(met.highest_level >= 4, "{met:?}");
@@ -74,10 +70,7 @@ fn from_foreign_stores() {
         let mut rng = Rng::new(seed);
         let mut bytes = sound_store(seed);
         for _ in 0..3 {
-            let pages = bytes.len() / 256;
-            let model = Model::of_store(&bytes);
-            let mut history = History::on_store(seed, KINDS[seed as usize % 3], pages, model);
-            bytes = met.run(&mut history, bytes, 20);
+            bytes = met.go_on(bytes, seed, KINDS[seed as usize % 3], 20);
             if store::header(&bytes).open {
                 for _ in 0..4 {
                     unsettle(&mut bytes, &mut rng);

@@ -111,12 +111,7 @@ fn damaged_stores_by_the_hundred_thousand() {
         }
         for _ in 0..70 {
             let mut bytes = sound.clone();
-            for _ in 0..rng.between(1, 4) {
-                match rng.once_in(3) {
-                    true => tamper::flip_bit(&mut bytes, &mut rng),
-                    false => tamper::set_some_field(&mut bytes, &mut rng),
-                }
-            }
+            tamper::change_some(&mut bytes, 4, 3, &mut rng);
             read.some(&bytes, &mut rng);
         }
     }
@@ -169,8 +164,42 @@ fn each_bit_flipped() {
     read.tell();
 }
 
-/// Any bytes in the pages that a lookup or a range does not walk: the library's
-/// answer is what it was on the sound store.
+/// The store with any bytes in all its pages but these.
+fn damaged_off(way: &[u32], sound: &[u8], rng: &mut Rng) -> Vec<u8> {
+    let mut bytes = sound.to_vec();
+    for page in store::page_numbers(sound) {
+        if !way.contains(&page) {
+            let any = store::page_bytes_mut(&mut bytes, page);
+            any.fill_with(|| rng.word() as u8);
+        }
+    }
+    bytes
+}
+
+/// A key's lookup and range are what they were on the sound store, whatever stands in
+/// the pages that they do not walk; a bit that is not defined, set in one that they do,
+/// makes them 4.
+fn walks_alone(sound: &[u8], key: u32, version: u32, rng: &mut Rng) {
+    let mut way = [0; 7];
+    let (number, count) = host::visits(sound, key, version, &mut way);
+    assert_eq!(number, 0);
+    let mut bytes = damaged_off(&way[..count], sound, rng);
+    let answer = host::lookup(&bytes, key, version);
+    assert_eq!(answer, host::lookup(sound, key, version));
+    assert_eq!(answer, reference::calls::lookup(&bytes, key, version));
+    // A range of one key goes the same way, but for a router at it.
+    let one = |bytes: &[u8]| {
+        let mut list = [7; 3];
+        (host::range(bytes, key, key, version, &mut list), list)
+    };
+    assert_eq!(one(&bytes), one(sound));
+    let page = way[rng.below(count as u32) as usize] as usize;
+    let bit = rng.between(49, 127) as usize;
+    bytes[page * PAGE_BYTES + bit / 8] ^= 0x80 >> (bit % 8);
+    assert_eq!(host::lookup(&bytes, key, version), (4, false, 0));
+    assert_eq!(one(&bytes), ((4, 0), [7; 3]));
+}
+
 #[test]
 fn damage_off_the_walk() {
     let mut compared = 0;
@@ -182,32 +211,8 @@ fn damage_off_the_walk() {
         keys.retain(|key| *key <= HIGHEST_KEY);
         for _ in 0..6 {
             let (key, version) = (*rng.pick(&keys).unwrap_or(&0), rng.between(0, last));
-            let mut way = [0; 7];
-            let (number, count) = host::visits(&sound, key, version, &mut way);
-            assert_eq!(number, 0);
-            let mut bytes = sound.clone();
-            for page in store::page_numbers(&sound) {
-                if !way[..count].contains(&page) {
-                    let any = store::page_bytes_mut(&mut bytes, page);
-                    any.fill_with(|| rng.word() as u8);
-                }
-            }
-            let answer = host::lookup(&bytes, key, version);
-            assert_eq!(answer, host::lookup(&sound, key, version));
-            assert_eq!(answer, reference::calls::lookup(&bytes, key, version));
-            // A range of one key goes the same way, but for a router at it.
-            let one = |bytes: &[u8]| {
-                let mut list = [7; 3];
-                (host::range(bytes, key, key, version, &mut list), list)
-            };
-            assert_eq!(one(&bytes), one(&sound));
+            walks_alone(&sound, key, version, &mut rng);
             compared += 1;
-            // A bit set that is not defined, in a page of the walk.
-            let page = way[rng.below(count as u32) as usize] as usize;
-            let bit = rng.between(49, 127) as usize;
-            bytes[page * PAGE_BYTES + bit / 8] ^= 0x80 >> (bit % 8);
-            assert_eq!(host::lookup(&bytes, key, version), (4, false, 0));
-            assert_eq!(one(&bytes), ((4, 0), [7; 3]));
         }
     }
     println!("{compared} ways");

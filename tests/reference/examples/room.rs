@@ -75,7 +75,8 @@ fn releases(pages: usize, held: usize, changes: u32, seed: u64) -> Option<(u32, 
     }
 }
 
-fn main() {
+/// How many settings a store of each size takes in one update.
+fn all_settings() {
     println!("| pages | bytes | keys rising | keys in any order |");
     println!("|---|---|---|---|");
     for pages in PAGES {
@@ -89,19 +90,26 @@ fn main() {
         println!("| {pages} | {} | {rising} | {any} |", pages * 256);
     }
     println!();
+}
+
+/// How many settings a store has, and how many of them a release changes.
+const MIXES: [(usize, u32); 9] = [
+    (10, 1),
+    (50, 1),
+    (50, 5),
+    (50, 20),
+    (500, 1),
+    (500, 20),
+    (500, 100),
+    (5000, 20),
+    (5000, 1000),
+];
+
+/// How many releases fit, as the median of five.
+fn all_releases() {
     println!("| settings | changes in a release | 64 pages | 256 pages | 4,096 pages |");
     println!("|---|---|---|---|---|");
-    for (held, changes) in [
-        (10, 1),
-        (50, 1),
-        (50, 5),
-        (50, 20),
-        (500, 1),
-        (500, 20),
-        (500, 100),
-        (5000, 20),
-        (5000, 1000),
-    ] {
+    for (held, changes) in MIXES {
         print!("| {held} | {changes} |");
         for pages in [64, 256, 4096] {
             let mut all: Vec<_> = (1..=5)
@@ -115,4 +123,9 @@ fn main() {
         }
         println!();
     }
+}
+
+fn main() {
+    all_settings();
+    all_releases();
 }

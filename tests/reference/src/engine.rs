@@ -93,6 +93,31 @@ impl Answer {
         }
     }
 
+    /// Of check: the number, and the lowest broken rule.
+    pub fn judged((number, rule): (u32, u32)) -> Answer {
+        Answer {
+            rule,
+            ..Answer::of(number)
+        }
+    }
+
+    /// Of state: the number, and what the store tells.
+    pub fn told((number, state): (u32, State)) -> Answer {
+        Answer {
+            state,
+            ..Answer::of(number)
+        }
+    }
+
+    /// Of a lookup: the number, whether the key is alive, and its value.
+    pub fn looked((number, found, value): (u32, bool, u32)) -> Answer {
+        Answer {
+            found,
+            value,
+            ..Answer::of(number)
+        }
+    }
+
     /// The answer of a call that gives a number and a count.
     pub fn counted((number, count): (u32, impl Into<u64>)) -> Answer {
         Answer {
@@ -136,28 +161,9 @@ pub fn apply(call: Call, store: &mut [u8], list: &mut [u32]) -> Answer {
         Call::Abandon => Answer::of(calls::abandon(store)),
         Call::Return(version) => Answer::of(calls::return_to(store, version)),
         Call::Prune(version) => Answer::of(calls::prune(store, version)),
-        Call::Check => {
-            let (number, rule) = calls::check(store);
-            Answer {
-                rule,
-                ..Answer::of(number)
-            }
-        }
-        Call::State => {
-            let (number, state) = calls::state(store);
-            Answer {
-                state,
-                ..Answer::of(number)
-            }
-        }
-        Call::Lookup(key, version) => {
-            let (number, found, value) = calls::lookup(store, key, version);
-            Answer {
-                found,
-                value,
-                ..Answer::of(number)
-            }
-        }
+        Call::Check => Answer::judged(calls::check(store)),
+        Call::State => Answer::told(calls::state(store)),
+        Call::Lookup(key, version) => Answer::looked(calls::lookup(store, key, version)),
         Call::Range(low, high, version, _) => {
             Answer::counted(calls::range(store, low, high, version, list))
         }

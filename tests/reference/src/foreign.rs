@@ -12,8 +12,8 @@ use crate::layout::{Entry, Header, Page, Slot, Span, HIGHEST_KEY, HIGHEST_LEVEL,
 use crate::rng::Rng;
 use crate::store;
 
-/// Changes a sound store with an update open; gives whether the change at
-/// hand found a place.
+/// Changes a sound store that takes such a change; gives whether the one at hand
+/// found a place.
 pub type Change = fn(&mut Image, &mut Rng) -> bool;
 
 pub const CHANGES: [(&str, Change); 5] = [
@@ -26,9 +26,20 @@ pub const CHANGES: [(&str, Change); 5] = [
 
 /// Makes one of the changes, chosen at random, and gives its name.
 pub fn unsettle(bytes: &mut Vec<u8>, rng: &mut Rng) -> Option<&'static str> {
-    let (name, change) = rng.pick(&CHANGES)?;
+    one_of(&CHANGES, bytes, |image| image.header.open, rng)
+}
+
+/// Makes one of `changes`, chosen at random, on a store that takes it, and gives its
+/// name.
+pub fn one_of(
+    changes: &[(&'static str, Change)],
+    bytes: &mut Vec<u8>,
+    takes: fn(&Image) -> bool,
+    rng: &mut Rng,
+) -> Option<&'static str> {
+    let (name, change) = rng.pick(changes)?;
     let mut image = Image::read(bytes);
-    if !image.header.open || !change(&mut image, rng) {
+    if !takes(&image) || !change(&mut image, rng) {
         return None;
     }
     *bytes = image.write();

@@ -378,32 +378,48 @@ impl History {
         Call::Life(key, self.some_length(wanted))
     }
 
-    /// A call that is refused, for one reason or for several at once.
-    fn bad_call(&mut self) -> Call {
-        let too_large = match self.rng.below(3) {
+    /// A key above the highest.
+    fn too_large(&mut self) -> u32 {
+        match self.rng.below(3) {
             0 => HIGHEST_KEY + 1,
             1 => u32::MAX,
             _ => self.rng.between(HIGHEST_KEY + 1, u32::MAX),
-        };
+        }
+    }
+
+    /// A version that cannot be read: one that is still to come, or was pruned, which
+    /// is refused alike.
+    fn late(&mut self) -> u32 {
         let oldest = self.model.oldest;
-        let late = match self.rng.below(2) {
-            // Too early is refused as too late is.
+        match self.rng.below(2) {
             _ if oldest > 0 && self.rng.once_in(2) => self.rng.between(0, oldest - 1),
             0 => self.model.last() + 1,
             _ => self.rng.between(self.model.last() + 1, u32::MAX),
-        };
-        let bench = match self.rng.below(2) {
+        }
+    }
+
+    fn bench_key(&mut self) -> u32 {
+        match self.rng.below(2) {
             0 => FIRST_BENCH_KEY,
             _ => self.rng.between(FIRST_BENCH_KEY, HIGHEST_KEY),
-        };
+        }
+    }
+
+    fn bad_prune(&mut self, late: u32) -> Call {
+        match self.rng.once_in(2) {
+            true => Call::Prune(late),
+            false if self.model.is_open() => self.prune(),
+            false => Call::Prune(self.model.last() + 1),
+        }
+    }
+
+    /// A call that is refused, for one reason or for several at once.
+    fn bad_call(&mut self) -> Call {
+        let (too_large, late, bench) = (self.too_large(), self.late(), self.bench_key());
         let (key, version) = (self.some_key(), self.some_version());
         let word = self.rng.word();
         if self.prunes && self.rng.once_in(8) {
-            return match self.rng.once_in(2) {
-                true => Call::Prune(late),
-                false if self.model.is_open() => self.prune(),
-                false => Call::Prune(self.model.last() + 1),
-            };
+            return self.bad_prune(late);
         }
         match self.rng.below(if self.returns { 20 } else { 18 }) {
             0 => Call::Insert(too_large, word),

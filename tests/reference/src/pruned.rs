@@ -5,13 +5,10 @@
 //! the versions from the oldest on. Each change leaves a sound store sound and
 //! every version that can be read as it was.
 
+use crate::foreign::{one_of, Change};
 use crate::image::Image;
 use crate::layout::{Entry, Page, Span, FIRST_PAGE, HIGHEST_KEY, LEAF};
 use crate::rng::Rng;
-
-/// Changes a sound store with an oldest version above 0; gives whether the change
-/// found a place.
-pub type Change = fn(&mut Image, &mut Rng) -> bool;
 
 pub const CHANGES: [(&str, Change); 8] = [
     ("an ended router leads elsewhere", lead_elsewhere),
@@ -26,13 +23,7 @@ pub const CHANGES: [(&str, Change); 8] = [
 
 /// Makes one of the changes, chosen at random, and gives its name.
 pub fn unsettle(bytes: &mut Vec<u8>, rng: &mut Rng) -> Option<&'static str> {
-    let (name, change) = rng.pick(&CHANGES)?;
-    let mut image = Image::read(bytes);
-    if image.header.oldest == 0 || !change(&mut image, rng) {
-        return None;
-    }
-    *bytes = image.write();
-    Some(name)
+    one_of(&CHANGES, bytes, |image| image.header.oldest > 0, rng)
 }
 
 /// A span that ends by the oldest version.

@@ -65,17 +65,7 @@ pub fn pruned_store(seed: u64) -> Vec<u8> {
     let prunes = seed / 8 * 16 + 8 + seed % 8;
     let mut history = History::of(&SECOND, prunes, kind, pages);
     let mut bytes = vec![0; SECOND.page_bytes * pages];
-    while store::header(&bytes).oldest == 0 {
-        for _ in 0..rng.between(150, 700) {
-            run_one(&mut history, None, &mut bytes);
-        }
-        if history.model().is_open() {
-            run_one(&mut history, Some(Call::Abandon), &mut bytes);
-        }
-        let (oldest, current) = (history.model().oldest, history.model().current);
-        let version = rng.between(oldest.max(current / 2), current);
-        run_one(&mut history, Some(Call::Prune(version)), &mut bytes);
-    }
+    run_until_pruned(&mut history, &mut bytes, &mut rng);
     for _ in 0..rng.below(80) {
         run_one(&mut history, None, &mut bytes);
     }
@@ -97,6 +87,21 @@ pub fn pruned_store(seed: u64) -> Vec<u8> {
         // It was made fresh again behind the prune.
         0 => pruned_store(seed + 0x1000),
         _ => bytes,
+    }
+}
+
+/// Goes on, and prunes to some version of the younger half, until one is the oldest.
+fn run_until_pruned(history: &mut History, bytes: &mut [u8], rng: &mut Rng) {
+    while store::header(bytes).oldest == 0 {
+        for _ in 0..rng.between(150, 700) {
+            run_one(history, None, bytes);
+        }
+        if history.model().is_open() {
+            run_one(history, Some(Call::Abandon), bytes);
+        }
+        let (oldest, current) = (history.model().oldest, history.model().current);
+        let version = rng.between(oldest.max(current / 2), current);
+        run_one(history, Some(Call::Prune(version)), bytes);
     }
 }
 

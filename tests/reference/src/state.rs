@@ -18,6 +18,15 @@ pub struct State {
     pub oldest: u32,
 }
 
+impl State {
+    /// The numbers, in that order.
+    pub fn numbers(self) -> [u32; 7] {
+        let (pages, roots, free) = (self.pages, self.roots, self.free);
+        let (current, open, oldest) = (self.current, self.open, self.oldest);
+        [pages, current, open, roots, self.edition, free, oldest]
+    }
+}
+
 /// Wants a sound store.
 pub fn state(bytes: &[u8]) -> State {
     let header = store::header(bytes);

@@ -192,6 +192,43 @@ fn lives_from_the_oldest_on() {
     assert!(cut > 300);
 }
 
+fn free_pages_of(bytes: &[u8]) -> Vec<u32> {
+    let numbers = store::page_numbers(bytes);
+    numbers.filter(|n| store::level(bytes, *n) == 0).collect()
+}
+
+/// Prunes to `version`; the pages that are free by that.
+fn freed_by_prune(bytes: &mut [u8], version: u32) -> Vec<u32> {
+    let before = free_pages_of(bytes);
+    assert_eq!(calls::prune(bytes, version), 0);
+    let after = free_pages_of(bytes).into_iter();
+    after.filter(|number| !before.contains(number)).collect()
+}
+
+/// Up to 200 calls of a history, and no end of an update among them; now and then a
+/// prune in the open one, which is refused. Whether an update is open then.
+fn works_on(bytes: &mut [u8], seed: u64, version: u32, rng: &mut Rng) -> bool {
+    let (model, pages) = (Model::of_store(bytes), store::page_count(bytes) as usize);
+    // None of these prunes of its own.
+    let quiet = seed / 8 * 16 + seed % 8;
+    let mut history = History::on_store_of(&SECOND, quiet, KINDS[seed as usize % 4], pages, model);
+    for _ in 0..rng.between(20, 200) {
+        let call = history.next_call();
+        if matches!(call, Call::Commit | Call::Abandon | Call::FreshSecond) {
+            break;
+        }
+        let mut list = vec![0; call.list_length()];
+        let answer = apply(call, bytes, &mut list);
+        history.observe(call, &answer);
+        if history.model().is_open() && rng.once_in(8) {
+            let before = bytes.to_vec();
+            assert_eq!(calls::prune(bytes, version), 8);
+            assert_eq!(bytes, before);
+        }
+    }
+    history.model().is_open()
+}
+
 /// Demand 3 after a prune, to the byte, whatever was done in the update; a prune
 /// in it is refused, and an abandon does not undo the one before it.
 #[test]
@@ -201,49 +238,12 @@ fn abandoned_behind_a_prune() {
         let mut rng = Rng::new(seed);
         let mut bytes = some_closed_store(&mut rng);
         let version = some_committed(&bytes, &mut rng);
-        let was_free = |bytes: &[u8]| {
-            let numbers = store::page_numbers(bytes);
-            let free = numbers.filter(|n| store::level(bytes, *n) == 0);
-            free.collect::<Vec<u32>>()
-        };
-        let free_before = was_free(&bytes);
-        assert_eq!(calls::prune(&mut bytes, version), 0);
-        let freed: Vec<u32> = was_free(&bytes)
-            .into_iter()
-            .filter(|number| !free_before.contains(number))
-            .collect();
+        let freed = freed_by_prune(&mut bytes, version);
         let pruned = bytes.clone();
-        let mut history = {
-            let (model, pages) = (Model::of_store(&bytes), store::page_count(&bytes));
-            let kind = KINDS[seed as usize % 4];
-            // None of these prunes of its own.
-            History::on_store_of(
-                &SECOND,
-                seed / 8 * 16 + seed % 8,
-                kind,
-                pages as usize,
-                model,
-            )
-        };
-        for _ in 0..rng.between(20, 200) {
-            let call = history.next_call();
-            if matches!(call, Call::Commit | Call::Abandon | Call::FreshSecond) {
-                break;
-            }
-            let mut list = vec![0; call.list_length()];
-            let answer = apply(call, &mut bytes, &mut list);
-            history.observe(call, &answer);
-            if history.model().is_open() && rng.once_in(8) {
-                let before = bytes.clone();
-                assert_eq!(calls::prune(&mut bytes, version), 8);
-                assert_eq!(bytes, before);
-            }
-        }
-        reused += freed
-            .iter()
-            .filter(|number| store::level(&bytes, **number) > 0)
-            .count();
-        match history.model().is_open() {
+        let is_open = works_on(&mut bytes, seed, version, &mut rng);
+        let used = |number: &&u32| store::level(&bytes, **number) > 0;
+        reused += freed.iter().filter(used).count();
+        match is_open {
             true => abandon(&mut bytes),
             false => closed += 1,
         }

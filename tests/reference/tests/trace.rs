@@ -86,53 +86,27 @@ fn the_lines_of_document_02() {
     let changed = list_hash(&[5, 2, 50, 51], 10);
     let kept = list_hash(&[2, 3, 51, 3, 1_048_575, 50], 10);
     let (ten, five) = (list_hash(&[], 10), list_hash(&[], 5));
-    let expected = [
-        "1 pages=0 current=0 open=0 roots=0 edition=0 free=0 oldest=0",
-        "0",
-        "0",
-        "0",
-        "8",
-        "0",
-        "0",
-        "0",
-        "0",
-        "0",
-        "0",
-        "6",
-        "0",
-        "0",
-        "0",
-        &format!("0 count=3 list={lived}"),
-        &format!("0 count=1 list={changed}"),
-        &format!("0 count=0 list={ten}"),
-        "6",
-        "0",
-        "6",
-        &format!("0 count=2 list={kept}"),
-        &format!("6 count=0 list={ten}"),
-        "6 found=0 value=0",
-        "0 pages=5",
-        "7",
-        "0 pages=16 current=3 open=0 roots=1 edition=2 free=10 oldest=2",
-        "0",
-        &format!("14 count=2 list={five}"),
-        &format!("5 count=0 list={five}"),
-        "0",
-        "3",
-    ];
-    assert_eq!(told(input), expected);
+    let expected = format!(
+        "1 pages=0 current=0 open=0 roots=0 edition=0 free=0 oldest=0\n0\n0\n0\n8\n0\n0\n0\n\
+         0\n0\n0\n6\n0\n0\n0\n0 count=3 list={lived}\n\
+         0 count=1 list={changed}\n0 count=0 list={ten}\n6\n0\n6\n0 count=2 list={kept}\n\
+         6 count=0 list={ten}\n6 found=0 value=0\n0 pages=5\n7\n\
+         0 pages=16 current=3 open=0 roots=1 edition=2 free=10 oldest=2\n0\n\
+         14 count=2 list={five}\n5 count=0 list={five}\n0\n3"
+    );
+    assert_eq!(told(input).join("\n"), expected);
 }
 
 #[test]
 fn the_hash_is_of_all_bytes_after_the_line() {
     let mut bytes = vec![0; 6 * 256];
     assert_eq!(calls::fresh(&mut bytes), 0);
-    let fresh = format!("{:016x}", hash::of_bytes(&bytes));
+    let fresh = hash_of(&bytes);
     let empty = "cbf29ce484222325";
-    let refused = format!("{:016x}", hash::of_bytes(&[0xEE; 5 * 256]));
+    let refused = hash_of(&[0xEE; 5 * 256]);
     bytes[1535] = 7;
-    let changed = format!("{:016x}", hash::of_bytes(&bytes));
-    let first = format!("{:016x}", hash::of_bytes(&bytes[..1]));
+    let changed = hash_of(&bytes);
+    let first = hash_of(&bytes[..1]);
     let input = "open\nstore 6\nbyte 1535 7\nbyte 1536 7\nfoo\ncheck\ncut 1\ncut 9\nbyte 1 1\n\
                  cut 0\nstore 5\nopen\n";
     let expected = [
@@ -152,21 +126,29 @@ fn the_hash_is_of_all_bytes_after_the_line() {
     assert_eq!(answered(input), expected);
 }
 
-/// The source stays, the target is used up by a swap, and a swap without one
-/// does nothing.
+fn hash_of(bytes: &[u8]) -> String {
+    format!("{:016x}", hash::of_bytes(bytes))
+}
+
+/// The hashes of fresh stores: of edition 1, with six pages, and 2, with seven.
+fn fresh_hashes() -> (String, String) {
+    let mut first = vec![0; 6 * 256];
+    calls::fresh(&mut first);
+    let mut second = vec![0; 7 * 512];
+    calls::fresh_second(&mut second);
+    (hash_of(&first), hash_of(&second))
+}
+
+/// What is no store is not converted; the target is used up by a swap all the same,
+/// and a swap without one does nothing.
 #[test]
-fn a_conversion_and_its_target() {
-    let hash = |bytes: &[u8]| format!("{:016x}", hash::of_bytes(bytes));
-    let mut source = vec![0; 6 * 256];
-    calls::fresh(&mut source);
-    let mut target = vec![0; 7 * 512];
-    calls::fresh_second(&mut target);
-    let (first, second) = (hash(&source), hash(&target));
-    let refused = hash(&[0xEE; 5 * 512]);
+fn a_conversion_that_is_refused() {
+    let (first, second) = fresh_hashes();
+    let refused = hash_of(&[0xEE; 5 * 512]);
     let input = "swap\nconvert 7\nstore 6\nswap\nconvert 7\ncheck\nconvert 5\nconvert 7\nswap\n\
                  check\nconvert 7\nswap\nswap\ncheck\nstore2 7\nstore2 5\n";
     let empty = "cbf29ce484222325";
-    let lent = hash(&[0xEE; 7 * 512]);
+    let lent = hash_of(&[0xEE; 7 * 512]);
     let expected = [
         format!("1 0 {empty}"),
         format!("2 1 target={lent} {empty}"),
@@ -186,6 +168,14 @@ fn a_conversion_and_its_target() {
         format!("16 1 {refused}"),
     ];
     assert_eq!(answered(input), expected);
+}
+
+/// The source stays, and the target takes its place by a swap.
+#[test]
+fn a_conversion_and_its_target() {
+    let (first, second) = fresh_hashes();
+    let refused = hash_of(&[0xEE; 5 * 512]);
+    let lent = hash_of(&[0xEE; 7 * 512]);
     let input = "store 6\nconvert 7\nconvert 5\nconvert 7\nswap\nswap\nconvert 7\n";
     let expected = [
         format!("1 0 {first}"),

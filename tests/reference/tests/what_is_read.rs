@@ -120,12 +120,7 @@ fn damaged_stores_beside_a_second_reader() {
         }
         for _ in 0..50 {
             let mut bytes = sound.clone();
-            for _ in 0..rng.between(1, 4) {
-                match rng.once_in(3) {
-                    true => tamper::flip_bit(&mut bytes, &mut rng),
-                    false => tamper::set_some_field(&mut bytes, &mut rng),
-                }
-            }
+            tamper::change_some(&mut bytes, 4, 3, &mut rng);
             too_long += u32::from(!read_alike(&bytes, &mut rng, &mut tally));
         }
     }

@@ -127,6 +127,15 @@ impl Folder {
         assert!(self.files() == before, "{words:?}: a file has changed");
     }
 
+    /// Texts from which `load` makes no store, each with its status and words; HEAD
+    /// stands for the first lines.
+    pub fn loads_none(&self, head: &str, texts: &[(&str, i32, &str)]) {
+        for (text, status, sentence) in texts {
+            let text = text.replace("HEAD", head);
+            self.refused(&["load", "t"], &text, *status, sentence);
+        }
+    }
+
     fn files(&self) -> Vec<(String, Option<Vec<u8>>)> {
         let names = self.names().into_iter();
         names

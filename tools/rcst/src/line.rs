@@ -88,6 +88,25 @@ impl Line {
         Ok(self.next("FILE")?.into())
     }
 
+    /// One file, and nothing behind it.
+    pub fn only_file(&mut self) -> Result<PathBuf, Fault> {
+        let path = self.file()?;
+        self.end()?;
+        Ok(path)
+    }
+
+    /// A file, one word more, and nothing behind it.
+    pub fn file_and<T>(
+        &mut self,
+        next: fn(&mut Line, &str) -> Result<T, Fault>,
+        what: &str,
+    ) -> Result<(PathBuf, T), Fault> {
+        let path = self.file()?;
+        let word = next(self, what)?;
+        self.end()?;
+        Ok((path, word))
+    }
+
     pub fn text(&mut self, what: &str) -> Result<String, Fault> {
         let wrong = |word: OsString| Fault::usage(format!("{}: not text", word.display()));
         self.next(what)?.into_string().map_err(wrong)

@@ -5,9 +5,11 @@ use std::collections::BTreeMap;
 use super::may_write;
 use host::Proved;
 use reference::beside::{compare, Tally};
+use reference::edition::Edition;
 use reference::engine::{Answer, Call, Reference};
-use reference::history::History;
+use reference::history::{History, Kind};
 use reference::layout::ALIVE;
+use reference::model::Model;
 use reference::{store, walk};
 
 /// How often each number was given, and how often an accepted insert or delete
@@ -29,6 +31,22 @@ impl Met {
 
     pub fn did(&self, work: &str) -> u64 {
         self.works.get(work).copied().unwrap_or(0)
+    }
+
+    /// Pages were split, merged and copied, and a root grew.
+    pub fn rebuilt(&self) {
+        for work in ["page split", "pages merged", "root grown", "page for page"] {
+            assert!(self.did(work) > 0, "{work}: {self:?}");
+        }
+    }
+
+    /// Runs `count` calls of a history that goes on from `bytes`; the store at the
+    /// end.
+    pub fn go_on(&mut self, bytes: Vec<u8>, seed: u64, kind: Kind, count: usize) -> Vec<u8> {
+        let pages = store::page_count(&bytes) as usize;
+        let model = Model::of_store(&bytes);
+        let mut history = History::on_store_of(Edition::of(&bytes), seed, kind, pages, model);
+        self.run(&mut history, bytes, count)
     }
 
     /// Runs `count` calls of `history` from `bytes` on; the store at the end.
@@ -61,6 +79,10 @@ impl Met {
         answer
     }
 
+    fn work(&mut self, name: &'static str, times: u64) {
+        *self.works.entry(name).or_default() += times;
+    }
+
     fn observe(&mut self, before: &[u8], after: &[u8]) {
         let version = store::header(after).last();
         let (old, new) = (walk::root(before, version), walk::root(after, version));
@@ -72,9 +94,16 @@ impl Met {
             _ if new != old => "root copied",
             _ => "root stays",
         };
-        *self.works.entry(root).or_default() += 1;
-        // For each level, how many pages were freed, killed and taken, and of
-        // those how many with 8 entries.
+        self.work(root, 1);
+        for level in self.levels(before, after, new).into_values() {
+            self.level(level);
+        }
+    }
+
+    /// For each level, how many pages were freed, killed and taken, and of those how
+    /// many with 8 entries.
+    fn levels(&mut self, before: &[u8], after: &[u8], root: u32) -> BTreeMap<u32, [u32; 4]> {
+        let version = store::header(after).last();
         let mut levels: BTreeMap<u32, [u32; 4]> = BTreeMap::new();
         for number in store::page_numbers(before) {
             let (one, other) = (store::page(before, number), store::page(after, number));
@@ -82,34 +111,37 @@ impl Met {
             let killed = one.span.end == ALIVE && !one.is_free() && other.span.end == version;
             let taken = one.is_free() && !other.is_free();
             if !one.is_free() && other.level > one.level {
-                *self.works.entry("freed and taken above").or_default() += 1;
+                self.work("freed and taken above", 1);
             }
             let level = levels.entry(one.level.max(other.level)).or_default();
-            let eight = taken && number != new && other.entries.len() == 8;
+            let eight = taken && number != root && other.entries.len() == 8;
             for (count, met) in level.iter_mut().zip([freed, killed, taken, eight]) {
                 *count += u32::from(met);
             }
         }
-        for [freed, killed, taken, eight] in levels.into_values() {
-            if (freed + killed, taken, eight) == (1, 1, 1) {
-                *self.works.entry("8 alone").or_default() += 1;
-            }
-            for (name, count) in [("freed", freed), ("killed", killed), ("taken", taken)] {
-                *self.works.entry(name).or_default() += u64::from(count);
-            }
-            // Reading 19.
-            assert!(freed == 0 || taken == 0, "a level both frees and takes");
-            let name = match (freed + killed, taken) {
-                (0, 0) => continue,
-                (0, 1) => "active page split",
-                (1, 0) => "page gone",
-                (1, 1) => "page for page",
-                (1, 2) => "page split",
-                (2, 1) => "pages merged",
-                (2, 2) => "pages merged and split",
-                _ => "other",
-            };
-            *self.works.entry(name).or_default() += 1;
+        levels
+    }
+
+    /// What was done on one level.
+    fn level(&mut self, [freed, killed, taken, eight]: [u32; 4]) {
+        if (freed + killed, taken, eight) == (1, 1, 1) {
+            self.work("8 alone", 1);
         }
+        for (name, count) in [("freed", freed), ("killed", killed), ("taken", taken)] {
+            self.work(name, u64::from(count));
+        }
+        // Reading 19.
+        assert!(freed == 0 || taken == 0, "a level both frees and takes");
+        let name = match (freed + killed, taken) {
+            (0, 0) => return,
+            (0, 1) => "active page split",
+            (1, 0) => "page gone",
+            (1, 1) => "page for page",
+            (1, 2) => "page split",
+            (2, 1) => "pages merged",
+            (2, 2) => "pages merged and split",
+            _ => "other",
+        };
+        self.work(name, 1);
     }
 }

@@ -101,3 +101,40 @@ pub fn all_alike(bytes: &[u8], rng: &mut Rng, tally: &mut BTreeMap<u32, u64>) {
         assert!(!untouched || after == bytes, "{call:?}");
     }
 }
+
+/// What both say of a store, which they leave alone: the number and the rule.
+pub fn judged(store: &[u8]) -> (u32, u32) {
+    let (answer, after) = both(Call::Check, store);
+    assert_eq!(after, store);
+    (answer.number, answer.rule)
+}
+
+/// How often each number was given with each rule.
+pub type Verdicts = BTreeMap<(u32, u32), u64>;
+
+/// Every kind of damage that finds a place in a sound store: each is judged by the
+/// lowest rule that it breaks.
+pub fn each_kind_by_its_rule(sound: &[u8], rng: &mut Rng, verdicts: &mut Verdicts) {
+    for kind in kinds() {
+        let mut store = sound.to_vec();
+        if kind.make(&mut store, rng) {
+            let given = judged(&store);
+            assert_eq!(given, (4, kind.rule), "{}", kind.name);
+            *verdicts.entry(given).or_default() += 1;
+        }
+    }
+}
+
+/// Stores that are nearly sound: so many, each with some changes.
+pub fn nearly_sound(
+    sound: &[u8],
+    count: u32,
+    mut change: impl FnMut(&mut [u8]),
+    verdicts: &mut Verdicts,
+) {
+    for _ in 0..count {
+        let mut store = sound.to_vec();
+        change(&mut store);
+        *verdicts.entry(judged(&store)).or_default() += 1;
+    }
+}

@@ -5,6 +5,16 @@ use crate::layout::{at, ALIVE, ENTRY_BYTES, PAGE_HEAD_BYTES, SLOT_BYTES};
 use crate::rng::Rng;
 use crate::store;
 
+/// Changes up to `most` places: a bit once in `bits` times, else a field.
+pub fn change_some(bytes: &mut [u8], most: u32, bits: u32, rng: &mut Rng) {
+    for _ in 0..rng.between(1, most) {
+        match rng.once_in(bits) {
+            true => flip_bit(bytes, rng),
+            false => set_some_field(bytes, rng),
+        }
+    }
+}
+
 /// Turns one bit round, mostly where bits mean something. The bytes may be
 /// damaged already, but have a store's length.
 pub fn flip_bit(bytes: &mut [u8], rng: &mut Rng) {

@@ -153,17 +153,10 @@ fn results(call: Call, answer: Answer, list: &[u32]) -> String {
 }
 
 fn state_of(told: State) -> String {
-    let State {
-        pages,
-        current,
-        open,
-        roots,
-        edition,
-        free,
-        oldest,
-    } = told;
-    format!(
-        " pages={pages} current={current} open={open} roots={roots} edition={edition} \
-         free={free} oldest={oldest}"
-    )
+    let names = [
+        "pages", "current", "open", "roots", "edition", "free", "oldest",
+    ];
+    let told = names.iter().zip(told.numbers());
+    told.map(|(name, number)| format!(" {name}={number}"))
+        .collect()
 }

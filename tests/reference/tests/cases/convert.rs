@@ -52,14 +52,7 @@ fn a_fresh_store() {
 /// edition 1, and page 5 alone of edition 2.
 #[test]
 fn golden_bytes() {
-    let mut source = fresh(16);
-    open(&mut source);
-    insert_all(&mut source, 1..=21);
-    commit(&mut source);
-    open(&mut source);
-    delete_all(&mut source, 12..=18);
-    commit(&mut source);
-    assert_eq!(slots(&source), [(0, 5), (1, 8), (2, 9)]);
+    let source = split_and_merged(fresh(16), 1..=21, 12..=18);
     let target = converted(&source, 6);
     let mut expected = fresh_second(6);
     // Current 2; a leaf of 21 entries, of which 14 live.

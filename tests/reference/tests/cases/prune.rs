@@ -15,20 +15,6 @@ fn prune(bytes: &mut [u8], version: u32) {
     assert_sound(bytes);
 }
 
-/// Keys 1 to 41 in version 1, 22 to 34 gone in version 2: pages 5 (0 to 1), 6, 7
-/// and 8 (1 to 2), 9 from 2 on.
-fn two_releases() -> Vec<u8> {
-    let mut bytes = fresh_second(12);
-    open(&mut bytes);
-    insert_all(&mut bytes, 1..=41);
-    commit(&mut bytes);
-    open(&mut bytes);
-    delete_all(&mut bytes, 22..=34);
-    commit(&mut bytes);
-    assert_eq!(slots(&bytes), [(0, 5), (1, 8), (2, 9)]);
-    bytes
-}
-
 fn is_zero(bytes: &[u8], number: u32) -> bool {
     page_bytes(bytes, number).iter().all(|byte| *byte == 0)
 }
@@ -216,10 +202,9 @@ fn freed_pages_are_used_again() {
     assert!(!page(&bytes, 10).is_free() && !page(&bytes, 11).is_free());
 }
 
-/// A freed page used again as an index page, above the one whose ended router
-/// leads to it.
-#[test]
-fn an_ended_router_to_an_index_page() {
+/// Two leaves under an index page whose routers of old lead to itself, to a free page
+/// and to a page freed; pruned to `oldest`.
+fn ended_routers(oldest: u32) -> Image {
     let pages = vec![
         leaf(1, ALIVE, 0..8),
         leaf(1, ALIVE, 1000..1008),
@@ -233,26 +218,34 @@ fn an_ended_router_to_an_index_page() {
         ),
         Page::free(),
     ];
-    let image = |oldest: u32| {
-        let mut image = image_of(&SECOND, 5, false, &[(1, 8)], pages.clone());
-        image.slots.remove(0);
-        *image.page_mut(5) = Page::free();
-        image.header.oldest = oldest;
-        image
-    };
-    // To itself, to a free page, to a page freed: not asked of at all.
-    assert_sound(&image(3).write());
-    assert_eq!(calls::check(&image(2).write()), (4, 3));
-    assert_eq!(calls::check(&image(1).write()), (4, 3));
+    let mut image = image_of(&SECOND, 5, false, &[(1, 8)], pages);
+    image.slots.remove(0);
+    *image.page_mut(5) = Page::free();
+    image.header.oldest = oldest;
+    image
+}
+
+/// A freed page used again as an index page, above the one whose ended router
+/// leads to it.
+#[test]
+fn an_ended_router_to_an_index_page() {
+    // Not asked of at all.
+    assert_sound(&ended_routers(3).write());
+    assert_eq!(calls::check(&ended_routers(2).write()), (4, 3));
+    assert_eq!(calls::check(&ended_routers(1).write()), (4, 3));
     // Reading 12.4: its own page's span neither.
-    let mut outside = image(3);
+    let mut outside = ended_routers(3);
     outside.page_mut(8).entries[1].span.start = 0;
     assert_sound(&outside.write());
     // Rule 1 speaks of every entry.
     outside.page_mut(8).entries[1].value = 10;
     assert_eq!(calls::check(&outside.write()), (4, 1));
-    // A leaf's entry that ended before the oldest is not skipped.
-    let mut image = image(3);
+}
+
+/// A leaf's entry that ended before the oldest is not skipped.
+#[test]
+fn an_ended_entry_of_a_leaf() {
+    let mut image = ended_routers(3);
     *image.page_mut(6) = leaf(2, ALIVE, 0..8);
     let router = &mut image.page_mut(8).entries[0];
     assert_eq!(*router, entry(0, 1, ALIVE, 6));

@@ -6,7 +6,7 @@ use crate::common::*;
 use reference::calls::raw_insert;
 use reference::history::{self, KINDS};
 use reference::image::Image;
-use reference::layout::{Page, ALIVE, FIRST_BENCH_KEY, HIGHEST_KEY, SLOTS};
+use reference::layout::{ALIVE, FIRST_BENCH_KEY, HIGHEST_KEY, SLOTS};
 use reference::model::{Model, Settings};
 use reference::rng::Rng;
 use reference::samples::sound_store;
@@ -620,14 +620,7 @@ fn there_and_back_over_many_releases() {
 /// free.
 #[test]
 fn reading_07_4_a_store_lent_with_an_update_open() {
-    let pages = vec![
-        leaf(1, ALIVE, [10, 20, 30, 40]),
-        leaf(1, ALIVE, [100, 110, 120, 130]),
-        leaf(1, ALIVE, [200, 210, 220, 230]),
-        index(1, ALIVE, &[(0, 6), (100, 7), (200, 8)]),
-        Page::free(),
-    ];
-    let mut image = image(1, true, &[(1, 9), (2, 9)], pages);
+    let mut image = image(1, true, &[(1, 9), (2, 9)], three_under_a_root());
     renew_leaf(&mut image, 9, 8, 10);
     let bytes = image.write();
     assert_sound(&bytes);

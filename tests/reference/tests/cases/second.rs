@@ -55,21 +55,11 @@ fn golden_heads_of_a_split_root() {
 
 /// Keys 1 to 40 inserted in version 1 of a fresh store.
 fn p1(pages: usize) -> Vec<u8> {
-    let mut bytes = fresh_second(pages);
-    open(&mut bytes);
-    insert_all(&mut bytes, 1..=40);
-    bytes
+    opened_with(fresh_second(pages), 1..=40)
 }
 
 fn p2(pages: usize) -> Vec<u8> {
-    let mut bytes = p1(pages);
-    insert_all(&mut bytes, [41]);
-    bytes
-}
-
-fn keys_from(page: &Page, keys: impl Iterator<Item = u32>, start: u32) {
-    let expected = keys.map(|key| entry(key, start, ALIVE, value_of(key)));
-    assert_eq!(page.entries, expected.collect::<Vec<_>>());
+    opened_with(fresh_second(pages), 1..=41)
 }
 
 #[test]
@@ -427,58 +417,65 @@ fn sizes_and_wrong_lengths() {
     assert_eq!(bytes, fresh_second(6));
 }
 
+/// Every call gives this number, and leaves store and list alone.
+fn all_give(bytes: &[u8], number: u32) {
+    let mut lent = bytes.to_vec();
+    let (one, two) = (u32::MAX, &mut [7; 3]);
+    assert_eq!(calls::check(bytes).0, number);
+    assert_eq!(calls::open(&mut lent), number);
+    assert_eq!(calls::insert(&mut lent, one, 1), number);
+    assert_eq!(calls::delete(&mut lent, one), number);
+    assert_eq!(calls::commit(&mut lent), number);
+    assert_eq!(calls::abandon(&mut lent), number);
+    assert_eq!(calls::return_to(&mut lent, one), number);
+    assert_eq!(calls::lookup(bytes, one, one), (number, false, 0));
+    assert_eq!(calls::range(bytes, one, 0, one, two), (number, 0));
+    assert_eq!(calls::visits(bytes, one, one, two), (number, 0));
+    assert_eq!(calls::difference(bytes, one, one, two), (number, 0));
+    assert_eq!(calls::life(bytes, one, two), (number, 0));
+    assert_eq!((lent.as_slice(), *two), (bytes, [7; 3]));
+}
+
 /// "Fewer than five bytes gives 1; otherwise 2, then 3, then 1 by the edition's
 /// page size, then the rest as before."
 #[test]
 fn the_new_order_of_refusals() {
-    let all = |bytes: &[u8], number: u32| {
-        let mut lent = bytes.to_vec();
-        let (one, two) = (u32::MAX, &mut [7; 3]);
-        assert_eq!(calls::check(bytes).0, number);
-        assert_eq!(calls::open(&mut lent), number);
-        assert_eq!(calls::insert(&mut lent, one, 1), number);
-        assert_eq!(calls::delete(&mut lent, one), number);
-        assert_eq!(calls::commit(&mut lent), number);
-        assert_eq!(calls::abandon(&mut lent), number);
-        assert_eq!(calls::return_to(&mut lent, one), number);
-        assert_eq!(calls::lookup(bytes, one, one), (number, false, 0));
-        assert_eq!(calls::range(bytes, one, 0, one, two), (number, 0));
-        assert_eq!(calls::visits(bytes, one, one, two), (number, 0));
-        assert_eq!(calls::difference(bytes, one, one, two), (number, 0));
-        assert_eq!(calls::life(bytes, one, two), (number, 0));
-        assert_eq!((lent.as_slice(), *two), (bytes, [7; 3]));
-    };
     for length in 0..5 {
-        all(&[0xFF; 4][..length.min(4)], 1);
-        all(&b"RCST"[..length.min(4)], 1);
+        all_give(&[0xFF; 4][..length.min(4)], 1);
+        all_give(&b"RCST"[..length.min(4)], 1);
     }
     for length in [5, 11, 256, 6 * 256, 6 * 256 + 1, 6 * 512] {
         let mut bytes = vec![0; length];
-        all(&bytes, 2);
+        all_give(&bytes, 2);
         bytes[..4].copy_from_slice(b"RCST");
         for edition in [0, 3, 255] {
             bytes[4] = edition;
-            all(&bytes, 3);
+            all_give(&bytes, 3);
         }
         for (edition, page) in [(1, 256), (2, 512)] {
             bytes[4] = edition;
             let fits = length % page == 0 && length >= 6 * page;
-            all(&bytes, if fits { 4 } else { 1 });
+            all_give(&bytes, if fits { 4 } else { 1 });
         }
         bytes[3] = 0;
-        all(&bytes, 2);
+        all_give(&bytes, 2);
     }
+}
+
+/// 4,096 pages are the most of either edition, by its own page size.
+#[test]
+fn the_longest_stores() {
     let mut long = vec![0; 4097 * 256];
     long[..5].copy_from_slice(b"RCST\x01");
-    all(&long, 1);
+    all_give(&long, 1);
     long.resize(4096 * 512, 0);
-    all(&long, 1);
+    all_give(&long, 1);
     long[4] = 2;
-    all(&long, 4);
+    all_give(&long, 4);
     long.resize(4097 * 512, 0);
-    all(&long, 1);
+    all_give(&long, 1);
     long[4] = 9;
-    all(&long, 3);
+    all_give(&long, 3);
 }
 
 /// "Programs of edition 1 give 1 or 3 and never an answer."

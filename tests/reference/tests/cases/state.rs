@@ -14,16 +14,7 @@ use reference::store::page_bytes_mut;
 fn told(bytes: &[u8]) -> [u32; 7] {
     let (number, told) = calls::state(bytes);
     assert_eq!(number, 0);
-    let State {
-        pages,
-        current,
-        open,
-        roots,
-        edition,
-        free,
-        oldest,
-    } = told;
-    [pages, current, open, roots, edition, free, oldest]
+    told.numbers()
 }
 
 /// Refused by this number, all else 0.
@@ -62,13 +53,7 @@ fn along_two_updates() {
 
 #[test]
 fn behind_a_prune() {
-    let mut bytes = fresh_second(12);
-    open(&mut bytes);
-    insert_all(&mut bytes, 1..=41);
-    commit(&mut bytes);
-    open(&mut bytes);
-    delete_all(&mut bytes, 22..=34);
-    commit(&mut bytes);
+    let mut bytes = two_releases();
     assert_eq!(told(&bytes), [12, 2, 0, 3, 2, 2, 0]);
     assert_eq!(calls::prune(&mut bytes, 1), 0);
     assert_eq!(told(&bytes), [12, 2, 0, 2, 2, 3, 1]);

@@ -3,7 +3,7 @@
 use crate::calls;
 use crate::common::*;
 use reference::calls::raw_insert;
-use reference::layout::{Page, ALIVE};
+use reference::layout::ALIVE;
 use reference::store::{self, page, page_bytes};
 
 #[test]
@@ -33,27 +33,17 @@ fn key_40_entry_bytes() {
 
 /// Keys 1 to 20 inserted in version 1 of a fresh store.
 fn p1(pages: usize) -> Vec<u8> {
-    let mut bytes = fresh(pages);
-    open(&mut bytes);
-    insert_all(&mut bytes, 1..=20);
-    bytes
+    opened_with(fresh(pages), 1..=20)
 }
 
 fn p2(pages: usize) -> Vec<u8> {
-    let mut bytes = p1(pages);
-    insert_all(&mut bytes, [21]);
-    bytes
+    opened_with(fresh(pages), 1..=21)
 }
 
 fn p6() -> Vec<u8> {
     let mut bytes = p2(16);
     delete_all(&mut bytes, 12..=18);
     bytes
-}
-
-fn keys_from(page: &Page, keys: std::ops::RangeInclusive<u32>, start: u32) {
-    let expected = keys.map(|key| entry(key, start, ALIVE, value_of(key)));
-    assert_eq!(page.entries, expected.collect::<Vec<_>>());
 }
 
 #[test]

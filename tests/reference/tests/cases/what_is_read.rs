@@ -15,17 +15,9 @@ fn found(value: u32) -> (u32, bool, u32) {
     (0, true, value)
 }
 
-/// Pages 6, 7 and 8 are leaves under the index page 9, the root from version 1
-/// on; 10 is free. Version 3 is the current one.
-fn three_leaves() -> Image {
-    let pages = vec![
-        leaf(1, ALIVE, [10, 20, 30, 40]),
-        leaf(1, ALIVE, [100, 110, 120, 130]),
-        leaf(1, ALIVE, [200, 210, 220, 230]),
-        index(1, ALIVE, &[(0, 6), (100, 7), (200, 8)]),
-        Page::free(),
-    ];
-    image(3, false, &[(1, 9)], pages)
+/// Three leaves under a root from version 1 on. Version 3 is the current one.
+fn under_one_root() -> Image {
+    image(3, false, &[(1, 9)], three_under_a_root())
 }
 
 /// The store with its pages and slots changed.
@@ -62,7 +54,7 @@ fn range_refused(bytes: &[u8], low: u32, high: u32, version: u32) -> u32 {
 
 #[test]
 fn damage_off_the_walk_is_no_matter() {
-    let mut bytes = three_leaves().write();
+    let mut bytes = under_one_root().write();
     assert_sound(&bytes);
     // A leaf, a free page and version 0's root.
     bytes[7 * 256..8 * 256].fill(0xFF);
@@ -85,7 +77,7 @@ fn damage_off_the_walk_is_no_matter() {
 /// Reading 04.8; visits stay with the whole check too.
 #[test]
 fn the_other_calls_keep_the_whole_check() {
-    let mut bytes = three_leaves().write();
+    let mut bytes = under_one_root().write();
     bytes[10 * 256 + 200] = 1;
     let before = bytes.clone();
     assert_eq!(calls::check(&bytes), (4, 1));
@@ -105,7 +97,7 @@ fn the_other_calls_keep_the_whole_check() {
 /// Reading 04.1: every bit of page 0 and of the directory, before 5 and 6.
 #[test]
 fn the_header_and_all_slots_are_judged_first() {
-    let sound = three_leaves().write();
+    let sound = under_one_root().write();
     let bits = (83..2048).chain(2048 + 2 * 32..5 * 2048);
     for bit in bits
         .step_by(7)
@@ -140,7 +132,7 @@ fn the_header_and_all_slots_are_judged_first() {
 #[test]
 fn a_wrong_slot_that_is_not_the_versions() {
     let slot = |version, root| Slot { version, root };
-    let with = |slots: &[Slot]| changed(&three_leaves(), |image| image.slots.extend(slots));
+    let with = |slots: &[Slot]| changed(&under_one_root(), |image| image.slots.extend(slots));
     let good = with(&[slot(2, 9), slot(3, 9)]);
     assert_eq!(calls::lookup(&good, 10, 1), found(100));
     let wrong = [
@@ -161,7 +153,7 @@ fn a_wrong_slot_that_is_not_the_versions() {
         }
         assert_eq!(range_refused(&bytes, 0, 50, 1), 4);
     }
-    let mut late = three_leaves();
+    let mut late = under_one_root();
     late.slots[0].version = 1;
     late.slots.remove(1);
     assert_eq!(calls::lookup(&late.write(), 10, 3), UNSOUND);
@@ -179,7 +171,7 @@ fn a_free_root() {
         version: 3,
         root: 10,
     };
-    let bytes = changed(&three_leaves(), |image| image.slots.push(free));
+    let bytes = changed(&under_one_root(), |image| image.slots.push(free));
     assert_eq!(calls::lookup(&bytes, 10, 3), UNSOUND);
     assert_eq!(range_refused(&bytes, 0, 10, 3), 4);
     assert_eq!(calls::lookup(&bytes, 10, 2), found(100));
@@ -208,7 +200,7 @@ fn a_root_of_any_level() {
     }
     assert_eq!(calls::check(&bytes).0, 4);
     // A leaf that is another page's child.
-    let bytes = changed(&three_leaves(), |image| {
+    let bytes = changed(&under_one_root(), |image| {
         image.slots.push(Slot {
             version: 2,
             root: 7,
@@ -221,7 +213,7 @@ fn a_root_of_any_level() {
 
 #[test]
 fn a_childs_level() {
-    let base = three_leaves();
+    let base = under_one_root();
     // A leaf where an index page is due.
     let bytes = changed(&base, |image| image.page_mut(9).level = 3);
     for key in [0, 10, 100, 200, HIGHEST_KEY] {
@@ -263,7 +255,7 @@ fn found_or_absent(key: u32) -> (u32, bool, u32) {
 
 #[test]
 fn no_router_at_or_below_the_key() {
-    let bytes = changed(&three_leaves(), |image| {
+    let bytes = changed(&under_one_root(), |image| {
         image.page_mut(9).entries[0].key = 25;
     });
     assert_eq!(calls::lookup(&bytes, 24, 1), UNSOUND);
@@ -279,7 +271,7 @@ fn no_router_at_or_below_the_key() {
 /// A router that has ended or not begun is none.
 #[test]
 fn only_routers_alive_then_count() {
-    let dead = changed(&three_leaves(), |image| {
+    let dead = changed(&under_one_root(), |image| {
         image.page_mut(9).entries[0].span = Span { start: 1, end: 2 };
     });
     assert_eq!(calls::lookup(&dead, 10, 1), found(100));
@@ -287,28 +279,28 @@ fn only_routers_alive_then_count() {
     assert_eq!(calls::lookup(&dead, 100, 2), found(1000));
     assert_eq!(range_refused(&dead, 99, 100, 2), 4);
     assert_eq!(ranged(&dead, 99, 100, 1), [100]);
-    let late = changed(&three_leaves(), |image| {
+    let late = changed(&under_one_root(), |image| {
         image.page_mut(9).entries[1].span = Span::alive_from(3);
     });
     // Before it begins, the router below it leads on.
     assert_eq!(calls::lookup(&late, 100, 2), ABSENT);
     assert_eq!(calls::lookup(&late, 100, 3), found(1000));
     assert_eq!(ranged(&late, 0, 200, 2), [10, 20, 30, 40, 200]);
-    let none = changed(&three_leaves(), |image| {
+    let none = changed(&under_one_root(), |image| {
         for router in &mut image.page_mut(9).entries {
             router.span.end = 3;
         }
     });
     assert_eq!(calls::lookup(&none, 10, 3), UNSOUND);
     assert_eq!(range_refused(&none, 0, 10, 3), 4);
-    let empty = changed(&three_leaves(), |image| image.page_mut(9).entries.clear());
+    let empty = changed(&under_one_root(), |image| image.page_mut(9).entries.clear());
     assert_eq!(calls::lookup(&empty, HIGHEST_KEY, 1), UNSOUND);
 }
 
 /// Page 9 and page 11, an index page for 300 on whose first router begins
 /// later, stand under page 12.
 fn two_index_pages(first: u32) -> Vec<u8> {
-    changed(&three_leaves(), |image| {
+    changed(&under_one_root(), |image| {
         *image.page_mut(10) = leaf(1, ALIVE, [310, 320, 330, 340]);
         image.pages.push(leaf(1, ALIVE, [350, 360, 370, 380]));
         image.pages.push(index(1, ALIVE, &[(first, 10), (350, 11)]));
@@ -351,7 +343,7 @@ fn a_later_routers_child_must_cover_its_low_key() {
 /// below its low key is not followed.
 #[test]
 fn the_last_at_or_below_a_later_routers_low_key() {
-    let bytes = changed(&three_leaves(), |image| {
+    let bytes = changed(&under_one_root(), |image| {
         *image.page_mut(10) = leaf(1, ALIVE, [310, 320, 330, 340]);
         let below = index(1, ALIVE, &[(0, 6), (250, 7), (300, 10), (320, 8)]);
         image.pages.push(below);
@@ -372,7 +364,7 @@ fn the_last_at_or_below_a_later_routers_low_key() {
 
 #[test]
 fn two_entries_alive_with_one_key() {
-    let bytes = changed(&three_leaves(), |image| {
+    let bytes = changed(&under_one_root(), |image| {
         let page = image.page_mut(6);
         page.entries = vec![
             entry(7, 1, ALIVE, 70),
@@ -398,7 +390,7 @@ fn two_entries_alive_with_one_key() {
 /// Reading 04.4.
 #[test]
 fn two_routers_alive_with_one_key() {
-    let bytes = changed(&three_leaves(), |image| {
+    let bytes = changed(&under_one_root(), |image| {
         let routers = &mut image.page_mut(9).entries;
         routers[2] = entry(100, 2, ALIVE, 8);
     });
@@ -419,7 +411,7 @@ fn two_routers_alive_with_one_key() {
 /// Reading 04.6: they may repeat or fall.
 #[test]
 fn a_range_that_meets_a_page_twice() {
-    let bytes = changed(&three_leaves(), |image| {
+    let bytes = changed(&under_one_root(), |image| {
         for router in &mut image.page_mut(9).entries {
             router.value = 6;
         }
@@ -431,7 +423,7 @@ fn a_range_that_meets_a_page_twice() {
     );
     assert_eq!(calls::lookup(&bytes, 10, 1), found(100));
     assert_eq!(calls::lookup(&bytes, 110, 1), ABSENT);
-    let falling = changed(&three_leaves(), |image| {
+    let falling = changed(&under_one_root(), |image| {
         let routers = &mut image.page_mut(9).entries;
         (routers[0].value, routers[2].value) = (8, 6);
     });
@@ -444,7 +436,7 @@ fn a_range_that_meets_a_page_twice() {
 
 #[test]
 fn five_and_six_over_a_damaged_walk() {
-    let mut bytes = three_leaves().write();
+    let mut bytes = under_one_root().write();
     // The root page, in a spare bit of its head.
     bytes[9 * 256 + 10] = 1;
     assert_eq!(calls::lookup(&bytes, 10, 1), UNSOUND);
@@ -465,7 +457,7 @@ fn five_and_six_over_a_damaged_walk() {
 
 #[test]
 fn four_over_fourteen() {
-    let mut bytes = three_leaves().write();
+    let mut bytes = under_one_root().write();
     let mut list = [7; 9];
     assert_eq!(calls::range(&bytes, 0, 150, 1, &mut list), (14, 8));
     // The last page of the walk.
@@ -480,7 +472,7 @@ fn four_over_fourteen() {
 
 #[test]
 fn one_two_three_before_four() {
-    let mut bytes = three_leaves().write();
+    let mut bytes = under_one_root().write();
     bytes[255] = 1;
     let cut = bytes.len() - 1;
     assert_eq!(calls::lookup(&bytes, u32::MAX, 9), UNSOUND);
@@ -501,38 +493,43 @@ fn one_two_three_before_four() {
     assert_eq!(calls::lookup(&[], 0, 0), (1, false, 0));
 }
 
+type PageDamage = fn(&mut Page);
+
+/// Of any page, each breaks rule 1.
+const OF_ANY_PAGE: [PageDamage; 12] = [
+    |page| page.span.start = 4,
+    |page| page.span.end = 4,
+    |page| page.span.end = ALIVE - 1,
+    |page| (page.span.start, page.span.end) = (2, 2),
+    |page| page.entries[1].span.start = 4,
+    |page| page.entries[1].span.end = 4,
+    |page| page.entries[1].span = Span { start: 2, end: 2 },
+    |page| page.entries[1].span = Span { start: 3, end: 2 },
+    |page| page.entries.swap(1, 2),
+    |page| page.entries[2] = page.entries[1],
+    |page| page.level = 8,
+    |page| page.level = 15,
+];
+
+const OF_A_LEAF: [PageDamage; 2] = [
+    |page| page.entries[1].span.start = 0,
+    |page| page.entries[1].span = Span { start: 0, end: 1 },
+];
+
+const OF_AN_INDEX_PAGE: [PageDamage; 5] = [
+    |page| page.entries[2].value = 4,
+    |page| page.entries[2].value = 11,
+    |page| page.entries[2].value = u32::MAX,
+    |page| page.entries[2].span = Span { start: 1, end: 4 },
+    // A dead router's page number.
+    |page| page.entries.push(entry(900, 1, 2, 0)),
+];
+
 /// Reading 04.2: rule 1 of a walked page, its dead entries too.
 #[test]
 fn rule_1_of_a_walked_page() {
-    type Damage = fn(&mut Page);
-    let of_any_page: [Damage; 12] = [
-        |page| page.span.start = 4,
-        |page| page.span.end = 4,
-        |page| page.span.end = ALIVE - 1,
-        |page| (page.span.start, page.span.end) = (2, 2),
-        |page| page.entries[1].span.start = 4,
-        |page| page.entries[1].span.end = 4,
-        |page| page.entries[1].span = Span { start: 2, end: 2 },
-        |page| page.entries[1].span = Span { start: 3, end: 2 },
-        |page| page.entries.swap(1, 2),
-        |page| page.entries[2] = page.entries[1],
-        |page| page.level = 8,
-        |page| page.level = 15,
-    ];
-    let of_a_leaf: [Damage; 2] = [
-        |page| page.entries[1].span.start = 0,
-        |page| page.entries[1].span = Span { start: 0, end: 1 },
-    ];
-    let of_an_index_page: [Damage; 5] = [
-        |page| page.entries[2].value = 4,
-        |page| page.entries[2].value = 11,
-        |page| page.entries[2].value = u32::MAX,
-        |page| page.entries[2].span = Span { start: 1, end: 4 },
-        // A dead router's page number.
-        |page| page.entries.push(entry(900, 1, 2, 0)),
-    ];
-    let base = three_leaves();
-    for damage in of_any_page.iter().chain(&of_a_leaf) {
+    let base = under_one_root();
+    for damage in OF_ANY_PAGE.iter().chain(&OF_A_LEAF) {
         let bytes = changed(&base, |image| damage(image.page_mut(6)));
         assert_eq!(calls::check(&bytes), (4, 1));
         assert_eq!(calls::lookup(&bytes, 40, 3), UNSOUND);
@@ -540,15 +537,19 @@ fn rule_1_of_a_walked_page() {
         assert_eq!(calls::lookup(&bytes, 100, 3), found(1000));
         assert_eq!(ranged(&bytes, 100, 220, 3).len(), 7);
     }
-    for damage in of_any_page.iter().chain(&of_an_index_page) {
+    for damage in OF_ANY_PAGE.iter().chain(&OF_AN_INDEX_PAGE) {
         let bytes = changed(&base, |image| damage(image.page_mut(9)));
         assert_eq!(calls::lookup(&bytes, 40, 3), UNSOUND);
         assert_eq!(range_refused(&bytes, 0, 99, 3), 4);
         // Version 0 has a root of its own.
         assert_eq!(calls::lookup(&bytes, 40, 0), ABSENT);
     }
-    // A count above 20, spare bits of the head, unused entries.
-    let sound = base.write();
+}
+
+/// A count above 20, spare bits of the head, unused entries.
+#[test]
+fn rule_1_of_the_bits_of_a_walked_page() {
+    let sound = under_one_root().write();
     for page in [6, 9] {
         let bits = (49..128)
             .chain(16 * 8 + 4 * 96..2048)
@@ -567,44 +568,51 @@ fn rule_1_of_a_walked_page() {
     }
 }
 
+type ImageChange = fn(&mut Image);
+
+/// What rules 3 to 6 speak against, and no walk asks.
+const BEYOND_RULE_2: [(u32, ImageChange); 7] = [
+    // An entry's span beyond its page's; a router's beyond its child's.
+    (3, |image| {
+        image.page_mut(6).span = Span { start: 2, end: 3 }
+    }),
+    (3, |image| {
+        image.page_mut(9).span = Span { start: 2, end: 3 }
+    }),
+    // Pages that ended before the version, with all that is in them.
+    (3, |image| {
+        image.page_mut(6).span.end = 2;
+        image.page_mut(7).span.end = 2;
+    }),
+    // Too few that live.
+    (5, |image| image.page_mut(6).entries.truncate(1)),
+    // A key beyond its page's bounds.
+    (4, |image| image.page_mut(6).entries[3].key = 150),
+    (4, |image| image.page_mut(9).entries[1].key = 115),
+    // A page that is never reached.
+    (6, |image| {
+        *image.page_mut(10) = leaf(1, ALIVE, [1, 2, 3, 4])
+    }),
+];
+
 /// Reading 04.2, the other half: what rules 3 to 6 say is not asked.
 #[test]
 fn what_is_not_judged_on_the_walk() {
-    type Change = fn(&mut Image);
-    let changes: [(u32, Change); 7] = [
-        // An entry's span beyond its page's; a router's beyond its child's.
-        (3, |image| {
-            image.page_mut(6).span = Span { start: 2, end: 3 }
-        }),
-        (3, |image| {
-            image.page_mut(9).span = Span { start: 2, end: 3 }
-        }),
-        // Pages that ended before the version, with all that is in them.
-        (3, |image| {
-            image.page_mut(6).span.end = 2;
-            image.page_mut(7).span.end = 2;
-        }),
-        // Too few that live.
-        (5, |image| image.page_mut(6).entries.truncate(1)),
-        // A key beyond its page's bounds.
-        (4, |image| image.page_mut(6).entries[3].key = 150),
-        (4, |image| image.page_mut(9).entries[1].key = 115),
-        // A page that is never reached.
-        (6, |image| {
-            *image.page_mut(10) = leaf(1, ALIVE, [1, 2, 3, 4])
-        }),
-    ];
-    for (rule, change) in changes {
-        let bytes = changed(&three_leaves(), change);
+    for (rule, change) in BEYOND_RULE_2 {
+        let bytes = changed(&under_one_root(), change);
         assert_eq!(calls::check(&bytes), (4, rule));
         assert_eq!(calls::lookup(&bytes, 10, 3), found(100));
         assert_eq!(calls::lookup(&bytes, 120, 3), found(1200));
         assert_eq!(ranged(&bytes, 0, 10, 3), [10]);
         assert_eq!(ranged(&bytes, 220, 300, 3), [220, 230]);
     }
-    // A key in a page that the walk for it does not meet is absent, and a range
-    // shows it where it stands.
-    let bytes = changed(&three_leaves(), |image| {
+}
+
+/// A key in a page that the walk for it does not meet is absent, and a range shows it
+/// where it stands.
+#[test]
+fn a_key_where_its_walk_does_not_come() {
+    let bytes = changed(&under_one_root(), |image| {
         image.page_mut(6).entries[3].key = 150;
     });
     assert_eq!(calls::lookup(&bytes, 150, 1), ABSENT);

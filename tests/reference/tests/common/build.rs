@@ -42,6 +42,17 @@ pub fn index(start: u32, end: u32, routers: &[(u32, u32)]) -> Page {
     Page::new(2, Span { start, end }, entries.collect())
 }
 
+/// Pages 6, 7 and 8: leaves under the index page 9, from version 1 on; 10 is free.
+pub fn three_under_a_root() -> Vec<Page> {
+    vec![
+        leaf(1, ALIVE, [10, 20, 30, 40]),
+        leaf(1, ALIVE, [100, 110, 120, 130]),
+        leaf(1, ALIVE, [200, 210, 220, 230]),
+        index(1, ALIVE, &[(0, 6), (100, 7), (200, 8)]),
+        Page::free(),
+    ]
+}
+
 /// `page` with `more` entries besides.
 pub fn with(mut page: Page, more: impl IntoIterator<Item = Entry>) -> Page {
     page.entries.extend(more);

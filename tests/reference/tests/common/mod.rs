@@ -10,7 +10,7 @@ pub mod reader;
 use crate::calls;
 use reference::edition::Edition;
 use reference::image::Image;
-use reference::layout::{Entry, Header, Page, Slot, Span};
+use reference::layout::{Entry, Header, Page, Slot, Span, ALIVE};
 use reference::store;
 use reference::tall::{tall, Fill, Spine};
 
@@ -58,6 +58,39 @@ pub fn delete_all(bytes: &mut [u8], keys: impl IntoIterator<Item = u32>) {
         assert_eq!(calls::delete(bytes, key), 0, "delete {key}");
     }
     assert_sound(bytes);
+}
+
+/// `bytes` with an update opened, and these keys inserted in it.
+pub fn opened_with(mut bytes: Vec<u8>, keys: impl IntoIterator<Item = u32>) -> Vec<u8> {
+    open(&mut bytes);
+    insert_all(&mut bytes, keys);
+    bytes
+}
+
+/// Keys that split a root in version 1, and so many of them gone in version 2 that
+/// its leaves merge: page 5 lived from 0 to 1, 6, 7 and 8 from 1 to 2; 9 lives from
+/// 2 on.
+pub fn split_and_merged(fresh: Vec<u8>, keys: Keys, gone: Keys) -> Vec<u8> {
+    let mut bytes = opened_with(fresh, keys);
+    commit(&mut bytes);
+    open(&mut bytes);
+    delete_all(&mut bytes, gone);
+    commit(&mut bytes);
+    assert_eq!(slots(&bytes), [(0, 5), (1, 8), (2, 9)]);
+    bytes
+}
+
+type Keys = std::ops::RangeInclusive<u32>;
+
+/// An edition 2 store of 12 pages: keys 1 to 41, and 22 to 34 gone.
+pub fn two_releases() -> Vec<u8> {
+    split_and_merged(fresh_second(12), 1..=41, 22..=34)
+}
+
+/// The page has just these keys, alive from `start` on, as inserted above.
+pub fn keys_from(page: &Page, keys: impl Iterator<Item = u32>, start: u32) {
+    let expected = keys.map(|key| entry(key, start, ALIVE, value_of(key)));
+    assert_eq!(page.entries, expected.collect::<Vec<_>>());
 }
 
 pub fn value_of(key: u32) -> u32 {

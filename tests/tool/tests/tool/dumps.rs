@@ -74,14 +74,7 @@ fn a_text_that_is_no_dump() {
         ("HEADversion 1\nunset 1\nend 1\n", 11, "line 5: unset 1: 11"),
         ("HEADversion 1\nset 16777215 1\nend 1\n", 5, "line 5"),
     ];
-    for (text, status, sentence) in wrong {
-        folder.refused(
-            &["load", "t"],
-            &text.replace("HEAD", head),
-            status,
-            sentence,
-        );
-    }
+    folder.loads_none(head, &wrong);
 }
 
 #[test]

@@ -3,6 +3,7 @@
 use reference::edition::EDITIONS;
 use reference::history::{calls_of, KINDS};
 use reference::image::Image;
+use reference::layout::{Page, ALIVE};
 use reference::rng::Rng;
 use reference::{calls as plain, pruned, samples, store};
 use tool::Folder;
@@ -247,8 +248,16 @@ fn many_keys_still_read() {
     folder.put("s", &bytes);
     let svg = folder.done(&["draw", "s"], "");
     assert_eq!(well_formed(&svg), Ok(()));
+    let pages: Vec<Page> = store::page_numbers(&bytes)
+        .map(|number| store::page(&bytes, number))
+        .filter(|page| !page.is_free())
+        .collect();
+    let leaves = pages.iter().filter(|page| page.level == 1).count();
     let (boxes, words) = (svg.matches(": keys ").count(), svg.matches("<text").count());
     assert!(boxes > 600 && words < 100, "{boxes} boxes, {words} words");
+    assert_eq!(boxes, leaves);
     let tree = folder.done(&["draw", "s", "--tree", "@3"], "");
     assert_eq!(well_formed(&tree), Ok(()));
+    let alive = pages.iter().filter(|page| page.span.end == ALIVE).count();
+    assert_eq!(tree.matches(": level ").count(), alive);
 }

@@ -41,48 +41,58 @@ fn stores() -> Vec<Vec<u8>> {
     stores
 }
 
-#[test]
-fn every_damage_has_a_place() {
-    let folder = Folder::new();
-    let mut names = Vec::new();
-    let mut rules = Vec::new();
+/// A file of the folder in which a rule is broken, and the damage that broke it.
+struct Broken {
+    file: String,
+    rule: u32,
+    name: &'static str,
+}
+
+/// Every kind of damage in each store that has a place for it; all rules are broken
+/// somewhere.
+fn every_damage(folder: &Folder) -> Vec<Broken> {
+    let mut all = Vec::new();
     let stores = stores();
     for (kind, damage) in damage::kinds().iter().enumerate() {
         for (place, store) in stores.iter().enumerate() {
             let mut rng = Rng::new(1000 * kind as u64 + place as u64);
             let mut bytes = store.clone();
             if damage.make(&mut bytes, &mut rng) {
-                names.push(format!("{kind}-{place}"));
-                rules.push((damage.rule, damage.name));
-                folder.put(names.last().expect("a name"), bytes);
+                let (rule, name) = (damage.rule, damage.name);
+                let file = format!("{kind}-{place}");
+                folder.put(&file, bytes);
+                all.push(Broken { file, rule, name });
             }
         }
     }
-    assert!(names.len() > 100, "{}", names.len());
+    assert!(all.len() > 100, "{}", all.len());
     for rule in 1..=8 {
-        let broken = rules.iter().any(|(broken, _)| *broken == rule);
+        let broken = all.iter().any(|broken| broken.rule == rule);
         assert!(broken, "rule {rule}");
     }
-    let words: Vec<&str> = ["check", "--csv"]
-        .into_iter()
-        .chain(names.iter().map(|name| &name[..]))
-        .collect();
+    all
+}
+
+#[test]
+fn every_damage_has_a_place() {
+    let folder = Folder::new();
+    let all = every_damage(&folder);
+    let files = all.iter().map(|broken| &broken.file[..]);
+    let words: Vec<&str> = ["check", "--csv"].into_iter().chain(files).collect();
     let said = folder.run(&words);
     assert_eq!((said.status, &said.err[..]), (4, ""));
     let rows: Vec<&str> = said.out.split("\n    ").collect();
-    assert_eq!(rows.len(), names.len() + 1);
-    for (place, (rule, name)) in rules.iter().enumerate() {
+    assert_eq!(rows.len(), all.len() + 1);
+    for (place, Broken { file, rule, name }) in all.iter().enumerate() {
         let row = rows[place].lines().last().expect("a row");
-        assert!(
-            row.starts_with(&format!("{},4,{rule},", names[place])),
-            "{name}: {row}"
-        );
+        let begins = format!("{file},4,{rule},");
+        assert!(row.starts_with(&begins), "{name}: {row}");
         let found = rows[place + 1].lines().next().expect("a place");
         let placed = ["page ", "slot ", "version "]
             .iter()
             .any(|word| found.starts_with(word));
         assert!(placed, "{name}: {found}");
-        let bytes = folder.bytes(&names[place]);
+        let bytes = folder.bytes(file);
         assert!(!is_skipped(&bytes, *rule, found), "{name}: {found}");
     }
 }

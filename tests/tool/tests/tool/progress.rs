@@ -29,9 +29,23 @@ fn large() -> Folder {
     folder
 }
 
-/// The line is written over as the work goes on, and is gone at its end.
-fn shows(said: &str, words: &str) {
-    assert!(said.contains(&format!("\r{words}: ")), "{said:?}");
+/// The line is written over as the work goes on, from some of so many to more of them,
+/// and is gone at its end.
+fn shows(said: &str, words: &str, many: usize) {
+    let before = format!("\r{words}: ");
+    let told: Vec<usize> = said
+        .split(&before)
+        .skip(1)
+        .map(|line| {
+            let (done, rest) = line.split_once(" of ").expect("how far it is");
+            let of = rest.split('\r').next().unwrap_or(rest);
+            assert_eq!(of, many.to_string(), "{said:?}");
+            done.parse().expect("a number")
+        })
+        .collect();
+    assert!(told.first().is_some_and(|done| *done > 0), "{said:?}");
+    assert!(told.windows(2).all(|two| two[0] < two[1]), "{said:?}");
+    assert!(told.last().is_some_and(|done| *done <= many), "{said:?}");
     let (_, behind) = said.rsplit_once(words).expect("it is there");
     assert!(behind.contains("\r\x1b[K"), "{said:?}");
 }
@@ -46,8 +60,7 @@ fn releases_and_dumps() {
     let Some(said) = on_a_terminal(&folder, "rcst apply s < changes") else {
         return;
     };
-    shows(&said, "lines");
-    assert!(said.contains(" of 1500"), "{said:?}");
+    shows(&said, "lines", 1500);
     assert!(said.ends_with("version 1\r\n"), "{said:?}");
     assert_eq!(folder.bytes("s"), folder.bytes("t"));
     let dump = folder.done(&["dump", "s"], "");
@@ -56,6 +69,7 @@ fn releases_and_dumps() {
     shows(
         &on_a_terminal(&folder, "rcst load v < dump").expect("a terminal"),
         "lines",
+        dump.lines().count(),
     );
     assert_eq!(folder.bytes("u"), folder.bytes("v"));
 }
@@ -70,8 +84,7 @@ fn a_check_of_many_files() {
     let in_a_pipe = folder.done(&words, "");
     assert_eq!(in_a_pipe, "s: sound\n".repeat(700));
     if let Some(said) = on_a_terminal(&folder, &format!("rcst {} > out", words.join(" "))) {
-        shows(&said, "checked");
-        assert!(said.contains(" of 700"), "{said:?}");
+        shows(&said, "checked", 700);
         assert_eq!(folder.bytes("out"), in_a_pipe.as_bytes());
     }
 }

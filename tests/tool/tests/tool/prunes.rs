@@ -144,6 +144,11 @@ fn refusals() {
     let first = ["prune", "old", "0"];
     folder.refused(&first, "", 3, "old: prune to 0: 3, edition");
     folder.refused(&first, "", 3, "\nonly edition 2 has an oldest version;");
+}
+
+#[test]
+fn refusals_while_an_update_is_open() {
+    let folder = released(2);
     let mut open = folder.bytes("s");
     assert_eq!(plain::open(&mut open), 0);
     folder.put("open", open);
@@ -161,6 +166,11 @@ fn refusals() {
         "\nthere is no version 3; 2 is the last",
     );
     folder.refused(&["prune", "open", "1", "--dry-run"], "", 8, "prune to 1: 8");
+}
+
+#[test]
+fn refusals_of_what_is_no_sound_store() {
+    let folder = released(2);
     for (place, status, sentence) in [
         (0, 2, "prune to 1: 2, first four bytes wrong"),
         (4, 3, "prune to 1: 3, edition neither"),
@@ -306,7 +316,7 @@ fn dumped_and_loaded() {
 fn texts_that_no_pruned_store_has() {
     let folder = Folder::new();
     let head = "rcst-dump 1\nedition 2\npages 16\n";
-    for (text, status, sentence) in [
+    let wrong = [
         ("HEADoldest 0\nend 0\n", 65, "line 4: oldest 0"),
         (
             "HEADoldest 1048575\nversion 1048575\n",
@@ -327,10 +337,8 @@ fn texts_that_no_pruned_store_has() {
             3,
             "oldest 3: 3",
         ),
-    ] {
-        let text = text.replace("HEAD", head);
-        folder.refused(&["load", "t"], &text, status, sentence);
-    }
+    ];
+    folder.loads_none(head, &wrong);
     // whatever the oldest version has at the key that the dropped ones use, and more of
     // these than the pages hold at once
     for settings in ["", "set 0 0\n", "set 0 1\n", "set 0 0\nset 1 1\n"] {

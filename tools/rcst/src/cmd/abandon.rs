@@ -15,8 +15,7 @@ pub const COMMAND: Command = Command {
 };
 
 fn run(mut line: Line) -> Result<u8, Fault> {
-    let path = line.file()?;
-    line.end()?;
+    let path = line.only_file()?;
     let (held, mut store) = file::take(&path)?;
     done("abandon", rcst::abandon(&mut store)).map_err(|fault| fault.in_file(&path))?;
     held.replace(&store)?;

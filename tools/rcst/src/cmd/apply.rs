@@ -19,8 +19,7 @@ pub const COMMAND: Command = Command {
 };
 
 fn run(mut line: Line) -> Result<u8, Fault> {
-    let path = line.file()?;
-    line.end()?;
+    let path = line.only_file()?;
     let names = Names::of(line.names.as_deref())?;
     // before any file is touched
     let text = standard::input()?;

@@ -30,8 +30,7 @@ pub const COMMAND: Command = Command {
 pub const TITLE: &str = "rcst-dump 1";
 
 fn run(mut line: Line) -> Result<u8, Fault> {
-    let path = line.file()?;
-    line.end()?;
+    let path = line.only_file()?;
     let bytes = file::read(&path)?;
     let state = state(&bytes).map_err(|number| Fault::number(path.display(), number))?;
     if state.is_open() {

@@ -19,9 +19,7 @@ pub const COMMAND: Command = Command {
 };
 
 fn run(mut line: Line) -> Result<u8, Fault> {
-    let path = line.file()?;
-    let word = line.text("KEY")?;
-    line.end()?;
+    let (path, word) = line.file_and(Line::text, "KEY")?;
     let names = Names::of(line.names.as_deref())?;
     let (word, at) = match word.rsplit_once('@') {
         Some((word, at)) => (word, Some(number(at)?)),

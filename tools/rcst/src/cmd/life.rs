@@ -17,9 +17,7 @@ pub const COMMAND: Command = Command {
 };
 
 fn run(mut line: Line) -> Result<u8, Fault> {
-    let path = line.file()?;
-    let word = line.text("KEY")?;
-    line.end()?;
+    let (path, word) = line.file_and(Line::text, "KEY")?;
     let names = Names::of(line.names.as_deref())?;
     let key = names.key(&word)?;
     let bytes = file::read(&path)?;

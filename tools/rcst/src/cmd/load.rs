@@ -27,8 +27,7 @@ pub const COMMAND: Command = Command {
 };
 
 fn run(mut line: Line) -> Result<u8, Fault> {
-    let path = line.file()?;
-    line.end()?;
+    let path = line.only_file()?;
     let text = standard::input()?;
     let store = loaded(&text, line.pages)?;
     file::make(&path, &store)?;

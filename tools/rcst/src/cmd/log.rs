@@ -19,8 +19,7 @@ pub const COMMAND: Command = Command {
 };
 
 fn run(mut line: Line) -> Result<u8, Fault> {
-    let path = line.file()?;
-    line.end()?;
+    let path = line.only_file()?;
     let bytes = file::read(&path)?;
     let refused = |number| Fault::number(path.display(), number);
     let State {

@@ -15,10 +15,8 @@ pub const COMMAND: Command = Command {
 };
 
 fn run(mut line: Line) -> Result<u8, Fault> {
-    let path = line.file()?;
-    let pages = line.number("PAGES")? as usize;
-    line.end()?;
-    let store = fresh(pages, line.edition.unwrap_or(1))?;
+    let (path, pages) = line.file_and(Line::number, "PAGES")?;
+    let store = fresh(pages as usize, line.edition.unwrap_or(1))?;
     file::make(&path, &store)?;
     Ok(0)
 }

@@ -22,9 +22,7 @@ pub const COMMAND: Command = Command {
 };
 
 fn run(mut line: Line) -> Result<u8, Fault> {
-    let path = line.file()?;
-    let oldest = line.version("V")?;
-    line.end()?;
+    let (path, oldest) = line.file_and(Line::version, "V")?;
     let (held, mut store) = file::take(&path)?;
     let said = pruned(&mut store, oldest).map_err(|fault| fault.in_file(&path))?;
     if line.dry {

@@ -17,9 +17,7 @@ pub const COMMAND: Command = Command {
 };
 
 fn run(mut line: Line) -> Result<u8, Fault> {
-    let path = line.file()?;
-    let to = line.version("V")?;
-    line.end()?;
+    let (path, to) = line.file_and(Line::version, "V")?;
     let names = Names::of(line.names.as_deref())?;
     let made = release(&path, line.dry, |store, version| {
         let returned = done(format!("return to {to}"), rcst::return_to(store, to));
