@@ -1,9 +1,6 @@
--- The plan foresees the number that an update comes to; 12 and 13 exactly when.
-pub mod PlanAlike
-pub mod PlanCount
-pub mod PlanForesees
-pub mod PlanOnce
-pub mod PlanSizes
-pub mod PlanSlots
-pub mod PlanSound
+-- What an update needs of pages and slots: the free pages and the slots counted; 12 and 13 exactly when.
+pub mod Sizes
+pub mod FreePages
+pub mod OneLevel
+pub mod OpenSlot
 pub mod Lacking

@@ -18,7 +18,7 @@ ghost use Rattle.model.specs.Limits.{Edition};
 ghost use Rattle.model.specs.Store.{page};
 ghost use Rattle.model.specs.Rules.{roomy};
 ghost use Rattle.model.specs.Needs.{goes};
-ghost use Rattle.model.specs.Plan.{planGroup, planWork, planRoot, planUp, rootBy};
+ghost use Rattle.outlook.specs.Plan.{planGroup, planWork, planRoot, planUp, rootBy};
 ghost use Rattle.edit.specs.Change.{changeOf, one};
 ghost use Rattle.gather.specs.Kept.{Fits};
 ghost use Rattle.gather.specs.Gather.{Lists};

@@ -14,7 +14,7 @@ use Rattle.model.specs.Basic.{pick}
 use Rattle.model.specs.Page.{Page, filled, gone}
 use Rattle.model.specs.Store.{page}
 use Rattle.model.specs.Rules as rules
-use Rattle.model.specs.Plan.{routersTo}
+use Rattle.model.specs.Rules.{routersTo}
 use Rattle.model.specs.Needs.{fills}
 use Rattle.gather.specs.declared.Gather.{Gather}
 use Rattle.gather.specs.Gather.{Good, pairsIn}

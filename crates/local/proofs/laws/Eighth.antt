@@ -20,7 +20,7 @@ use Rattle.model.specs.Clean.{clean}
 use Rattle.model.specs.Counted.{countedPage, countedPages, rule8}
 use Rattle.model.proofs.lists.Lists.{both-true}
 use Rattle.model.proofs.tree.Local.{those-append}
-use Rattle.model.proofs.plan.PlanSizes.{few-those}
+use Rattle.model.proofs.needs.Sizes.{few-those}
 use Rattle.model.proofs.sound.Counted.{those-last}
 use Rattle.page.specs.Head.{readHead}
 use Rattle.page.proofs.laws.Read.{level-of, entries-of, entries-step, entries-end}

@@ -14,8 +14,8 @@ use Rattle.model.specs.Walk as walk
 use Rattle.model.specs.Rules as rules
 use Rattle.model.specs.Entry.{pair}
 use Rattle.model.specs.Needs.{fills, actives, takesInPlace, groupAt, goes}
-use Rattle.model.specs.Plan as plan
-use Rattle.model.specs.Plan.{routersTo}
+use Rattle.outlook.specs.Plan as plan
+use Rattle.model.specs.Rules.{routersTo}
 use Rattle.model.specs.Page as changes
 use Rattle.edit.specs.Change.{one}
 use Rattle.gather.specs.Gather.{Good, pairsIn}

@@ -3,8 +3,8 @@ use Rattle.plan.proofs.laws.Plan.{up-step, up-end}
 use Rattle.parts.specs.Kept.{pagesOf}
 use Rattle.gather.specs.Kept.{Fits}
 use Rattle.edit.specs.Change.{changeOf}
-use Rattle.model.specs.Plan.{planUp, planOn}
-use Rattle.model.specs.Plan as plan
+use Rattle.outlook.specs.Plan.{planUp, planOn}
+use Rattle.outlook.specs.Plan as plan
 use Rattle.model.specs.Page as changes
 use mathlib.Core.Path.{_≡_, refl, ap, sym, _∙_}
 use native.Mathlib.Omega.{arith}

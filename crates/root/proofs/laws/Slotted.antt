@@ -20,7 +20,7 @@ use Rattle.model.specs.Layout.{noSlot, headerOf, readHeader, readSlot, encode, 
 use Rattle.model.specs.Judged.{isSound}
 use Rattle.model.specs.Climb.{putSlot}
 use Rattle.model.specs.Needs.{hasSlot}
-use Rattle.model.proofs.plan.PlanSlots.{last-slot, put-new, put-over}
+use Rattle.model.proofs.needs.OpenSlot.{last-slot, put-new, put-over}
 use Rattle.store.specs.Slots.{SlotFits, slotParts}
 use Rattle.store.specs.Header.{putHeader}
 use Rattle.store.proofs.laws.Holds.{slot-encoded}
