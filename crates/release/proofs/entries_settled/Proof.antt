@@ -17,43 +17,58 @@ use Rattle.release.proofs.entries_settled.Statement.{statement}
 use Rattle.release.proofs.entries_settled.Tie as tie
 
 abbrev Inv-loop : tie.InvT-loop
-Inv-loop s l c n p count i₀ i = (i ≤ count) × (all (settled (decode (l .least) s)) (page (decode (l .least) s .pages) n .entries) ≡ all (settled (decode (l .least) s)) (from p i count))
+Inv-loop s l c n p count i₀ i =
+    (i ≤ count) ×
+    (all (settled (decode (l .least) s)) (page (decode (l .least) s .pages) n .entries)
+    ≡ all (settled (decode (l .least) s)) (from p i count))
 
 abbrev μ-loop : tie.MeasureT-loop
 μ-loop s l c n p count i₀ i = count - i
 
 part-requires : tie.Need-part-requires Inv-loop μ-loop
 part-requires c κs =
-    let o = c .before .pre .0 in
-    let b = c .before .args .s .now in
-    (o .edition, inside (o .edition) b (o .sound) _ 0 (c .before .pre .1) .part, few (o .edition) b (o .sound))
+    let at-start = c .before in
+    let o = at-start .pre .0 in
+    let b = at-start .args .s .now in
+    (o .edition, inside (o .edition) b (o .sound) _ 0 (at-start .pre .1) .part, few (o .edition) b (o .sound))
 
 head-of-requires : tie.Need-head-of-requires Inv-loop μ-loop
 head-of-requires c κs = search needs
 
 loop-holds : tie.Need-loop-holds Inv-loop μ-loop
 loop-holds c =
-    let a = c .before .before .before .args in
-    let o = c .before .before .before .pre .0 in
-    let e = c .before .before .before .pre .1 in
-    (omega arith, rw (c .head-of .ensures, c .before .part .ensures .0) (ap (all (settled (decode (a .l .least) (a .s .now)))) (entries-are (a .l .least) (a .s .now) (a .n) (five (o .edition) (a .s .now) (o .sound) (a .n) 0 e) (size (o .edition) (a .s .now) (o .sound) (a .n) 0 e))))
+    let at-start = c .before .before .before in
+    let a = at-start .args in
+    let o = at-start .pre .0 in
+    let e = at-start .pre .1 in (
+      omega arith,
+      rw (c .head-of .ensures, c .before .part .ensures .0)
+          (ap (all (settled (decode (a .l .least) (a .s .now))))
+          (entries-are (a .l .least) (a .s .now) (a .n) (five (o .edition) (a .s .now) (o .sound) (a .n) 0 e)
+          (size (o .edition) (a .s .now) (o .sound) (a .n) 0 e))),
+    )
 
 entry-at-requires : tie.Need-entry-at-requires Inv-loop μ-loop
 entry-at-requires c κs =
-    let a = c .before .before .before .before .before .args in
-    let o = c .before .before .before .before .before .pre .0 in
-    let i = inside (o .edition) (a .s .now) (o .sound) (a .n) 0 (c .before .before .before .before .before .pre .1) in
+    let at-start = c .before .before .before .before .before in
+    let a = at-start .args in
+    let o = at-start .pre .0 in
+    let i = inside (o .edition) (a .s .now) (o .sound) (a .n) 0 (at-start .pre .1) in
     let part = c .before .before .before .part .ensures in
     let q = ap (λ (h : Head). h .count) (rw (part .0) at (c .before .before .head-of .ensures)) in
     (omega (arith, q, i .stands .long, i .long, part .1), omega (arith, part .1, o .edition .eight))
 
 settled-requires : tie.Need-settled-requires Inv-loop μ-loop
-settled-requires c κs = (c .before .before .before .before .before .before .pre .0, key-low _ _ _ (c .entry-at .ensures))
+settled-requires c κs =
+    let at-start = c .before .before .before .before .before .before in
+    (at-start .pre .0, key-low _ _ _ (c .entry-at .ensures))
 
 returns : tie.Need-returns Inv-loop μ-loop
 returns c =
-    let l = c .before .before .before .before .loop in
-    sym (l .inv .1 ∙ all-stops _ _ _ _ (omega arith) _ (c .before .before .entry-at .ensures) _ (c .before .settled .ensures) (not-true _ (c .if1 .taken)))
+    let at-loop = c .before .before .before .before in
+    let l = at-loop .loop in
+    sym (l .inv .1 ∙ all-stops _ _ _ _ (omega arith) _ (c .before .before .entry-at .ensures) _ (c .before .settled .ensures)
+    (not-true _ (c .if1 .taken)))
 
 add-i : tie.Need-add-i Inv-loop μ-loop
 add-i c = search needs
@@ -63,8 +78,12 @@ loop-less c = search needs
 
 loop-again : tie.Need-loop-again Inv-loop μ-loop
 loop-again c =
-    let l = c .before .before .before .before .loop in
-    (omega arith, l .inv .1 ∙ all-goes _ _ _ _ (omega arith) _ (c .before .before .entry-at .ensures) _ (c .before .settled .ensures) (not-false _ (c .if1 .left)))
+    let at-loop = c .before .before .before .before in
+    let l = at-loop .loop in (
+      omega arith,
+      l .inv .1 ∙ all-goes _ _ _ _ (omega arith) _ (c .before .before .entry-at .ensures) _ (c .before .settled .ensures)
+          (not-false _ (c .if1 .left)),
+    )
 
 returns-2 : tie.Need-returns-2 Inv-loop μ-loop
 returns-2 c = sym (c .before .loop .inv .1 ∙ all-done _ _ _ _ (omega arith))
