@@ -27,12 +27,6 @@ pub enum Worked {
     Lacking,
 }
 
-pub(crate) fn wide(x: u32) -> usize
-    ensures { λ r. ⌜ r ≡ x ⌝ }
-{
-    x as usize
-}
-
 // A group is rebuilt, and its parent has the routers to exchange; or a page is lacking.
 fn regroup(s: &mut [u8], l: Limits, w: u32, level: u32, g: Group, size: usize) -> Worked
     requires { ⌜ ExactBytes l (now s) × Grouped l (now s) g × (w < 2 ^ 20) × (level < 2 ^ 4) × (size ≡ length (pagesOf l (now s))) ⌝ }
@@ -53,7 +47,7 @@ pub fn work(s: &mut [u8], l: Limits, w: u32, a: Around, c: Change, size: usize) 
     requires { ⌜ ExactBytes l (now s) × Placed l (now s) a × Fits c × (w < 2 ^ 20) × (size ≡ length (pagesOf l (now s))) ⌝ }
     ensures { λ r. ⌜ (workedOf r (pagesOf l (now (s .exit))) ≡ work (l .least) w (pagesOf l (now (s .entry))) (aroundOf a) (changeOf c)) × Becomes l (now (s .entry)) (now (s .exit)) (pagesOf l (now (s .exit))) × UpFits r ⌝ }
 {
-    let n = wide(a.own.value);
+    let n = model::wide(a.own.value);
     if group::takes_in_place(s, l, n, w, c) {
         parts::change_in(s, l, n, w, c);
         return Worked::Settled;

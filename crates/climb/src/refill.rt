@@ -7,9 +7,8 @@ ghost use mathlib.Core.Path.{_≡_};
 ghost use Prim.Native.Nat.{_+_, _*_, _/_, _^_, _≤_, _<_};
 ghost use lib.ListN.{set, take, drop};
 ghost use Rattle.model.specs.Page.{filled};
-ghost use Rattle.model.specs.Rules.{retire, usable, parts, rebuilt, rebuild};
+ghost use Rattle.model.specs.Rules.{retire, usable, parts, rebuilt, rebuild, routersTo};
 ghost use Rattle.model.specs.Needs.{fills};
-ghost use Rattle.model.specs.Plan.{routersTo};
 ghost use Rattle.gather.specs.Gather.{pairsIn};
 ghost use Rattle.parts.specs.Kept.{ExactBytes, Inside, pagesOf};
 ghost use Rattle.parts.specs.Becomes.{Becomes};
@@ -22,9 +21,9 @@ fn retire(s: &mut [u8], l: Limits, w: u32, rs: Routers)
     requires { ⌜ ExactBytes l (now s) × Routed l (now s) rs × (w < 2 ^ 20) ⌝ }
     ensures { λ _. ⌜ Becomes l (now (s .entry)) (now (s .exit)) (retire w (pagesOf l (now (s .entry))) (routersOf rs)) ⌝ }
 {
-    parts::go_in(s, l, crate::wide(rs.first.value), w);
+    parts::go_in(s, l, model::wide(rs.first.value), w);
     if rs.two {
-        parts::go_in(s, l, crate::wide(rs.second.value), w);
+        parts::go_in(s, l, model::wide(rs.second.value), w);
     }
 }
 

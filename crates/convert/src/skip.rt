@@ -4,30 +4,21 @@ use model::Header;
 use model::Limits;
 ghost use mathlib.Core.Path.{_≡_};
 ghost use mathlib.Core.Bool.{true};
-ghost use Prim.Native.Nat.{_+_, _-_, _*_, _^_, _≤_, _<_};
-ghost use lib.ListN.{length};
+ghost use Prim.Native.Nat.{_+_, _-_, _^_, _≤_, _<_};
 ghost use Rattle.model.specs.Limits.{Edition};
 ghost use Rattle.model.specs.Layout.{readHeader, decode, encode};
 ghost use Rattle.model.specs.Judged.{isSound};
 ghost use Rattle.model.specs.Convert.{replay};
-ghost use Rattle.local.specs.Local.{slotAt};
-ghost use Rattle.model.specs.Inner.{Out};
 ghost use Rattle.notes.specs.Ready.{BehindUpto, QuietSlots};
 ghost use Rattle.convert.specs.Version.{Replaying};
 ghost use Rattle.convert.specs.Skip.{moved, Still, Skipped};
-
-fn wide(x: u32) -> usize
-    ensures { λ r. ⌜ r ≡ x ⌝ }
-{
-    x as usize
-}
 
 // A version up to r such that no slot has one before it and behind v.
 fn slots_change(s: &[u8], k: Limits, h: Header, v: u32, r: u32) -> u32
     requires { ⌜ Edition k × (isSound (k .least) (now s) ≡ true) × (h ≡ readHeader (k .least) (now s)) × (v < r) ⌝ }
     ensures { λ q. ⌜ BehindUpto v r q × QuietSlots (k .least) (now (s .entry)) h v q ⌝ }
 {
-    let roots = wide(h.roots);
+    let roots = model::wide(h.roots);
     let mut q = r;
     let mut i = 0;
     while i < roots {

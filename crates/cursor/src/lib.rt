@@ -21,12 +21,6 @@ pub struct Under {
     pub high: u32,
 }
 
-fn wide(x: u32) -> usize
-    ensures { λ r. ⌜ r ≡ x ⌝ }
-{
-    x as usize
-}
-
 // One page further down, from a page `up` levels above the leaves.
 fn step(s: &[u8], l: Limits, v: u32, key: u32, u: Under, up: usize) -> Under
     requires { ⌜ Walkable l (now s) v × Below l (now s) v up key u × (0 < up) ⌝ }
@@ -39,12 +33,12 @@ fn step(s: &[u8], l: Limits, v: u32, key: u32, u: Under, up: usize) -> Under
     if i < h.count {
         let e = page::entry_at(p, i);
         return Under {
-            page: wide(o.page),
+            page: model::wide(o.page),
             high: e.key,
         };
     }
     Under {
-        page: wide(o.page),
+        page: model::wide(o.page),
         high: u.high,
     }
 }

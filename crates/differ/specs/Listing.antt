@@ -25,4 +25,5 @@ leftOf l b u v k = left (settings (decode (l .least) b) u) (settings (decode (l 
 
 -- what two cursors at a key say
 abbrev pub nextOf : Limits → List ℕ → ℕ → ℕ → ℕ → Delta
-nextOf l b u v k = compared (leads (atOrAbove k (settings (decode (l .least) b) u))) (leads (atOrAbove k (settings (decode (l .least) b) v)))
+nextOf l b u v k =
+    compared (leads (atOrAbove k (settings (decode (l .least) b) u))) (leads (atOrAbove k (settings (decode (l .least) b) v)))

@@ -13,7 +13,8 @@ use Rattle.cursor.specs.First.{atOrAbove}
 abbrev pub compared : Pair → Pair → Delta
 compared x y =
     pick (ltb (x .key) (y .key)) (removed x)
-    (pick (ltb (y .key) (x .key)) (added y) (record { key = x .key; kind = pick (eqb (x .value) (y .value)) 3 2; old = x .value; new = y .value }))
+    (pick (ltb (y .key) (x .key)) (added y)
+    (record { key = x .key; kind = pick (eqb (x .value) (y .value)) 3 2; old = x .value; new = y .value }))
 
 abbrev pub told : Delta → List Delta
 told d = pick (eqb (d .kind) 3) [] (d ∷ [])

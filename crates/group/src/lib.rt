@@ -57,12 +57,6 @@ pub struct Numbers {
     pub second: usize,
 }
 
-pub(crate) fn wide(x: u32) -> usize
-    ensures { λ r. ⌜ r ≡ x ⌝ }
-{
-    x as usize
-}
-
 // "A page takes its change in place if it then has at most 20 entries, dead ones counted, and [..] has at least 4 live."
 pub fn takes_in_place(s: &[u8], l: Limits, n: usize, w: u32, c: Change) -> bool
     requires { ⌜ ExactBytes l (now s) × Inside l (now s) n × Fits c ⌝ }
@@ -97,7 +91,7 @@ pub fn gathered(s: &[u8], l: Limits, w: u32, a: Around, want: Gather) -> Group
                 first: own,
                 second: right,
             };
-            let all = gather::joined(want, parts::live_of(s, l, wide(right.value), w));
+            let all = gather::joined(want, parts::live_of(s, l, model::wide(right.value), w));
             return Group { routers, all };
         }
         if !a.leftmost {
@@ -107,7 +101,7 @@ pub fn gathered(s: &[u8], l: Limits, w: u32, a: Around, want: Gather) -> Group
                 first: left,
                 second: own,
             };
-            let all = gather::joined(parts::live_of(s, l, wide(left.value), w), want);
+            let all = gather::joined(parts::live_of(s, l, model::wide(left.value), w), want);
             return Group { routers, all };
         }
     }

@@ -4,7 +4,6 @@ use crate::Routers;
 use model::Limits;
 ghost use mathlib.Core.Path.{_≡_};
 ghost use mathlib.Core.List.{[], _++_};
-ghost use Prim.Native.Nat.{_≤_};
 ghost use lib.ListN.{length, take};
 ghost use Rattle.model.specs.Basic.{keep};
 ghost use Rattle.model.specs.Rules.{usable};
@@ -51,8 +50,8 @@ pub fn active_ones(s: &[u8], l: Limits, w: u32, rs: Routers) -> Numbers
     requires { ⌜ ExactBytes l (now s) × Routed l (now s) rs ⌝ }
     ensures { λ r. ⌜ Numbered r (actives w (pagesOf l (now (s .entry))) (routersOf rs)) ⌝ }
 {
-    let x = crate::wide(rs.first.value);
-    let y = crate::wide(rs.second.value);
+    let x = model::wide(rs.first.value);
+    let y = model::wide(rs.second.value);
     let a = parts::is_active(s, l, x, w);
     let b = parts::is_active(s, l, y, w);
     chosen(a, x, edit::both(rs.two, b), y)

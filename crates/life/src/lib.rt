@@ -1,6 +1,6 @@
 // The life of a key on a sound store: every stretch of versions in which a lookup finds one value. It goes from change to change, and not
 // version by version.
-mod changes;
+mod holding;
 
 use model::Limits;
 use model::Looked;
@@ -67,12 +67,12 @@ fn change_after(s: &[u8], l: Limits, key: u32, v: u32, c: u32, was: Looked) -> u
     requires { ⌜ Walkable l (now s) c × (key < keyLimit) × (decode (l .least) (now s) .oldest ≤ v) × (v ≤ c) × (was ≡ lookedAt (lookup (decode (l .least) (now s)) key v)) ⌝ }
     ensures { λ r. ⌜ Lasts c (lookup (decode (l .least) (now (s .entry))) key) v r ⌝ }
 {
-    let mut u = changes::answer_until(s, l, key, v, c + 1);
+    let mut u = holding::answer_until(s, l, key, v, c + 1);
     while u <= c {
         if !same(was, walk::lookup(s, l, key, u)) {
             return u;
         }
-        u = changes::answer_until(s, l, key, u, c + 1);
+        u = holding::answer_until(s, l, key, u, c + 1);
     }
     u
 }

@@ -61,7 +61,8 @@ cut-at mark behind (b ∷ bs) h = marked mark b bs behind (cut-at mark behind bs
 pub cut-found : (mark : ℕ) (behind : List (List ℕ)) (l : List ℕ) (e : ℕ) → e ≡ until mark l → e < length l
     → cut mark behind l ≡ take e l ∷ cut mark behind (take (length l - (e + 1)) (drop (e + 1) l))
 cut-found mark behind l e f h =
-    let all : take (length l - (e + 1)) (drop (e + 1) l) ≡ drop (e + 1) l = take-all (length l - (e + 1)) (drop (e + 1) l) (rw length-drop (omega arith)) in
+    let all : take (length l - (e + 1)) (drop (e + 1) l) ≡ drop (e + 1) l
+    = take-all (length l - (e + 1)) (drop (e + 1) l) (rw length-drop (omega arith)) in
     rw (all, f) (cut-at mark behind l (omega arith))
 
 -- a text that has none is one word

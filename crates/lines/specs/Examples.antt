@@ -142,5 +142,7 @@ runs =
     ∷ []
 
 pub runs-hold : map (λ (r : Run). written (ascii (r .input))) runs ≡ map (λ (r : Run). ascii (r .output)) runs
-unfolding Console.cut Console.valueFrom Console.numberOf Console.spoken Console.commandOf decimalWithin Session.said Session.writes Lent.lent Lent.openLent Lent.insertLent Lent.deleteLent Lent.commitLent Lent.abandonLent Lent.lookupLent Lent.rangeLent Near.lookupNear Near.rangeNear Calls.rangedBy Judged.lengthOk Judged.judged
+unfolding Console.cut Console.valueFrom Console.numberOf Console.spoken Console.commandOf decimalWithin Session.said Session.writes
+    Lent.lent Lent.openLent Lent.insertLent Lent.deleteLent Lent.commitLent Lent.abandonLent Lent.lookupLent Lent.rangeLent Near.lookupNear
+    Near.rangeNear Calls.rangedBy Judged.lengthOk Judged.judged
 runs-hold = refl

@@ -54,7 +54,8 @@ pub record Ruled (least : ℕ) (s : List ℕ) : Type 0 where
   pub room : (n : ℕ) → IsPage least s n → countAt least s n ≤ 5 * least
   pub level : (n : ℕ) → IsPage least s n → levelAt least s n ≤ 7
   pub empty : (n : ℕ) → IsPage least s n → levelAt least s n ≡ 0 → countAt least s n ≡ 0
-  pub child : (n i : ℕ) → IsPage least s n → (levelAt least s n ≡ 1 → ⊥) → i < countAt least s n → IsPage least s (entryAt least s n i .value)
+  pub child : (n i : ℕ) → IsPage least s n → (levelAt least s n ≡ 1 → ⊥) → i < countAt least s n
+      → IsPage least s (entryAt least s n i .value)
   pub roots : readHeader least s .roots ≤ 64 * least
   pub root : (i : ℕ) → i < readHeader least s .roots → IsPage least s (slotAt least s i .root)
   pub pages : readHeader least s .pages ≡ sizeOf least s

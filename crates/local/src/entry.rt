@@ -28,7 +28,7 @@ pub(crate) fn is_page(size: usize, n: u32) -> bool
     if n < 5 {
         return false;
     }
-    crate::wide(n) < size
+    model::wide(n) < size
 }
 
 // An entry of a page of this level. Its key and its value, as they are read, fit their bits.

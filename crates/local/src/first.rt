@@ -40,7 +40,7 @@ fn first_rest(s: &[u8], l: Limits, size: usize) -> bool
     if 1048574 < last {
         return false;
     }
-    if !roots_ok(s, l, crate::wide(h.roots), size) {
+    if !roots_ok(s, l, model::wide(h.roots), size) {
         return false;
     }
     crate::pages::pages_ok(s, l, size, last)

@@ -37,14 +37,14 @@ pub(crate) fn header_right(s: &[u8], l: Limits, h: Header, size: usize) -> bool
     requires { ⌜ Edition l × Sized (l .least) (now s) size × (h ≡ readHeader (l .least) (now s)) ⌝ }
     ensures { λ r. ⌜ r ≡ cleanFront (l .least) (now (s .entry)) ⌝ }
 {
-    if crate::wide(h.pages) != size {
+    if model::wide(h.pages) != size {
         return false;
     }
     let front = 8 * l.bytes;
     if !crate::pages::zero_from(s, header_bits(l), front) {
         return false;
     }
-    let roots = crate::wide(h.roots);
+    let roots = model::wide(h.roots);
     if l.slots < roots {
         return false;
     }
@@ -109,7 +109,7 @@ fn front_rest(s: &[u8], l: Limits, size: usize) -> bool
     if 1048574 < last {
         return false;
     }
-    let roots = crate::wide(h.roots);
+    let roots = model::wide(h.roots);
     if roots == 0 {
         return false;
     }

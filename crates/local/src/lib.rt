@@ -16,10 +16,3 @@ pub use pages::page_right;
 pub use second::second_rule;
 pub use seventh::seventh_rule;
 pub use third::third_rule;
-ghost use mathlib.Core.Path.{_≡_};
-
-pub(crate) fn wide(x: u32) -> usize
-    ensures { λ r. ⌜ r ≡ x ⌝ }
-{
-    x as usize
-}

@@ -29,7 +29,7 @@ fn slots_begin(s: &[u8], l: Limits, h: Header) -> bool
     requires { ⌜ Edition l × Held (l .least) (now s) h ⌝ }
     ensures { λ r. ⌜ r ≡ begun (l .least) (now (s .entry)) ⌝ }
 {
-    let roots = crate::wide(h.roots);
+    let roots = model::wide(h.roots);
     if roots == 0 {
         return false;
     }
@@ -57,7 +57,7 @@ fn slots_newer(s: &[u8], l: Limits, h: Header) -> bool
     requires { ⌜ Edition l × Held (l .least) (now s) h ⌝ }
     ensures { λ r. ⌜ r ≡ newer (l .least) (now (s .entry)) ⌝ }
 {
-    let roots = crate::wide(h.roots);
+    let roots = model::wide(h.roots);
     let mut i = 1;
     while i < roots {
         let x = store::slot(s, l, i);

@@ -58,7 +58,7 @@ fn pages_young(s: &[u8], l: Limits, h: Header, w: u32) -> bool
     requires { ⌜ Edition l × Held (l .least) (now s) h ⌝ }
     ensures { λ r. ⌜ r ≡ all (youngOk w) (readPages (l .least) (now (s .entry)) 5 (sizeOf (l .least) (now (s .entry)) - 5)) ⌝ }
 {
-    let size = crate::wide(h.pages);
+    let size = model::wide(h.pages);
     let mut n = 5;
     while n < size {
         if !page_young(s, l, n, w) {

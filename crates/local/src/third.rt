@@ -36,7 +36,7 @@ fn link_ok(s: &[u8], l: Limits, n: usize, h: Head, e: Entry) -> bool
     if h.level == 1 {
         return true;
     }
-    let m = crate::wide(e.value);
+    let m = model::wide(e.value);
     let c = page::head_of(store::part(s, l, m), l);
     if !lies_in(c, e) {
         return false;
@@ -91,7 +91,7 @@ fn pages_linked(s: &[u8], l: Limits, h: Header) -> bool
     requires { ⌜ Edition l × Held (l .least) (now s) h ⌝ }
     ensures { λ r. ⌜ r ≡ all (linksOk (decode (l .least) (now (s .entry)))) (readPages (l .least) (now (s .entry)) 5 (sizeOf (l .least) (now (s .entry)) - 5)) ⌝ }
 {
-    let size = crate::wide(h.pages);
+    let size = model::wide(h.pages);
     let mut n = 5;
     while n < size {
         if !links_ok(s, l, n, h.oldest) {
@@ -106,11 +106,11 @@ fn roots_used(s: &[u8], l: Limits, h: Header) -> bool
     requires { ⌜ Edition l × Held (l .least) (now s) h ⌝ }
     ensures { λ r. ⌜ r ≡ all (rootUsed (decode (l .least) (now (s .entry)))) (readSlots (now (s .entry)) (512 * l .least) (readHeader (l .least) (now (s .entry)) .roots)) ⌝ }
 {
-    let roots = crate::wide(h.roots);
+    let roots = model::wide(h.roots);
     let mut i = 0;
     while i < roots {
         let x = store::slot(s, l, i);
-        let n = crate::wide(x.root);
+        let n = model::wide(x.root);
         let c = page::head_of(store::part(s, l, n), l);
         if c.level == 0 {
             return false;

@@ -5,5 +5,5 @@ pub mod sound
 pub mod kept
 pub mod reading
 pub mod turning
-pub mod plan
+pub mod needs
 pub mod theorems

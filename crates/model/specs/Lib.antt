@@ -34,7 +34,6 @@ pub mod Ended
 pub mod Kinds
 pub mod Named
 pub mod Needs
-pub mod Plan
 pub mod Gathered
 pub mod Replay
 pub mod Table

@@ -1,8 +1,8 @@
 -- What an update lacks, said of the page rules themselves: "the rules need a page and none is free" (12), "the rules need a 257th slot" (13).
--- That the numbers are given exactly then stands in proofs/Lacking; that a count foresees it, in Plan.
+-- That the numbers are given exactly then stands in proofs/needs/Lacking; that a count foresees it, in crate outlook.
 -- Assumes nothing.
 use Prim.Native.Nat.{ℕ, _+_, _*_, _<_}
-use mathlib.Core.Bool.{Bool, false, _&&_}
+use mathlib.Core.Bool.{Bool, false, _&&_, _||_}
 use mathlib.Core.Logic.{_↔_}
 use mathlib.Core.Path.{_≡_}
 use mathlib.Core.List.{List, [], _∷_, map}
@@ -75,6 +75,10 @@ NeedsPage least s k c = PageNeeded least (next s) (rootAt (s .slots) (next s)) (
 -- whether the open version has its slot
 abbrev pub hasSlot : Store → Bool
 hasSlot s = any (λ (x : Slot). eqb (x .version) (next s)) (s .slots)
+
+-- "A new root takes the directory slot of the open version, or replaces it there."
+abbrev pub slotLeft : ℕ → Store → Bool
+slotLeft least s = hasSlot s || ltb (length (s .slots)) (64 * least)
 
 -- "A new root takes the directory slot of the open version": there is a new root, that version has no slot, and every slot is taken.
 pub record NeedsSlot (least : ℕ) (s : Store) (k : ℕ) (c : Change) : Type 0 where

@@ -81,6 +81,12 @@ without xs ys = those (λ (x : Pair). not (any (samePair x) ys)) xs
 unfoldable pub exchange : List Pair → List Pair → Change
 exchange olds news = record { drop = map (λ (x : Pair). x .key) (without olds news); take = without news olds }
 
+-- "takes one for each page now used": routers to pages n and m, or to n alone.
+-- "The first new low key is the lowest old one; the second is the second page's first key."
+unfoldable pub routersTo : List Pair → Parts → ℕ → ℕ → List Pair
+routersTo rs (one x) n m = pair (lowKey rs) n ∷ []
+routersTo rs (two x y) n m = pair (lowKey rs) n ∷ pair (lowKey y) m ∷ []
+
 -- What comes of a page that is not the root: it took the change in place, or its parent has a change to take, or a page is lacking.
 pub data Worked : Type 0 where
   settled : List Page → Worked

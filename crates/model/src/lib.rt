@@ -1,7 +1,7 @@
 // The values that the store is made of, as structs by value. The definitions in specs/ use these very structs as their
 // records, so that code and definitions speak of the same things.
 ghost use mathlib.Core.Path.{_≡_};
-ghost use Prim.Native.Nat.{_^_, _<_, _≤_};
+ghost use Prim.Native.Nat.{_^_, _<_};
 ghost use Rattle.model.specs.Limits.{editionOf, limits};
 ghost use Rattle.model.specs.Store.{lastOf};
 ghost use Rattle.model.specs.Header.{withFlag, withVersion, withRoots, withOldest};
@@ -110,6 +110,13 @@ pub struct Limits {
     pub rooter: usize,
     // bits of the header's oldest version
     pub aged: usize,
+}
+
+// A number of the store as a place or a count in memory.
+pub fn wide(x: u32) -> usize
+    ensures { λ r. ⌜ r ≡ x ⌝ }
+{
+    x as usize
 }
 
 // The limits of edition 1.

@@ -55,7 +55,7 @@ fn listed_by(
         l,
         writing,
         n,
-        tabled::wide(level) - 1,
+        model::wide(level) - 1,
         q.low,
         list,
         0,

@@ -9,7 +9,6 @@ ghost use Rattle.model.specs.Store.{page};
 ghost use Rattle.model.specs.Walk.{find};
 ghost use Rattle.model.specs.Limits.{Edition};
 ghost use Rattle.model.specs.Layout.{decode};
-ghost use Rattle.model.specs.Near.{startsBy};
 ghost use Rattle.model.specs.Calls.{lookedAt};
 ghost use Rattle.local.specs.Local.{Sized};
 ghost use Rattle.local.specs.Right.{Known};

@@ -49,11 +49,11 @@ fn gather(
         return walk::settings(p, count, q, list, found);
     }
     let o = walk::own_router(p, count, q.version, at);
-    let mut k = gather(s, l, q, tabled::wide(o.page), up - 1, at, list, found);
+    let mut k = gather(s, l, q, model::wide(o.page), up - 1, at, list, found);
     let mut i = walk::next_place(p, count, q.version, 0, q.high, o.next);
     while i < count {
         let e = page::entry_at(p, i);
-        k = gather(s, l, q, tabled::wide(e.value), up - 1, e.key, list, k);
+        k = gather(s, l, q, model::wide(e.value), up - 1, e.key, list, k);
         i = walk::next_place(p, count, q.version, 0, q.high, i + 1);
     }
     k
@@ -163,7 +163,7 @@ fn across(
             count: 0,
         };
     }
-    fill(s, l, root, tabled::wide(level) - 1, low, high, v, list)
+    fill(s, l, root, model::wide(level) - 1, low, high, v, list)
 }
 
 // The settings from low to high for any bytes: their number, and key, value, key, value in the caller's list.

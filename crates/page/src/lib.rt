@@ -24,12 +24,6 @@ pub struct Head {
     pub end: u32,
 }
 
-fn wide(x: u32) -> usize
-    ensures { λ r. ⌜ r ≡ x ⌝ }
-{
-    x as usize
-}
-
 // The front of a page whose entry count has w bits.
 fn front(page: &[u8], w: usize) -> Head
     requires { ⌜ (w ≤ 6) × (16 ≤ length (now page)) × (length (now page) ≤ 2 ^ 40) ⌝ }
@@ -37,7 +31,7 @@ fn front(page: &[u8], w: usize) -> Head
 {
     Head {
         level: bits::field(page, 0, 4),
-        count: wide(bits::field(page, 4, w)),
+        count: model::wide(bits::field(page, 4, w)),
         start: bits::field(page, 4 + w, 20),
         end: bits::field(page, 24 + w, 20),
     }
@@ -62,7 +56,7 @@ pub fn live_of(page: &[u8], l: Limits) -> usize
     if l.least <= 4 {
         return 0;
     }
-    wide(bits::field(page, 44 + l.counter, 6))
+    model::wide(bits::field(page, 44 + l.counter, 6))
 }
 
 // What an entry adds to its page's live count.

@@ -3,7 +3,6 @@ use edit::Change;
 use gather::Gather;
 use model::Limits;
 ghost use mathlib.Core.Path.{_≡_};
-ghost use Prim.Native.Nat.{_≤_, _<_};
 ghost use lib.Dec.{leb};
 ghost use lib.ListN.{length};
 ghost use Rattle.model.specs.Page.{wanted, pairsAt, active};

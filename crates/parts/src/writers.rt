@@ -2,7 +2,6 @@
 use edit::Change;
 use gather::Gather;
 use model::Limits;
-ghost use mathlib.Core.Path.{_≡_};
 ghost use Prim.Native.Nat.{_*_, _-_, _^_, _≤_, _<_};
 ghost use lib.ListN.{length, set, take, drop};
 ghost use Rattle.model.specs.Page.{filled, gone, changed};

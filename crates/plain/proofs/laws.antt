@@ -1,6 +1,7 @@
 pub mod Calls
 pub mod Items
 pub mod Laid
+pub mod Lending
 pub mod Lived
 pub mod Scan
 pub mod Sweep

@@ -6,7 +6,6 @@ use crate::items;
 use crate::scan;
 use crate::sweep;
 use model::Entry;
-ghost use mathlib.Core.Path.{_≡_};
 ghost use Prim.Native.Nat.{_*_, _≤_};
 ghost use lib.ListN.{length};
 ghost use Rattle.model.specs.Basic.{count};

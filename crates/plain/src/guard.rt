@@ -5,7 +5,7 @@ use crate::State;
 use crate::items;
 use crate::room;
 ghost use mathlib.Core.Path.{_≡_};
-ghost use Prim.Native.Nat.{suc, _+_, _^_, _≤_, _<_};
+ghost use Prim.Native.Nat.{suc, _+_, _^_, _<_};
 ghost use Rattle.model.specs.Layout.{bit};
 ghost use Rattle.model.specs.Calls.{firstOf, isSome, insertTests};
 ghost use Rattle.model.specs.Return.{returnTests};

@@ -6,7 +6,7 @@ use mathlib.Core.List.{List, [], _∷_}
 use lib.ListN.{length, getD}
 use Rattle.model.specs.declared.Limits.{Limits}
 use Rattle.model.specs.Walk as walk
-use Rattle.model.specs.Plan as plan
+use Rattle.outlook.specs.Plan as plan
 use Rattle.edit.specs.Change.{changeOf}
 use Rattle.edit.specs.Fill.{nil}
 use Rattle.gather.specs.Kept.{Fits}

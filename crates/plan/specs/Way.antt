@@ -20,7 +20,8 @@ use Rattle.plan.specs.Plan.{upsOf, Led}
 
 -- that of the i-th, from 1 on, with its neighbours
 unfoldable pub placeAt : List Pair → ℕ → walk.Around
-placeAt xs i = record { left = beside (ltb i 2) (getD xs (i - 2) nil); own = getD xs (i - 1) nil; right = beside (leb (length xs) i) (getD xs i nil) }
+placeAt xs i =
+    record { left = beside (ltb i 2) (getD xs (i - 2) nil); own = getD xs (i - 1) nil; right = beside (leb (length xs) i) (getD xs i nil) }
 
 -- its routers are of those
 pub record Among (xs : List Pair) (a : Around) : Type 0 where

@@ -92,7 +92,7 @@ pub fn way_to(s: &[u8], l: Limits, w: u32, key: u32) -> Way
     while 0 < up {
         let a = place_below(s, l, at, w, key);
         list[n] = a;
-        at = crate::wide(a.own.value);
+        at = model::wide(a.own.value);
         n += 1;
         up -= 1;
     }

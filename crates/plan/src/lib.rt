@@ -8,20 +8,15 @@ use group::Around;
 use group::Group;
 use model::Limits;
 ghost use mathlib.Core.Path.{_≡_};
-ghost use mathlib.Core.Bool.{true, _&&_};
-ghost use Prim.Native.Nat.{ℕ, _+_, _*_, _^_, _≤_, _<_};
+ghost use Prim.Native.Nat.{_+_, _*_, _^_, _≤_, _<_};
 ghost use lib.Dec.{leb};
-ghost use lib.ListN.{length, getD};
 ghost use Rattle.model.specs.Basic.{pick};
-ghost use Rattle.model.specs.Entry.{pair};
 ghost use Rattle.model.specs.Limits.{Edition};
 ghost use Rattle.model.specs.Store.{page};
-ghost use Rattle.model.specs.Rules.{roomy};
 ghost use Rattle.model.specs.Needs.{goes};
-ghost use Rattle.model.specs.Plan.{planGroup, planWork, planRoot, planUp, rootBy};
+ghost use Rattle.outlook.specs.Plan.{planGroup, planWork, planRoot, planUp};
 ghost use Rattle.edit.specs.Change.{changeOf, one};
 ghost use Rattle.gather.specs.Kept.{Fits};
-ghost use Rattle.gather.specs.Gather.{Lists};
 ghost use Rattle.parts.specs.Kept.{ExactBytes, Inside, pagesOf};
 ghost use Rattle.group.specs.Group.{aroundOf, groupOf, Placed, Grouped};
 ghost use Rattle.plan.specs.Plan.{plannedOf, PlannedFits, outlookOf, upsOf, Led};
@@ -48,12 +43,6 @@ pub struct Way {
     pub n: usize,
 }
 
-pub(crate) fn wide(x: u32) -> usize
-    ensures { λ r. ⌜ r ≡ x ⌝ }
-{
-    x as usize
-}
-
 // A group is rebuilt: "An active page left over is freed", and a page needed beyond the active ones is taken from the free ones.
 fn plan_group(s: &[u8], l: Limits, w: u32, g: Group, left: usize) -> Planned
     requires { ⌜ ExactBytes l (now s) × Grouped l (now s) g × (left ≤ 2 ^ 20) ⌝ }
@@ -74,7 +63,7 @@ fn plan_level(s: &[u8], l: Limits, w: u32, a: Around, c: Change, left: usize) ->
     requires { ⌜ ExactBytes l (now s) × Placed l (now s) a × Fits c × (left ≤ 2 ^ 20) ⌝ }
     ensures { λ r. ⌜ (plannedOf r ≡ planWork (l .least) w (pagesOf l (now (s .entry))) (aroundOf a) (changeOf c) left) × PlannedFits left r ⌝ }
 {
-    let n = wide(a.own.value);
+    let n = model::wide(a.own.value);
     if group::takes_in_place(s, l, n, w, c) {
         return Planned::Settles;
     }

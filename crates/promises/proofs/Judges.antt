@@ -40,7 +40,7 @@ use Rattle.model.specs.Ended.{Asked, toFresh, toFreshSecond, toCheck, toOpen, t
 use Rattle.model.proofs.lists.Lists.{both-true, both-intro}
 use Rattle.model.proofs.lists.Members.{bool-cases, not-both}
 use Rattle.model.proofs.sound.Judging.{unbroken, unbroken-all, whole, broken-none}
-use Rattle.model.proofs.plan.Lacking.{judged-low}
+use Rattle.model.proofs.needs.Lacking.{judged-low}
 use Rattle.model.proofs.theorems.Unique.{refused as leaves}
 use Rattle.model.proofs.theorems.Editions.{ended-goes, ended-refuses}
 use Rattle.promises.specs.Accepts.{Accepts, storeOf}

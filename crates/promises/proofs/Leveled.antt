@@ -40,39 +40,40 @@ record Rules (least : ℕ) (s : Store) : Type 0 where
   counts : (v : ℕ) → Readable s v → all (enough least) (seen s v) ≡ true
   reached : (v : ℕ) → Readable s v → reachedWell v (numbers s v) 5 (drop 5 (s .pages)) ≡ true
 
+-- six that are true together, each
+six : (a b c d e f : Bool) → (a && b && c && d && e && f) ≡ true → (a ≡ true) × (b ≡ true) × (c ≡ true) × (d ≡ true) × (e ≡ true) × (f ≡ true)
+six a b c d e f h =
+    let (h5, z) = both-true (a && b && c && d && e) f h in
+    let (h4, y) = both-true (a && b && c && d) e h5 in
+    let (h3, x) = both-true (a && b && c) d h4 in
+    let (h2, w) = both-true (a && b) c h3 in
+    let (u, v) = both-true a b h2 in
+    (u, v, w, x, y, z)
+
 rules-of : (least : ℕ) (s : Store) → soundAnyLevel least s ≡ true → Rules least s
 unfolding rule2 rule3 rule4 rule5 rule6
 rules-of least s h =
-    let (h5, r6) = both-true (rule1AnyLevel least s && rule2 s && rule3 s && rule4 s && rule5 least s) (rule6 s) h in
-    let (h4, r5) = both-true (rule1AnyLevel least s && rule2 s && rule3 s && rule4 s) (rule5 least s) h5 in
-    let (h3, r4) = both-true (rule1AnyLevel least s && rule2 s && rule3 s) (rule4 s) h4 in
-    let (h2, r3) = both-true (rule1AnyLevel least s && rule2 s) (rule3 s) h3 in
-    let (r1, r2) = both-true (rule1AnyLevel least s) (rule2 s) h2 in
+    let (r1, r2, r3, r4, r5, r6) = six (rule1AnyLevel least s) (rule2 s) (rule3 s) (rule4 s) (rule5 least s) (rule6 s) h in
     let long : Bool = leb 6 (length (s .pages)) in
     let short : Bool = leb (length (s .pages)) 4096 in
     let few : Bool = leb (length (s .slots)) (64 * least) in
     let low : Bool = leb (last s) 1048574 in
+    let old : Bool = leb (s .oldest) (pick (leb least 4) 0 (s .current)) in
     let roots : Bool = all (λ (x : Slot). isPage (length (s .pages)) (x .root)) (s .slots) in
     let front : Bool = all (λ (p : Page). isFree p && zeroed p) (take 5 (s .pages)) in
-    let old : Bool = leb (s .oldest) (pick (leb least 4) 0 (s .current)) in
-    let (a5, pass) = both-true (long && short && few && low && old && roots && front) (all (pageFineAnyLevel least (last s) (length (s .pages))) (drop 5 (s .pages))) r1 in
-    let (a4, fr) = both-true (long && short && few && low && old && roots) front a5 in
-    let (a3, ro) = both-true (long && short && few && low && old) roots a4 in
-    let (a3b, ol) = both-true (long && short && few && low) old a3 in
-    let (a2, lo) = both-true (long && short && few) low a3b in
-    let (a1, fe) = both-true (long && short) few a2 in
-    let (lg, sh) = both-true long short a1 in
+    let (a, pass) = both-true (long && short && few && low && old && roots && front) (all (pageFineAnyLevel least (last s) (length (s .pages))) (drop 5 (s .pages))) r1 in
+    let (b, fr) = both-true (long && short && few && low && old && roots) front a in
+    let (lg, sh, fe, lo, ol, ro) = six long short few low old roots b in
     let first : Bool = leb (firstVersion (s .oldest) (s .slots)) (s .oldest) in
     let rising : Bool = inOrder (λ (x y : Slot). ltb (x .version) (y .version)) (s .slots) in
     let upper : Bool = all (λ (x : Slot). leb (x .version) (last s)) (s .slots) in
-    let (b2, nw) = both-true (first && rising && upper) (all (λ (x : Slot). ltb (s .oldest) (x .version)) (drop 1 (s .slots))) r2 in
-    let (b1, up) = both-true (first && rising) upper b2 in
+    let (d, nw) = both-true (first && rising && upper) (all (λ (x : Slot). ltb (s .oldest) (x .version)) (drop 1 (s .slots))) r2 in
     let (sp, us) = both-true (pagesPass (spansWell s) s) (all (λ (x : Slot). not (isFree (page (s .pages) (x .root)))) (s .slots)) r3 in
     record {
       short = leb-true (length (s .pages)) 4096 sh;
       roots = ro;
       front = λ n q. both-true (isFree (page (s .pages) n)) (zeroed (page (s .pages) n)) (front-at (s .pages) fr (leb-true 6 (length (s .pages)) lg) n q) .0;
-      begins = leb-true (firstVersion (s .oldest) (s .slots)) (s .oldest) (both-true first rising b1 .0);
+      begins = leb-true (firstVersion (s .oldest) (s .slots)) (s .oldest) (both-true first rising (both-true (first && rising) upper d .0) .0);
       spans = sp;
       used = us;
       keys = λ v l. all-in (λ (u : ℕ). all keysOk (seen s u)) v (versions s) r4 (version-in s v l);
@@ -170,11 +171,7 @@ wider : (least : ℕ) (s : Store) → sound least s ≡ true → soundAnyLevel l
 unfolding sound
 wider least s h =
     let (h6, r7) = both-true (rule1 least s && rule2 s && rule3 s && rule4 s && rule5 least s && rule6 s) (rule7 s) h in
-    let (h5, r6) = both-true (rule1 least s && rule2 s && rule3 s && rule4 s && rule5 least s) (rule6 s) h6 in
-    let (h4, r5) = both-true (rule1 least s && rule2 s && rule3 s && rule4 s) (rule5 least s) h5 in
-    let (h3, r4) = both-true (rule1 least s && rule2 s && rule3 s) (rule4 s) h4 in
-    let (h2, r3) = both-true (rule1 least s && rule2 s) (rule3 s) h3 in
-    let (r1, r2) = both-true (rule1 least s) (rule2 s) h2 in
+    let (r1, r2, r3, r4, r5, r6) = six (rule1 least s) (rule2 s) (rule3 s) (rule4 s) (rule5 least s) (rule6 s) h6 in
     both-intro _ _ (both-intro _ _ (both-intro _ _ (both-intro _ _ (both-intro _ _ (rule-wider least s r1) r2) r3) r4) r5) r6
 
 pub levels : Levels

@@ -17,7 +17,7 @@ use Rattle.model.specs.Ended.{Asked, toInsert, toDelete, Ended, ended}
 use Rattle.model.proofs.theorems.Editions.{ended-at}
 use Rattle.model.proofs.theorems.OldPrograms as old
 use Rattle.model.proofs.theorems.Unique as one
-use Rattle.model.proofs.plan.Lacking as lacks
+use Rattle.model.proofs.needs.Lacking as lacks
 use Rattle.promises.specs.Accepts.{Accepts, storeOf}
 use Rattle.promises.specs.Runs.{making, changing, reading, kindOf}
 use Rattle.promises.specs.Way.{ruledOf}

@@ -17,12 +17,6 @@ ghost use Rattle.turn.specs.Turned.{HeadedBytes};
 ghost use Rattle.prune.specs.Shift.{shifted};
 ghost use Rattle.prune.specs.Needed.{Needed};
 
-fn wide(x: u32) -> usize
-    ensures { λ r. ⌜ r ≡ x ⌝ }
-{
-    x as usize
-}
-
 // "frees every page that ended at or before it"
 fn drop_ended(page: &mut [u8], l: Limits, v: u32)
     requires { ⌜ Edition l × Exact (l .least) (now page) ⌝ }
@@ -62,7 +56,7 @@ fn first_needed(s: &[u8], l: Limits, roots: u32, v: u32) -> u32
 {
     let mut k = 0;
     while k + 1 < roots {
-        let x = store::slot(s, l, wide(k + 1));
+        let x = store::slot(s, l, model::wide(k + 1));
         if v < x.version {
             return k;
         }
@@ -77,7 +71,7 @@ fn slot_at(s: &[u8], l: Limits, roots: u32, j: u32) -> Slot
     ensures { λ r. ⌜ r ≡ getD (decode (l .least) (now (s .entry)) .slots) j noSlot ⌝ }
 {
     if j < roots {
-        return store::slot(s, l, wide(j));
+        return store::slot(s, l, model::wide(j));
     }
     Slot {
         version: 0,
@@ -91,7 +85,7 @@ fn shift_slot(s: &mut [u8], l: Limits, roots: u32, k: u32, i: u32)
     ensures { λ _. ⌜ now (s .exit) ≡ encode (l .least) (withSlots (decode (l .least) (now (s .entry))) (set (decode (l .least) (now (s .entry)) .slots) i (getD (decode (l .least) (now (s .entry)) .slots) (i + k) noSlot))) ⌝ }
 {
     let x = slot_at(s, l, roots, i + k);
-    store::put_slot(s, l, wide(i), x);
+    store::put_slot(s, l, model::wide(i), x);
 }
 
 // The slots from place k on move to the front, and unused ones follow them.
@@ -114,7 +108,7 @@ pub fn prune(s: &mut [u8], l: Limits, v: u32)
 {
     let h = store::header(s, l);
     let k = first_needed(s, l, h.roots, v);
-    prune_pages(s, l, wide(h.pages), v);
+    prune_pages(s, l, model::wide(h.pages), v);
     shift_slots(s, l, h.roots, k);
     store::put_header(s, l, h.with_roots(h.roots - k).with_oldest(v));
 }

@@ -30,12 +30,6 @@ ghost use Rattle.quick.specs.Noted.{ThreeRules};
 ghost use Rattle.quick.specs.Number.{refusedBy};
 ghost use Rattle.quick.specs.Slots.{GoodSlots};
 
-pub(crate) fn wide(x: u32) -> usize
-    ensures { λ r. ⌜ r ≡ x ⌝ }
-{
-    x as usize
-}
-
 // The sums and the slots: rule 6, once rules 4 and 5 hold (notes/proofs/laws/Six, `six-by`). Each is one pass over the store.
 pub fn led(s: &[u8], l: Limits) -> bool
     requires { ⌜ Edition l × QuickGood (l .least) (now s) × GoodSlots (l .least) (now s) ⌝ }

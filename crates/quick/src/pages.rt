@@ -40,7 +40,7 @@ fn page_fine(s: &[u8], l: Limits, n: usize, old: u32, left: u32) -> Within
             left: left,
         };
     }
-    let up = crate::wide(f.level - 2);
+    let up = model::wide(f.level - 2);
     crate::routers::routers_fine(s, l, up, n, old, left)
 }
 

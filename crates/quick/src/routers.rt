@@ -90,7 +90,7 @@ fn router_from(
     ensures { λ r. ⌜ QuickRight left (routerFrom (l .least) up (decode (l .least) (now (s .entry)) .pages) a (readEntry (now (p .entry)) (128 + 96 * i)) (readEntries (now (p .entry)) (128 + 96 * (i + 1)) (n - (i + 1)))) r ⌝ }
 {
     let e = page::entry_at(p, i);
-    let m = crate::wide(e.value);
+    let m = model::wide(e.value);
     let c = store::part(s, l, m);
     if !crate::part::fine_over(c, l, l.least, e.key, a, e.end) {
         return Within {

@@ -60,7 +60,7 @@ fn slot_fine(s: &[u8], l: Limits, i: usize, roots: usize, old: u32) -> bool
 {
     let x = store::slot(s, l, i);
     let b = upto_at(s, l, i + 1, roots);
-    let n = crate::wide(x.root);
+    let n = model::wide(x.root);
     let a = crate::entry::larger(old, x.version);
     root_fine(store::part(s, l, n), l, a, b)
 }
@@ -71,7 +71,7 @@ pub(crate) fn slots_fine(s: &[u8], l: Limits) -> bool
     ensures { λ r. ⌜ r ≡ slotsFine (l .least) (decode (l .least) (now (s .entry)) .oldest) (decode (l .least) (now (s .entry)) .pages) (decode (l .least) (now (s .entry)) .slots) ⌝ }
 {
     let h = store::header(s, l);
-    let roots = crate::wide(h.roots);
+    let roots = model::wide(h.roots);
     let mut i = 0;
     while i < roots {
         if !slot_fine(s, l, i, roots, h.oldest) {

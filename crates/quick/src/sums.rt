@@ -25,12 +25,12 @@ fn add_slots(sums: &mut [u64], s: &[u8], l: Limits, old: u32)
     ensures { λ _. ⌜ now (sums .exit) ≡ addSlots old (now (sums .entry)) (decode (l .least) (now (s .entry)) .slots) ⌝ }
 {
     let h = store::header(s, l);
-    let roots = crate::wide(h.roots);
+    let roots = model::wide(h.roots);
     let mut i = 0;
     while i < roots {
         let x = store::slot(s, l, i);
         let b = crate::slots::upto_at(s, l, i + 1, roots);
-        let n = crate::wide(x.root);
+        let n = model::wide(x.root);
         let k = crate::entry::span_from(old, x.version, b);
         add(sums, n, k);
         i += 1;
@@ -45,7 +45,7 @@ fn add_entries(sums: &mut [u64], page: &[u8], n: usize, old: u32)
     let mut i = 0;
     while i < n {
         let e = page::entry_at(page, i);
-        let m = crate::wide(e.value);
+        let m = model::wide(e.value);
         let k = crate::entry::span_from(old, e.start, e.end);
         add(sums, m, k);
         i += 1;

@@ -93,7 +93,7 @@ pub(crate) fn under(
                 left: rest,
             };
         }
-        let m = crate::wide(w.page);
+        let m = model::wide(w.page);
         let r = under(s, l, up - 1, h, w.from, w.upto, m, rest);
         if !r.fine {
             return r;

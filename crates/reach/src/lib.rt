@@ -19,12 +19,6 @@ ghost use Rattle.model.specs.Layout.{readPages, sizeOf};
 ghost use Rattle.notes.specs.Ready.{Ready};
 ghost use Rattle.reach.specs.Versions.{versionOk, markedWell};
 
-pub(crate) fn wide(x: u32) -> usize
-    ensures { λ r. ⌜ r ≡ x ⌝ }
-{
-    x as usize
-}
-
 fn used_at(h: Head, v: u32) -> bool
     ensures { λ r. ⌜ r ≡ (not (eqb (h .level) 0) && within (h .start) (h .end) v) ⌝ }
 {
@@ -51,7 +45,7 @@ fn reached(s: &[u8], l: Limits, h: Header, marks: [bool; 4096], v: u32) -> bool
     requires { ⌜ Edition l × Ready (l .least) (now s) h ⌝ }
     ensures { λ r. ⌜ r ≡ markedWell v marks 5 (readPages (l .least) (now (s .entry)) 5 (sizeOf (l .least) (now (s .entry)) - 5)) ⌝ }
 {
-    let pages = crate::wide(h.pages);
+    let pages = model::wide(h.pages);
     let mut n = 5;
     while n < pages {
         let f = page::head_of(store::part(s, l, n), l);
@@ -71,7 +65,7 @@ pub fn version_ok(s: &[u8], l: Limits, h: Header, v: u32) -> bool
 {
     let root = notes::root_at(s, l, h, v);
     let f = page::head_of(store::part(s, l, root), l);
-    let up = crate::wide(f.level) - 1;
+    let up = model::wide(f.level) - 1;
     let w = crate::marks::walk(s, l, root, up, v, v + 1, 6);
     if w.broken != 0 {
         return false;

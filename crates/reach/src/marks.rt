@@ -114,7 +114,7 @@ pub(crate) fn walk(s: &[u8], l: Limits, root: usize, up: usize, a: u32, b: u32, 
             }
             if 0 < it.up {
                 items[top] = Item {
-                    page: crate::wide(e.value),
+                    page: model::wide(e.value),
                     up: it.up - 1,
                     root: false,
                     low: e.key,

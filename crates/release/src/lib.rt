@@ -17,12 +17,6 @@ ghost use Rattle.walk.specs.Sure.{Walkable};
 ghost use Rattle.release.specs.Settled.{has, settled, leafSettled};
 ghost use Rattle.release.specs.Opened.{Opened};
 
-fn wide(x: u32) -> usize
-    ensures { λ r. ⌜ r ≡ x ⌝ }
-{
-    x as usize
-}
-
 // Whether version v has an entry's key with its value.
 fn has(s: &[u8], l: Limits, e: Entry, v: u32) -> bool
     requires { ⌜ Walkable l (now s) v × (e .key < keyLimit) ⌝ }
@@ -108,7 +102,7 @@ pub fn unchanged(s: &[u8], l: Limits, c: u32) -> bool
     ensures { λ r. ⌜ r ≡ unchanged (decode (l .least) (now (s .entry))) ⌝ }
 {
     let h = store::header(s, l);
-    let size = wide(h.pages);
+    let size = model::wide(h.pages);
     let mut n = 5;
     while n < size {
         if !page_settled(s, l, c, n) {

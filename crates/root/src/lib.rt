@@ -28,12 +28,6 @@ pub enum Rooted {
     Lacks,
 }
 
-pub(crate) fn wide(x: u32) -> usize
-    ensures { λ r. ⌜ r ≡ x ⌝ }
-{
-    x as usize
-}
-
 // The root goes, and "that child becomes the root": the page of its first wanted router.
 fn give_way(s: &mut [u8], l: Limits, w: u32, n: usize, want: Gather) -> usize
     requires { ⌜ ExactBytes l (now s) × Inside l (now s) n × (w < 2 ^ 20) × Good want × (0 < want .n) ⌝ }
@@ -42,7 +36,7 @@ fn give_way(s: &mut [u8], l: Limits, w: u32, n: usize, want: Gather) -> usize
     let list = want.list;
     let x = list[0];
     parts::go_in(s, l, n, w);
-    wide(x.value)
+    model::wide(x.value)
 }
 
 // "First of all, an index root whose wanted list is one router goes"; else the root takes its change in place, or is rebuilt alone.

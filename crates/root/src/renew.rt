@@ -53,7 +53,7 @@ fn crown(s: &mut [u8], l: Limits, w: u32, level: u32, rs: Routers, size: usize) 
 {
     let x = rs.first;
     if !rs.two {
-        return Rooted::Moves(crate::wide(x.value));
+        return Rooted::Moves(model::wide(x.value));
     }
     let n = parts::first_free(s, l, 5, size);
     if n == size {

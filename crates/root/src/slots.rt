@@ -8,8 +8,7 @@ ghost use lib.ListN.{length};
 ghost use Rattle.model.specs.Store.{next};
 ghost use Rattle.model.specs.Layout.{decode, encode};
 ghost use Rattle.model.specs.Climb.{putSlot};
-ghost use Rattle.model.specs.Needs.{hasSlot};
-ghost use Rattle.model.specs.Plan.{slotLeft};
+ghost use Rattle.model.specs.Needs.{hasSlot, slotLeft};
 ghost use Rattle.store.specs.Set.{withSlots};
 ghost use Rattle.parts.specs.Kept.{ExactBytes, Inside};
 ghost use Rattle.root.specs.Slotted.{Slotted, slotsOf};
@@ -20,7 +19,7 @@ fn has_slot(s: &[u8], l: Limits) -> bool
     ensures { λ r. ⌜ r ≡ hasSlot (decode (l .least) (now (s .entry))) ⌝ }
 {
     let h = store::header(s, l);
-    let x = store::slot(s, l, crate::wide(h.roots - 1));
+    let x = store::slot(s, l, model::wide(h.roots - 1));
     x.version == h.current + 1
 }
 
@@ -30,7 +29,7 @@ pub fn slot_left(s: &[u8], l: Limits) -> bool
     ensures { λ r. ⌜ r ≡ slotLeft (l .least) (decode (l .least) (now (s .entry))) ⌝ }
 {
     let h = store::header(s, l);
-    edit::either(has_slot(s, l), crate::wide(h.roots) < l.slots)
+    edit::either(has_slot(s, l), model::wide(h.roots) < l.slots)
 }
 
 // The open version's slot leads to page n from now on.
@@ -42,7 +41,7 @@ fn replace_slot(s: &mut [u8], l: Limits, n: usize)
     store::put_slot(
         s,
         l,
-        crate::wide(h.roots - 1),
+        model::wide(h.roots - 1),
         Slot {
             version: h.current + 1,
             root: n as u32,
@@ -59,7 +58,7 @@ fn add_slot(s: &mut [u8], l: Limits, n: usize)
     store::put_slot(
         s,
         l,
-        crate::wide(h.roots),
+        model::wide(h.roots),
         Slot {
             version: h.current + 1,
             root: n as u32,

@@ -12,7 +12,9 @@ namedBy edition = 8 bits 0x52 ∷ 8 bits 0x43 ∷ 8 bits 0x53 ∷ 8 bits 0x54 �
 
 -- "page count 13; current version 20; open flag 1; number of roots 9"; in edition 2 the oldest version 20
 abbrev pub valueParts : ℕ → Header → List Part
-valueParts least h = 13 bits (h .pages) ∷ 20 bits (h .current) ∷ 1 bits (bit (h .opened)) ∷ rootBits least bits (h .roots) ∷ oldestBits least bits (h .oldest) ∷ []
+valueParts least h =
+    13 bits (h .pages) ∷ 20 bits (h .current) ∷ 1 bits (bit (h .opened)) ∷ rootBits least bits (h .roots) ∷ oldestBits least bits
+    (h .oldest) ∷ []
 
 -- bytes with this header laid over theirs
 unfoldable pub putHeader : ℕ → List ℕ → Header → List ℕ

@@ -1,4 +1,5 @@
--- Bytes that pass the tests of length, name, edition and zero bits, with right live counts, are exactly a store's, and that store can be held.
+-- Bytes that pass the tests of length, name, edition and zero bits, with right live counts, are exactly a store's, and that store can be
+-- held.
 use Prim.Native.Nat.{ℕ, _*_, _≤_}
 use mathlib.Core.Path.{_≡_}
 use mathlib.Core.List.{List}

@@ -25,4 +25,5 @@ pub record Table (least : ℕ) (b : List ℕ) (v lo hi c : ℕ) (t : List ℕ) :
 
 -- the places of page n from j on
 pub record Row (least : ℕ) (b : List ℕ) (v lo hi up n j : ℕ) (t : List ℕ) : Type 0 where
-  pub from : (i : ℕ) → j ≤ i → i ≤ countAt least b n → getD t (n * (5 * least + 1) + i) 0 ≡ behind least b v lo hi up (pageOf least b n) (countAt least b n) i
+  pub from : (i : ℕ) → j ≤ i → i ≤ countAt least b n
+      → getD t (n * (5 * least + 1) + i) 0 ≡ behind least b v lo hi up (pageOf least b n) (countAt least b n) i

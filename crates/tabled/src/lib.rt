@@ -26,12 +26,6 @@ pub struct Asked {
     pub size: usize,
 }
 
-pub fn wide(x: u32) -> usize
-    ensures { λ r. ⌜ r ≡ x ⌝ }
-{
-    x as usize
-}
-
 // Whether page n has a router alive at v at or below a key.
 pub fn starts(s: &[u8], l: Limits, n: usize, v: u32, key: u32) -> bool
     requires { ⌜ Edition l × PageStands (l .least) (now s) n × (length (now s) ≤ 2 ^ 40) ⌝ }

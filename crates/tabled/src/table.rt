@@ -98,7 +98,7 @@ fn step(s: &[u8], l: Limits, q: Asked, table: &[usize], n: usize, level: u32, at
     let rest = cell(table, l, n, o.next);
     Passed {
         rest: rest,
-        page: crate::wide(o.page),
+        page: model::wide(o.page),
     }
 }
 
@@ -133,7 +133,7 @@ fn through(s: &[u8], l: Limits, q: Asked, table: &[usize], e: Entry, level: u32)
     if q.high < e.key {
         return 1;
     }
-    down(s, l, q, table, crate::wide(e.value), level, e.key)
+    down(s, l, q, table, model::wide(e.value), level, e.key)
 }
 
 // The numbers of page n, which is right and has this level, from its last router on.

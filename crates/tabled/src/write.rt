@@ -58,11 +58,11 @@ pub fn gather_by(
         return walk::settings(p, count, q, list, found);
     }
     let o = walk::own_router(p, count, q.version, at);
-    let mut k = gather_by(table, s, l, q, crate::wide(o.page), up - 1, at, list, found);
+    let mut k = gather_by(table, s, l, q, model::wide(o.page), up - 1, at, list, found);
     let mut i = next_some(table, s, l, q, n, up - 1, o.next);
     while i < count {
         let e = page::entry_at(p, i);
-        k = gather_by(table, s, l, q, crate::wide(e.value), up - 1, e.key, list, k);
+        k = gather_by(table, s, l, q, model::wide(e.value), up - 1, e.key, list, k);
         i = next_some(table, s, l, q, n, up - 1, i + 1);
     }
     k

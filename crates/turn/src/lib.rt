@@ -7,8 +7,6 @@ ghost use mathlib.Core.Bool.{true, false};
 ghost use mathlib.Core.List.{map};
 ghost use Prim.Native.Nat.{_+_, _*_, _-_, _^_, _≤_, _<_};
 ghost use lib.ListN.{length};
-ghost use lib.Dec.{eqb};
-ghost use Rattle.model.specs.Basic.{pick};
 ghost use Rattle.model.specs.Limits.{Edition};
 ghost use Rattle.model.specs.Field.{field};
 ghost use Rattle.model.specs.Layout.{readEntry, pageOf, withPage, decodePage, encodePage, decode, encode};
@@ -20,12 +18,6 @@ ghost use Rattle.store.specs.Set.{withPages};
 ghost use Rattle.turn.specs.Turned.{HeadedBytes, begun};
 ghost use Rattle.turn.specs.Slotted.{Cleared};
 ghost use Rattle.turn.specs.Past.{Past, AllPast, Apart, lowEnd};
-
-fn wide(x: u32) -> usize
-    ensures { λ r. ⌜ r ≡ x ⌝ }
-{
-    x as usize
-}
 
 // "The open version is current plus 1."
 pub fn begin(s: &mut [u8], l: Limits)
@@ -52,7 +44,7 @@ fn second_word(page: &[u8], i: usize) -> usize
     ensures { λ r. ⌜ r ≡ field (now (page .entry)) (128 + 96 * i + 32) 32 ⌝ }
 {
     let o = 128 + 96 * i;
-    wide(bits::field(page, o + 32, 32))
+    model::wide(bits::field(page, o + 32, 32))
 }
 
 // Whether entry i of a page may start or end at w: where the answer is false, it does neither. One word tells it. Here and in `may_move`
@@ -62,7 +54,7 @@ pub fn may_turn(page: &[u8], i: usize, w: u32) -> bool
     ensures { λ r. ⌜ (r ≡ false → Apart w (readEntry (now (page .entry)) (128 + 96 * i))) ⌝ }
 {
     let b = second_word(page, i);
-    let v = wide(w);
+    let v = model::wide(w);
     if (b + (1048576 - v)) % 1048576 == 0 {
         return true;
     }
@@ -97,7 +89,7 @@ fn touched(page: &[u8], l: Limits, w: u32) -> bool
 fn low_end(l: Limits, w: u32) -> usize
     ensures { λ r. ⌜ r ≡ lowEnd (l .least) w ⌝ }
 {
-    let v = wide(w);
+    let v = model::wide(w);
     if l.least <= 4 {
         return v % 131072 * 32768;
     }
@@ -110,7 +102,7 @@ fn may_move(page: &[u8], l: Limits, w: u32) -> bool
     requires { ⌜ Edition l × Exact (l .least) (now page) × (w < 2 ^ 20) × Past w (decodePage (l .least) (now page)) ⌝ }
     ensures { λ r. ⌜ (r ≡ false → back w (decodePage (l .least) (now (page .entry))) ≡ decodePage (l .least) (now (page .entry))) ⌝ }
 {
-    let x = wide(bits::field(page, 32, 32));
+    let x = model::wide(bits::field(page, 32, 32));
     let low = low_end(l, w);
     if x < low {
         return false;
@@ -150,7 +142,7 @@ fn drop_slot(s: &mut [u8], l: Limits, roots: u32, w: u32) -> u32
     requires { ⌜ Edition l × (0 < roots) × (roots ≤ 64 * l .least) × (5 * (64 * l .least) ≤ length (now s)) × (length (now s) ≤ 2 ^ 40) ⌝ }
     ensures { λ r. ⌜ Cleared (l .least) (now (s .entry)) (now (s .exit)) roots w r ⌝ }
 {
-    let i = wide(roots - 1);
+    let i = model::wide(roots - 1);
     let x = store::slot(s, l, i);
     if x.version != w {
         return roots;
@@ -175,7 +167,7 @@ pub fn abandon(s: &mut [u8], l: Limits)
 {
     let h = store::header(s, l);
     let w = h.current + 1;
-    undo_pages(s, l, wide(h.pages), w);
+    undo_pages(s, l, model::wide(h.pages), w);
     let roots = drop_slot(s, l, h.roots, w);
     store::put_header(s, l, h.with_roots(roots).with_flag(false));
 }

@@ -11,16 +11,24 @@ same-length : tie.Need-same-length
 same-length c = search needs
 
 returns : tie.Need-returns
-returns c = first-stops (c .before .before .before .before .before .before .pre) _ _ (c .before .before .before .pass .ensures) (c .if1 .taken)
+returns c =
+    let at-start = c .before .before .before .before .before .before in
+    first-stops (at-start .pre) _ _ (c .before .before .before .pass .ensures) (c .if1 .taken)
 
 pass-requires-2 : tie.Need-pass-requires-2
-pass-requires-2 c κs = c .before .before .before .before .pass .ensures .going
+pass-requires-2 c κs =
+    let at-pass = c .before .before .before .before in
+    at-pass .pass .ensures .going
 
 same-length-2 : tie.Need-same-length-2
 same-length-2 c = search needs
 
 returns-2 : tie.Need-returns-2
-returns-2 c = second-so (c .before .before .before .before .before .before .before .before .before .before .pre) _ _ (c .before .before .before .before .before .before .before .pass .ensures) (c .before .before .before .before .if1 .left) _ _ (c .before .before .pass2 .ensures)
+returns-2 c =
+    let at-if1 = c .before .before .before .before in
+    let at-pass = at-if1 .before .before .before in
+    let at-start = at-pass .before .before .before in
+    second-so (at-start .pre) _ _ (at-pass .pass .ensures) (at-if1 .if1 .left) _ _ (c .before .before .pass2 .ensures)
 
 pub carry-spec : {M : Type 1} → statement M
 carry-spec = tie.close (tie.spec pass-requires same-length returns pass-requires-2 same-length-2 returns-2)

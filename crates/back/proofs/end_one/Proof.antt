@@ -6,20 +6,23 @@ use Rattle.back.proofs.end_one.Tie as tie
 
 returns : tie.Need-returns
 returns c =
-    let a = c .before .before .before .args in
-    let p = c .before .before .before .pre in
+    let at-start = c .before .before .before in
+    let a = at-start .args in
+    let p = at-start .pre in
     end-added (p .0) (a .key) (p .1) (a .d) (p .2) (c .if1 .taken)
 
 returns-2 : tie.Need-returns-2
 returns-2 c =
-    let a = c .before .before .before .before .before .args in
-    let p = c .before .before .before .before .before .pre in
+    let at-start = c .before .before .before .before .before in
+    let a = at-start .args in
+    let p = at-start .pre in
     end-same (p .0) (a .key) (p .1) (a .d) (p .2) (c .if2 .taken)
 
 raw-delete-requires : tie.Need-raw-delete-requires
 raw-delete-requires c κs =
-    let a = c .before .before .before .before .before .before .args in
-    let p = c .before .before .before .before .before .before .pre in
+    let at-start = c .before .before .before .before .before .before in
+    let a = at-start .args in
+    let p = at-start .pre in
     ends (p .0) (a .key) (p .1) (a .d) (p .2) (c .before .before .before .if1 .left) (c .before .if2 .left)
 
 same-length : tie.Need-same-length
@@ -27,9 +30,14 @@ same-length c = search needs
 
 returns-3 : tie.Need-returns-3
 returns-3 c =
-    let a = c .before .before .before .before .before .before .before .before .before .args in
-    let p = c .before .before .before .before .before .before .before .before .before .pre in
-    end-stepped (p .0) (a .key) (p .1) (a .d) (p .2) (c .before .before .before .before .before .before .if1 .left) (c .before .before .before .before .if2 .left) _ _ (c .before .before .raw-delete .ensures .0) (c .before .before .raw-delete .ensures .1)
+    let at-raw-delete = c .before .before in
+    let at-if2 = at-raw-delete .before .before in
+    let at-if1 = at-if2 .before .before in
+    let at-start = at-if1 .before .before .before in
+    let a = at-start .args in
+    let p = at-start .pre in
+    end-stepped (p .0) (a .key) (p .1) (a .d) (p .2) (at-if1 .if1 .left) (at-if2 .if2 .left) _ _ (at-raw-delete .raw-delete .ensures .0)
+    (at-raw-delete .raw-delete .ensures .1)
 
 pub end-one-spec : {M : Type 1} → statement M
 end-one-spec = tie.close (tie.spec returns returns-2 raw-delete-requires same-length returns-3)

@@ -29,10 +29,12 @@ module _ {l : Limits} {b : List ℕ} {v w : ℕ} (g : Going l b v w) where
   abbrev second : Store → Ran
   second t = through (setOne (l .least)) (those comes (differ (settings t (next t)) (settings t v))) t
 
-  anew : carried (l .least) (between l b w v) (decode (l .least) b) ≡ andOn second (passed false (l .least) (between l b w v) (decode (l .least) b))
+  anew : carried (l .least) (between l b w v) (decode (l .least) b)
+      ≡ andOn second (passed false (l .least) (between l b w v) (decode (l .least) b))
   anew =
       let n = g .is-next in
-      ap (λ (u : ℕ). carried (l .least) (differ (settings s u) (settings s v)) s) n ∙ carried-anew (l .least) (g .edition .four) s (going-sound g) (g .opened) v (g .old)
+      ap (λ (u : ℕ). carried (l .least) (differ (settings s u) (settings s v)) s) n
+      ∙ carried-anew (l .least) (g .edition .four) s (going-sound g) (g .opened) v (g .old)
       ∙ sym (ap (λ (u : ℕ). andOn second (passed false (l .least) (differ (settings s u) (settings s v)) s)) n)
 
   module _ (b₁ : List ℕ) (n : ℕ) (p : BackWent l b₁ v w n (passed false (l .least) (between l b w v) (decode (l .least) b))) where
@@ -44,17 +46,20 @@ module _ {l : Limits} {b : List ℕ} {v w : ℕ} (g : Going l b v w) where
     second-so z b₂ m q =
         let is : carried (l .least) (between l b w v) s ≡ passed true (l .least) (between l b₁ w v) (decode (l .least) b₁) =
         anew ∙ ap (andOn second) (p .goes z)
-        ∙ ap (λ (u : ℕ). passed true (l .least) (differ (settings (decode (l .least) b₁) u) (settings (decode (l .least) b₁) v)) (decode (l .least) b₁)) (sym (p .going .is-next)) in
+        ∙ ap (λ (u : ℕ). passed true (l .least) (differ (settings (decode (l .least) b₁) u) (settings (decode (l .least) b₁) v))
+        (decode (l .least) b₁)) (sym (p .going .is-next)) in
         record { going = q .going; goes = λ y. is ∙ q .goes y; stops = λ y. is ∙ q .stops y }
 
   -- a step that is refused lacks a page or a slot
   few : (n : ℕ) (t : Store) → carried (l .least) (between l b w v) (decode (l .least) b) ≡ stopped n t → lacking n ≡ true
   few n t e =
-      subst (Runs (l .least) s (settings s v)) (sym (ap (λ (u : ℕ). carried (l .least) (differ (settings s u) (settings s v)) s) (g .is-next)) ∙ e)
+      subst (Runs (l .least) s (settings s v))
+      (sym (ap (λ (u : ℕ). carried (l .least) (differ (settings s u) (settings s v)) s) (g .is-next)) ∙ e)
       (carried-runs (l .least) (g .edition .four) s (going-sound g) (g .opened) v (g .old)) .0
 
   module _ (b₁ : List ℕ) (n : ℕ) (p : BackWent l b₁ v w n (carried (l .least) (between l b w v) (decode (l .least) b))) where
-    pub all-done : n ≡ 0 → Bytes b₁ → (0 ≡ leftBy (l .least) b (orAbandoned (carried (l .least) (between l b w v) (decode (l .least) b))) .number)
+    pub all-done : n ≡ 0 → Bytes b₁
+        → (0 ≡ leftBy (l .least) b (orAbandoned (carried (l .least) (between l b w v) (decode (l .least) b))) .number)
         × (b₁ ≡ leftBy (l .least) b (orAbandoned (carried (l .least) (between l b w v) (decode (l .least) b))) .store)
     all-done z bytes = rw (p .goes z) (refl, sym (same-bytes (p .going .edition) b₁ (p .going .sound) bytes))
 

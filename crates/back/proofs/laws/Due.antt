@@ -51,12 +51,15 @@ find-gap k j (x ∷ us) r h g =
   where
     at : (b : Bool) → leb k (x .key) ≡ b → above (x .key) us ≡ true → j < leads (keep b x (atOrAbove k us)) .key
         → (j < leads (atOrAbove k us) .key → find j us ≡ none) → find j (x ∷ us) ≡ none
-    at true e a l ih = find-above j (x ∷ us) (both-intro (ltb j (x .key)) (above j us) (lt-ltb j (x .key) l) (above-lower j (x .key) us a (omega arith)))
+    at true e a l ih =
+        find-above j (x ∷ us) (both-intro (ltb j (x .key)) (above j us) (lt-ltb j (x .key) l) (above-lower j (x .key) us a (omega arith)))
     at false e a l ih = rw (ne-eqb (x .key) j (λ (z : x .key ≡ j). omega (arith, leb-false k (x .key) e))) (ih l)
 
 -- none left: the answer is the same wherever it was asked for
-leads-end : (k : ℕ) (us : List Pair) → inRange 0 keyLimit us ≡ true → keyLimit ≤ leads (atOrAbove k us) .key → leads (atOrAbove k us) ≡ pair keyLimit 0
-leads-end k us i h = ap leads (sym (append-nil (atOrAbove k us))) ∙ leads-none 0 keyLimit (atOrAbove k us) [] (above-in k 0 keyLimit us i) (omega arith) h
+leads-end : (k : ℕ) (us : List Pair) → inRange 0 keyLimit us ≡ true → keyLimit ≤ leads (atOrAbove k us) .key
+    → leads (atOrAbove k us) ≡ pair keyLimit 0
+leads-end k us i h =
+    ap leads (sym (append-nil (atOrAbove k us))) ∙ leads-none 0 keyLimit (atOrAbove k us) [] (above-in k 0 keyLimit us i) (omega arith) h
 
 -- ---- two
 
@@ -84,7 +87,8 @@ module _ (x y : Pair) where
       at true g q f c z m n = (inl (ltb-true (x .key) (y .key) g), refl)
       at false g true f c z m n = absurd (m refl)
       at false g false f true z m n = absurd (n refl)
-      at false g false f false z m n = (inr (omega (arith, ltb-false (x .key) (y .key) g, ltb-false (y .key) (x .key) f), eqb-false (x .value) (y .value) z), refl)
+      at false g false f false z m n =
+          (inr (omega (arith, ltb-false (x .key) (y .key) g, ltb-false (y .key) (x .key) f), eqb-false (x .value) (y .value) z), refl)
 
   kind-few : compared x y .kind ≤ 3
   kind-few = at (ltb (x .key) (y .key)) (ltb (y .key) (x .key)) (eqb (x .value) (y .value))
@@ -95,7 +99,8 @@ module _ (x y : Pair) where
       at false false true = omega arith
       at false false false = omega arith
 
-module _ (us ws : List Pair) (r : rising us ≡ true) (i : inRange 0 keyLimit us ≡ true) (j : inRange 0 keyLimit ws ≡ true) (k : ℕ) (h : k ≤ keyLimit) (d : Delta)
+module _ (us ws : List Pair) (r : rising us ≡ true) (i : inRange 0 keyLimit us ≡ true) (j : inRange 0 keyLimit ws ≡ true) (k : ℕ)
+    (h : k ≤ keyLimit) (d : Delta)
     (e : d ≡ compared (leads (atOrAbove k us)) (leads (atOrAbove k ws))) where
   abbrev x : Pair
   x = leads (atOrAbove k us)

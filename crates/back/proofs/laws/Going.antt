@@ -33,7 +33,12 @@ module _ {l : Limits} {b : List ℕ} {v w : ℕ} (g : Going l b v w) where
   going-sound = sure (g .edition) b (g .sound)
 
   pub going-open : Walkable l b w
-  going-open = record { edition = g .edition; sound = g .sound; version = omega (arith, g .is-next, open-last, old-current (l .least) (decode (l .least) b) (going-sound .old-low)) }
+  going-open =
+      record {
+        edition = g .edition;
+        sound = g .sound;
+        version = omega (arith, g .is-next, open-last, old-current (l .least) (decode (l .least) b) (going-sound .old-low));
+      }
 
   pub going-old : Walkable l b v
   going-old = record { edition = g .edition; sound = g .sound; version = omega (arith, g .old .from, g .old .upto, open-last) }
@@ -45,7 +50,8 @@ module _ {l : Limits} {b : List ℕ} {v w : ℕ} (g : Going l b v w) (one : Stor
   stepped-none k = record { went = record { going = g; goes = λ z. refl; stops = λ z. absurd (z refl) }; rest = refl }
 
   -- refused
-  pub stepped-refused : (d : Delta) (k r : ℕ) → (r ≡ 0 → ⊥) → one (decode (l .least) b) d ≡ refused r → BackStepped l b b v w k r (through one (d ∷ []) (decode (l .least) b))
+  pub stepped-refused : (d : Delta) (k r : ℕ) → (r ≡ 0 → ⊥) → one (decode (l .least) b) d ≡ refused r
+      → BackStepped l b b v w k r (through one (d ∷ []) (decode (l .least) b))
   unfolding through
   stepped-refused d k r n e = record {
     went = record { going = g; goes = λ z. absurd (n z); stops = λ z. ap (orStopped (through one []) (decode (l .least) b)) e };
@@ -53,22 +59,34 @@ module _ {l : Limits} {b : List ℕ} {v w : ℕ} (g : Going l b v w) (one : Stor
   }
 
   -- done
-  module _ (d : Delta) (k : ℕ) (b′ : List ℕ) (t : Store) (p : Left (l .least) (decode (l .least) b) k t) (f : b′ ≡ left (l .least) b (done t) .store) where
+  module _ (d : Delta) (k : ℕ) (b′ : List ℕ) (t : Store) (p : Left (l .least) (decode (l .least) b) k t)
+      (f : b′ ≡ left (l .least) b (done t) .store) where
     abbrev s : Store
     s = decode (l .least) b
 
     pub stepped-done : one (decode (l .least) b) d ≡ done t → BackStepped l b b′ v w k 0 (through one (d ∷ []) (decode (l .least) b))
     unfolding through leftFrom isSound
     stepped-done e =
-        let h : decode (l .least) b′ ≡ t = ap (decode (l .least)) f ∙ encoded-held (l .least) (g .edition .four) (g .edition .eight) t (p .is-sound) in
+        let h : decode (l .least) b′ ≡ t = ap (decode (l .least)) f
+        ∙ encoded-held (l .least) (g .edition .four) (g .edition .eight) t (p .is-sound) in
         let n : w ≡ next t = omega (arith, g .is-next, p .current) in
         record {
           went = record {
             going = record {
               edition = g .edition;
-              sound = eq-eqb (judged (l .least) b′ .number) 0 (ap (λ (x : List ℕ). judged (l .least) x .number) f ∙ encoded-accepted (l .least) (g .edition .four) (g .edition .eight) t (p .is-sound));
+              sound = eq-eqb (judged (l .least) b′ .number) 0
+                  (ap (λ (x : List ℕ). judged (l .least) x .number) f
+                  ∙ encoded-accepted (l .least) (g .edition .four) (g .edition .eight) t (p .is-sound));
               opened = ap (λ (x : Store). x .opened) h ∙ p .opened;
-              old = omega (arith, g .old .from, g .old .upto, p .current, p .oldest, ap (λ (x : Store). x .current) h, ap (λ (x : Store). x .oldest) h);
+              old = omega (
+                arith,
+                g .old .from,
+                g .old .upto,
+                p .current,
+                p .oldest,
+                ap (λ (x : Store). x .current) h,
+                ap (λ (x : Store). x .oldest) h,
+              );
               is-next = n ∙ ap next (sym h);
             };
             goes = λ z. ap (orStopped (through one []) s) e ∙ ap reached (sym h);
@@ -76,18 +94,24 @@ module _ {l : Limits} {b : List ℕ} {v w : ℕ} (g : Going l b v w) (one : Stor
           };
           rest =
               ap₂ differ
-              (ap₂ (λ (x : Store) (y : ℕ). atOrAbove (k + 1) (settings x y)) h (g .is-next) ∙ p .openly ∙ ap (λ (y : ℕ). atOrAbove (k + 1) (settings s y)) (sym (g .is-next)))
-              (ap (λ (x : Store). atOrAbove (k + 1) (settings x v)) h ∙ ap (atOrAbove (k + 1)) (p .earlier v (g .old .from) (g .old .upto)));
+              (ap₂ (λ (x : Store) (y : ℕ). atOrAbove (k + 1) (settings x y)) h (g .is-next) ∙ p .openly
+              ∙ ap (λ (y : ℕ). atOrAbove (k + 1) (settings s y)) (sym (g .is-next)))
+              (ap (λ (x : Store). atOrAbove (k + 1) (settings x v)) h
+              ∙ ap (atOrAbove (k + 1)) (p .earlier v (g .old .from) (g .old .upto)));
         }
 
   -- by the number that the change gave, which is 12 or 13 where it is refused
-  pub stepped-by : (d : Delta) (k : ℕ) (u : Result) → one (decode (l .least) b) d ≡ u → ((n : ℕ) → u ≡ refused n → (n ≡ 12) ⊎ (n ≡ 13)) → ((t : Store) → u ≡ done t → Left (l .least) (decode (l .least) b) k t)
-      → (r : ℕ) (b′ : List ℕ) → r ≡ left (l .least) b u .number → b′ ≡ left (l .least) b u .store → BackStepped l b b′ v w k r (through one (d ∷ []) (decode (l .least) b))
+  pub stepped-by : (d : Delta) (k : ℕ) (u : Result) → one (decode (l .least) b) d ≡ u → ((n : ℕ) → u ≡ refused n → (n ≡ 12) ⊎ (n ≡ 13))
+      → ((t : Store) → u ≡ done t → Left (l .least) (decode (l .least) b) k t)
+      → (r : ℕ) (b′ : List ℕ) → r ≡ left (l .least) b u .number → b′ ≡ left (l .least) b u .store
+      → BackStepped l b b′ v w k r (through one (d ∷ []) (decode (l .least) b))
   stepped-by d k (done t) is lack lefts r b′ e f =
-      subst (λ (m : ℕ). BackStepped l b b′ v w k m (through one (d ∷ []) (decode (l .least) b))) (sym e) (stepped-done d k b′ t (lefts t refl) f is)
+      subst (λ (m : ℕ). BackStepped l b b′ v w k m (through one (d ∷ []) (decode (l .least) b))) (sym e)
+      (stepped-done d k b′ t (lefts t refl) f is)
   stepped-by d k (refused n) is lack lefts r b′ e f =
       subst (λ (m : ℕ). BackStepped l b b′ v w k m (through one (d ∷ []) (decode (l .least) b))) (sym e)
-      (subst (λ (x : List ℕ). BackStepped l b x v w k n (through one (d ∷ []) (decode (l .least) b))) (sym f) (stepped-refused d k n (none (lack n refl)) is))
+      (subst (λ (x : List ℕ). BackStepped l b x v w k n (through one (d ∷ []) (decode (l .least) b))) (sym f)
+      (stepped-refused d k n (none (lack n refl)) is))
     where
       none : (n ≡ 12) ⊎ (n ≡ 13) → n ≡ 0 → ⊥
       none (inl x) y = omega arith

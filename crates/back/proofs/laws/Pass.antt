@@ -31,7 +31,8 @@ use Rattle.back.specs.Going.{Going, BackStepped}
 use Rattle.back.proofs.laws.Going.{going-sound, going-open, going-old, stepped-none, stepped-refused, stepped-by}
 use Rattle.back.specs.Pass.{wants, step, passed}
 
-pub through-append : (one : Store → Delta → Result) (cs ds : List Delta) (s : Store) → through one (cs ++ ds) s ≡ andOn (through one ds) (through one cs s)
+pub through-append : (one : Store → Delta → Result) (cs ds : List Delta) (s : Store)
+    → through one (cs ++ ds) s ≡ andOn (through one ds) (through one cs s)
 unfolding through
 through-append one [] ds s = refl
 through-append one (c ∷ cs) ds s = at (one s c) (λ t. through-append one cs ds t)
@@ -55,7 +56,9 @@ module _ {l : Limits} {b : List ℕ} {v w : ℕ} (g : Going l b v w) (k : ℕ) (
 
   -- none
   none-asked : (insert : Bool) → those (wants insert) (told d) ≡ [] → Step insert b 0
-  none-asked insert z = subst (λ (ds : List Delta). BackStepped l b b v w (d .key) 0 (through (step insert (l .least)) ds s)) (sym z) (stepped-none g (step insert (l .least)) (d .key))
+  none-asked insert z =
+      subst (λ (ds : List Delta). BackStepped l b b v w (d .key) 0 (through (step insert (l .least)) ds s)) (sym z)
+      (stepped-none g (step insert (l .least)) (d .key))
 
   pub end-added : d .kind ≡ 0 → Step false b 0
   end-added z = none-asked false (rw z)
@@ -66,7 +69,9 @@ module _ {l : Limits} {b : List ℕ} {v w : ℕ} (g : Going l b v w) (k : ℕ) (
   -- a delete
   module _ (m : d .kind ≡ 0 → ⊥) (n : d .kind ≡ 3 → ⊥) where
     due : (d .key < keyLimit) × (isSome (find (d .key) (settings s w)) ≡ true)
-    due = ended-due (settings s w) (settings s v) (reads-rising (going-open g)) (reads-low (going-open g)) (reads-low (going-old g)) k h d e m n
+    due =
+        ended-due (settings s w) (settings s v) (reads-rising (going-open g)) (reads-low (going-open g))
+        (reads-low (going-old g)) k h d e m n
 
     here : isSome (find (d .key) (settings (decode (l .least) b) (next (decode (l .least) b)))) ≡ true
     here = ap (λ (x : ℕ). isSome (find (d .key) (settings s x))) (sym (g .is-next)) ∙ due .1
@@ -83,7 +88,8 @@ module _ {l : Limits} {b : List ℕ} {v w : ℕ} (g : Going l b v w) (k : ℕ) (
     one-end : those goes (told d) ≡ d ∷ []
     one-end = rw (ne-eqb (d .kind) 3 n, ne-eqb (d .kind) 0 m)
 
-    pub end-stepped : (r : ℕ) (b′ : List ℕ) → r ≡ left (l .least) b (update (l .least) (decode (l .least) b) (d .key) (deleting (d .key))) .number
+    pub end-stepped : (r : ℕ) (b′ : List ℕ) → r ≡ left (l .least) b
+        (update (l .least) (decode (l .least) b) (d .key) (deleting (d .key))) .number
         → b′ ≡ left (l .least) b (update (l .least) (decode (l .least) b) (d .key) (deleting (d .key))) .store → Step false b′ r
     end-stepped r b′ x y =
         subst (λ (ds : List Delta). BackStepped l b b′ v w (d .key) r (through (endOne (l .least)) ds s)) (sym one-end)
@@ -95,7 +101,8 @@ module _ {l : Limits} {b : List ℕ} {v w : ℕ} (g : Going l b v w) (k : ℕ) (
   -- an insert
   module _ (z : d .kind ≡ 0) where
     missing : (d .key < keyLimit) × (find (d .key) (settings s w) ≡ none)
-    missing = added-due (settings s w) (settings s v) (reads-rising (going-open g)) (reads-low (going-open g)) (reads-low (going-old g)) k h d e z
+    missing =
+        added-due (settings s w) (settings s v) (reads-rising (going-open g)) (reads-low (going-open g)) (reads-low (going-old g)) k h d e z
 
     away : find (d .key) (settings (decode (l .least) b) (next (decode (l .least) b))) ≡ none
     away = ap (λ (x : ℕ). find (d .key) (settings s x)) (sym (g .is-next)) ∙ missing .1
@@ -112,7 +119,8 @@ module _ {l : Limits} {b : List ℕ} {v w : ℕ} (g : Going l b v w) (k : ℕ) (
     one-set : those comes (told d) ≡ d ∷ []
     one-set = rw z
 
-    pub set-stepped : d .new < 2 ^ 32 → (r : ℕ) (b′ : List ℕ) → r ≡ left (l .least) b (rawInsert (l .least) (decode (l .least) b) (d .key) (d .new)) .number
+    pub set-stepped : d .new < 2 ^ 32 → (r : ℕ) (b′ : List ℕ)
+        → r ≡ left (l .least) b (rawInsert (l .least) (decode (l .least) b) (d .key) (d .new)) .number
         → b′ ≡ left (l .least) b (rawInsert (l .least) (decode (l .least) b) (d .key) (d .new)) .store → Step true b′ r
     set-stepped few r b′ x y =
         subst (λ (ds : List Delta). BackStepped l b b′ v w (d .key) r (through (setOne (l .least)) ds s)) (sym one-set)
@@ -127,7 +135,8 @@ module _ {l : Limits} {b : List ℕ} {v w : ℕ} (g : Going l b v w) (k : ℕ) (
       let m : d .kind ≡ 0 → ⊥ = λ y. omega (arith, y, z) in
       let n : d .kind ≡ 3 → ⊥ = λ y. omega (arith, y, z) in
       subst (λ (ds : List Delta). BackStepped l b b v w (d .key) 10 (through (setOne (l .least)) ds s)) (sym one)
-      (stepped-refused g (setOne (l .least)) d (d .key) 10 (λ y. omega (arith, y)) (set-over (l .least) (g .edition .four) s (going-sound g) (g .opened) (d .key) (due m n .0) (here m n) d refl))
+      (stepped-refused g (setOne (l .least)) d (d .key) 10 (λ y. omega (arith, y))
+      (set-over (l .least) (g .edition .four) s (going-sound g) (g .opened) (d .key) (due m n .0) (here m n) d refl))
     where
       one : those comes (told d) ≡ d ∷ []
       one = rw z
@@ -138,7 +147,8 @@ module _ {l : Limits} {b : List ℕ} {v w : ℕ} (g : Going l b v w) (k : ℕ) (
       at : (c : Bool) → eqb (d .kind) 1 ≡ c → those comes (told d) ≡ []
       at true q = rw (eqb-true (d .kind) 1 q)
       at false q =
-          let few = few-kinds (settings s w) (settings s v) (reads-rising (going-open g)) (reads-low (going-open g)) (reads-low (going-old g)) k h d e in
+          let few = few-kinds (settings s w) (settings s v) (reads-rising (going-open g)) (reads-low (going-open g))
+          (reads-low (going-old g)) k h d e in
           let other = eqb-false (d .kind) 1 q in
           not-told d comes (omega (arith, few, m, n, other))
 
@@ -152,11 +162,13 @@ module _ {l : Limits} {b : List ℕ} {v w : ℕ} (g : Going l b v w) (k : ℕ) (
         ≡ andOn (passed insert (l .least) (leftOf l b w v (d .key + 1))) (passed insert (l .least) (told d) (decode (l .least) b))
     asked-first =
         ap (λ (ds : List Delta). through (step insert (l .least)) ds s)
-        (ap (those (wants insert)) (from-step (going-open g) (going-old g) k h d e) ∙ those-append (wants insert) (told d) (leftOf l b w v (d .key + 1)))
+        (ap (those (wants insert)) (from-step (going-open g) (going-old g) k h d e)
+        ∙ those-append (wants insert) (told d) (leftOf l b w v (d .key + 1)))
         ∙ through-append (step insert (l .least)) (those (wants insert) (told d)) (those (wants insert) (leftOf l b w v (d .key + 1))) s
 
     module _ (b′ : List ℕ) (r : ℕ) (t : BackStepped l b b′ v w (d .key) r (passed insert (l .least) (told d) (decode (l .least) b))) where
-      pub pass-goes : r ≡ 0 → passed insert (l .least) (leftOf l b w v k) (decode (l .least) b) ≡ passed insert (l .least) (leftOf l b′ w v (d .key + 1)) (decode (l .least) b′)
+      pub pass-goes : r ≡ 0 → passed insert (l .least) (leftOf l b w v k) (decode (l .least) b)
+          ≡ passed insert (l .least) (leftOf l b′ w v (d .key + 1)) (decode (l .least) b′)
       pass-goes z =
           asked-first ∙ ap (andOn (passed insert (l .least) (leftOf l b w v (d .key + 1)))) (t .went .goes z)
           ∙ ap (λ (ds : List Delta). passed insert (l .least) ds (decode (l .least) b′)) (sym (t .rest))
@@ -165,7 +177,8 @@ module _ {l : Limits} {b : List ℕ} {v w : ℕ} (g : Going l b v w) (k : ℕ) (
       pass-stops z = asked-first ∙ ap (andOn (passed insert (l .least) (leftOf l b w v (d .key + 1)))) (t .went .stops z)
 
 module _ {l : Limits} {b : List ℕ} {v w : ℕ} (g : Going l b v w) (insert : Bool) where
-  pub pass-start : passed insert (l .least) (between l b w v) (decode (l .least) b) ≡ passed insert (l .least) (leftOf l b w v 0) (decode (l .least) b)
+  pub pass-start : passed insert (l .least) (between l b w v) (decode (l .least) b)
+      ≡ passed insert (l .least) (leftOf l b w v 0) (decode (l .least) b)
   pass-start = ap (λ (ds : List Delta). passed insert (l .least) ds (decode (l .least) b)) (sym (from-start (going-open g) (going-old g)))
 
   pub pass-end : (k : ℕ) → keyLimit ≤ k → passed insert (l .least) (leftOf l b w v k) (decode (l .least) b) ≡ reached (decode (l .least) b)
@@ -173,5 +186,6 @@ module _ {l : Limits} {b : List ℕ} {v w : ℕ} (g : Going l b v w) (insert : B
   pass-end k h = ap (λ (ds : List Delta). passed insert (l .least) ds (decode (l .least) b)) (from-end (going-open g) (going-old g) k h)
 
 -- one of the two steps, by the pass
-pub stepped-as : {l : Limits} {b b′ : List ℕ} {v w k r : ℕ} (s : Store) (d : Delta) (x y : Bool) → x ≡ y → BackStepped l b b′ v w k r (passed y (l .least) (told d) s) → BackStepped l b b′ v w k r (passed x (l .least) (told d) s)
+pub stepped-as : {l : Limits} {b b′ : List ℕ} {v w k r : ℕ} (s : Store) (d : Delta) (x y : Bool) → x ≡ y
+    → BackStepped l b b′ v w k r (passed y (l .least) (told d) s) → BackStepped l b b′ v w k r (passed x (l .least) (told d) s)
 stepped-as s d x y e t = rw e t

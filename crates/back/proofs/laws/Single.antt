@@ -45,15 +45,18 @@ behind-drop k [] = refl
 behind-drop k (x ∷ us) = at (eqb (x .key) k) refl (behind-drop k us)
   where
     at : (b : Bool) → eqb (x .key) k ≡ b → atOrAbove (k + 1) (those (λ (y : Pair). not (has (y .key) (k ∷ []))) us) ≡ atOrAbove (k + 1) us
-        → atOrAbove (k + 1) (keep (not (b || false)) x (those (λ (y : Pair). not (has (y .key) (k ∷ []))) us)) ≡ keep (leb (k + 1) (x .key)) x (atOrAbove (k + 1) us)
-    at true e ih = ih ∙ sym (ap (λ (c : Bool). keep c x (atOrAbove (k + 1) us)) (lt-leb (k + 1) (x .key) (omega (arith, eqb-true (x .key) k e))))
+        → atOrAbove (k + 1) (keep (not (b || false)) x (those (λ (y : Pair). not (has (y .key) (k ∷ []))) us))
+        ≡ keep (leb (k + 1) (x .key)) x (atOrAbove (k + 1) us)
+    at true e ih =
+        ih ∙ sym (ap (λ (c : Bool). keep c x (atOrAbove (k + 1) us)) (lt-leb (k + 1) (x .key) (omega (arith, eqb-true (x .key) k e))))
     at false e ih = ap (keep (leb (k + 1) (x .key)) x) ih
 
 behind-enter : (p : Pair) (us : List Pair) → atOrAbove (p .key + 1) (enterPair p us) ≡ atOrAbove (p .key + 1) us
 behind-enter p [] = ap (λ (c : Bool). keep c p []) (lt-leb (p .key + 1) (p .key) (omega arith))
 behind-enter p (x ∷ us) = at (ltb (p .key) (x .key)) (behind-enter p us)
   where
-    at : (b : Bool) → atOrAbove (p .key + 1) (enterPair p us) ≡ atOrAbove (p .key + 1) us → atOrAbove (p .key + 1) (placed b p x us (enterPair p us)) ≡ atOrAbove (p .key + 1) (x ∷ us)
+    at : (b : Bool) → atOrAbove (p .key + 1) (enterPair p us) ≡ atOrAbove (p .key + 1) us
+        → atOrAbove (p .key + 1) (placed b p x us (enterPair p us)) ≡ atOrAbove (p .key + 1) (x ∷ us)
     at true ih = ap (λ (c : Bool). keep c p (atOrAbove (p .key + 1) (x ∷ us))) (lt-leb (p .key + 1) (p .key) (omega arith))
     at false ih = ap (keep (leb (p .key + 1) (x .key)) x) ih
 
@@ -61,7 +64,8 @@ module _ (least : ℕ) (four : 4 ≤ least) (s : Store) (d : Sound least s) (o :
   two : 2 ≤ least
   two = omega arith
 
-  leaves : (c : Change) → ((us : List Pair) → atOrAbove (k + 1) (applied c us) ≡ atOrAbove (k + 1) us) → (r : Result) → Sounds least four s d o r → Changed s c r
+  leaves : (c : Change) → ((us : List Pair) → atOrAbove (k + 1) (applied c us) ≡ atOrAbove (k + 1) us) → (r : Result)
+      → Sounds least four s d o r → Changed s c r
       → (t : Store) → r ≡ done t → Left least s k t
   leaves c behind (refused n) f e t q = absurd (never (ap is-done q))
     where
@@ -89,7 +93,9 @@ module _ (least : ℕ) (four : 4 ≤ least) (s : Store) (d : Sound least s) (o :
       is u v z = ap store-of z
 
   at-open : lookup s k (next s) ≡ find k (settings s (next s))
-  at-open = let e : last s ≡ next s = ap (λ (b : Bool). lastOf b (s .current)) o in lookup-is least two s d k (next s) low (omega (arith, old-current least s (d .old-low)))
+  at-open =
+      let e : last s ≡ next s = ap (λ (b : Bool). lastOf b (s .current)) o in
+      lookup-is least two s d k (next s) low (omega (arith, old-current least s (d .old-low)))
 
   -- an insert of a key that is not alive
   module _ (away : find k (settings s (next s)) ≡ none) where
@@ -98,8 +104,10 @@ module _ (least : ℕ) (four : 4 ≤ least) (s : Store) (d : Sound least s) (o :
 
     pub set-left : (x : ℕ) → x < 2 ^ 32 → (t : Store) → rawInsert least s k x ≡ done t → Left least s k t
     set-left x small =
-        leaves (record { drop = []; take = pair k x ∷ [] }) (λ us. ap (λ (ws : List Pair). atOrAbove (k + 1) (enterPair (pair k x) ws)) (keep-all us) ∙ behind-enter (pair k x) us)
-        (rawInsert least s k x) (raw-keeps least four s d o k x low (at-open ∙ away) small) (raw-changes least two s (true-holds _ (to-tests least s d)) o k x low (at-open ∙ away))
+        leaves (record { drop = []; take = pair k x ∷ [] })
+        (λ us. ap (λ (ws : List Pair). atOrAbove (k + 1) (enterPair (pair k x) ws)) (keep-all us) ∙ behind-enter (pair k x) us)
+        (rawInsert least s k x) (raw-keeps least four s d o k x low (at-open ∙ away) small)
+        (raw-changes least two s (true-holds _ (to-tests least s d)) o k x low (at-open ∙ away))
 
   -- a delete of one that is
   module _ (here : isSome (find k (settings s (next s))) ≡ true) where
@@ -108,7 +116,8 @@ module _ (least : ℕ) (four : 4 ≤ least) (s : Store) (d : Sound least s) (o :
 
     pub end-left : (t : Store) → update least s k (deleting k) ≡ done t → Left least s k t
     end-left t q =
-        leaves (record { drop = k ∷ []; take = [] }) (behind-drop k) (delete least s k) (delete-keeps least four s d o k) (delete-changes least two s (true-holds _ (to-tests least s d)) k)
+        leaves (record { drop = k ∷ []; take = [] }) (behind-drop k) (delete least s k) (delete-keeps least four s d o k)
+        (delete-changes least two s (true-holds _ (to-tests least s d)) k)
         t (delete-is least s k low o present ∙ q)
 
     -- an insert over it is refused

@@ -19,63 +19,104 @@ use Rattle.back.proofs.pass.Tie as tie
 abbrev Inv-loop : tie.InvT-loop
 Inv-loop s₀ l v w insert key₀ high₀ s key high =
     (key ≤ keyLimit + 1) × Going l s v w
-    × (passed insert (l .least) (between l s₀ w v) (decode (l .least) s₀) ≡ passed insert (l .least) (leftOf l s w v key) (decode (l .least) s))
+    × (passed insert (l .least) (between l s₀ w v) (decode (l .least) s₀)
+    ≡ passed insert (l .least) (leftOf l s w v key) (decode (l .least) s))
     × (length s ≡ length s₀)
 
 abbrev μ-loop : tie.MeasureT-loop
 μ-loop s₀ l v w insert key₀ high₀ s key high = keyLimit + 1 - key
 
 loop-holds : tie.Need-loop-holds Inv-loop μ-loop
-loop-holds c = (omega arith, c .before .pre, pass-start (c .before .pre) (c .before .args .insert), refl)
+loop-holds c =
+    let at-start = c .before in
+    (omega arith, at-start .pre, pass-start (at-start .pre) (at-start .args .insert), refl)
 
 onward-requires : tie.Need-onward-requires Inv-loop μ-loop
 onward-requires c κs = (c .before .before .loop .inv .1, omega (arith, c .before .loop-test .taken))
 
 next-requires : tie.Need-next-requires Inv-loop μ-loop
-next-requires c κs = let g = c .before .before .before .before .loop .inv .1 in (going-open g, going-old g)
+next-requires c κs =
+    let at-loop = c .before .before .before .before in
+    let g = at-loop .loop .inv .1 in (going-open g, going-old g)
 
 act-requires : tie.Need-act-requires Inv-loop μ-loop
-act-requires c κs = (c .before .before .before .before .before .before .loop .inv .1, c .before .before .before .onward .ensures .0 .high, c .before .next .ensures)
+act-requires c κs =
+    let at-loop = c .before .before .before .before .before .before in
+    (at-loop .loop .inv .1, c .before .before .before .onward .ensures .0 .high, c .before .next .ensures)
 
 same-length : tie.Need-same-length Inv-loop μ-loop
 same-length c = search needs
 
 -- nothing is passed over that is asked for
-passes-over : (c : tie.After-act Inv-loop μ-loop) → let l = c .before .before .before .before .before .before .before .loop in let a = c .before .before .before .before .before .before .before .before .before .args in
+passes-over : (c : tie.After-act Inv-loop μ-loop) →
+    let at-onward = c .before .before .before .before in
+    let at-loop = at-onward .before .before .before in
+    let at-start = at-loop .before .before in
+    let l = at-loop .loop in let a = at-start .args in
     passed (a .insert) (a .l .least) (leftOf (a .l) (l .s) (a .w) (a .v) (l .key)) (decode (a .l .least) (l .s))
-    ≡ passed (a .insert) (a .l .least) (leftOf (a .l) (l .s) (a .w) (a .v) (c .before .before .before .before .onward .result .key)) (decode (a .l .least) (l .s))
-passes-over c = let l = c .before .before .before .before .before .before .before .loop in let a = c .before .before .before .before .before .before .before .before .before .args in ap (λ (ds : List Delta). passed (a .insert) (a .l .least) ds (decode (a .l .least) (l .s))) (c .before .before .before .before .onward .ensures .1)
+    ≡ passed (a .insert) (a .l .least) (leftOf (a .l) (l .s) (a .w) (a .v) (at-onward .onward .result .key)) (decode (a .l .least) (l .s))
+passes-over c =
+    let at-onward = c .before .before .before .before in
+    let at-loop = at-onward .before .before .before in
+    let at-start = at-loop .before .before in
+    let l = at-loop .loop in let a = at-start .args in
+    ap (λ (ds : List Delta). passed (a .insert) (a .l .least) ds (decode (a .l .least) (l .s))) (at-onward .onward .ensures .1)
 
 returns : tie.Need-returns Inv-loop μ-loop
 returns c =
-    let l = c .before .before .before .before .before .before .before .before .before .before .loop in
-    let t = c .before .before .before .act .ensures in
-    let p = c .before .before .before .before .before .before .before .onward in
+    let at-act = c .before .before .before in
+    let at-next = at-act .before .before in
+    let at-onward = at-next .before .before in
+    let at-loop = at-onward .before .before .before in
+    let at-start = at-loop .before .before in
+    let l = at-loop .loop in
+    let t = at-act .act .ensures in
+    let p = at-onward .onward in
     record {
       going = t .went .going;
       goes = λ z. absurd (c .if1 .taken z);
-      stops = λ z. l .inv .2 ∙ passes-over (c .before .before .before) ∙ pass-stops (l .inv .1) (p .result .key) (p .ensures .0 .high) (c .before .before .before .before .before .next .result) (c .before .before .before .before .before .next .ensures) (c .before .before .before .before .before .before .before .before .before .before .before .before .args .insert) _ _ t z;
+      stops = λ z. l .inv .2 ∙ passes-over at-act
+          ∙ pass-stops (l .inv .1) (p .result .key) (p .ensures .0 .high) (at-next .next .result) (at-next .next .ensures)
+          (at-start .args .insert) _ _ t z;
     }
 
 add-key : tie.Need-add-key Inv-loop μ-loop
 add-key c =
-    let p = c .before .before .before .before .before .before .before .before .onward in
-    let o = pass-on (c .before .before .before .before .before .before .before .before .before .before .before .loop .inv .1) (p .result .key) (p .ensures .0 .high) (c .before .before .before .before .before .before .next .result) (c .before .before .before .before .before .before .next .ensures) in
+    let at-next = c .before .before .before .before .before .before in
+    let at-onward = at-next .before .before in
+    let at-loop = at-onward .before .before .before in
+    let p = at-onward .onward in
+    let o = pass-on (at-loop .loop .inv .1) (p .result .key) (p .ensures .0 .high) (at-next .next .result) (at-next .next .ensures) in
     omega (arith, o .high)
 
 loop-less : tie.Need-loop-less Inv-loop μ-loop
 loop-less c =
-    let p = c .before .before .before .before .before .before .before .before .onward in
-    let o = pass-on (c .before .before .before .before .before .before .before .before .before .before .before .loop .inv .1) (p .result .key) (p .ensures .0 .high) (c .before .before .before .before .before .before .next .result) (c .before .before .before .before .before .before .next .ensures) in
-    omega (arith, o .low, o .high, p .ensures .0 .low, c .before .before .before .before .before .before .before .before .before .before .loop-test .taken)
+    let at-next = c .before .before .before .before .before .before in
+    let at-onward = at-next .before .before in
+    let at-test = at-onward .before .before in
+    let at-loop = at-test .before in
+    let p = at-onward .onward in
+    let o = pass-on (at-loop .loop .inv .1) (p .result .key) (p .ensures .0 .high) (at-next .next .result) (at-next .next .ensures) in
+    omega (arith, o .low, o .high, p .ensures .0 .low, at-test .loop-test .taken)
 
 loop-again : tie.Need-loop-again Inv-loop μ-loop
 loop-again c =
-    let l = c .before .before .before .before .before .before .before .before .before .before .before .loop in
-    let p = c .before .before .before .before .before .before .before .before .onward in
-    let t = c .before .before .before .before .act .ensures in
-    let o = pass-on (l .inv .1) (p .result .key) (p .ensures .0 .high) (c .before .before .before .before .before .before .next .result) (c .before .before .before .before .before .before .next .ensures) in
-    (omega (arith, o .high), t .went .going, l .inv .2 ∙ passes-over (c .before .before .before .before) ∙ pass-goes (l .inv .1) (p .result .key) (p .ensures .0 .high) (c .before .before .before .before .before .before .next .result) (c .before .before .before .before .before .before .next .ensures) (c .before .before .before .before .before .before .before .before .before .before .before .before .before .args .insert) _ _ t (c .before .if1 .left), c .before .before .before .before .act .kept .0 ∙ l .inv .3)
+    let at-act = c .before .before .before .before in
+    let at-next = at-act .before .before in
+    let at-onward = at-next .before .before in
+    let at-loop = at-onward .before .before .before in
+    let at-start = at-loop .before .before in
+    let l = at-loop .loop in
+    let p = at-onward .onward in
+    let t = at-act .act .ensures in
+    let o = pass-on (l .inv .1) (p .result .key) (p .ensures .0 .high) (at-next .next .result) (at-next .next .ensures) in (
+      omega (arith, o .high),
+      t .went .going,
+      l .inv .2 ∙ passes-over at-act
+          ∙ pass-goes (l .inv .1) (p .result .key) (p .ensures .0 .high) (at-next .next .result) (at-next .next .ensures)
+          (at-start .args .insert) _ _ t (c .before .if1 .left),
+      at-act .act .kept .0 ∙ l .inv .3,
+    )
 
 same-length-2 : tie.Need-same-length-2 Inv-loop μ-loop
 same-length-2 c = search needs

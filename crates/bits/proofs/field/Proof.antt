@@ -37,13 +37,16 @@ trimmed : (c : tie.After-power) → let a = c .before .before .before .args in l
     c .before .word .result / 2 ^ (8 * n - a .at % 8 - a .width) % c .power .result ≡ fieldOf (a .s .now) (a .at) (a .width)
 trimmed c =
     let a = c .before .before .before .args in let n : ℕ = (a .at % 8 + a .width + 7) / 8 in
-    rw (c .power .ensures, c .before .word .ensures) (field-whole (a .s .now) (a .at) (a .width) n (8 * n - a .at % 8 - a .width) (omega arith))
+    rw (c .power .ensures, c .before .word .ensures)
+    (field-whole (a .s .now) (a .at) (a .width) n (8 * n - a .at % 8 - a .width) (omega arith))
 
 rem-result : tie.Need-rem-result
 rem-result c = omega (arith, c .power .ensures, pow-pos (c .before .before .before .args .width))
 
 cast-result : tie.Need-cast-result
-cast-result c = let a = c .before .before .before .args in omega (arith, trimmed c, field-fits (a .s .now) (a .at) (a .width) (c .before .before .before .pre .1))
+cast-result c =
+    let at-start = c .before .before .before in
+    let a = at-start .args in omega (arith, trimmed c, field-fits (a .s .now) (a .at) (a .width) (at-start .pre .1))
 
 returns : tie.Need-returns
 returns c = trimmed c

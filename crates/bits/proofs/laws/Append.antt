@@ -45,7 +45,8 @@ field-left a b at n h = field-ext (a ++ b) a at at n λ i l. bit-left a b (at + 
 
 -- a field of a part is one of the whole
 pub field-part : (s : List ℕ) (a m at n : ℕ) → at + n ≤ 8 * m → field (take m (drop a s)) at n ≡ field s (8 * a + at) n
-field-part s a m at n h = field-ext (take m (drop a s)) s at (8 * a + at) n λ i l. rw (add-assoc (8 * a) at i) (bit-part s a m (at + i) (omega arith))
+field-part s a m at n h =
+    field-ext (take m (drop a s)) s at (8 * a + at) n λ i l. rw (add-assoc (8 * a) at i) (bit-part s a m (at + i) (omega arith))
 
 -- the bits of equal fields
 pub field-bits : (s t : List ℕ) (a n : ℕ) → field s a n ≡ field t a n → (i : ℕ) → i < n → bitAt s (a + i) ≡ bitAt t (a + i)
@@ -65,7 +66,8 @@ put-right a b at (suc n) v =
     let c : List ℕ = putField b at n (v / 2) in
     let q : (8 * length a + at + n) / 8 ≡ length a + (at + n) / 8 = omega arith in
     let r : (8 * length a + at + n) % 8 ≡ (at + n) % 8 = omega arith in
-    rw (put-right a b at n (v / 2), q, r, getD-append-add a c ((at + n) / 8) 0) (set-append-add a c ((at + n) / 8) (putBit (getD c ((at + n) / 8) 0) ((at + n) % 8) (v % 2)))
+    rw (put-right a b at n (v / 2), q, r, getD-append-add a c ((at + n) / 8) 0)
+    (set-append-add a c ((at + n) / 8) (putBit (getD c ((at + n) / 8) 0) ((at + n) % 8) (v % 2)))
 
 pub put-left : (a b : List ℕ) (at n v : ℕ) → at + n ≤ 8 * length a → putField (a ++ b) at n v ≡ putField a at n v ++ b
 unfolding putField setBit
@@ -89,7 +91,8 @@ pub where-bit : (at n i : ℕ) → ((i < at) ⊎ (at + n ≤ i)) ⊎ ((j : ℕ) 
 where-bit at n i =
     ⊎-elim (λ l. inl (inl l)) (λ l. ⊎-elim (λ k. inr (i - at, omega arith, omega arith)) (λ k. inl (inr k)) (less i (at + n))) (less i at)
 
-pub put-over : (s : List ℕ) (at n v w : ℕ) → Bytes s → at + n ≤ 8 * length s → w < 2 ^ n → putField (putField s at n v) at n w ≡ putField s at n w
+pub put-over : (s : List ℕ) (at n v w : ℕ) → Bytes s → at + n ≤ 8 * length s → w < 2 ^ n
+    → putField (putField s at n v) at n w ≡ putField s at n w
 put-over s at n v w b h hw =
     bits-ext (putField p at n w) (putField s at n w) (bytes-put p at n w (bytes-put s at n v b h) hp) (bytes-put s at n w b h)
     (length-put p at n w ∙ lp ∙ sym (length-put s at n w)) λ i l. ⊎-elim (out i) (here i) (where-bit at n i)
@@ -112,8 +115,10 @@ put-over s at n v w b h hw =
 pub put-comm : (s : List ℕ) (a m x b n y : ℕ) → Bytes s → a + m ≤ 8 * length s → b + n ≤ 8 * length s → x < 2 ^ m → y < 2 ^ n
     → (a + m ≤ b) ⊎ (b + n ≤ a) → putField (putField s a m x) b n y ≡ putField (putField s b n y) a m x
 put-comm s a m x b n y bs ha hb hx hy o =
-    bits-ext (putField p b n y) (putField q a m x) (bytes-put p b n y (bytes-put s a m x bs ha) hp) (bytes-put q a m x (bytes-put s b n y bs hb) hq)
-    (length-put p b n y ∙ lp ∙ sym (length-put q a m x ∙ lq)) λ i l. ⊎-elim (λ oa. ⊎-elim (none i oa) (in-b i oa) (where-bit b n i)) (in-a i) (where-bit a m i)
+    bits-ext (putField p b n y) (putField q a m x) (bytes-put p b n y (bytes-put s a m x bs ha) hp)
+    (bytes-put q a m x (bytes-put s b n y bs hb) hq)
+    (length-put p b n y ∙ lp ∙ sym (length-put q a m x ∙ lq)) λ i l. ⊎-elim (λ oa. ⊎-elim (none i oa) (in-b i oa) (where-bit b n i))
+    (in-a i) (where-bit a m i)
   where
     p : List ℕ
     p = putField s a m x
@@ -134,7 +139,8 @@ put-comm s a m x b n y bs ha hb hx hy o =
     hq = omega (arith, lq)
 
     none : (i : ℕ) → (i < a) ⊎ (a + m ≤ i) → (i < b) ⊎ (b + n ≤ i) → bitAt (putField p b n y) i ≡ bitAt (putField q a m x) i
-    none i oa ob = bit-put-out p b n y i hp ob ∙ bit-put-out s a m x i ha oa ∙ sym (bit-put-out q a m x i hq oa ∙ bit-put-out s b n y i hb ob)
+    none i oa ob =
+        bit-put-out p b n y i hp ob ∙ bit-put-out s a m x i ha oa ∙ sym (bit-put-out q a m x i hq oa ∙ bit-put-out s b n y i hb ob)
 
     in-b : (i : ℕ) → (i < a) ⊎ (a + m ≤ i) → (j : ℕ) × (j < n) × (b + j ≡ i) → bitAt (putField p b n y) i ≡ bitAt (putField q a m x) i
     in-b i oa f = rw (f .2) at (bit-put-in p s b n y (f .0) hp hb hy (f .1)) ∙ sym (bit-put-out q a m x i hq oa)
@@ -142,9 +148,11 @@ put-comm s a m x b n y bs ha hb hx hy o =
     in-a : (i : ℕ) → (j : ℕ) × (j < m) × (a + j ≡ i) → bitAt (putField p b n y) i ≡ bitAt (putField q a m x) i
     in-a i f =
         let l : f .0 < m = f .1 in let e : a + f .0 ≡ i = f .2 in
-        bit-put-out p b n y i hp (⊎-elim (λ k. inl (omega arith)) (λ k. inr (omega arith)) o) ∙ rw (f .2) at (bit-put-in s q a m x (f .0) ha hq hx (f .1))
+        bit-put-out p b n y i hp (⊎-elim (λ k. inl (omega arith)) (λ k. inr (omega arith)) o)
+        ∙ rw (f .2) at (bit-put-in s q a m x (f .0) ha hq hx (f .1))
 
 -- two lists of bytes of one length all of whose fields agree are equal
-pub fields-ext : (s t : List ℕ) → Bytes s → Bytes t → length s ≡ length t → ((at n : ℕ) → at + n ≤ 8 * length s → field s at n ≡ field t at n) → s ≡ t
+pub fields-ext : (s t : List ℕ) → Bytes s → Bytes t → length s ≡ length t
+    → ((at n : ℕ) → at + n ≤ 8 * length s → field s at n ≡ field t at n) → s ≡ t
 fields-ext s t bs bt e h =
     bits-ext s t bs bt e λ i l. let g : i + 0 ≡ i = omega arith in rw g at (field-bits s t i 1 (h i 1 (omega arith)) 0 (omega arith))

@@ -5,7 +5,8 @@ use mathlib.Core.List.{List, [], _∷_, _++_}
 use mathlib.Core.Logic.{_⊎_, inl, inr, ⊎-elim}
 use native.Mathlib.Omega.{arith}
 use native.Mathlib.Nat.{zero-div}
-use lib.ListN.{length, getD, take, drop, replicate, length-take, length-drop, length-replicate, getD-replicate, List·getD-append, List·getD-eq-default}
+use lib.ListN.{length, getD, take, drop, replicate, length-take, length-drop, length-replicate, getD-replicate, List·getD-append}
+use lib.ListN.{List·getD-eq-default}
 use lib.Seq.{getD-append-add, getD-take, getD-drop, take-add, drop-drop}
 use Rattle.model.specs.Field.{field, putField, bitAt, Bytes, Part, lay, zeros, packed}
 use Rattle.bits.proofs.laws.Laws.{field-lt, field-ext}
@@ -23,7 +24,8 @@ bytes-append a b ha hb i =
 pub part-bytes : (s : List ℕ) (a n : ℕ) → Bytes s → Bytes (take n (drop a s))
 part-bytes s a n b i =
     ⊎-elim (λ l. rw (getD-take n (drop a s) i 0 l, getD-drop a s i 0) (b (a + i)))
-    (λ l. let k : length (take n (drop a s)) ≤ i = omega (arith, length-take n (drop a s)) in omega (arith, List·getD-eq-default (take n (drop a s)) 0 k)) (less i n)
+    (λ l. let k : length (take n (drop a s)) ≤ i = omega (arith, length-take n (drop a s)) in
+    omega (arith, List·getD-eq-default (take n (drop a s)) 0 k)) (less i n)
 
 pub part-length : (s : List ℕ) (a n : ℕ) → a + n ≤ length s → length (take n (drop a s)) ≡ n
 part-length s a n h = simp (length-take, length-drop) (omega arith)
@@ -36,7 +38,8 @@ two-parts s a m n = sym (take-add m n (drop a s) ∙ ap (λ (l : List ℕ). take
 zero-bits : (s : List ℕ) (at n : ℕ) → field s at n ≡ 0 → (i : ℕ) → i < n → bitAt s (at + i) ≡ 0
 unfolding field
 zero-bits s at zero e i h = absurd (omega arith)
-zero-bits s at (suc n) e i h = ⊎-elim (λ l. zero-bits s at n (omega arith) i l) (λ l. let q : i ≡ n = omega arith in rw q (omega arith)) (less i n)
+zero-bits s at (suc n) e i h =
+    ⊎-elim (λ l. zero-bits s at n (omega arith) i l) (λ l. let q : i ≡ n = omega arith in rw q (omega arith)) (less i n)
 
 pub zero-at : (s : List ℕ) (at n : ℕ) → field s at n ≡ 0 → (i : ℕ) → at ≤ i → i < at + n → bitAt s i ≡ 0
 zero-at s at n e i l h = let q : at + (i - at) ≡ i = omega arith in rw q at (zero-bits s at n e (i - at) (omega arith))
@@ -48,7 +51,8 @@ zero-field s at (suc n) h = omega (arith, zero-field s at n (λ i l k. h i l (om
 
 pub zeros-at : (n i : ℕ) → getD (zeros n) i 0 ≡ 0
 unfolding zeros
-zeros-at n i = ⊎-elim (λ l. getD-replicate n i 0 0 l) (λ l. List·getD-eq-default (replicate n 0) 0 (rw (length-replicate {A = ℕ} n 0) l)) (less i n)
+zeros-at n i =
+    ⊎-elim (λ l. getD-replicate n i 0 0 l) (λ l. List·getD-eq-default (replicate n 0) 0 (rw (length-replicate {A = ℕ} n 0) l)) (less i n)
 
 pub length-zeros : (n : ℕ) → length (zeros n) ≡ n
 unfolding zeros
@@ -87,18 +91,22 @@ pub bytes-lay : (s : List ℕ) (at : ℕ) (fs : List Part) → Bytes s → at + 
 unfolding lay
 bytes-lay s at [] b h = b
 bytes-lay s at (f ∷ fs) b h =
-    bytes-lay (putField s at (f .width) (f .value)) (at + f .width) fs (bytes-put s at (f .width) (f .value) b (omega arith)) (omega (arith, length-put s at (f .width) (f .value)))
+    bytes-lay (putField s at (f .width) (f .value)) (at + f .width) fs (bytes-put s at (f .width) (f .value) b (omega arith))
+    (omega (arith, length-put s at (f .width) (f .value)))
 
 -- bits outside are as they were
-pub lay-out : (s : List ℕ) (at : ℕ) (fs : List Part) (i : ℕ) → at + total fs ≤ 8 * length s → (i < at) ⊎ (at + total fs ≤ i) → bitAt (lay s at fs) i ≡ bitAt s i
+pub lay-out : (s : List ℕ) (at : ℕ) (fs : List Part) (i : ℕ) → at + total fs ≤ 8 * length s → (i < at) ⊎ (at + total fs ≤ i)
+    → bitAt (lay s at fs) i ≡ bitAt s i
 unfolding lay
 lay-out s at [] i h o = refl
 lay-out s at (f ∷ fs) i h o =
-    lay-out (putField s at (f .width) (f .value)) (at + f .width) fs i (omega (arith, length-put s at (f .width) (f .value))) (⊎-elim (λ l. inl (omega arith)) (λ l. inr (omega arith)) o)
+    lay-out (putField s at (f .width) (f .value)) (at + f .width) fs i (omega (arith, length-put s at (f .width) (f .value)))
+    (⊎-elim (λ l. inl (omega arith)) (λ l. inr (omega arith)) o)
     ∙ bit-put-out s at (f .width) (f .value) i (omega arith) (⊎-elim (λ l. inl l) (λ l. inr (omega arith)) o)
 
 -- bits inside are those of any list that shows the fields
-pub lay-in : (s t : List ℕ) (at : ℕ) (fs : List Part) (i : ℕ) → at + total fs ≤ 8 * length s → Shows t at fs → at ≤ i → i < at + total fs → bitAt (lay s at fs) i ≡ bitAt t i
+pub lay-in : (s t : List ℕ) (at : ℕ) (fs : List Part) (i : ℕ) → at + total fs ≤ 8 * length s → Shows t at fs → at ≤ i → i < at + total fs
+    → bitAt (lay s at fs) i ≡ bitAt t i
 unfolding lay
 lay-in s t at [] i h x l k = absurd (omega arith)
 lay-in s t at (f ∷ fs) i h x l k =
@@ -109,7 +117,8 @@ lay-in s t at (f ∷ fs) i h x l k =
     let small : v < 2 ^ w = rw (← x .0) (field-lt t at w) in
     let e : at + (i - at) ≡ i = omega arith in
     ⊎-elim
-    (λ q. lay-out p (at + w) fs i (omega arith) (inl q) ∙ rw e at (field-bits p t at w (field-put-same s at w v (omega arith) small ∙ sym (x .0)) (i - at) (omega arith)))
+    (λ q. lay-out p (at + w) fs i (omega arith) (inl q)
+    ∙ rw e at (field-bits p t at w (field-put-same s at w v (omega arith) small ∙ sym (x .0)) (i - at) (omega arith)))
     (λ q. lay-in p t (at + w) fs i (omega arith) (x .1) q (omega arith))
     (less i (at + w))
 
@@ -122,7 +131,8 @@ lay-shows s at (f ∷ fs) h z =
     let v : ℕ = f .value in
     let p : List ℕ = putField s at w v in
     let lp : length p ≡ length s = length-put s at w v in (
-      field-ext (lay p (at + w) fs) p at at w (λ i l. lay-out p (at + w) fs (at + i) (omega arith) (inl (omega arith))) ∙ field-put-same s at w v (omega arith) (z .0),
+      field-ext (lay p (at + w) fs) p at at w (λ i l. lay-out p (at + w) fs (at + i) (omega arith) (inl (omega arith)))
+          ∙ field-put-same s at w v (omega arith) (z .0),
       lay-shows p (at + w) fs (omega arith) (z .1),
     )
 

@@ -54,7 +54,8 @@ put-below b i j v d e =
 
 pub bit-put-other : (b i j v : ℕ) → v < 2 → i < 8 → j < 8 → i ≢ j → bitOf (putBit b j v) i ≡ bitOf b i
 bit-put-other b i j v h hi hj ne =
-    ⊎-elim (λ l. put-above b i j v ((7 - i) - (7 - j + 1)) h (omega arith)) (λ l. put-below b i j v ((7 - j) - (1 + (7 - i))) (omega arith)) (less i j)
+    ⊎-elim (λ l. put-above b i j v ((7 - i) - (7 - j + 1)) h (omega arith)) (λ l. put-below b i j v ((7 - j) - (1 + (7 - i))) (omega arith))
+    (less i j)
 
 -- it stays a byte
 pub put-byte : (b j v : ℕ) → j < 8 → v < 2 → b < 256 → putBit b j v < 256
@@ -74,7 +75,8 @@ length-setBit s k v = simp length-set
 
 pub bit-set-same : (s : List ℕ) (k v : ℕ) → k < 8 * length s → v < 2 → bitAt (setBit s k v) k ≡ v
 unfolding setBit bitAt
-bit-set-same s k v h hv = rw (getD-set-same s (k / 8) (putBit (getD s (k / 8) 0) (k % 8) v) 0 (omega arith)) (bit-put-same (getD s (k / 8) 0) (k % 8) v hv)
+bit-set-same s k v h hv =
+    rw (getD-set-same s (k / 8) (putBit (getD s (k / 8) 0) (k % 8) v) 0 (omega arith)) (bit-put-same (getD s (k / 8) 0) (k % 8) v hv)
 
 pub bit-set-other : (s : List ℕ) (k i v : ℕ) → k < 8 * length s → v < 2 → i ≢ k → bitAt (setBit s k v) i ≡ bitAt s i
 unfolding setBit bitAt
@@ -112,7 +114,8 @@ pub bytes-put : (s : List ℕ) (at n v : ℕ) → Bytes s → at + n ≤ 8 * len
 unfolding putField
 bytes-put s at zero v b h = b
 bytes-put s at (suc n) v b h =
-    bytes-setBit (putField s at n (v / 2)) (at + n) (v % 2) (bytes-put s at n (v / 2) b (omega arith)) (omega (arith, length-put s at n (v / 2))) (omega arith)
+    bytes-setBit (putField s at n (v / 2)) (at + n) (v % 2) (bytes-put s at n (v / 2) b (omega arith))
+    (omega (arith, length-put s at n (v / 2))) (omega arith)
 
 pub bit-put-out : (s : List ℕ) (at n v i : ℕ) → at + n ≤ 8 * length s → (i < at) ⊎ (at + n ≤ i) → bitAt (putField s at n v) i ≡ bitAt s i
 unfolding putField
@@ -131,10 +134,12 @@ field-put-same s at (suc n) v h hv =
     let l : at + n < 8 * length p = omega (arith, length-put s at n (v / 2)) in
     let e : field (setBit p (at + n) (v % 2)) at n ≡ field p at n
     = field-ext (setBit p (at + n) (v % 2)) p at at n (λ i k. bit-set-other p (at + n) (at + i) (v % 2) l (omega arith) (omega arith)) in
-    rw (e, field-put-same s at n (v / 2) (omega arith) (omega (arith, two-pow-succ n)), bit-set-same p (at + n) (v % 2) l (omega arith)) (omega arith)
+    rw (e, field-put-same s at n (v / 2) (omega arith) (omega (arith, two-pow-succ n)), bit-set-same p (at + n) (v % 2) l (omega arith))
+    (omega arith)
 
 -- a field beside the one that is written
-pub field-put-other : (s : List ℕ) (at n v a m : ℕ) → at + n ≤ 8 * length s → (a + m ≤ at) ⊎ (at + n ≤ a) → field (putField s at n v) a m ≡ field s a m
+pub field-put-other : (s : List ℕ) (at n v a m : ℕ) → at + n ≤ 8 * length s → (a + m ≤ at) ⊎ (at + n ≤ a)
+    → field (putField s at n v) a m ≡ field s a m
 field-put-other s at n v a m h o =
     field-ext (putField s at n v) s a a m λ i l. bit-put-out s at n v (a + i) h (⊎-elim (λ k. inl (omega arith)) (λ k. inr (omega arith)) o)
 

@@ -36,8 +36,11 @@ put-own s at n b h =
 pub put-middle : (s : List ℕ) (a j w t v : ℕ) → Bytes s → a + (j + w + t) ≤ 8 * length s → v < 2 ^ w → (f : ℕ) → f ≡ field s a (j + w + t)
     → putField s a (j + w + t) ((f / 2 ^ t / 2 ^ w * 2 ^ w + v) * 2 ^ t + f % 2 ^ t) ≡ putField s (a + j) w v
 put-middle s a j w t v b h hv f e =
-    let lo : f % 2 ^ t ≡ field s (a + (j + w)) t = ap (λ (x : ℕ). x % 2 ^ t) parted ∙ low (field s a (j + w)) t (field-lt s (a + (j + w)) t) in
-    let up : f / 2 ^ t / 2 ^ w ≡ field s a j = ap (λ (x : ℕ). x / 2 ^ w) (ap (λ (x : ℕ). x / 2 ^ t) parted ∙ high (field s a (j + w)) t (field-lt s (a + (j + w)) t) ∙ field-split s a j w) ∙ high (field s a j) w (field-lt s (a + j) w) in
+    let lo : f % 2 ^ t ≡ field s (a + (j + w)) t = ap (λ (x : ℕ). x % 2 ^ t) parted
+    ∙ low (field s a (j + w)) t (field-lt s (a + (j + w)) t) in
+    let up : f / 2 ^ t / 2 ^ w ≡ field s a j = ap (λ (x : ℕ). x / 2 ^ w)
+    (ap (λ (x : ℕ). x / 2 ^ t) parted ∙ high (field s a (j + w)) t (field-lt s (a + (j + w)) t) ∙ field-split s a j w)
+    ∙ high (field s a j) w (field-lt s (a + j) w) in
     rw (
       lo,
       up,
@@ -63,7 +66,8 @@ put-middle s a j w t v b h hv f e =
         ∙ put-own p (a + (j + w)) t (bytes-put s (a + j) w v b (omega arith)) (omega (arith, length-put s (a + j) w v))
 
 -- the field is written as the middle of the whole bytes that it touches
-pub put-whole : (s : List ℕ) (at w n spare v : ℕ) → Bytes s → 8 * n ≡ at % 8 + w + spare → 8 * (at / 8) + 8 * n ≤ 8 * length s → v < 2 ^ w → (f : ℕ) → f ≡ field s (8 * (at / 8)) (8 * n)
+pub put-whole : (s : List ℕ) (at w n spare v : ℕ) → Bytes s → 8 * n ≡ at % 8 + w + spare → 8 * (at / 8) + 8 * n ≤ 8 * length s → v < 2 ^ w
+    → (f : ℕ) → f ≡ field s (8 * (at / 8)) (8 * n)
     → putField s (8 * (at / 8)) (8 * n) ((f / 2 ^ spare / 2 ^ w * 2 ^ w + v) * 2 ^ spare + f % 2 ^ spare) ≡ putField s at w v
 put-whole s at w n spare v b e h hv f q =
     let g : 8 * (at / 8) + at % 8 ≡ at = omega arith in
@@ -71,7 +75,8 @@ put-whole s at w n spare v b e h hv f q =
 
 -- a number is written byte by byte, from its first byte on
 pub put-more-byte : (s : List ℕ) (k i n v : ℕ) → Bytes s → i < n → k + n ≤ length s
-    → set (putField s (8 * k) (8 * i) (v / 2 ^ (8 * (n - i)))) (k + i) (v / 2 ^ (8 * (n - 1 - i)) % 256) ≡ putField s (8 * k) (8 * (i + 1)) (v / 2 ^ (8 * (n - (i + 1))))
+    → set (putField s (8 * k) (8 * i) (v / 2 ^ (8 * (n - i)))) (k + i) (v / 2 ^ (8 * (n - 1 - i)) % 256)
+    ≡ putField s (8 * k) (8 * (i + 1)) (v / 2 ^ (8 * (n - (i + 1))))
 put-more-byte s k i n v b l h =
     let y : ℕ = v / 2 ^ (8 * (n - 1 - i)) in
     let p : List ℕ = putField s (8 * k) (8 * i) (y / 2 ^ 8) in
@@ -80,4 +85,5 @@ put-more-byte s k i n v b l h =
     let d : 8 * (i + 1) ≡ 8 * i + 8 = omega arith in
     let e : 8 * k + 8 * i ≡ 8 * (k + i) = omega arith in
     rw (a, c, d, ← shr-shr v (8 * (n - 1 - i)) 8, put-split s (8 * k) (8 * i) 8 y, e)
-    (sym (put-byte-whole p (k + i) (y % 256) (bytes-put s (8 * k) (8 * i) (y / 2 ^ 8) b (omega arith)) (omega (arith, length-put s (8 * k) (8 * i) (y / 2 ^ 8))) (omega arith)))
+    (sym (put-byte-whole p (k + i) (y % 256) (bytes-put s (8 * k) (8 * i) (y / 2 ^ 8) b (omega arith))
+    (omega (arith, length-put s (8 * k) (8 * i) (y / 2 ^ 8))) (omega arith)))

@@ -20,14 +20,22 @@ div-result-2 : tie.Need-div-result-2
 div-result-2 c = rw (c .before .power .ensures) (pow-pos _)
 
 -- the bits before the field
-kept : (c : tie.After-power2) → let w = c .before .before .args .w in let q = c .power2 .result in let p = c .before .power .result in w / q / p * p ≤ w
-kept c = let w = c .before .before .args .w in omega (arith, div-le-self w (c .power2 .result), div-mul-le-self (w / c .power2 .result) (c .before .power .result))
+kept : (c : tie.After-power2) → let w = c .before .before .args .w in let q = c .power2 .result in let p = c .before .power .result in
+    w / q / p * p ≤ w
+kept c =
+    let w = c .before .before .args .w in
+    omega (arith, div-le-self w (c .power2 .result), div-mul-le-self (w / c .power2 .result) (c .before .power .result))
 
 short : (c : tie.After-power2) → c .before .before .args .v < 2 ^ 32
-short c = omega (arith, c .before .before .pre .3, pow-mono {i = c .before .before .args .width} {j = 32} (c .before .before .pre .1))
+short c =
+    let at-start = c .before .before in
+    omega (arith, at-start .pre .3, pow-mono {i = at-start .args .width} {j = 32} (at-start .pre .1))
 
-shifted : (c : tie.After-power2) → let a = c .before .before .args in let q = c .power2 .result in let p = c .before .power .result in (a .w / q / p * p + a .v) * q ≤ (a .w / q / p * p + a .v) * 128
-shifted c = mul-le-mul-left _ (omega (arith, c .power2 .ensures, pow-mono {i = c .before .before .args .spare} {j = 7} (omega (arith, c .before .before .pre .2))))
+shifted : (c : tie.After-power2) → let a = c .before .before .args in let q = c .power2 .result in let p = c .before .power .result in
+    (a .w / q / p * p + a .v) * q ≤ (a .w / q / p * p + a .v) * 128
+shifted c =
+    let at-start = c .before .before in
+    mul-le-mul-left _ (omega (arith, c .power2 .ensures, pow-mono {i = at-start .args .spare} {j = 7} (omega (arith, at-start .pre .2))))
 
 mul-result : tie.Need-mul-result
 mul-result c = omega (arith, kept c)

@@ -29,8 +29,18 @@ word-requires c κs = search needs
 
 mixed-requires : tie.Need-mixed-requires
 mixed-requires c κs =
-    let a = c .before .before .before .args in let n : ℕ = (a .at % 8 + a .width + 7) / 8 in
-    (omega (arith, c .word .ensures, field-lt (a .s .now) (8 * (a .at / 8)) (8 * n), pow-mono {i = 8 * n} {j = 40} (omega (arith, c .before .before .before .pre .2))), c .before .before .before .pre .2, omega arith, c .before .before .before .pre .1)
+    let at-start = c .before .before .before in
+    let a = at-start .args in let n : ℕ = (a .at % 8 + a .width + 7) / 8 in (
+      omega (
+        arith,
+        c .word .ensures,
+        field-lt (a .s .now) (8 * (a .at / 8)) (8 * n),
+        pow-mono {i = 8 * n} {j = 40} (omega (arith, at-start .pre .2)),
+      ),
+      at-start .pre .2,
+      omega arith,
+      at-start .pre .1,
+    )
 
 put-word-requires : tie.Need-put-word-requires
 put-word-requires c κs = search needs
@@ -40,9 +50,16 @@ same-length c = search needs
 
 returns : tie.Need-returns
 returns c =
-    let a = c .before .before .before .before .before .before .before .before .args in let n : ℕ = (a .at % 8 + a .width + 7) / 8 in
+    let at-mixed = c .before .before .before .before in
+    let at-word = at-mixed .before in
+    let at-slice-known = at-word .before .before in
+    let at-start = at-slice-known .before in
+    let a = at-start .args in let n : ℕ = (a .at % 8 + a .width + 7) / 8 in
     c .before .before .put-word .ensures
-    ∙ rw (c .before .before .before .before .mixed .ensures) (put-whole (a .s .now) (a .at) (a .width) n (8 * n - a .at % 8 - a .width) (a .v) (λ i. omega (arith, c .before .before .before .before .before .before .before .slice-known .given i)) (omega arith) (omega (arith, c .before .before .before .before .before .before .before .before .pre .0)) (c .before .before .before .before .before .before .before .before .pre .1) (c .before .before .before .before .before .word .result) (c .before .before .before .before .before .word .ensures))
+    ∙ rw (at-mixed .mixed .ensures)
+    (put-whole (a .s .now) (a .at) (a .width) n (8 * n - a .at % 8 - a .width) (a .v)
+    (λ i. omega (arith, at-slice-known .slice-known .given i)) (omega arith) (omega (arith, at-start .pre .0)) (at-start .pre .1)
+    (at-word .word .result) (at-word .word .ensures))
 
 pub put-short-spec : {M : Type 1} → statement M
 put-short-spec =

@@ -52,8 +52,14 @@ loop-less c = omega arith
 
 loop-again : tie.Need-loop-again Inv-loop μ-loop
 loop-again c =
-    let l = c .before .before .loop in let a = c .before .before .before .before .args in
-    (omega arith, simp length-set (l .inv .1), rw (c .power .ensures, l .inv .2) (put-more-byte (a .s .now) (a .first) (l .i) (a .n) (a .v) (λ i. omega (arith, c .before .before .before .slice-known .given i)) (omega arith) (omega arith)))
+    let at-start = c .before .before .before .before in
+    let l = c .before .before .loop in let a = at-start .args in (
+      omega arith,
+      simp length-set (l .inv .1),
+      rw (c .power .ensures, l .inv .2)
+          (put-more-byte (a .s .now) (a .first) (l .i) (a .n) (a .v) (λ i. omega (arith, c .before .before .before .slice-known .given i))
+          (omega arith) (omega arith)),
+    )
 
 same-length : tie.Need-same-length Inv-loop μ-loop
 same-length c = omega arith

@@ -23,14 +23,20 @@ bound : (n : ℕ) → n ≤ 40 → 2 ^ n ≤ 2 ^ 40
 bound n h = pow-mono h
 
 -- the next word
-step : (c : tie.After-wide Inv-loop μ-loop) → let l = c .before .before .before .loop in let a = c .before .before .before .before .before .args in
+step : (c : tie.After-wide Inv-loop μ-loop) →
+    let at-start = c .before .before .before .before .before in
+    let l = c .before .before .before .loop in let a = at-start .args in
     l .r * 256 + c .wide .result ≡ fieldOf (a .s .now) (8 * a .first) (8 * (l .i + 1))
 step c =
-    let l = c .before .before .before .loop in let a = c .before .before .before .before .before .args in
-    rw (c .wide .ensures, l .inv .1) (field-more-byte (a .s .now) (a .first) (l .i) (omega (arith, c .before .shared-slice-known2 .given (a .first + l .i))))
+    let at-start = c .before .before .before .before .before in
+    let l = c .before .before .before .loop in let a = at-start .args in
+    rw (c .wide .ensures, l .inv .1)
+    (field-more-byte (a .s .now) (a .first) (l .i) (omega (arith, c .before .shared-slice-known2 .given (a .first + l .i))))
 
 mul-r : tie.Need-mul-r Inv-loop μ-loop
-mul-r c = let l = c .before .loop in let a = c .before .before .before .args in omega (arith, field-lt (a .s .now) (8 * a .first) (8 * l .i), bound (8 * l .i) (omega arith))
+mul-r c =
+    let l = c .before .loop in let a = c .before .before .before .args in
+    omega (arith, field-lt (a .s .now) (8 * a .first) (8 * l .i), bound (8 * l .i) (omega arith))
 
 add-wide : tie.Need-add-wide Inv-loop μ-loop
 add-wide c = omega arith
@@ -42,7 +48,10 @@ wide-requires : tie.Need-wide-requires Inv-loop μ-loop
 wide-requires c κs = search needs
 
 add-r : tie.Need-add-r Inv-loop μ-loop
-add-r c = let l = c .before .before .before .loop in let a = c .before .before .before .before .before .args in omega (arith, step c, field-lt (a .s .now) (8 * a .first) (8 * (l .i + 1)), bound (8 * (l .i + 1)) (omega arith))
+add-r c =
+    let at-start = c .before .before .before .before .before in
+    let l = c .before .before .before .loop in let a = at-start .args in
+    omega (arith, step c, field-lt (a .s .now) (8 * a .first) (8 * (l .i + 1)), bound (8 * (l .i + 1)) (omega arith))
 
 add-i : tie.Need-add-i Inv-loop μ-loop
 add-i c = omega arith
@@ -54,7 +63,10 @@ loop-again : tie.Need-loop-again Inv-loop μ-loop
 loop-again c = (omega arith, step c)
 
 returns : tie.Need-returns Inv-loop μ-loop
-returns c = let e : c .before .loop .i ≡ c .before .before .before .args .n = omega arith in c .before .loop .inv .1 ∙ ap (λ (i : ℕ). fieldOf (c .before .before .before .args .s .now) (8 * c .before .before .before .args .first) (8 * i)) e
+returns c =
+    let at-start = c .before .before .before in
+    let e : c .before .loop .i ≡ at-start .args .n = omega arith in
+    c .before .loop .inv .1 ∙ ap (λ (i : ℕ). fieldOf (at-start .args .s .now) (8 * at-start .args .first) (8 * i)) e
 
 pub word-spec : {M : Type 1} → statement M
 word-spec =

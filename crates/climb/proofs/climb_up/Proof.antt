@@ -15,13 +15,17 @@ use Rattle.climb.proofs.climb_up.Statement.{statement}
 use Rattle.climb.proofs.climb_up.Tie as tie
 
 abbrev Inv-loop : tie.InvT-loop
-Inv-loop s₀ l w size list k₀ d₀ s k d = (k ≤ k₀) × Fits d × Becomes l s₀ s (pagesOf l s) × (climbUp (l .least) w (upsOf list k) (changeOf d) (pagesOf l s) ≡ climbUp (l .least) w (upsOf list k₀) (changeOf d₀) (pagesOf l s₀))
+Inv-loop s₀ l w size list k₀ d₀ s k d =
+    (k ≤ k₀) × Fits d × Becomes l s₀ s (pagesOf l s)
+    × (climbUp (l .least) w (upsOf list k) (changeOf d) (pagesOf l s) ≡ climbUp (l .least) w (upsOf list k₀) (changeOf d₀) (pagesOf l s₀))
 
 abbrev μ-loop : tie.MeasureT-loop
 μ-loop s₀ l w size list k₀ d₀ s k d = k
 
 loop-holds : tie.Need-loop-holds Inv-loop μ-loop
-loop-holds c = (omega arith, c .before .before .pre .2, stays (c .before .before .pre .0), refl)
+loop-holds c =
+    let at-start = c .before .before in
+    (omega arith, at-start .pre .2, stays (at-start .pre .0), refl)
 
 sub-k : tie.Need-sub-k Inv-loop μ-loop
 sub-k c = search needs
@@ -30,30 +34,67 @@ mul-a : tie.Need-mul-a Inv-loop μ-loop
 mul-a c = search needs
 
 array-copy-out-a : tie.Need-array-copy-out-a Inv-loop μ-loop
-array-copy-out-a c = omega (arith, c .before .before .before .before .pre .1 .size, c .before .before .before .before .pre .1 .few, c .before .loop .inv .0)
+array-copy-out-a c =
+    let at-start = c .before .before .before .before in
+    omega (arith, at-start .pre .1 .size, at-start .pre .1 .few, c .before .loop .inv .0)
 
 work-requires : tie.Need-work-requires Inv-loop μ-loop
-work-requires c κs = (kept-after (c .before .before .before .before .before .before .pre .0) (c .before .before .before .loop .inv .2), placed-after (c .before .before .before .before .before .before .pre .0) (c .before .before .before .loop .inv .2) (c .before .before .before .before .before .before .pre .1 .at (c .before .before .before .loop .k - 1) (omega (arith, c .before .before .before .loop .inv .0))), c .before .before .before .loop .inv .1, c .before .before .before .before .before .before .pre .3, c .before .before .before .before .before .before .pre .4 ∙ sym (c .before .before .before .loop .inv .2 .long))
+work-requires c κs =
+    let at-loop = c .before .before .before in
+    let at-start = at-loop .before .before .before in (
+      kept-after (at-start .pre .0) (at-loop .loop .inv .2),
+      placed-after (at-start .pre .0) (at-loop .loop .inv .2)
+          (at-start .pre .1 .at (at-loop .loop .k - 1) (omega (arith, at-loop .loop .inv .0))),
+      at-loop .loop .inv .1,
+      at-start .pre .3,
+      at-start .pre .4 ∙ sym (at-loop .loop .inv .2 .long),
+    )
 
 enum-told : tie.Need-enum-told Inv-loop μ-loop
 enum-told c = search needs
 
 same-length : tie.Need-same-length Inv-loop μ-loop
-same-length c = bytes-after (c .before .before .before .before .before .before .before .before .before .before .before .pre .0) (then (c .before .before .before .before .before .before .before .before .before .before .before .pre .0) (c .before .before .before .before .before .before .before .before .loop .inv .2) (c .before .before .before .before .work .ensures .1))
+same-length c =
+    let at-work = c .before .before .before .before in
+    let at-loop = at-work .before .before .before .before in
+    let at-start = at-loop .before .before .before in
+    bytes-after (at-start .pre .0) (then (at-start .pre .0) (at-loop .loop .inv .2) (at-work .work .ensures .1))
 
 returns : tie.Need-returns Inv-loop μ-loop
 unfolding workedOf
-returns c = (climb-step (c .before .before .before .before .before .before .before .before .before .before .before .args .l .least) (c .before .before .before .before .before .before .before .before .before .before .before .args .w) (c .before .before .before .before .before .before .before .before .before .before .before .args .way .list) (changeOf (c .before .before .before .before .before .before .before .before .loop .d)) (pagesOf (c .before .before .before .before .before .before .before .before .before .before .before .args .l) (c .before .before .before .before .before .before .before .before .loop .s)) (c .before .before .before .before .before .before .before .before .loop .k) (omega arith) _ (rw (c .enum-told .given .1) at (c .before .before .before .before .work .ensures .0)) ∙ c .before .before .before .before .before .before .before .before .loop .inv .3, then (c .before .before .before .before .before .before .before .before .before .before .before .pre .0) (c .before .before .before .before .before .before .before .before .loop .inv .2) (c .before .before .before .before .work .ensures .1), tt)
+returns c =
+    let at-work = c .before .before .before .before in
+    let at-loop = at-work .before .before .before .before in
+    let at-start = at-loop .before .before .before in (
+      climb-step (at-start .args .l .least) (at-start .args .w) (at-start .args .way .list) (changeOf (at-loop .loop .d))
+          (pagesOf (at-start .args .l) (at-loop .loop .s)) (at-loop .loop .k) (omega arith) _
+          (rw (c .enum-told .given .1) at (at-work .work .ensures .0)) ∙ at-loop .loop .inv .3,
+      then (at-start .pre .0) (at-loop .loop .inv .2) (at-work .work .ensures .1),
+      tt,
+    )
 
 enum-told-2 : tie.Need-enum-told-2 Inv-loop μ-loop
 enum-told-2 c = search needs
 
 same-length-2 : tie.Need-same-length-2 Inv-loop μ-loop
-same-length-2 c = bytes-after (c .before .before .before .before .before .before .before .before .before .before .before .pre .0) (then (c .before .before .before .before .before .before .before .before .before .before .before .pre .0) (c .before .before .before .before .before .before .before .before .loop .inv .2) (c .before .before .before .before .work .ensures .1))
+same-length-2 c =
+    let at-work = c .before .before .before .before in
+    let at-loop = at-work .before .before .before .before in
+    let at-start = at-loop .before .before .before in
+    bytes-after (at-start .pre .0) (then (at-start .pre .0) (at-loop .loop .inv .2) (at-work .work .ensures .1))
 
 returns-2 : tie.Need-returns-2 Inv-loop μ-loop
 unfolding workedOf
-returns-2 c = (climb-step (c .before .before .before .before .before .before .before .before .before .before .before .args .l .least) (c .before .before .before .before .before .before .before .before .before .before .before .args .w) (c .before .before .before .before .before .before .before .before .before .before .before .args .way .list) (changeOf (c .before .before .before .before .before .before .before .before .loop .d)) (pagesOf (c .before .before .before .before .before .before .before .before .before .before .before .args .l) (c .before .before .before .before .before .before .before .before .loop .s)) (c .before .before .before .before .before .before .before .before .loop .k) (omega arith) _ (rw (c .enum-told2 .given .1) at (c .before .before .before .before .work .ensures .0)) ∙ c .before .before .before .before .before .before .before .before .loop .inv .3, then (c .before .before .before .before .before .before .before .before .before .before .before .pre .0) (c .before .before .before .before .before .before .before .before .loop .inv .2) (c .before .before .before .before .work .ensures .1), tt)
+returns-2 c =
+    let at-work = c .before .before .before .before in
+    let at-loop = at-work .before .before .before .before in
+    let at-start = at-loop .before .before .before in (
+      climb-step (at-start .args .l .least) (at-start .args .w) (at-start .args .way .list) (changeOf (at-loop .loop .d))
+          (pagesOf (at-start .args .l) (at-loop .loop .s)) (at-loop .loop .k) (omega arith) _
+          (rw (c .enum-told2 .given .1) at (at-work .work .ensures .0)) ∙ at-loop .loop .inv .3,
+      then (at-start .pre .0) (at-loop .loop .inv .2) (at-work .work .ensures .1),
+      tt,
+    )
 
 enum-known-e : tie.Need-enum-known-e Inv-loop μ-loop
 enum-known-e c = search needs
@@ -63,19 +104,33 @@ loop-less c = search needs
 
 loop-again : tie.Need-loop-again Inv-loop μ-loop
 unfolding workedOf
-loop-again c = (
-  omega (arith, c .before .before .before .before .before .before .before .before .before .loop .inv .0),
-  rw (c .before .e .given .1) at (c .before .before .before .before .before .work .ensures .2),
-  then (c .before .before .before .before .before .before .before .before .before .before .before .before .pre .0) (c .before .before .before .before .before .before .before .before .before .loop .inv .2) (c .before .before .before .before .before .work .ensures .1),
-  climb-step (c .before .before .before .before .before .before .before .before .before .before .before .before .args .l .least) (c .before .before .before .before .before .before .before .before .before .before .before .before .args .w) (c .before .before .before .before .before .before .before .before .before .before .before .before .args .way .list) (changeOf (c .before .before .before .before .before .before .before .before .before .loop .d)) (pagesOf (c .before .before .before .before .before .before .before .before .before .before .before .before .args .l) (c .before .before .before .before .before .before .before .before .before .loop .s)) (c .before .before .before .before .before .before .before .before .before .loop .k) (omega arith) _ (rw (c .before .e .given .1) at (c .before .before .before .before .before .work .ensures .0)) ∙ c .before .before .before .before .before .before .before .before .before .loop .inv .3,
-)
+loop-again c =
+    let at-work = c .before .before .before .before .before in
+    let at-loop = at-work .before .before .before .before in
+    let at-start = at-loop .before .before .before in (
+      omega (arith, at-loop .loop .inv .0),
+      rw (c .before .e .given .1) at (at-work .work .ensures .2),
+      then (at-start .pre .0) (at-loop .loop .inv .2) (at-work .work .ensures .1),
+      climb-step (at-start .args .l .least) (at-start .args .w) (at-start .args .way .list) (changeOf (at-loop .loop .d))
+          (pagesOf (at-start .args .l) (at-loop .loop .s)) (at-loop .loop .k) (omega arith) _
+          (rw (c .before .e .given .1) at (at-work .work .ensures .0)) ∙ at-loop .loop .inv .3,
+    )
 
 same-length-3 : tie.Need-same-length-3 Inv-loop μ-loop
-same-length-3 c = bytes-after (c .before .before .before .before .pre .0) (c .before .loop .inv .2)
+same-length-3 c =
+    let at-start = c .before .before .before .before in
+    bytes-after (at-start .pre .0) (c .before .loop .inv .2)
 
 returns-3 : tie.Need-returns-3 Inv-loop μ-loop
 unfolding workedOf
-returns-3 c = (climb-end (c .before .before .before .before .args .l .least) (c .before .before .before .before .args .w) (c .before .before .before .before .args .way .list) (changeOf (c .before .loop .d)) (pagesOf (c .before .before .before .before .args .l) (c .before .loop .s)) (c .before .loop .k) (omega arith) ∙ c .before .loop .inv .3, c .before .loop .inv .2, c .before .loop .inv .1)
+returns-3 c =
+    let at-loop = c .before in
+    let at-start = at-loop .before .before .before in (
+      climb-end (at-start .args .l .least) (at-start .args .w) (at-start .args .way .list) (changeOf (at-loop .loop .d))
+          (pagesOf (at-start .args .l) (at-loop .loop .s)) (at-loop .loop .k) (omega arith) ∙ at-loop .loop .inv .3,
+      at-loop .loop .inv .2,
+      at-loop .loop .inv .1,
+    )
 
 pub climb-up-spec : {M : Type 1} → statement M
 climb-up-spec =

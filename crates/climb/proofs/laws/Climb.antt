@@ -26,9 +26,12 @@ unfolding climb climbUp
 climb-by least w r [] c ps = refl
 climb-by least w r (a ∷ up) c ps = by (work least w ps a c) (λ c′ ps′. climb-by least w r up c′ ps′)
   where
-    by : (x : Worked) → ((c′ : Change) (ps′ : List Page) → climb least w r up c′ ps′ ≡ goOn (climbUp least w up c′ ps′) (λ (c′ : Change) (ps′ : List Page). workRoot least w ps′ r c′))
+    by : (x : Worked)
+        → ((c′ : Change) (ps′ : List Page) → climb least w r up c′ ps′
+        ≡ goOn (climbUp least w up c′ ps′) (λ (c′ : Change) (ps′ : List Page). workRoot least w ps′ r c′))
         → goOn x (λ (c′ : Change) (ps′ : List Page). climb least w r up c′ ps′)
-        ≡ goOn (onward x (λ (c′ : Change) (ps′ : List Page). climbUp least w up c′ ps′)) (λ (c′ : Change) (ps′ : List Page). workRoot least w ps′ r c′)
+        ≡ goOn (onward x (λ (c′ : Change) (ps′ : List Page). climbUp least w up c′ ps′))
+        (λ (c′ : Change) (ps′ : List Page). workRoot least w ps′ r c′)
     by (settled ps) h = refl
     by (upward c ps) h = h c ps
     by lacking h = refl

@@ -3,6 +3,7 @@ use lib.ListN.{length}
 use Rattle.model.specs.declared.Delta.{Delta}
 use Rattle.model.specs.Layout.{decode}
 use Rattle.model.specs.Walk.{keyLimit}
+use Rattle.differ.specs.Merge.{Onward}
 use Rattle.differ.specs.Listing.{between, leftOf}
 use Rattle.back.specs.Pass.{passed}
 use Rattle.convert.specs.Ready.{UpdateOpen, shown}
@@ -72,25 +73,22 @@ returns c =
           ∙ pass-stops (p .0) (p .1) (a .l) (i .t) (a .insert) (i .inv .1) (o .result .key) (o .ensures .0 .high) (d .result) (d .ensures) q _ _ t z;
     }
 
+-- the key that is found next
+next-on : (c : tie.After-next Inv-loop μ-loop) → Onward (c .before .onward .result .key) (c .next .result .key)
+next-on c =
+    let a = c .before .before .before .before .before .before .args in
+    let p = c .before .before .before .before .before .before .pre in
+    let i = c .before .before .before .loop in
+    let o = c .before .onward in
+    pass-on (p .0) (p .1) (a .l) (i .t) (a .insert) (i .inv .1) (o .result .key) (o .ensures .0 .high) (c .next .result) (c .next .ensures)
+
 add-key : tie.Need-add-key Inv-loop μ-loop
-add-key c =
-    let i = c .before .before .before .before .before .before .before .before .before .loop in
-    let o = c .before .before .before .before .before .before .before .onward in
-    let d = c .before .before .before .before .before .before .next in
-    let a = c .before .before .before .before .before .before .before .before .before .before .before .before .args in
-    let p = c .before .before .before .before .before .before .before .before .before .before .before .before .pre in
-    let n = pass-on (p .0) (p .1) (a .l) (i .t) (a .insert) (i .inv .1) (o .result .key) (o .ensures .0 .high) (d .result) (d .ensures) in
-    omega (arith, n .high)
+add-key c = omega (arith, next-on (c .before .before .before .before .before .before) .high)
 
 loop-less : tie.Need-loop-less Inv-loop μ-loop
 loop-less c =
-    let i = c .before .before .before .before .before .before .before .before .before .loop in
-    let o = c .before .before .before .before .before .before .before .onward in
-    let d = c .before .before .before .before .before .before .next in
-    let a = c .before .before .before .before .before .before .before .before .before .before .before .before .args in
-    let p = c .before .before .before .before .before .before .before .before .before .before .before .before .pre in
-    let n = pass-on (p .0) (p .1) (a .l) (i .t) (a .insert) (i .inv .1) (o .result .key) (o .ensures .0 .high) (d .result) (d .ensures) in
-    omega (arith, n .low, n .high, o .ensures .0 .low, c .before .before .before .before .before .before .before .before .loop-test .taken)
+    let n = next-on (c .before .before .before .before .before .before) in
+    omega (arith, n .low, n .high, c .before .before .before .before .before .before .before .onward .ensures .0 .low, c .before .before .before .before .before .before .before .before .loop-test .taken)
 
 loop-again : tie.Need-loop-again Inv-loop μ-loop
 loop-again c =
@@ -101,10 +99,9 @@ loop-again c =
     let p = c .before .before .before .before .before .before .before .before .before .before .before .before .pre in
     let e = o .ensures .1 in
     let q = subst (Due (a .insert) (shown (a .l) (i .t))) e (i .inv .2) in
-    let n = pass-on (p .0) (p .1) (a .l) (i .t) (a .insert) (i .inv .1) (o .result .key) (o .ensures .0 .high) (d .result) (d .ensures) in
     let t = c .before .before .before .before .act .ensures in
     let z = c .before .if1 .left in (
-      omega (arith, n .high),
+      omega (arith, next-on (c .before .before .before .before .before .before) .high),
       t .ready,
       pass-due (p .0) (p .1) (a .l) (i .t) (a .insert) (i .inv .1) (o .result .key) (o .ensures .0 .high) (d .result) (d .ensures) q _ _ t z,
       i .inv .3 ∙ ap (λ (ds : List Delta). passed (a .insert) (a .l .least) ds (decode (a .l .least) (i .t))) e

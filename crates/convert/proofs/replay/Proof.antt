@@ -26,6 +26,9 @@ abbrev μ-loop : tie.MeasureT-loop
 header-requires : tie.Need-header-requires Inv-loop μ-loop
 header-requires c κs = header-right (c .before .before .pre)
 
+current-is : (c : tie.After-header Inv-loop μ-loop) → let a = c .before .before .before .args in c .header .result .current ≡ decode (a .k .least) (a .s .now) .current
+current-is c = let a = c .before .before .before .args in ap (λ (y : Header). y .current) (c .header .ensures) ∙ sym (current-of (a .k .least) (a .s .now))
+
 loop-holds : tie.Need-loop-holds Inv-loop μ-loop
 loop-holds c =
     let p = c .before .before .before .pre in
@@ -35,7 +38,7 @@ skip-requires : tie.Need-skip-requires Inv-loop μ-loop
 skip-requires c κs =
     let i = c .before .before .before .loop in
     let a = c .before .before .before .before .before .before .before .args in
-    let same = ap (λ (y : Header). y .current) (c .before .before .before .before .header .ensures) ∙ sym (current-of (a .k .least) (a .s .now)) in
+    let same = current-is (c .before .before .before .before) in
     (i .inv .1, same, omega (arith, c .before .if1 .taken))
 
 same-length : tie.Need-same-length Inv-loop μ-loop
@@ -46,20 +49,19 @@ returns c =
     let i = c .before .before .before .before .before .before .before .before .loop in
     let x = c .before .before .before .before .skip .ensures in
     let a = c .before .before .before .before .before .before .before .before .before .before .before .before .args in
-    let same = ap (λ (y : Header). y .current) (c .before .before .before .before .before .before .before .before .before .header .ensures) ∙ sym (current-of (a .k .least) (a .s .now)) in
+    let same = current-is (c .before .before .before .before .before .before .before .before .before) in
     record {
       sound = x .now-at .target;
       goes = λ z. i .inv .2 ∙ x .same ∙ on-end (x .now-at) (omega (arith, c .if2 .taken, same));
       stops = λ z. absurd (z refl);
     }
 
+-- the version skipped to is not the last
+less : (c : tie.Else2 Inv-loop μ-loop) → let a = c .before .before .before .before .before .before .before .before .before .before .before .before .args in c .before .before .before .before .skip .result < decode (a .k .least) (a .s .now) .current
+less c = omega (arith, c .if2 .left, c .before .before .before .before .skip .ensures .high, current-is (c .before .before .before .before .before .before .before .before .before))
+
 one-version-requires : tie.Need-one-version-requires Inv-loop μ-loop
-one-version-requires c κs =
-    let x = c .before .before .before .before .before .skip .ensures in
-    let a = c .before .before .before .before .before .before .before .before .before .before .before .before .before .args in
-    let same = ap (λ (y : Header). y .current) (c .before .before .before .before .before .before .before .before .before .before .header .ensures) ∙ sym (current-of (a .k .least) (a .s .now)) in
-    let less : c .before .before .before .before .before .skip .result < decode (a .k .least) (a .s .now) .current = omega (arith, c .before .if2 .left, x .high, same) in
-    (x .now-at, less)
+one-version-requires c κs = (c .before .before .before .before .before .skip .ensures .now-at, less (c .before))
 
 same-length-2 : tie.Need-same-length-2 Inv-loop μ-loop
 same-length-2 c = search needs
@@ -68,44 +70,29 @@ returns-2 : tie.Need-returns-2 Inv-loop μ-loop
 returns-2 c =
     let i = c .before .before .before .before .before .before .before .before .before .before .before .before .before .loop in
     let x = c .before .before .before .before .before .before .before .before .before .skip .ensures in
-    let a = c .before .before .before .before .before .before .before .before .before .before .before .before .before .before .before .before .before .args in
-    let same = ap (λ (y : Header). y .current) (c .before .before .before .before .before .before .before .before .before .before .before .before .before .before .header .ensures) ∙ sym (current-of (a .k .least) (a .s .now)) in
-    let less : c .before .before .before .before .before .before .before .before .before .skip .result < decode (a .k .least) (a .s .now) .current = omega (arith, c .before .before .before .before .before .if2 .left, x .high, same) in
     let q = c .before .before .before .one-version .ensures in
     record {
       sound = q .sound;
       goes = λ z. absurd (c .if3 .taken z);
-      stops = λ z. i .inv .2 ∙ x .same ∙ on-stops (x .now-at) less _ _ q z;
+      stops = λ z. i .inv .2 ∙ x .same ∙ on-stops (x .now-at) (less (c .before .before .before .before .before)) _ _ q z;
     }
 
 add-v : tie.Need-add-v Inv-loop μ-loop
-add-v c =
-    let x = c .before .before .before .before .before .before .before .before .before .skip .ensures in
-    let a = c .before .before .before .before .before .before .before .before .before .before .before .before .before .before .before .before .before .args in
-    let same = ap (λ (y : Header). y .current) (c .before .before .before .before .before .before .before .before .before .before .before .before .before .before .header .ensures) ∙ sym (current-of (a .k .least) (a .s .now)) in
-    let less : c .before .before .before .before .before .before .before .before .before .skip .result < decode (a .k .least) (a .s .now) .current = omega (arith, c .before .before .before .before .before .if2 .left, x .high, same) in
-    omega (arith, version-low (x .now-at) less)
+add-v c = omega (arith, version-low (c .before .before .before .before .before .before .before .before .before .skip .ensures .now-at) (less (c .before .before .before .before .before)))
 
 loop-less : tie.Need-loop-less Inv-loop μ-loop
-loop-less c =
-    let x = c .before .before .before .before .before .before .before .before .before .skip .ensures in
-    let a = c .before .before .before .before .before .before .before .before .before .before .before .before .before .before .before .before .before .args in
-    let same = ap (λ (y : Header). y .current) (c .before .before .before .before .before .before .before .before .before .before .before .before .before .before .header .ensures) ∙ sym (current-of (a .k .least) (a .s .now)) in
-    let less : c .before .before .before .before .before .before .before .before .before .skip .result < decode (a .k .least) (a .s .now) .current = omega (arith, c .before .before .before .before .before .if2 .left, x .high, same) in
-    omega (arith, less, x .low)
+loop-less c = omega (arith, less (c .before .before .before .before .before), c .before .before .before .before .before .before .before .before .before .skip .ensures .low)
 
 loop-again : tie.Need-loop-again Inv-loop μ-loop
 loop-again c =
     let i = c .before .before .before .before .before .before .before .before .before .before .before .before .before .loop in
     let x = c .before .before .before .before .before .before .before .before .before .skip .ensures in
-    let a = c .before .before .before .before .before .before .before .before .before .before .before .before .before .before .before .before .before .args in
-    let same = ap (λ (y : Header). y .current) (c .before .before .before .before .before .before .before .before .before .before .before .before .before .before .header .ensures) ∙ sym (current-of (a .k .least) (a .s .now)) in
-    let less : c .before .before .before .before .before .before .before .before .before .skip .result < decode (a .k .least) (a .s .now) .current = omega (arith, c .before .before .before .before .before .if2 .left, x .high, same) in
+    let on = less (c .before .before .before .before .before) in
     let q = c .before .before .before .one-version .ensures in
     let z = c .if3 .left in (
-      omega (arith, less),
-      on-more (x .now-at) less _ _ q z,
-      i .inv .2 ∙ x .same ∙ on-goes (x .now-at) less _ _ q z,
+      omega (arith, on),
+      on-more (x .now-at) on _ _ q z,
+      i .inv .2 ∙ x .same ∙ on-goes (x .now-at) on _ _ q z,
       c .before .before .before .one-version .kept .1 .1 .0 ∙ c .before .before .before .before .before .before .before .before .before .skip .kept .1 .1 .0 ∙ i .inv .3,
     )
 
@@ -116,7 +103,7 @@ returns-3 : tie.Need-returns-3 Inv-loop μ-loop
 returns-3 c =
     let i = c .before .before .loop in
     let a = c .before .before .before .before .before .before .args in
-    let same = ap (λ (y : Header). y .current) (c .before .before .before .header .ensures) ∙ sym (current-of (a .k .least) (a .s .now)) in
+    let same = current-is (c .before .before .before) in
     record {
       sound = i .inv .1 .target;
       goes = λ z. i .inv .2 ∙ on-end (i .inv .1) (omega (arith, c .if1 .left, same));

@@ -10,7 +10,8 @@ use Rattle.cursor.proofs.first_from.Statement.{statement}
 use Rattle.cursor.proofs.first_from.Tie as tie
 
 abbrev Inv-loop : tie.InvT-loop
-Inv-loop s l v low key₀ key = leads (atOrAbove low (settings (decode (l .least) s) v)) ≡ leads (atOrAbove key (settings (decode (l .least) s) v))
+Inv-loop s l v low key₀ key =
+    leads (atOrAbove low (settings (decode (l .least) s) v)) ≡ leads (atOrAbove key (settings (decode (l .least) s) v))
 
 abbrev μ-loop : tie.MeasureT-loop
 μ-loop s l v low key₀ key = keyLimit - key
@@ -22,26 +23,39 @@ leaf-for-requires : tie.Need-leaf-for-requires Inv-loop μ-loop
 leaf-for-requires c κs = (c .before .before .before .pre, c .loop-test .taken)
 
 first-in-requires : tie.Need-first-in-requires Inv-loop μ-loop
-first-in-requires c κs = (c .before .before .before .before .pre, c .leaf-for .ensures)
+first-in-requires c κs =
+    let at-start = c .before .before .before .before in
+    (at-start .pre, c .leaf-for .ensures)
 
 returns : tie.Need-returns Inv-loop μ-loop
 returns c =
-    let a = c .before .before .before .before .before .before .before .args in
-    let l = c .before .before .before .before .before .loop in
-    let u = c .before .before .before .leaf-for .result in
+    let at-leaf-for = c .before .before .before in
+    let at-loop = at-leaf-for .before .before in
+    let at-start = at-loop .before .before in
+    let a = at-start .args in
+    let l = at-loop .loop in
+    let u = at-leaf-for .leaf-for .result in
     let e = c .before .before .first-in .ensures in
-    e ∙ first-found (a .l .least) (a .v) (decode (a .l .least) (a .s .now) .pages) (settings (decode (a .l .least) (a .s .now)) (a .v)) (u .page) (l .key) (u .high) (c .before .before .before .leaf-for .ensures) (rw e at (c .if1 .taken)) ∙ sym (l .inv)
+    e ∙ first-found (a .l .least) (a .v) (decode (a .l .least) (a .s .now) .pages) (settings (decode (a .l .least) (a .s .now)) (a .v))
+    (u .page) (l .key) (u .high) (at-leaf-for .leaf-for .ensures) (rw e at (c .if1 .taken)) ∙ sym (l .inv)
 
 loop-less : tie.Need-loop-less Inv-loop μ-loop
-loop-less c = let g = c .before .before .before .leaf-for .ensures in omega (arith, g .below, c .before .before .before .before .loop-test .taken)
+loop-less c =
+    let at-test = c .before .before .before .before in
+    let g = c .before .before .before .leaf-for .ensures in omega (arith, g .below, at-test .loop-test .taken)
 
 loop-again : tie.Need-loop-again Inv-loop μ-loop
 loop-again c =
-    let a = c .before .before .before .before .before .before .before .args in
-    let l = c .before .before .before .before .before .loop in
-    let u = c .before .before .before .leaf-for .result in
+    let at-leaf-for = c .before .before .before in
+    let at-loop = at-leaf-for .before .before in
+    let at-start = at-loop .before .before in
+    let a = at-start .args in
+    let l = at-loop .loop in
+    let u = at-leaf-for .leaf-for .result in
     let e = c .before .before .first-in .ensures in
-    l .inv ∙ first-further (a .l .least) (a .v) (decode (a .l .least) (a .s .now) .pages) (settings (decode (a .l .least) (a .s .now)) (a .v)) (u .page) (l .key) (u .high) (c .before .before .before .leaf-for .ensures) (rw e at (c .if1 .left))
+    l .inv ∙ first-further (a .l .least) (a .v) (decode (a .l .least) (a .s .now) .pages)
+    (settings (decode (a .l .least) (a .s .now)) (a .v)) (u .page) (l .key) (u .high) (at-leaf-for .leaf-for .ensures)
+    (rw e at (c .if1 .left))
 
 returns-2 : tie.Need-returns-2 Inv-loop μ-loop
 returns-2 c =

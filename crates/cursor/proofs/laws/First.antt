@@ -41,7 +41,8 @@ above-in k lo hi (x ∷ xs) i =
     let (here, rest) = all-cons (λ (y : Pair). within lo hi (y .key)) x xs i in
     at (leb k (x .key)) here (above-in k lo hi xs rest)
   where
-    at : (b : Bool) → within lo hi (x .key) ≡ true → inRange lo hi (atOrAbove k xs) ≡ true → inRange lo hi (keep b x (atOrAbove k xs)) ≡ true
+    at : (b : Bool) → within lo hi (x .key) ≡ true → inRange lo hi (atOrAbove k xs) ≡ true
+        → inRange lo hi (keep b x (atOrAbove k xs)) ≡ true
     at true p q = both-intro (within lo hi (x .key)) (inRange lo hi (atOrAbove k xs)) p q
     at false p q = q
 
@@ -52,7 +53,8 @@ between-above k lo hi (x ∷ xs) i h =
     let (here, rest) = all-cons (λ (y : Pair). within lo hi (y .key)) x xs i in
     let (p, q) = both-true (leb lo (x .key)) (ltb (x .key) hi) here in
     let e : leb (x .key) 16777215 ≡ true = le-leb (x .key) 16777215 (omega (arith, ltb-true (x .key) hi q)) in
-    ap₂ (λ (b : Bool) (zs : List Pair). keep b x zs) (ap (λ (b : Bool). leb k (x .key) && b) e ∙ right (leb k (x .key))) (between-above k lo hi xs rest h)
+    ap₂ (λ (b : Bool) (zs : List Pair). keep b x zs) (ap (λ (b : Bool). leb k (x .key) && b) e ∙ right (leb k (x .key)))
+    (between-above k lo hi xs rest h)
   where
     right : (b : Bool) → (b && true) ≡ b
     right true = refl
@@ -63,7 +65,8 @@ pub leads-first : (xs ys : List Pair) → leads xs .key < keyLimit → leads (xs
 leads-first [] ys h = absurd (omega arith)
 leads-first (x ∷ xs) ys h = refl
 
-pub leads-none : (lo hi : ℕ) (xs ys : List Pair) → inRange lo hi xs ≡ true → hi ≤ keyLimit → keyLimit ≤ leads xs .key → leads (xs ++ ys) ≡ leads ys
+pub leads-none : (lo hi : ℕ) (xs ys : List Pair) → inRange lo hi xs ≡ true → hi ≤ keyLimit → keyLimit ≤ leads xs .key
+    → leads (xs ++ ys) ≡ leads ys
 leads-none lo hi [] ys i t h = refl
 leads-none lo hi (x ∷ xs) ys i t h =
     let (here, rest) = all-cons (λ (y : Pair). within lo hi (y .key)) x xs i in

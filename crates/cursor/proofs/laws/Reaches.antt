@@ -50,7 +50,8 @@ all-upto lo hi (x ∷ rs) i h =
 
 module _ (least v : ℕ) (ps : List Page) where
   pub reaches-covers : (whole : List Pair) (up n k high : ℕ) → Reaches least v ps whole up n k high → Covers least v ps up n k
-  reaches-covers whole up n k high r = record { low = r .low; high = high; shown = r .shown; level = r .level; holds = r .holds; from = r .from; below = r .below }
+  reaches-covers whole up n k high r =
+      record { low = r .low; high = high; shown = r .shown; level = r .level; holds = r .holds; from = r .from; below = r .below }
 
   -- Of routers from lo up to hi, those that a walk for k follows: the one for k leads to page n, which has the keys up to mid, and the
   -- others come after it.
@@ -72,7 +73,8 @@ module _ (least v : ℕ) (ps : List Page) where
     pub all-of : zs ≡ befores ++ (mine ++ afters)
 
   module _ (l k : ℕ) where
-    led : (rest : List Pair) (x : Pair) (lo hi : ℕ) (zs : List Pair) → Row (Tree least v l ps) hi (x ∷ rest) lo zs → lo ≤ k → k < hi → hi ≤ keyLimit
+    led : (rest : List Pair) (x : Pair) (lo hi : ℕ) (zs : List Pair) → Row (Tree least v l ps) hi (x ∷ rest) lo zs → lo ≤ k → k < hi
+        → hi ≤ keyLimit
         → LedFor l k lo hi zs (followFrom k 16777215 x rest)
     led [] x lo hi zs t p q top = record {
       n = x .value;
@@ -94,7 +96,8 @@ module _ (least v : ℕ) (ps : List Page) where
     led (y ∷ ys) x lo hi zs t p q top = at (leb (y .key) k) refl (λ far. led ys y (t .mid) hi (t .others) (t .rest) far q top)
       where
         at : (b : Bool) → leb (y .key) k ≡ b → (t .mid ≤ k → LedFor l k (t .mid) hi (t .others) (followFrom k 16777215 y ys))
-            → LedFor l k lo hi zs (elim b as (λ z. List Pair) [ true ↦ followFrom k 16777215 y ys | false ↦ pair k (x .value) ∷ upto 16777215 (y ∷ ys) ])
+            → LedFor l k lo hi zs
+            (elim b as (λ z. List Pair) [ true ↦ followFrom k 16777215 y ys | false ↦ pair k (x .value) ∷ upto 16777215 (y ∷ ys) ])
         at true e ih =
             let f = ih (omega (arith, leb-true (y .key) k e, t .rest .low)) in
             record {
@@ -107,14 +110,16 @@ module _ (least v : ℕ) (ps : List Page) where
               afters = f .afters;
               is = f .is;
               lefts = all-append (λ (z : Pair). within lo (f .low) (z .key)) (t .mine) (f .befores)
-                  (widen lo (t .mid) lo (f .low) (t .mine) (omega arith) (f .bottom) (holds-range least v ps l lo (t .mid) (pairsAt v (page ps (x .value))) (t .mine) (t .here .holds)))
+                  (widen lo (t .mid) lo (f .low) (t .mine) (omega arith) (f .bottom)
+                  (holds-range least v ps l lo (t .mid) (pairsAt v (page ps (x .value))) (t .mine) (t .here .holds)))
                   (widen (t .mid) (f .low) lo (f .low) (f .befores) (omega (arith, t .room)) (omega arith) (f .lefts));
               bottom = omega (arith, t .room, f .bottom);
               here = f .here;
               rights = f .rights;
               from = f .from;
               upto = f .upto;
-              all-of = t .all-of ∙ ap (λ (us : List Pair). t .mine ++ us) (f .all-of) ∙ sym (append-assoc (t .mine) (f .befores) (f .mine ++ f .afters));
+              all-of = t .all-of ∙ ap (λ (us : List Pair). t .mine ++ us) (f .all-of)
+                  ∙ sym (append-assoc (t .mine) (f .befores) (f .mine ++ f .afters));
             }
         at false e ih = record {
           n = x .value;
@@ -124,7 +129,8 @@ module _ (least v : ℕ) (ps : List Page) where
           befores = [];
           mine = t .mine;
           afters = t .others;
-          is = ap (λ (us : List Pair). pair k (x .value) ∷ us) (all-upto (t .mid) hi (y ∷ ys) (row-keys (Tree least v l ps) hi (y ∷ ys) (t .mid) (t .others) (t .rest)) top);
+          is = ap (λ (us : List Pair). pair k (x .value) ∷ us)
+              (all-upto (t .mid) hi (y ∷ ys) (row-keys (Tree least v l ps) hi (y ∷ ys) (t .mid) (t .others) (t .rest)) top);
           lefts = refl;
           bottom = omega arith;
           here = t .here;
@@ -134,7 +140,8 @@ module _ (least v : ℕ) (ps : List Page) where
           all-of = t .all-of;
         }
 
-    led-in : (rs : List Pair) (lo hi : ℕ) (zs : List Pair) → Row (Tree least v l ps) hi rs lo zs → lo ≤ k → k < hi → hi ≤ keyLimit → LedFor l k lo hi zs (followed k 16777215 rs)
+    led-in : (rs : List Pair) (lo hi : ℕ) (zs : List Pair) → Row (Tree least v l ps) hi rs lo zs → lo ≤ k → k < hi → hi ≤ keyLimit
+        → LedFor l k lo hi zs (followed k 16777215 rs)
     led-in [] lo hi zs t p q top = absurd (omega (arith, t .met))
     led-in (x ∷ rs) lo hi zs t p q top = led rs x lo hi zs t p q top
 
@@ -157,12 +164,14 @@ module _ (least v : ℕ) (ps : List Page) where
           from = f .from;
           below = f .upto;
           top = omega (arith, far, r .top);
-          is = r .is ∙ ap (λ (us : List Pair). r .before ++ (us ++ r .after)) (f .all-of) ∙ regroup (r .before) (f .befores) (f .mine) (f .afters) (r .after);
+          is = r .is ∙ ap (λ (us : List Pair). r .before ++ (us ++ r .after)) (f .all-of)
+              ∙ regroup (r .before) (f .befores) (f .mine) (f .afters) (r .after);
           lefts = all-append (λ (z : Pair). within 0 (f .low) (z .key)) (r .before) (f .befores)
               (widen 0 (r .low) 0 (f .low) (r .before) (omega arith) (f .bottom) (r .lefts))
               (widen (r .low) (f .low) 0 (f .low) (f .befores) (omega arith) (omega arith) (f .lefts));
           rights = all-append (λ (z : Pair). within (f .mid) keyLimit (z .key)) (f .afters) (r .after)
-              (widen (f .mid) high (f .mid) keyLimit (f .afters) (omega arith) (r .top) (row-range least v ps up (holds-range least v ps up) high (f .after) (f .mid) (f .afters) (f .rights)))
+              (widen (f .mid) high (f .mid) keyLimit (f .afters) (omega arith) (r .top)
+              (row-range least v ps up (holds-range least v ps up) high (f .after) (f .mid) (f .afters) (f .rights)))
               (widen high keyLimit (f .mid) keyLimit (r .after) far (omega arith) (r .rights));
         }
       where
@@ -188,7 +197,8 @@ module _ (least v : ℕ) (ps : List Page) where
       pub reaches-next : (x : Pair) (xs : List Pair) → qs ≡ x ∷ xs → Reaches least v ps whole up m k (x .key)
       reaches-next x xs q =
           let t = subst (λ (us : List Pair). Row (Tree least v up ps) high us (way .mid) (way .afters)) (same-rest ∙ q) (way .rights) in
-          subst (Reaches least v ps whole up m k) (sym (t .low)) (subst (λ (i : ℕ). Reaches least v ps whole up i k (way .mid)) same-page further)
+          subst (Reaches least v ps whole up m k) (sym (t .low))
+          (subst (λ (i : ℕ). Reaches least v ps whole up i k (way .mid)) same-page further)
 
       pub reaches-last : qs ≡ [] → Reaches least v ps whole up m k high
       reaches-last q =
@@ -203,11 +213,14 @@ module _ (least v : ℕ) (ps : List Page) where
     pub leaf-then : atOrAbove k whole ≡ atOrAbove k (pairsAt v (page ps n)) ++ atOrAbove high whole
     leaf-then =
         let mine : List Pair = pairsAt v (page ps n) in
-        let e : whole ≡ r .before ++ (mine ++ r .after) = r .is ∙ ap (λ (us : List Pair). r .before ++ (us ++ r .after)) (sym (r .holds .same)) in
+        let e : whole ≡ r .before ++ (mine ++ r .after) = r .is
+        ∙ ap (λ (us : List Pair). r .before ++ (us ++ r .after)) (sym (r .holds .same)) in
         ap (atOrAbove k) e ∙ above-append k (r .before) (mine ++ r .after)
         ∙ ap₂ _++_ (above-none k 0 (r .low) (r .before) (r .lefts) (r .from))
-        (above-append k mine (r .after) ∙ ap (λ (us : List Pair). atOrAbove k mine ++ us) (above-all k high keyLimit (r .after) (r .rights) (omega (arith, r .below))))
+        (above-append k mine (r .after) ∙ ap (λ (us : List Pair). atOrAbove k mine ++ us)
+        (above-all k high keyLimit (r .after) (r .rights) (omega (arith, r .below))))
         ∙ ap (λ (us : List Pair). atOrAbove k mine ++ us)
         (sym (ap (atOrAbove high) e ∙ above-append high (r .before) (mine ++ r .after)
         ∙ ap₂ _++_ (above-none high 0 (r .low) (r .before) (r .lefts) (omega (arith, r .from, r .below)))
-        (above-append high mine (r .after) ∙ ap₂ _++_ (above-none high (r .low) high mine leaf-range (omega arith)) (above-all high high keyLimit (r .after) (r .rights) (omega arith)))))
+        (above-append high mine (r .after) ∙ ap₂ _++_ (above-none high (r .low) high mine leaf-range (omega arith))
+        (above-all high high keyLimit (r .after) (r .rights) (omega arith)))))

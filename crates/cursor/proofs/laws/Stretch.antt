@@ -29,7 +29,8 @@ between-none k hi a b [] i o = refl
 between-none k hi a b (x ∷ xs) i o =
     let (here, rest) = all-cons (λ (y : Pair). within a b (y .key)) x xs i in
     let (p, q) = both-true (leb a (x .key)) (ltb (x .key) b) here in
-    ap₂ (λ (t : Bool) (zs : List Pair). keep t x zs) (at (leb-true a (x .key) p) (ltb-true (x .key) b q) o) (between-none k hi a b xs rest o)
+    ap₂ (λ (t : Bool) (zs : List Pair). keep t x zs) (at (leb-true a (x .key) p) (ltb-true (x .key) b q) o)
+    (between-none k hi a b xs rest o)
   where
     both : (s t : Bool) → t ≡ false → (s && t) ≡ false
     both true t e = e
@@ -52,7 +53,8 @@ split k hi (x ∷ xs) r h =
     let (a, p) = both-true (above (x .key) xs) (rising xs) r in
     at a (leb k (x .key)) refl (leb (x .key) hi) refl (split k hi xs p h)
   where
-    at : above (x .key) xs ≡ true → (s : Bool) → leb k (x .key) ≡ s → (t : Bool) → leb (x .key) hi ≡ t → atOrAbove k xs ≡ between k hi xs ++ atOrAbove (hi + 1) xs
+    at : above (x .key) xs ≡ true → (s : Bool) → leb k (x .key) ≡ s → (t : Bool) → leb (x .key) hi ≡ t
+        → atOrAbove k xs ≡ between k hi xs ++ atOrAbove (hi + 1) xs
         → keep s x (atOrAbove k xs) ≡ keep (s && t) x (between k hi xs) ++ keep (leb (hi + 1) (x .key)) x (atOrAbove (hi + 1) xs)
     at a false e t f ih = rw (lt-leb (hi + 1) (x .key) (omega (arith, leb-false k (x .key) e))) ih
     at a true e true f ih = rw (lt-leb (hi + 1) (x .key) (omega (arith, leb-true (x .key) hi f))) (ap (λ (zs : List Pair). x ∷ zs) ih)

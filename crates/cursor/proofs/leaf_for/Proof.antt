@@ -21,12 +21,16 @@ root-at-requires c κs = (c .before .pre .0 .edition, c .before .pre .0 .sound)
 
 height-of-requires : tie.Need-height-of-requires Inv-loop μ-loop
 height-of-requires c κs =
-    let r = c .before .before .pre .0 in
-    let k = root-covers r (c .before .before .args .key) (c .before .before .pre .1) in
-    rw (c .root-at .ensures) (r .edition, covers-inside r _ _ _ k, few (r .edition) (c .before .before .args .s .now) (r .sound), omega (arith, k .level))
+    let at-start = c .before .before in
+    let r = at-start .pre .0 in
+    let k = root-covers r (at-start .args .key) (at-start .pre .1) in
+    rw (c .root-at .ensures)
+    (r .edition, covers-inside r _ _ _ k, few (r .edition) (at-start .args .s .now) (r .sound), omega (arith, k .level))
 
 loop-holds : tie.Need-loop-holds Inv-loop μ-loop
-loop-holds c = rw (c .height-of .ensures, c .before .root-at .ensures) (below-root (c .before .before .before .pre .0) (c .before .before .before .args .key) (c .before .before .before .pre .1))
+loop-holds c =
+    let at-start = c .before .before .before in
+    rw (c .height-of .ensures, c .before .root-at .ensures) (below-root (at-start .pre .0) (at-start .args .key) (at-start .pre .1))
 
 step-requires : tie.Need-step-requires Inv-loop μ-loop
 step-requires c κs = search needs
@@ -42,7 +46,8 @@ loop-again c = c .step .ensures
 
 returns : tie.Need-returns Inv-loop μ-loop
 returns c =
-    let a = c .before .before .before .before .before .args in
+    let at-start = c .before .before .before .before .before in
+    let a = at-start .args in
     let l = c .before .loop in
     let e : l .up ≡ 0 = omega (arith, c .loop-test .left) in
     subst (λ (n : ℕ). Below (a .l) (a .s .now) (a .v) n (a .key) (l .u)) e (l .inv)

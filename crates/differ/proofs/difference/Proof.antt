@@ -8,10 +8,14 @@ use Rattle.differ.proofs.difference.Statement.{statement}
 use Rattle.differ.proofs.difference.Tie as tie
 
 tell-requires : tie.Need-tell-requires
-tell-requires c κs = (c .before .before .before .pre .0, c .before .before .before .pre .1, none-room deltas (omega (arith, few-between (c .before .before .before .pre .0) (c .before .before .before .pre .1))))
+tell-requires c κs =
+    let at-start = c .before .before .before in
+    (at-start .pre .0, at-start .pre .1, none-room deltas (omega (arith, few-between (at-start .pre .0) (at-start .pre .1))))
 
 mul-if1 : tie.Need-mul-if1
-mul-if1 c = omega (arith, c .before .before .tell .ensures .count, few-between (c .before .before .before .before .before .before .pre .0) (c .before .before .before .before .before .before .pre .1))
+mul-if1 c =
+    let at-start = c .before .before .before .before .before .before in
+    omega (arith, c .before .before .tell .ensures .count, few-between (at-start .pre .0) (at-start .pre .1))
 
 same-length : tie.Need-same-length
 same-length c = search needs
@@ -20,13 +24,23 @@ returns : tie.Need-returns
 returns c = told-short deltas (c .before .before .before .tell .ensures) (c .if1 .taken)
 
 tell-requires-2 : tie.Need-tell-requires-2
-tell-requires-2 c κs = (c .before .before .before .before .before .before .before .before .pre .0, c .before .before .before .before .before .before .before .before .pre .1, second-space deltas (c .before .before .before .before .tell .ensures) (c .before .if1 .left) (omega (arith, few-between (c .before .before .before .before .before .before .before .before .pre .0) (c .before .before .before .before .before .before .before .before .pre .1))))
+tell-requires-2 c κs =
+    let at-tell = c .before .before .before .before in
+    let at-start = at-tell .before .before .before .before in (
+      at-start .pre .0,
+      at-start .pre .1,
+      second-space deltas (at-tell .tell .ensures) (c .before .if1 .left)
+          (omega (arith, few-between (at-start .pre .0) (at-start .pre .1))),
+    )
 
 same-length-2 : tie.Need-same-length-2
 same-length-2 c = search needs
 
 returns-2 : tie.Need-returns-2
-returns-2 c = told-all deltas (c .before .before .before .before .before .before .before .tell .ensures) (c .before .before .before .before .if1 .left) (c .before .before .tell2 .ensures)
+returns-2 c =
+    let at-if1 = c .before .before .before .before in
+    let at-tell = at-if1 .before .before .before in
+    told-all deltas (at-tell .tell .ensures) (at-if1 .if1 .left) (c .before .before .tell2 .ensures)
 
 pub difference-spec : {M : Type 1} → statement M
 difference-spec =

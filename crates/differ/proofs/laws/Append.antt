@@ -39,7 +39,8 @@ pub onward-above : (hi : ℕ) (xs : List Pair) → above hi (atOrAbove (hi + 1) 
 onward-above hi [] = refl
 onward-above hi (x ∷ xs) = at (leb (hi + 1) (x .key)) refl (onward-above hi xs)
   where
-    at : (s : Bool) → leb (hi + 1) (x .key) ≡ s → above hi (atOrAbove (hi + 1) xs) ≡ true → above hi (keep s x (atOrAbove (hi + 1) xs)) ≡ true
+    at : (s : Bool) → leb (hi + 1) (x .key) ≡ s → above hi (atOrAbove (hi + 1) xs) ≡ true
+        → above hi (keep s x (atOrAbove (hi + 1) xs)) ≡ true
     at true e ih = both-intro (ltb hi (x .key)) _ (lt-ltb hi (x .key) (omega (arith, leb-true (hi + 1) (x .key) e))) ih
     at false e ih = ih
 
@@ -48,23 +49,29 @@ module _ (hi : ℕ) (us ws : List Pair) (a : above hi us ≡ true) (b : above hi
   Parts xs ys = upTo hi xs ≡ true → upTo hi ys ≡ true → differ (xs ++ us) (ys ++ ws) ≡ differ xs ys ++ differ us ws
 
   -- a key up to hi is below what stands behind
-  behind : (x : Pair) (ys zs : List Pair) → leb (x .key) hi ≡ true → above (x .key) ys ≡ true → above hi zs ≡ true → above (x .key) (ys ++ zs) ≡ true
+  behind : (x : Pair) (ys zs : List Pair) → leb (x .key) hi ≡ true → above (x .key) ys ≡ true → above hi zs ≡ true
+      → above (x .key) (ys ++ zs) ≡ true
   behind x ys zs h c d = all-append (λ (z : Pair). ltb (x .key) (z .key)) ys zs c (above-lower (x .key) hi zs d (leb-true (x .key) hi h))
 
-  pub differ-append : (xs ys : List Pair) → rising xs ≡ true → rising ys ≡ true → upTo hi xs ≡ true → upTo hi ys ≡ true → differ (xs ++ us) (ys ++ ws) ≡ differ xs ys ++ differ us ws
+  pub differ-append : (xs ys : List Pair) → rising xs ≡ true → rising ys ≡ true → upTo hi xs ≡ true → upTo hi ys ≡ true
+      → differ (xs ++ us) (ys ++ ws) ≡ differ xs ys ++ differ us ws
   differ-append = by-merge Parts (λ i j. refl)
       (λ x xs ys c d ih i j. let (p, q) = all-cons (λ (z : Pair). leb (z .key) hi) x xs i in
-      old-first x (xs ++ us) (ys ++ ws) (behind x ys ws p d b) ∙ ap (λ (ds : List Delta). removed x ∷ ds) (ih q j) ∙ ap (λ (ds : List Delta). ds ++ differ us ws) (sym (old-first x xs ys d)))
+      old-first x (xs ++ us) (ys ++ ws) (behind x ys ws p d b) ∙ ap (λ (ds : List Delta). removed x ∷ ds) (ih q j)
+      ∙ ap (λ (ds : List Delta). ds ++ differ us ws) (sym (old-first x xs ys d)))
       (λ xs y ys c d ih i j. let (p, q) = all-cons (λ (z : Pair). leb (z .key) hi) y ys j in
-      new-first (xs ++ us) y (ys ++ ws) (behind y xs us p c a) ∙ ap (λ (ds : List Delta). added y ∷ ds) (ih i q) ∙ ap (λ (ds : List Delta). ds ++ differ us ws) (sym (new-first xs y ys c)))
+      new-first (xs ++ us) y (ys ++ ws) (behind y xs us p c a) ∙ ap (λ (ds : List Delta). added y ∷ ds) (ih i q)
+      ∙ ap (λ (ds : List Delta). ds ++ differ us ws) (sym (new-first xs y ys c)))
       (λ x xs y ys e c d ih i j.
       let q = all-cons (λ (z : Pair). leb (z .key) hi) x xs i .1 in
       let (m, n) = all-cons (λ (z : Pair). leb (z .key) hi) y ys j in
       both-first x (xs ++ us) y (ys ++ ws) e (behind y ys ws m d b) ∙ ap (λ (ds : List Delta). against x (some (y .value)) ++ ds) (ih q n)
-      ∙ sym (append-assoc (against x (some (y .value))) (differ xs ys) (differ us ws)) ∙ ap (λ (ds : List Delta). ds ++ differ us ws) (sym (both-first x xs y ys e d)))
+      ∙ sym (append-assoc (against x (some (y .value))) (differ xs ys) (differ us ws))
+      ∙ ap (λ (ds : List Delta). ds ++ differ us ws) (sym (both-first x xs y ys e d)))
 
 -- no more differences than keys
-fewer : (lo hi : ℕ) (ds : List Delta) → lo ≤ hi → inOrder before ds ≡ true → all (λ (d : Delta). within lo hi (d .key)) ds ≡ true → length ds + lo ≤ hi
+fewer : (lo hi : ℕ) (ds : List Delta) → lo ≤ hi → inOrder before ds ≡ true → all (λ (d : Delta). within lo hi (d .key)) ds ≡ true
+    → length ds + lo ≤ hi
 fewer lo hi [] l o i = omega arith
 fewer lo hi (d ∷ ds) l o i =
     let (here, more) = all-cons (λ (e : Delta). within lo hi (e .key)) d ds i in
@@ -73,15 +80,19 @@ fewer lo hi (d ∷ ds) l o i =
     let ih = fewer (d .key + 1) hi ds (omega (arith, ltb-true (d .key) hi q)) r (raise ds a more) in
     omega (arith, ih, leb-true lo (d .key) p)
   where
-    raise : (es : List Delta) → all (before d) es ≡ true → all (λ (e : Delta). within lo hi (e .key)) es ≡ true → all (λ (e : Delta). within (d .key + 1) hi (e .key)) es ≡ true
+    raise : (es : List Delta) → all (before d) es ≡ true → all (λ (e : Delta). within lo hi (e .key)) es ≡ true
+        → all (λ (e : Delta). within (d .key + 1) hi (e .key)) es ≡ true
     raise [] a i = refl
     raise (e ∷ es) a i =
         let (p, q) = all-cons (before d) e es a in
         let (here, more) = all-cons (λ (f : Delta). within lo hi (f .key)) e es i in
         both-intro (within (d .key + 1) hi (e .key)) _
-        (both-intro (leb (d .key + 1) (e .key)) (ltb (e .key) hi) (le-leb (d .key + 1) (e .key) (omega (arith, ltb-true (d .key) (e .key) p))) (both-true (leb lo (e .key)) (ltb (e .key) hi) here .1))
+        (both-intro (leb (d .key + 1) (e .key)) (ltb (e .key) hi)
+        (le-leb (d .key + 1) (e .key) (omega (arith, ltb-true (d .key) (e .key) p)))
+        (both-true (leb lo (e .key)) (ltb (e .key) hi) here .1))
         (raise es q more)
 
-pub few-differ : (hi : ℕ) (us ws : List Pair) → rising us ≡ true → rising ws ≡ true → inRange 0 hi us ≡ true → inRange 0 hi ws ≡ true → length (differ us ws) ≤ hi
+pub few-differ : (hi : ℕ) (us ws : List Pair) → rising us ≡ true → rising ws ≡ true → inRange 0 hi us ≡ true → inRange 0 hi ws ≡ true
+    → length (differ us ws) ≤ hi
 few-differ hi us ws r q i j =
     omega (arith, fewer 0 hi (differ us ws) (omega arith) (in-order us ws r q) (keys-so (within 0 hi) us ws r q i j))

@@ -35,7 +35,9 @@ pub compared-old : (x y : Pair) → compared x y .key ≤ x .key
 compared-old x y = at (ltb (x .key) (y .key)) (ltb (y .key) (x .key)) refl
   where
     at : (p q : Bool) → ltb (y .key) (x .key) ≡ q
-        → pick p (removed x) (pick q (added y) (record { key = x .key; kind = pick (eqb (x .value) (y .value)) 3 2; old = x .value; new = y .value })) .key ≤ x .key
+        → pick p (removed x)
+        (pick q (added y) (record { key = x .key; kind = pick (eqb (x .value) (y .value)) 3 2; old = x .value; new = y .value })) .key
+        ≤ x .key
     at true q e = omega arith
     at false true e = omega (arith, ltb-true (y .key) (x .key) e)
     at false false e = omega arith
@@ -44,7 +46,9 @@ pub compared-new : (x y : Pair) → compared x y .key ≤ y .key
 compared-new x y = at (ltb (x .key) (y .key)) refl (ltb (y .key) (x .key)) refl
   where
     at : (p : Bool) → ltb (x .key) (y .key) ≡ p → (q : Bool) → ltb (y .key) (x .key) ≡ q
-        → pick p (removed x) (pick q (added y) (record { key = x .key; kind = pick (eqb (x .value) (y .value)) 3 2; old = x .value; new = y .value })) .key ≤ y .key
+        → pick p (removed x)
+        (pick q (added y) (record { key = x .key; kind = pick (eqb (x .value) (y .value)) 3 2; old = x .value; new = y .value })) .key
+        ≤ y .key
     at true e q f = omega (arith, ltb-true (x .key) (y .key) e)
     at false e true f = omega arith
     at false e false f = ltb-false (y .key) (x .key) f
@@ -69,7 +73,8 @@ module _ (p : List ℕ) (m : ℕ) (q : List ℕ) (n : ℕ) (a : Ask) where
 
   module _ (o : Ordered (olds 0)) (w : Ordered (news 0)) where
     pub half-start : {ns : List ℕ} {found : ℕ} → Space deltas (a .write) ns found (asked p m q n a) → (x y : Side)
-        → At p m (a .old) (a .low) (a .high) x × (olds (x .place) ≡ olds 0) → At q n (a .new) (a .low) (a .high) y × (news (y .place) ≡ news 0) → Halfway ns ns found found 0 x y
+        → At p m (a .old) (a .low) (a .high) x × (olds (x .place) ≡ olds 0)
+        → At q n (a .new) (a .low) (a .high) y × (news (y .place) ≡ news 0) → Halfway ns ns found found 0 x y
     half-start s x y g h = record {
       limit = omega arith;
       old = g .0;
@@ -81,7 +86,8 @@ module _ (p : List ℕ) (m : ℕ) (q : List ℕ) (n : ℕ) (a : Ask) where
 
     module _ {ns₀ ns : List ℕ} {found sum key : ℕ} {x y : Side} (h : Halfway ns₀ ns found sum key x y) where
       pub half-end : keyLimit ≤ key → Gathers deltas (a .write) ns₀ ns found sum (asked p m q n a)
-      half-end l = gather-end deltas (gather-same deltas (left-end (olds 0) (news 0) (o .rises) (w .rises) (o .low) (w .low) key l) (h .tells))
+      half-end l =
+          gather-end deltas (gather-same deltas (left-end (olds 0) (news 0) (o .rises) (w .rises) (o .low) (w .low) key l) (h .tells))
 
       module _ (l : key < keyLimit) (d : Delta) (e : d ≡ compared (x .pair) (y .pair)) where
         at-key : d ≡ compared (leads (atOrAbove key (olds 0))) (leads (atOrAbove key (news 0)))
@@ -91,7 +97,8 @@ module _ (p : List ℕ) (m : ℕ) (q : List ℕ) (n : ℕ) (a : Ask) where
         half-on = left-on (olds 0) (news 0) (o .rises) (w .rises) (o .low) (w .low) key (omega arith) d at-key
 
         parts : Gathering deltas (a .write) ns₀ ns found sum (asked p m q n a) (told d ++ left (olds 0) (news 0) (d .key + 1))
-        parts = gather-same deltas (left-step (olds 0) (news 0) (o .rises) (w .rises) (o .low) (w .low) key (omega arith) d at-key) (h .tells)
+        parts =
+            gather-same deltas (left-step (olds 0) (news 0) (o .rises) (w .rises) (o .low) (w .low) key (omega arith) d at-key) (h .tells)
 
         pub half-space : Space deltas (a .write) ns sum (told d)
         half-space = space-front deltas (told d) (left (olds 0) (news 0) (d .key + 1)) (parts .space)
@@ -104,7 +111,8 @@ module _ (p : List ℕ) (m : ℕ) (q : List ℕ) (n : ℕ) (a : Ask) where
 
         pub half-step : (ns′ : List ℕ) (sum′ : ℕ) → Gathers deltas (a .write) ns ns′ sum sum′ (told d) → (x′ y′ : Side)
             → At p m (a .old) (a .low) (a .high) x′ × (olds (x′ .place) ≡ atOrAbove (d .key + 1) (olds (x .place)))
-            → At q n (a .new) (a .low) (a .high) y′ × (news (y′ .place) ≡ atOrAbove (d .key + 1) (news (y .place))) → Halfway ns₀ ns′ found sum′ (d .key + 1) x′ y′
+            → At q n (a .new) (a .low) (a .high) y′ × (news (y′ .place) ≡ atOrAbove (d .key + 1) (news (y .place)))
+            → Halfway ns₀ ns′ found sum′ (d .key + 1) x′ y′
         half-step ns′ sum′ t x′ y′ g k = record {
           limit = omega (arith, half-on .high);
           old = g .0;
@@ -125,10 +133,12 @@ module _ {l : Limits} {b : List ℕ} {u v : ℕ} (r : Walkable l b u) (q : Walka
   pub between-start : {w : Bool} {ns : List ℕ} → Space deltas w ns 0 (between l b u v) → ToldBelow l b u v w ns ns 0 0
   between-start s = record { limit = omega arith; tells = gather-same deltas (sym (from-start r q)) (gather-start deltas s) }
 
-  pub between-end : {w : Bool} {ns₀ ns : List ℕ} {found key : ℕ} → ToldBelow l b u v w ns₀ ns found key → keyLimit ≤ key → Gathers deltas w ns₀ ns 0 found (between l b u v)
+  pub between-end : {w : Bool} {ns₀ ns : List ℕ} {found key : ℕ} → ToldBelow l b u v w ns₀ ns found key → keyLimit ≤ key
+      → Gathers deltas w ns₀ ns 0 found (between l b u v)
   between-end {key = key} h l = gather-end deltas (gather-same deltas (from-end r q key l) (h .tells))
 
-  module _ {w : Bool} {ns₀ ns : List ℕ} {found key : ℕ} (h : ToldBelow l b u v w ns₀ ns found key) (x y : Under) (g : Below l b u 0 key x) (f : Below l b v 0 key y)
+  module _ {w : Bool} {ns₀ ns : List ℕ} {found key : ℕ} (h : ToldBelow l b u v w ns₀ ns found key) (x y : Under) (g : Below l b u 0 key x)
+      (f : Below l b v 0 key y)
       (high : ℕ) (e : high ≡ pick (ltb (x .high) (y .high)) (x .high) (y .high)) where
     pub high-low : key < high
     high-low = past.high-low r q key x y g f high e
@@ -145,5 +155,7 @@ module _ {l : Limits} {b : List ℕ} {u v : ℕ} (r : Walkable l b u) (q : Walka
     pub between-space : Space deltas w ns found (inLeaves l b ask x y)
     between-space = space-front deltas (inLeaves l b ask x y) (leftOf l b u v high) (parts-of .space)
 
-    pub between-step : (ns′ : List ℕ) (found′ : ℕ) → Gathers deltas w ns ns′ found found′ (inLeaves l b ask x y) → ToldBelow l b u v w ns₀ ns′ found′ high
-    between-step ns′ found′ t = record { limit = high-top; tells = gather-step deltas (inLeaves l b ask x y) (leftOf l b u v high) parts-of ns′ found′ t }
+    pub between-step : (ns′ : List ℕ) (found′ : ℕ) → Gathers deltas w ns ns′ found found′ (inLeaves l b ask x y)
+        → ToldBelow l b u v w ns₀ ns′ found′ high
+    between-step ns′ found′ t =
+        record { limit = high-top; tells = gather-step deltas (inLeaves l b ask x y) (leftOf l b u v high) parts-of ns′ found′ t }

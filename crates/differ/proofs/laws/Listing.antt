@@ -24,10 +24,12 @@ use Rattle.differ.proofs.laws.Merge.{left-start, left-end, left-on, lef
 use Rattle.differ.specs.Listing.{between, leftOf}
 
 pub reads-rising : {l : Limits} {b : List ℕ} {v : ℕ} → Walkable l b v → rising (settings (decode (l .least) b) v) ≡ true
-reads-rising {l} {b} {v} r = settings-rise (l .least) (omega (arith, r .edition .four)) (decode (l .least) b) (sure (r .edition) b (r .sound)) v (r .version)
+reads-rising {l} {b} {v} r =
+    settings-rise (l .least) (omega (arith, r .edition .four)) (decode (l .least) b) (sure (r .edition) b (r .sound)) v (r .version)
 
 pub reads-low : {l : Limits} {b : List ℕ} {v : ℕ} → Walkable l b v → inRange 0 keyLimit (settings (decode (l .least) b) v) ≡ true
-reads-low {l} {b} {v} r = settings-low (l .least) (omega (arith, r .edition .four)) (decode (l .least) b) (sure (r .edition) b (r .sound)) v (r .version)
+reads-low {l} {b} {v} r =
+    settings-low (l .least) (omega (arith, r .edition .four)) (decode (l .least) b) (sure (r .edition) b (r .sound)) v (r .version)
 
 -- a cursor's answer that is told, or not
 pub told-same : (d : Delta) → d .kind ≡ 3 → told d ≡ []

@@ -19,7 +19,8 @@ use Rattle.differ.specs.Listing.{leftOf}
 use Rattle.differ.specs.Leaves.{inLeaves}
 use Rattle.differ.proofs.laws.Leaves.{stretch-on}
 
-module _ {l : Limits} {b : List ℕ} {u v : ℕ} (r : Walkable l b u) (q : Walkable l b v) (key : ℕ) (x y : Under) (g : Below l b u 0 key x) (f : Below l b v 0 key y)
+module _ {l : Limits} {b : List ℕ} {u v : ℕ} (r : Walkable l b u) (q : Walkable l b v) (key : ℕ) (x y : Under) (g : Below l b u 0 key x)
+    (f : Below l b v 0 key y)
     (high : ℕ) (e : high ≡ pick (ltb (x .high) (y .high)) (x .high) (y .high)) where
   -- the lower of two ends is behind the key
   lower : (high ≤ x .high) × (high ≤ y .high) × (key < high)
@@ -39,11 +40,14 @@ module _ {l : Limits} {b : List ℕ} {u v : ℕ} (r : Walkable l b u) (q : Walka
     abbrev ask : Ask
     ask = record { old = u; new = v; low = key; high = high - 1; write = w }
 
-    pub stretch-to : leftOf l b u v key ≡ inLeaves l b (record { old = u; new = v; low = key; high = high - 1; write = w }) x y ++ leftOf l b u v high
+    pub stretch-to : leftOf l b u v key ≡ inLeaves l b
+        (record { old = u; new = v; low = key; high = high - 1; write = w }) x y ++ leftOf l b u v high
     stretch-to =
         let one : high - 1 + 1 ≡ high = omega (arith, high-low) in
-        stretch-on ask r q x y g f (omega (arith, high-low)) (omega (arith, high-low, lower .0)) (omega (arith, high-low, lower .1)) ∙ ap (λ (k : ℕ). inLeaves l b ask x y ++ leftOf l b u v k) one
+        stretch-on ask r q x y g f (omega (arith, high-low)) (omega (arith, high-low, lower .0)) (omega (arith, high-low, lower .1))
+        ∙ ap (λ (k : ℕ). inLeaves l b ask x y ++ leftOf l b u v k) one
 
     -- where the two leaves show the same
-    pub past-on : inLeaves l b (record { old = u; new = v; low = key; high = high - 1; write = w }) x y ≡ [] → leftOf l b u v key ≡ leftOf l b u v high
+    pub past-on : inLeaves l b (record { old = u; new = v; low = key; high = high - 1; write = w }) x y ≡ []
+        → leftOf l b u v key ≡ leftOf l b u v high
     past-on z = stretch-to ∙ ap (λ (ds : List Delta). ds ++ leftOf l b u v high) z

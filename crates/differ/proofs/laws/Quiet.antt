@@ -22,7 +22,8 @@ quiet-shows u v (e ∷ es) h =
     let (a, b) = both-true (not (moves u v e)) (all (λ (d : Entry). not (moves u v d)) es) h in
     at (liveAt u e) refl (liveAt v e) refl a (quiet-shows u v es b)
   where
-    at : (s : Bool) → liveAt u e ≡ s → (t : Bool) → liveAt v e ≡ t → not (pick s (not t) t) ≡ true → live u es ≡ live v es → live u (e ∷ es) ≡ live v (e ∷ es)
+    at : (s : Bool) → liveAt u e ≡ s → (t : Bool) → liveAt v e ≡ t → not (pick s (not t) t) ≡ true → live u es ≡ live v es
+        → live u (e ∷ es) ≡ live v (e ∷ es)
     at true p true q h ih = live-on u e es p ∙ ap (λ (zs : List Pair). pairOf e ∷ zs) ih ∙ sym (live-on v e es q)
     at true p false q h ih = absurd (let z : _≡_ {A = ℕ} 0 1 = cc in omega arith)
     at false p true q h ih = absurd (let z : _≡_ {A = ℕ} 0 1 = cc in omega arith)

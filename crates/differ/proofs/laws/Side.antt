@@ -48,8 +48,10 @@ module _ (p : List ℕ) (n v lo hi : ℕ) where
     stays : key ≤ x .pair .key → x .place < n → rest p n v lo hi (x .place) ≡ atOrAbove key (rest p n v lo hi (x .place))
     stays h l =
         let e = a .here l in
-        let b = both-true (above (x .pair .key) (rest p n v lo hi (x .place + 1))) (rising (rest p n v lo hi (x .place + 1))) (rw e at (a .rises)) .0 in
-        e ∙ sym (ap (atOrAbove key) e ∙ rw (le-leb key (x .pair .key) h) (ap (λ (zs : List Pair). x .pair ∷ zs) (all-above key (x .pair .key) (rest p n v lo hi (x .place + 1)) b (omega arith))))
+        let b = both-true (above (x .pair .key) (rest p n v lo hi (x .place + 1))) (rising (rest p n v lo hi (x .place + 1)))
+        (rw e at (a .rises)) .0 in
+        e ∙ sym (ap (atOrAbove key) e ∙ rw (le-leb key (x .pair .key) h)
+        (ap (λ (zs : List Pair). x .pair ∷ zs) (all-above key (x .pair .key) (rest p n v lo hi (x .place + 1)) b (omega arith))))
 
     -- there is nothing left
     pub at-ended : n ≤ x .place → rest p n v lo hi (x .place) ≡ atOrAbove key (rest p n v lo hi (x .place))
@@ -65,10 +67,16 @@ module _ (p : List ℕ) (n v lo hi : ℕ) where
     -- its setting is left behind
     module _ (l : x .place < n) (h : x .pair .key < key) (k : key ≤ x .pair .key + 1) where
       behind : above (x .pair .key) (rest p n v lo hi (x .place + 1)) ≡ true
-      behind = both-true (above (x .pair .key) (rest p n v lo hi (x .place + 1))) (rising (rest p n v lo hi (x .place + 1))) (rw (a .here l) at (a .rises)) .0
+      behind =
+          both-true (above (x .pair .key) (rest p n v lo hi (x .place + 1))) (rising (rest p n v lo hi (x .place + 1)))
+          (rw (a .here l) at (a .rises)) .0
 
       pub at-rises : rising (rest p n v lo hi (x .place + 1)) ≡ true
-      at-rises = both-true (above (x .pair .key) (rest p n v lo hi (x .place + 1))) (rising (rest p n v lo hi (x .place + 1))) (rw (a .here l) at (a .rises)) .1
+      at-rises =
+          both-true (above (x .pair .key) (rest p n v lo hi (x .place + 1))) (rising (rest p n v lo hi (x .place + 1)))
+          (rw (a .here l) at (a .rises)) .1
 
       pub at-gone : rest p n v lo hi (x .place + 1) ≡ atOrAbove key (rest p n v lo hi (x .place))
-      at-gone = sym (ap (atOrAbove key) (a .here l) ∙ rw (lt-leb key (x .pair .key) h) (all-above key (x .pair .key) (rest p n v lo hi (x .place + 1)) behind k))
+      at-gone =
+          sym (ap (atOrAbove key) (a .here l) ∙ rw (lt-leb key (x .pair .key) h)
+          (all-above key (x .pair .key) (rest p n v lo hi (x .place + 1)) behind k))

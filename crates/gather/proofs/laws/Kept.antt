@@ -15,7 +15,7 @@ use Rattle.model.specs.Page.{Page, Change, wanted, changed, bornAll, pairsAt}
 use Rattle.model.specs.Layout.{countOf, readEntry, readEntries, decodePage}
 use Rattle.page.specs.Head.{readHead}
 use Rattle.model.proofs.tree.Edit.{length-enter as length-enterPair}
-use Rattle.model.proofs.plan.PlanSizes.{wanted-few}
+use Rattle.model.proofs.needs.Sizes.{wanted-few}
 use Rattle.page.proofs.laws.Read.{count-of, entries-of, length-entries, entries-step, entries-end}
 use Rattle.edit.specs.declared.Change as code
 use Rattle.edit.specs.Same.{firstOf}

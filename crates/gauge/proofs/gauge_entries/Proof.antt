@@ -22,7 +22,12 @@ returns : tie.Need-returns Inv-loop μ-loop
 returns c = let e = sym (c .before .fits2 .ensures) ∙ not-true _ (c .if1 .taken) in rw e
 
 loop-holds : tie.Need-loop-holds Inv-loop μ-loop
-loop-holds c = let a = c .before .before .before .args in (told (length (a .page .now)) 128 0 (a .n) (sym (c .before .fits2 .ensures) ∙ not-false _ (c .if1 .left)), omega arith, entries-none (a .page .now))
+loop-holds c =
+    let a = c .before .before .before .args in (
+      told (length (a .page .now)) 128 0 (a .n) (sym (c .before .fits2 .ensures) ∙ not-false _ (c .if1 .left)),
+      omega arith,
+      entries-none (a .page .now),
+    )
 
 entry-at-requires : tie.Need-entry-at-requires Inv-loop μ-loop
 entry-at-requires c κs = let f = c .before .loop .inv .0 in (omega (arith, f .held), omega (arith, f .bytes))
@@ -48,27 +53,42 @@ cast-r-4 c = search needs
 add-r-3 : tie.Need-add-r-3 Inv-loop μ-loop
 add-r-3 c = search needs
 
-step : (c : tie.After-struct-known4 Inv-loop μ-loop) → let l = c .before .before .before .before .before .before .loop in let a = c .before .before .before .before .before .before .before .before .before .before .args in
-    l .r + weight (c .before .before .before .before .entry-at .result) ≡ entrySum (a .page .now) (l .i + 1)
+step : (c : tie.After-struct-known4 Inv-loop μ-loop) →
+    let at-entry-at = c .before .before .before .before in
+    let at-loop = at-entry-at .before .before in
+    let at-start = at-loop .before .before .before .before in
+    let l = at-loop .loop in let a = at-start .args in
+    l .r + weight (at-entry-at .entry-at .result) ≡ entrySum (a .page .now) (l .i + 1)
 step c =
-    let l = c .before .before .before .before .before .before .loop in let a = c .before .before .before .before .before .before .before .before .before .before .args in
-    rw (c .before .before .before .before .entry-at .ensures, l .inv .2) (entries-more (a .page .now) (l .i))
+    let at-entry-at = c .before .before .before .before in
+    let at-loop = at-entry-at .before .before in
+    let at-start = at-loop .before .before .before .before in
+    let l = at-loop .loop in let a = at-start .args in
+    rw (at-entry-at .entry-at .ensures, l .inv .2) (entries-more (a .page .now) (l .i))
 
 add-r-4 : tie.Need-add-r-4 Inv-loop μ-loop
-add-r-4 c = let l = c .before .before .before .before .before .before .loop in let a = c .before .before .before .before .before .before .before .before .before .before .args in omega (arith, step c, entries-small (a .page .now) (l .i + 1), l .inv .0 .many)
+add-r-4 c =
+    let at-loop = c .before .before .before .before .before .before in
+    let at-start = at-loop .before .before .before .before in
+    let l = at-loop .loop in let a = at-start .args in omega (arith, step c, entries-small (a .page .now) (l .i + 1), l .inv .0 .many)
 
 add-i : tie.Need-add-i Inv-loop μ-loop
-add-i c = omega (arith, c .before .before .before .before .before .before .loop .inv .0 .many)
+add-i c =
+    let at-loop = c .before .before .before .before .before .before in
+    omega (arith, at-loop .loop .inv .0 .many)
 
 loop-less : tie.Need-loop-less Inv-loop μ-loop
 loop-less c = omega arith
 
 loop-again : tie.Need-loop-again Inv-loop μ-loop
-loop-again c = (c .before .before .before .before .before .before .loop .inv .0, omega arith, step c)
+loop-again c =
+    let at-loop = c .before .before .before .before .before .before in
+    (at-loop .loop .inv .0, omega arith, step c)
 
 returns-2 : tie.Need-returns-2 Inv-loop μ-loop
 returns-2 c =
-    let l = c .before .loop in let a = c .before .before .before .before .before .args in
+    let at-start = c .before .before .before .before .before in
+    let l = c .before .loop in let a = at-start .args in
     let e : l .i ≡ a .n = omega arith in
     let t = sym (c .before .before .before .fits2 .ensures) ∙ not-false _ (c .before .before .if1 .left) in
     rw t (l .inv .2 ∙ ap (entrySum (a .page .now)) e)

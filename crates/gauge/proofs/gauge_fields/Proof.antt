@@ -22,7 +22,12 @@ returns : tie.Need-returns Inv-loop μ-loop
 returns c = let e = sym (c .before .fits2 .ensures) ∙ not-true _ (c .if1 .taken) in rw e
 
 loop-holds : tie.Need-loop-holds Inv-loop μ-loop
-loop-holds c = let a = c .before .before .before .args in (told (length (a .s .now)) (a .at) (a .width) (a .n) (sym (c .before .fits2 .ensures) ∙ not-false _ (c .if1 .left)), omega arith, fields-none (a .s .now) (a .at) (a .width))
+loop-holds c =
+    let a = c .before .before .before .args in (
+      told (length (a .s .now)) (a .at) (a .width) (a .n) (sym (c .before .fits2 .ensures) ∙ not-false _ (c .if1 .left)),
+      omega arith,
+      fields-none (a .s .now) (a .at) (a .width),
+    )
 
 mul-field : tie.Need-mul-field Inv-loop μ-loop
 mul-field c = omega (arith, c .before .loop .inv .0 .many)
@@ -36,14 +41,20 @@ field-requires c κs = let f = c .before .loop .inv .0 in (omega (arith, f .held
 cast-r : tie.Need-cast-r Inv-loop μ-loop
 cast-r c = search needs
 
-step : (c : tie.After-field Inv-loop μ-loop) → let l = c .before .before .loop in let a = c .before .before .before .before .before .before .args in
+step : (c : tie.After-field Inv-loop μ-loop) →
+    let at-start = c .before .before .before .before .before .before in
+    let l = c .before .before .loop in let a = at-start .args in
     l .r + c .field .result ≡ fieldSum (a .s .now) (a .at) (a .width) (l .i + 1)
 step c =
-    let l = c .before .before .loop in let a = c .before .before .before .before .before .before .args in
+    let at-start = c .before .before .before .before .before .before in
+    let l = c .before .before .loop in let a = at-start .args in
     rw (c .field .ensures, l .inv .2) (fields-more (a .s .now) (a .at) (a .width) (l .i))
 
 add-r : tie.Need-add-r Inv-loop μ-loop
-add-r c = let l = c .before .before .loop in let a = c .before .before .before .before .before .before .args in omega (arith, step c, fields-small (a .s .now) (a .at) (a .width) (l .i + 1) (l .inv .0 .wide), l .inv .0 .many)
+add-r c =
+    let at-start = c .before .before .before .before .before .before in
+    let l = c .before .before .loop in let a = at-start .args in
+    omega (arith, step c, fields-small (a .s .now) (a .at) (a .width) (l .i + 1) (l .inv .0 .wide), l .inv .0 .many)
 
 add-i : tie.Need-add-i Inv-loop μ-loop
 add-i c = omega (arith, c .before .before .loop .inv .0 .many)
@@ -56,7 +67,8 @@ loop-again c = (c .before .before .loop .inv .0, omega arith, step c)
 
 returns-2 : tie.Need-returns-2 Inv-loop μ-loop
 returns-2 c =
-    let l = c .before .loop in let a = c .before .before .before .before .before .args in
+    let at-start = c .before .before .before .before .before in
+    let l = c .before .loop in let a = at-start .args in
     let e : l .i ≡ a .n = omega arith in
     let t = sym (c .before .before .before .fits2 .ensures) ∙ not-false _ (c .before .before .if1 .left) in
     rw t (l .inv .2 ∙ ap (fieldSum (a .s .now) (a .at) (a .width)) e)

@@ -52,7 +52,12 @@ fillable len w key n e =
     let a = both-true (eqb len 256) (leb w 1048575 && (leb key 16777215 && leb n 20)) e in
     let b = both-true (leb w 1048575) (leb key 16777215 && leb n 20) (a .1) in
     let c = both-true (leb key 16777215) (leb n 20) (b .1) in
-    record { page = eqb-true len 256 (a .0); version = leb-true w 1048575 (b .0); low = leb-true key 16777215 (c .0); room = leb-true n 20 (c .1) }
+    record {
+      page = eqb-true len 256 (a .0);
+      version = leb-true w 1048575 (b .0);
+      low = leb-true key 16777215 (c .0);
+      room = leb-true n 20 (c .1);
+    }
 
 -- ---- the stages of the loops
 
@@ -86,11 +91,13 @@ module _ (s : List ℕ) where
       omega (arith, entries-small i, z .key, z .start, z .end, z .value)
 
 -- every pair of the list that a page is filled from
-pub fitting-all : (key value k n : ℕ) → key < 2 ^ 24 → value < 2 ^ 32 → Fitting (getD (replicate n (record { key = key; value = value })) k nil)
+pub fitting-all : (key value k n : ℕ) → key < 2 ^ 24 → value < 2 ^ 32
+    → Fitting (getD (replicate n (record { key = key; value = value })) k nil)
 fitting-all key value k zero a b = record { key = omega arith; value = omega arith }
 fitting-all key value zero (suc n) a b = record { key = a; value = b }
 fitting-all key value (suc k) (suc n) a b = fitting-all key value k n a b
 
-pub filled-four : (w key value n least : ℕ) → least ≡ 4 → encodePage least (filled w 1 (take n (fillPairs key value))) ≡ filledPage w key value n
+pub filled-four : (w key value n least : ℕ) → least ≡ 4
+    → encodePage least (filled w 1 (take n (fillPairs key value))) ≡ filledPage w key value n
 unfolding filledPage
 filled-four w key value n least e = rw e

@@ -10,8 +10,7 @@ use Rattle.model.specs.declared.Pair.{Pair}
 use Rattle.model.specs.Basic.{keep, pick, those, any}
 use Rattle.model.specs.Entry.{pair}
 use Rattle.model.specs.Rules as rules
-use Rattle.model.specs.Rules.{samePair, lowKey, parts, partsBy}
-use Rattle.model.specs.Plan.{routersTo}
+use Rattle.model.specs.Rules.{samePair, lowKey, parts, partsBy, routersTo}
 use Rattle.edit.specs.Same.{firstOf}
 use Rattle.edit.specs.Change.{one, firstPairs, changeOf}
 use Rattle.edit.specs.Fill.{nil, Fitting}

@@ -17,7 +17,7 @@ use Rattle.model.specs.Rules.{usable}
 use Rattle.model.specs.Needs.{actives}
 use Rattle.model.proofs.lists.Members.{In, in-append, in-those, in-getD}
 use Rattle.model.proofs.tree.GroupPages.{in-frees}
-use Rattle.model.proofs.plan.PlanSizes.{actives-few}
+use Rattle.model.proofs.needs.Sizes.{actives-few}
 use Rattle.parts.specs.Kept.{ExactBytes, Inside, pagesOf}
 use Rattle.parts.specs.Free.{freePast, Found}
 use Rattle.parts.proofs.laws.Free.{free-all}

@@ -25,7 +25,8 @@ level-in-requires c κs = search needs
 
 returns : tie.Need-returns
 returns c =
-    let a = c .before .before .before .before .args in
+    let at-start = c .before .before .before .before in
+    let a = at-start .args in
     c .whole-in .ensures ∙ sym (ap (λ (k : Kind). admits k (a .value)) (c .before .before .kind .given .1))
 
 returns-2 : tie.Need-returns-2
@@ -33,8 +34,10 @@ returns-2 c = sym (ap (λ (k : Kind). admits k (c .before .before .args .value))
 
 returns-3 : tie.Need-returns-3
 returns-3 c =
-    let a = c .before .before .before .before .before .args in
-    c .level-in .ensures ∙ ap (levelIn _ _) (c .before .float-of .ensures) ∙ sym (ap (λ (k : Kind). admits k (a .value)) (c .before .before .before .kind2 .given .1))
+    let at-start = c .before .before .before .before .before in
+    let a = at-start .args in
+    c .level-in .ensures ∙ ap (levelIn _ _) (c .before .float-of .ensures)
+    ∙ sym (ap (λ (k : Kind). admits k (a .value)) (c .before .before .before .kind2 .given .1))
 
 pub admits-spec : {M : Type 1} → statement M
 admits-spec =

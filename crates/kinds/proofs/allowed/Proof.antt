@@ -14,12 +14,14 @@ enum-told c = search needs
 
 returns : tie.Need-returns
 returns c =
-    let a = c .before .before .before .before .before .args in
+    let at-start = c .before .before .before .before .before in
+    let a = at-start .args in
     rw (c .before .before .before .known .given .1, sym (c .before .admits .ensures) ∙ c .if1 .taken)
 
 returns-2 : tie.Need-returns-2
 returns-2 c =
-    let a = c .before .before .before .before .before .args in
+    let at-start = c .before .before .before .before .before in
+    let a = at-start .args in
     rw (c .before .before .before .known .given .1, sym (c .before .admits .ensures) ∙ c .if1 .left)
 
 returns-3 : tie.Need-returns-3

@@ -57,10 +57,12 @@ row-kind-requires c κs = search needs
 
 returns : tie.Need-returns Inv-loop μ-loop
 returns c =
-    let h = c .before .before .before .before .before .before in
+    let at-if1 = c .before .before .before .before in
+    let at-test = at-if1 .before .before in
+    let at-loop = at-test .before in
     c .row-kind .ensures
-    ∙ sym (here _ _ _ _ (h .loop-test .taken) (eq-eqb _ _ (c .before .before .before .before .if1 .taken)))
-    ∙ h .before .loop .inv .1
+    ∙ sym (here _ _ _ _ (at-test .loop-test .taken) (eq-eqb _ _ (at-if1 .if1 .taken)))
+    ∙ at-loop .loop .inv .1
 
 add-at : tie.Need-add-at Inv-loop μ-loop
 add-at c = search needs
@@ -73,8 +75,8 @@ loop-less c = search needs
 
 loop-again : tie.Need-loop-again Inv-loop μ-loop
 loop-again c =
-    let h = c .before .before in
-    (omega arith, further _ _ _ _ (h .loop-test .taken) (ne-eqb _ _ (c .if1 .left)) ∙ h .before .loop .inv .1)
+    let at-test = c .before .before in
+    (omega arith, further _ _ _ _ (at-test .loop-test .taken) (ne-eqb _ _ (c .if1 .left)) ∙ at-test .before .loop .inv .1)
 
 returns-2 : tie.Need-returns-2 Inv-loop μ-loop
 returns-2 c = sym (over _ _ _ _ (c .loop-test .left)) ∙ c .before .loop .inv .1

@@ -21,7 +21,8 @@ here zero s at key p e = absurd (omega (arith, p))
 here (suc n) s at key p e = rw e
 
 -- it has another
-pub further : (n : ℕ) (s : List ℕ) (at key : ℕ) → 0 < n → eqb (getD s at 0) key ≡ false → knownFrom (n - 1) s (at + 4) key ≡ knownFrom n s at key
+pub further : (n : ℕ) (s : List ℕ) (at key : ℕ) → 0 < n → eqb (getD s at 0) key ≡ false
+    → knownFrom (n - 1) s (at + 4) key ≡ knownFrom n s at key
 unfolding knownFrom
 further zero s at key p e = absurd (omega (arith, p))
 further (suc n) s at key p e = let q : suc n - 1 ≡ n = omega arith in rw (e, q)
@@ -36,7 +37,8 @@ over (suc n) s at key p = absurd (omega (arith, p))
 
 -- a right row's key is a key
 pub row-key : (s : List ℕ) (at least : ℕ) → rowRight s at least ≡ true → getD s at 0 < keyLimit
-row-key s at least e = ltb-true (getD s at 0) keyLimit (second (leb least (getD s at 0)) (ltb (getD s at 0) keyLimit) (rightKind (rowAt s at)) e)
+row-key s at least e =
+    ltb-true (getD s at 0) keyLimit (second (leb least (getD s at 0)) (ltb (getD s at 0) keyLimit) (rightKind (rowAt s at)) e)
   where
     second : (p q r : Bool) → (p && q && r) ≡ true → q ≡ true
     second true true r e = refl
@@ -51,7 +53,8 @@ wrong-here zero s at least p e = absurd (omega (arith, p))
 wrong-here (suc n) s at least p e = rw e
 
 -- it is right
-pub wrong-on : (n : ℕ) (s : List ℕ) (at least : ℕ) → 0 < n → rowRight s at least ≡ true → wrongFrom (n - 1) s (at + 4) (getD s at 0 + 1) ≡ wrongFrom n s at least
+pub wrong-on : (n : ℕ) (s : List ℕ) (at least : ℕ) → 0 < n → rowRight s at least ≡ true
+    → wrongFrom (n - 1) s (at + 4) (getD s at 0 + 1) ≡ wrongFrom n s at least
 unfolding wrongFrom
 wrong-on zero s at least p e = absurd (omega (arith, p))
 wrong-on (suc n) s at least p e =

@@ -16,7 +16,15 @@ float-of-requires-2 : tie.Need-float-of-requires-2
 float-of-requires-2 c κs = search needs
 
 returns-3 : tie.Need-returns-3
-returns-3 c = simp (ne-eqb _ _ (c .before .before .before .before .if1 .left), ne-eqb _ _ (c .before .before .before .if2 .left), eq-eqb _ _ (c .before .before .if3 .taken), c .before .float-of .ensures, c .float-of2 .ensures)
+returns-3 c =
+    let at-if1 = c .before .before .before .before in
+    simp (
+      ne-eqb _ _ (at-if1 .if1 .left),
+      ne-eqb _ _ (c .before .before .before .if2 .left),
+      eq-eqb _ _ (c .before .before .if3 .taken),
+      c .before .float-of .ensures,
+      c .float-of2 .ensures,
+    )
 
 returns-4 : tie.Need-returns-4
 returns-4 c = simp (ne-eqb _ _ (c .before .before .if1 .left), ne-eqb _ _ (c .before .if2 .left), ne-eqb _ _ (c .if3 .left))

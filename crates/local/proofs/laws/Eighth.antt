@@ -20,7 +20,7 @@ use Rattle.model.specs.Clean.{clean}
 use Rattle.model.specs.Counted.{countedPage, countedPages, rule8}
 use Rattle.model.proofs.lists.Lists.{both-true}
 use Rattle.model.proofs.tree.Local.{those-append}
-use Rattle.model.proofs.plan.PlanSizes.{few-those}
+use Rattle.model.proofs.needs.Sizes.{few-those}
 use Rattle.model.proofs.sound.Counted.{those-last}
 use Rattle.page.specs.Head.{readHead}
 use Rattle.page.proofs.laws.Read.{level-of, entries-of, entries-step, entries-end}
@@ -44,7 +44,9 @@ pub live-start : (p : List ℕ) (n : ℕ) → length (those lives (readEntries p
 live-start p n = let e : n - 0 ≡ n = omega arith in let f : 128 + 96 * 0 ≡ 128 = omega arith in rw (e, f)
 
 pub live-step : (p : List ℕ) (i n : ℕ) → i < n → liveFrom p i n ≡ liveOne (readEntry p (128 + 96 * i)) + liveFrom p (i + 1) n
-live-step p i n h = ap (λ (es : List Entry). length (those lives es)) (entries-step p i n h) ∙ live-cons (readEntry p (128 + 96 * i)) (readEntries p (128 + 96 * (i + 1)) (n - (i + 1)))
+live-step p i n h =
+    ap (λ (es : List Entry). length (those lives es)) (entries-step p i n h)
+    ∙ live-cons (readEntry p (128 + 96 * i)) (readEntries p (128 + 96 * (i + 1)) (n - (i + 1)))
 
 pub live-end : (p : List ℕ) (i n : ℕ) → n ≤ i → liveFrom p i n ≡ 0
 live-end p i n h = ap (λ (es : List Entry). length (those lives es)) (entries-end p (128 + 96 * i) i n h)
@@ -53,7 +55,8 @@ pub count-free : (least : ℕ) (p : List ℕ) → readHead least p .level ≡ 0 
 unfolding countOk
 count-free least p e = rw (level-of least p, e)
 
-pub count-used : (least : ℕ) (p : List ℕ) → (readHead least p .level ≡ 0 → ⊥) → countOk least p ≡ eqb (liveOf least p) (length (those lives (readEntries p 128 (readHead least p .count))))
+pub count-used : (least : ℕ) (p : List ℕ) → (readHead least p .level ≡ 0 → ⊥)
+    → countOk least p ≡ eqb (liveOf least p) (length (those lives (readEntries p 128 (readHead least p .count))))
 unfolding countOk
 count-used least p e = rw (level-of least p, ne-eqb (readHead least p .level) 0 e, entries-of least p)
 
@@ -62,7 +65,8 @@ unfoldable pub countsOk : ℕ → List ℕ → ℕ → ℕ → Bool
 countsOk least s n zero = true
 countsOk least s n (suc k) = countOk least (pageOf least s n) && countsOk least s (n + 1) k
 
-pub counts-step : (least : ℕ) (s : List ℕ) (n m : ℕ) → n < m → countsOk least s n (m - n) ≡ (countOk least (pageOf least s n) && countsOk least s (n + 1) (m - (n + 1)))
+pub counts-step : (least : ℕ) (s : List ℕ) (n m : ℕ) → n < m
+    → countsOk least s n (m - n) ≡ (countOk least (pageOf least s n) && countsOk least s (n + 1) (m - (n + 1)))
 unfolding countsOk
 counts-step least s n m h = let e : m - n ≡ suc (m - (n + 1)) = omega arith in rw e
 
@@ -91,7 +95,8 @@ eighth-none least s h = none-pages least (last (decode least s)) s 5 (sizeOf lea
 
 -- ---- six bits: the entries alive at last are those that live
 
-some-page : (least v size : ℕ) (p : List ℕ) → 4 < least → v ≤ 1048574 → pageFine least v size (decodePage least p) ≡ true → countedPage least v p ≡ countOk least p
+some-page : (least v size : ℕ) (p : List ℕ) → 4 < least → v ≤ 1048574 → pageFine least v size (decodePage least p) ≡ true
+    → countedPage least v p ≡ countOk least p
 unfolding countedPage countOk
 some-page least v size p h low fine = at (isFree q) refl
   where
@@ -105,20 +110,27 @@ some-page least v size p h low fine = at (isFree q) refl
     same u =
         let ok : pageOk least v size q ≡ true = subst (λ (b : Bool). pick b (zeroed q) (pageOk least v size q) ≡ true) u fine in
         those-last v size (q .level) low (q .entries)
-        (both-true (leb (q .level) 7 && leb (length (q .entries)) (5 * least) && spanOk v (q .start) (q .end) && inOrder before (q .entries)) (all (entryOk v size (q .level)) (q .entries)) ok .1)
+        (both-true (leb (q .level) 7 && leb (length (q .entries)) (5 * least) && spanOk v (q .start) (q .end)
+        && inOrder before (q .entries)) (all (entryOk v size (q .level)) (q .entries)) ok .1)
 
-    at : (f : Bool) → isFree q ≡ f → (f || eqb (liveOf least p) (liveShown least (length (those (liveAt v) (q .entries))))) ≡ (f || eqb (liveOf least p) (length (those lives (q .entries))))
+    at : (f : Bool) → isFree q ≡ f → (f || eqb (liveOf least p) (liveShown least (length (those (liveAt v) (q .entries)))))
+        ≡ (f || eqb (liveOf least p) (length (those lives (q .entries))))
     at true u = refl
     at false u = ap (eqb (liveOf least p)) (shown (length (those (liveAt v) (q .entries))) ∙ ap length (same u))
 
-some-pages : (least v : ℕ) (s : List ℕ) (n k : ℕ) → ((m : ℕ) → n ≤ m → m < n + k → countedPage least v (pageOf least s m) ≡ countOk least (pageOf least s m)) → countedPages least v s n k ≡ countsOk least s n k
+some-pages : (least v : ℕ) (s : List ℕ) (n k : ℕ)
+    → ((m : ℕ) → n ≤ m → m < n + k → countedPage least v (pageOf least s m) ≡ countOk least (pageOf least s m))
+    → countedPages least v s n k ≡ countsOk least s n k
 unfolding countedPages countsOk
 some-pages least v s n zero f = refl
-some-pages least v s n (suc k) f = rw (f n (omega arith) (omega arith), some-pages least v s (n + 1) k (λ m l h. f m (omega arith) (omega arith)))
+some-pages least v s n (suc k) f =
+    rw (f n (omega arith) (omega arith), some-pages least v s (n + 1) k (λ m l h. f m (omega arith) (omega arith)))
 
-pub eighth-some : (least : ℕ) (s : List ℕ) (size : ℕ) → Sized least s size → clean least s ≡ true → 4 < least → rule8 least s ≡ countsOk least s 5 (size - 5)
+pub eighth-some : (least : ℕ) (s : List ℕ) (size : ℕ) → Sized least s size → clean least s ≡ true → 4 < least
+    → rule8 least s ≡ countsOk least s 5 (size - 5)
 unfolding rule8
 eighth-some least s size z one h =
     let v : ℕ = last (decode least s) in
-    some-pages least v s 5 (sizeOf least s - 5) (λ m l k. some-page least v size (pageOf least s m) h (last-low least s size z one) (fine least s size z one m (l, omega arith)))
+    some-pages least v s 5 (sizeOf least s - 5)
+    (λ m l k. some-page least v size (pageOf least s m) h (last-low least s size z one) (fine least s size z one m (l, omega arith)))
     ∙ ap (λ (n : ℕ). countsOk least s 5 (n - 5)) (z .is)

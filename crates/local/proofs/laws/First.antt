@@ -48,7 +48,8 @@ module _ (least : ℕ) (s : List ℕ) (size : ℕ) (z : Sized least s size) wher
   oldLow = leb (decode least s .oldest) (pick (leb least 4) 0 (decode least s .current))
 
   pub rule1-is : rule1 least (decode least s)
-      ≡ (leb roots (64 * least) && leb (last (decode least s)) 1048574 && oldLow && rooted size (readSlots s (512 * least) roots) && all (pageFine least (last (decode least s)) size) (readPages least s 5 (size - 5)))
+      ≡ (leb roots (64 * least) && leb (last (decode least s)) 1048574 && oldLow && rooted size (readSlots s (512 * least) roots)
+      && all (pageFine least (last (decode least s)) size) (readPages least s 5 (size - 5)))
   unfolding rule1
   rule1-is =
       rw (
@@ -65,7 +66,13 @@ module _ (least : ℕ) (s : List ℕ) (size : ℕ) (z : Sized least s size) wher
 
   pub first-old : oldLow ≡ false → clean least s ≡ false
   unfolding clean
-  first-old a = rw (rule1-is, a, and-false (leb roots (64 * least) && leb (last (decode least s)) 1048574), and-false (cleanPages least s 5 (sizeOf least s - 5))) (and-false (cleanFront least s))
+  first-old a =
+      rw (
+        rule1-is,
+        a,
+        and-false (leb roots (64 * least) && leb (last (decode least s)) 1048574),
+        and-false (cleanPages least s 5 (sizeOf least s - 5)),
+      ) (and-false (cleanFront least s))
 
   pub first-clean : cleanFront least s ≡ false → clean least s ≡ false
   unfolding clean
@@ -82,9 +89,12 @@ module _ (least : ℕ) (s : List ℕ) (size : ℕ) (z : Sized least s size) wher
     pub first-last : 1048574 < last (decode least s) → clean least s ≡ false
     first-last e = front ∙ rw (rule1-is, few, lt-leb (last (decode least s)) 1048574 e) (and-false (cleanPages least s 5 (size - 5)))
 
-    pub first-rooted : oldLow ≡ true → last (decode least s) ≤ 1048574 → rooted size (readSlots s (512 * least) roots) ≡ false → clean least s ≡ false
-    first-rooted k e f = front ∙ rw (rule1-is, few, le-leb (last (decode least s)) 1048574 e, k, f) (and-false (cleanPages least s 5 (size - 5)))
+    pub first-rooted : oldLow ≡ true → last (decode least s) ≤ 1048574 → rooted size (readSlots s (512 * least) roots) ≡ false
+        → clean least s ≡ false
+    first-rooted k e f =
+        front ∙ rw (rule1-is, few, le-leb (last (decode least s)) 1048574 e, k, f) (and-false (cleanPages least s 5 (size - 5)))
 
-    pub first-rest : oldLow ≡ true → last (decode least s) ≤ 1048574 → rooted size (readSlots s (512 * least) roots) ≡ true → clean least s ≡ pagesFine least (last (decode least s)) size s 5 (size - 5)
+    pub first-rest : oldLow ≡ true → last (decode least s) ≤ 1048574 → rooted size (readSlots s (512 * least) roots) ≡ true
+        → clean least s ≡ pagesFine least (last (decode least s)) size s 5 (size - 5)
     unfolding pagesFine
     first-rest k e f = front ∙ rw (rule1-is, few, le-leb (last (decode least s)) 1048574 e, k, f)

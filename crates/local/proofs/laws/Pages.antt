@@ -85,7 +85,9 @@ spare-most least eight n = at (eqb n 0)
 module _ (l size level : ℕ) (p : List ℕ) (i n : ℕ) where
   pub entries-ok-step : i < n
       → entriesOk l size level (readEntries p (128 + 96 * i) (n - i))
-      ≡ (entryOk l size level (readEntry p (128 + 96 * i)) && (firstOk before (readEntry p (128 + 96 * i)) (readEntries p (128 + 96 * (i + 1)) (n - (i + 1))) && entriesOk l size level (readEntries p (128 + 96 * (i + 1)) (n - (i + 1)))))
+      ≡ (entryOk l size level (readEntry p (128 + 96 * i))
+      && (firstOk before (readEntry p (128 + 96 * i)) (readEntries p (128 + 96 * (i + 1)) (n - (i + 1)))
+      && entriesOk l size level (readEntries p (128 + 96 * (i + 1)) (n - (i + 1)))))
   entries-ok-step h =
       let e : Entry = readEntry p (128 + 96 * i) in
       let es : List Entry = readEntries p (128 + 96 * (i + 1)) (n - (i + 1)) in
@@ -100,7 +102,8 @@ module _ (l size level : ℕ) (p : List ℕ) (i n : ℕ) where
 pub next-none : (p : List ℕ) (e : Entry) (i n : ℕ) → n ≤ i → firstOk before e (readEntries p (128 + 96 * i) (n - i)) ≡ true
 next-none p e i n h = ap (firstOk before e) (entries-end p (128 + 96 * i) i n h)
 
-pub next-some : (p : List ℕ) (e : Entry) (i n : ℕ) → i < n → firstOk before e (readEntries p (128 + 96 * i) (n - i)) ≡ before e (readEntry p (128 + 96 * i))
+pub next-some : (p : List ℕ) (e : Entry) (i n : ℕ) → i < n
+    → firstOk before e (readEntries p (128 + 96 * i) (n - i)) ≡ before e (readEntry p (128 + 96 * i))
 next-some p e i n h = ap (firstOk before e) (entries-step p i n h)
 
 -- one entry, whose key and value fit their bits
@@ -109,7 +112,8 @@ module _ (l size level : ℕ) (e : Entry) (z : SizedEntry e) where
   entry-span h = rw h
 
   pub entry-leaf : spanOk l (e .start) (e .end) ≡ true → level ≡ 1 → entryOk l size level e ≡ leb 1 (e .start)
-  entry-leaf h a = rw (h, lt-ltb (e .key) 16777216 (z .key), eq-eqb level 1 a, lt-ltb (e .value) 4294967296 (z .value)) (and-true (leb 1 (e .start)))
+  entry-leaf h a =
+      rw (h, lt-ltb (e .key) 16777216 (z .key), eq-eqb level 1 a, lt-ltb (e .value) 4294967296 (z .value)) (and-true (leb 1 (e .start)))
 
   pub entry-index : spanOk l (e .start) (e .end) ≡ true → (level ≡ 1 → ⊥) → entryOk l size level e ≡ isPage size (e .value)
   entry-index h a = rw (h, lt-ltb (e .key) 16777216 (z .key), ne-eqb level 1 a)
@@ -122,15 +126,27 @@ empty-count p o zero = refl
 empty-count p o (suc n) = sym (ne-eqb (suc n) 0 (λ e. omega arith))
 
 module _ (least l size : ℕ) (p : List ℕ) where
-  pub fine-free : readHead least p .level ≡ 0 → pageFine least l size (decodePage least p) ≡ (eqb (readHead least p .start) 0 && eqb (readHead least p .end) 0 && eqb (readHead least p .count) 0)
+  pub fine-free : readHead least p .level ≡ 0 → pageFine least l size (decodePage least p)
+      ≡ (eqb (readHead least p .start) 0 && eqb (readHead least p .end) 0 && eqb (readHead least p .count) 0)
   fine-free a = rw (level-of least p, a, start-of least p, end-of least p, entries-of least p, empty-count p 128 (readHead least p .count))
 
   pub fine-used : (readHead least p .level ≡ 0 → ⊥) → pageFine least l size (decodePage least p)
-      ≡ ((leb (readHead least p .level) 7 && leb (readHead least p .count) (5 * least) && spanOk l (readHead least p .start) (readHead least p .end)) && entriesOk l size (readHead least p .level) (readEntries p 128 (readHead least p .count)))
+      ≡ ((leb (readHead least p .level) 7 && leb (readHead least p .count) (5 * least)
+      && spanOk l (readHead least p .start) (readHead least p .end))
+      && entriesOk l size (readHead least p .level) (readEntries p 128 (readHead least p .count)))
   fine-used a =
       let es : List Entry = readEntries p 128 (readHead least p .count) in
-      rw (level-of least p, ne-eqb (readHead least p .level) 0 a, start-of least p, end-of least p, entries-of least p, length-entries p 128 (readHead least p .count))
-      (and-assoc (leb (readHead least p .level) 7 && leb (readHead least p .count) (5 * least) && spanOk l (readHead least p .start) (readHead least p .end)) (inOrder before es) (all (entryOk l size (readHead least p .level)) es))
+      rw (
+        level-of least p,
+        ne-eqb (readHead least p .level) 0 a,
+        start-of least p,
+        end-of least p,
+        entries-of least p,
+        length-entries p 128 (readHead least p .count),
+      )
+      (and-assoc (leb (readHead least p .level) 7 && leb (readHead least p .count) (5 * least)
+      && spanOk l (readHead least p .start) (readHead least p .end)) (inOrder before es)
+      (all (entryOk l size (readHead least p .level)) es))
 
   -- one test after the other
   module _ (a : readHead least p .level ≡ 0) where
@@ -140,18 +156,22 @@ module _ (least l size : ℕ) (p : List ℕ) where
     pub fine-end : readHead least p .start ≡ 0 → (readHead least p .end ≡ 0 → ⊥) → pageFine least l size (decodePage least p) ≡ false
     fine-end b c = fine-free a ∙ rw (eq-eqb (readHead least p .start) 0 b, ne-eqb (readHead least p .end) 0 c)
 
-    pub fine-count : readHead least p .start ≡ 0 → readHead least p .end ≡ 0 → pageFine least l size (decodePage least p) ≡ eqb (readHead least p .count) 0
+    pub fine-count : readHead least p .start ≡ 0 → readHead least p .end ≡ 0
+        → pageFine least l size (decodePage least p) ≡ eqb (readHead least p .count) 0
     fine-count b c = fine-free a ∙ rw (eq-eqb (readHead least p .start) 0 b, eq-eqb (readHead least p .end) 0 c)
 
   module _ (a : readHead least p .level ≡ 0 → ⊥) where
     pub fine-level : 7 < readHead least p .level → pageFine least l size (decodePage least p) ≡ false
     fine-level b = fine-used a ∙ rw (lt-leb (readHead least p .level) 7 b)
 
-    pub fine-span : readHead least p .level ≤ 7 → readHead least p .count ≤ 5 * least → spanOk l (readHead least p .start) (readHead least p .end) ≡ false → pageFine least l size (decodePage least p) ≡ false
+    pub fine-span : readHead least p .level ≤ 7 → readHead least p .count ≤ 5 * least
+        → spanOk l (readHead least p .start) (readHead least p .end) ≡ false → pageFine least l size (decodePage least p) ≡ false
     fine-span b c d = fine-used a ∙ rw (le-leb (readHead least p .level) 7 b, le-leb (readHead least p .count) (5 * least) c, d)
 
-    pub fine-entries : readHead least p .level ≤ 7 → readHead least p .count ≤ 5 * least → spanOk l (readHead least p .start) (readHead least p .end) ≡ true
-        → pageFine least l size (decodePage least p) ≡ entriesOk l size (readHead least p .level) (readEntries p 128 (readHead least p .count))
+    pub fine-entries : readHead least p .level ≤ 7 → readHead least p .count ≤ 5 * least
+        → spanOk l (readHead least p .start) (readHead least p .end) ≡ true
+        → pageFine least l size (decodePage least p)
+        ≡ entriesOk l size (readHead least p .level) (readEntries p 128 (readHead least p .count))
     fine-entries b c d = fine-used a ∙ rw (le-leb (readHead least p .level) 7 b, le-leb (readHead least p .count) (5 * least) c, d)
 
   pub clean-room : 5 * least < readHead least p .count → cleanPage least p ≡ false
@@ -163,13 +183,18 @@ module _ (least l size : ℕ) (p : List ℕ) where
     unfolding cleanPage
     clean-spare e = rw (count-of least p, level-read least p, le-leb (readHead least p .count) (5 * least) h, e)
 
-    pub clean-rest : zeroFrom p (spareAt least (readHead least p .level)) 128 ≡ true → cleanPage least p ≡ zeroFrom p (128 + 96 * readHead least p .count) (512 * least)
+    pub clean-rest : zeroFrom p (spareAt least (readHead least p .level)) 128 ≡ true
+        → cleanPage least p ≡ zeroFrom p (128 + 96 * readHead least p .count) (512 * least)
     unfolding cleanPage
     clean-rest e = rw (count-of least p, level-read least p, le-leb (readHead least p .count) (5 * least) h, e)
 
 pub clean-count : (least : ℕ) (p : List ℕ) → cleanPage least p ≡ true → readHead least p .count ≤ 5 * least
 unfolding cleanPage
-clean-count least p e = leb-true (readHead least p .count) (5 * least) (both-true (leb (readHead least p .count) (5 * least)) (zeroFrom p (spareAt least (field p 0 4)) 128 && zeroFrom p (128 + 96 * readHead least p .count) (512 * least)) (rw (count-of least p) at e) .0)
+clean-count least p e =
+    leb-true (readHead least p .count) (5 * least)
+    (both-true (leb (readHead least p .count) (5 * least))
+    (zeroFrom p (spareAt least (field p 0 4)) 128 && zeroFrom p (128 + 96 * readHead least p .count) (512 * least))
+    (rw (count-of least p) at e) .0)
 
 -- ---- all pages
 
@@ -182,14 +207,18 @@ four false b c d = refl
 
 module _ (least l size : ℕ) (s : List ℕ) (n m : ℕ) where
   pub pages-fine-step : n < m
-      → pagesFine least l size s n (m - n) ≡ (cleanPage least (pageOf least s n) && (pageFine least l size (decodePage least (pageOf least s n)) && pagesFine least l size s (n + 1) (m - (n + 1))))
+      → pagesFine least l size s n (m - n)
+      ≡ (cleanPage least (pageOf least s n)
+      && (pageFine least l size (decodePage least (pageOf least s n)) && pagesFine least l size s (n + 1) (m - (n + 1))))
   unfolding pagesFine
   pages-fine-step h =
       let ps : List Page = readPages least s (n + 1) (m - (n + 1)) in
       let p : Page = decodePage least (pageOf least s n) in
       ap (λ (b : Bool). b && all (pageFine least l size) (readPages least s n (m - n))) (clean-step least s n m h)
-      ∙ ap (λ (b : Bool). (cleanPage least (pageOf least s n) && cleanPages least s (n + 1) (m - (n + 1))) && b) (all-pages-step least s (pageFine least l size) n m h)
-      ∙ four (cleanPage least (pageOf least s n)) (cleanPages least s (n + 1) (m - (n + 1))) (pageFine least l size p) (all (pageFine least l size) ps)
+      ∙ ap (λ (b : Bool). (cleanPage least (pageOf least s n) && cleanPages least s (n + 1) (m - (n + 1))) && b)
+      (all-pages-step least s (pageFine least l size) n m h)
+      ∙ four (cleanPage least (pageOf least s n)) (cleanPages least s (n + 1) (m - (n + 1))) (pageFine least l size p)
+      (all (pageFine least l size) ps)
 
   pub pages-fine-end : m ≤ n → pagesFine least l size s n (m - n) ≡ true
   unfolding pagesFine cleanPages

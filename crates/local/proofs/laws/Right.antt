@@ -66,7 +66,8 @@ module _ (least : ℕ) (s : List ℕ) (size : ℕ) (z : Sized least s size) wher
   old-low = leb (decode least s .oldest) (pick (leb least 4) 0 (decode least s .current))
 
   front-is : frontRight least s
-      ≡ (cleanFront least s && (leb (last (decode least s)) 1048574 && (old-low && (rooted size (readSlots s (512 * least) roots) && rule2 (decode least s)))))
+      ≡ (cleanFront least s
+      && (leb (last (decode least s)) 1048574 && (old-low && (rooted size (readSlots s (512 * least) roots) && rule2 (decode least s)))))
   unfolding frontRight
   front-is = rw (count-pages least s (omega (arith, z .is, z .low)), z .is, slots-of least s)
 
@@ -80,23 +81,29 @@ module _ (least : ℕ) (s : List ℕ) (size : ℕ) (z : Sized least s size) wher
     pub front-last : 1048574 < last (decode least s) → frontRight least s ≡ false
     front-last b = front-is ∙ rw (a, lt-leb (last (decode least s)) 1048574 b)
 
-    module _ (b : last (decode least s) ≤ 1048574) (k : leb (decode least s .oldest) (pick (leb least 4) 0 (decode least s .current)) ≡ true) where
+    module _ (b : last (decode least s) ≤ 1048574)
+        (k : leb (decode least s .oldest) (pick (leb least 4) 0 (decode least s .current)) ≡ true) where
       pub front-none : roots ≡ 0 → frontRight least s ≡ false
-      front-none c = front-is ∙ rw (a, le-leb (last (decode least s)) 1048574 b, k, rule2-is least s, two-none least s c) (and-false (rooted size (readSlots s (512 * least) roots)))
+      front-none c =
+          front-is ∙ rw (a, le-leb (last (decode least s)) 1048574 b, k, rule2-is least s, two-none least s c)
+          (and-false (rooted size (readSlots s (512 * least) roots)))
 
       pub front-slots : (n o top : ℕ) → n ≡ roots → o ≡ readHeader least s .oldest → top ≡ last (decode least s) → 0 < n
           → frontRight least s ≡ slotsFrom size o top 0 o (readSlots s (512 * least) n)
       front-slots n o top e g f h =
-          let low : decode least s .oldest ≤ last (decode least s) = old-last least (decode least s) (leb-true (decode least s .oldest) (pick (leb least 4) 0 (decode least s .current)) k) in
+          let low : decode least s .oldest ≤ last (decode least s)
+          = old-last least (decode least s) (leb-true (decode least s .oldest) (pick (leb least 4) 0 (decode least s .current)) k) in
           let old : readHeader least s .oldest ≤ last (decode least s) = omega (arith, low, oldest-of least s) in
           rw (e, g, f)
           (front-is ∙ rw (a, le-leb (last (decode least s)) 1048574 b, k, rule2-is least s)
-          (sym (slots-all size (readHeader least s .oldest) (last (decode least s)) old (readSlots s (512 * least) roots) (some-slots s (512 * least) roots (rw e at h)))))
+          (sym (slots-all size (readHeader least s .oldest) (last (decode least s)) old (readSlots s (512 * least) roots)
+          (some-slots s (512 * least) roots (rw e at h)))))
 
   -- ---- one page
 
   pub far-free : (n : ℕ) → size ≤ n → page (decode least s .pages) n ≡ free
-  far-free n a = List·getD-eq-default (decode least s .pages) free (omega (arith, z .is, count-pages least s (omega (arith, z .is, z .low))))
+  far-free n a =
+      List·getD-eq-default (decode least s .pages) free (omega (arith, z .is, count-pages least s (omega (arith, z .is, z .low))))
 
   module _ (level n : ℕ) (some : 0 < level) where
     abbrev p : List ℕ
@@ -106,7 +113,8 @@ module _ (least : ℕ) (s : List ℕ) (size : ℕ) (z : Sized least s size) wher
     unfolding pageRight
     none e =
         rw (e, ne-eqb 0 level (λ q. omega arith))
-        (ap (λ (x : Bool). cleanPage least p && x) (and-false (pageOk least (last (decode least s)) (length (decode least s .pages)) free)) ∙ and-false (cleanPage least p))
+        (ap (λ (x : Bool). cleanPage least p && x) (and-false (pageOk least (last (decode least s)) (length (decode least s .pages)) free))
+        ∙ and-false (cleanPage least p))
 
     -- neither the header's and the directory's pages, nor any behind the last
     pub page-low : n < 5 → pageRight least s level n ≡ false
@@ -119,26 +127,36 @@ module _ (least : ℕ) (s : List ℕ) (size : ℕ) (z : Sized least s size) wher
       right-is : pageRight least s level n
           ≡ (cleanPage least p && (pageOk least (last (decode least s)) size (decodePage least p) && eqb (readHead least p .level) level))
       unfolding pageRight
-      right-is = rw (page-at least s n a (omega (arith, z .is)), count-pages least s (omega (arith, z .is, z .low)), z .is, level-of least p)
+      right-is =
+          rw (page-at least s n a (omega (arith, z .is)), count-pages least s (omega (arith, z .is, z .low)), z .is, level-of least p)
 
       pub page-other : (readHead least p .level ≡ level → ⊥) → pageRight least s level n ≡ false
       page-other c =
           right-is ∙ rw (ne-eqb (readHead least p .level) level c)
-          (ap (λ (x : Bool). cleanPage least p && x) (and-false (pageOk least (last (decode least s)) size (decodePage least p))) ∙ and-false (cleanPage least p))
+          (ap (λ (x : Bool). cleanPage least p && x) (and-false (pageOk least (last (decode least s)) size (decodePage least p)))
+          ∙ and-false (cleanPage least p))
 
       pub page-clean : cleanPage least p ≡ false → pageRight least s level n ≡ false
       page-clean c = right-is ∙ rw c
 
-      pub page-rest : readHead least p .level ≡ level → cleanPage least p ≡ true → pageRight least s level n ≡ pageFine least (last (decode least s)) size (decodePage least p)
+      pub page-rest : readHead least p .level ≡ level → cleanPage least p ≡ true
+          → pageRight least s level n ≡ pageFine least (last (decode least s)) size (decodePage least p)
       page-rest c d =
-          right-is ∙ rw (d, eq-eqb (readHead least p .level) level c) (and-true (pageOk least (last (decode least s)) size (decodePage least p)) ∙ sym used)
+          right-is ∙ rw (d, eq-eqb (readHead least p .level) level c)
+          (and-true (pageOk least (last (decode least s)) size (decodePage least p)) ∙ sym used)
         where
-          used : pageFine least (last (decode least s)) size (decodePage least p) ≡ pageOk least (last (decode least s)) size (decodePage least p)
-          used = let q : isFree (decodePage least p) ≡ false = rw (level-of least p) (ne-eqb (readHead least p .level) 0 (λ e. omega arith)) in rw q
+          used : pageFine least (last (decode least s)) size (decodePage least p)
+              ≡ pageOk least (last (decode least s)) size (decodePage least p)
+          used =
+              let q : isFree (decodePage least p) ≡ false = rw (level-of least p) (ne-eqb (readHead least p .level) 0 (λ e. omega arith)) in
+              rw q
 
 -- a front that is right has its header so
 pub front-true : (least : ℕ) (s : List ℕ) → frontRight least s ≡ true → cleanFront least s ≡ true
 unfolding frontRight
 front-true least s e =
     let t = decode least s in
-    both-true (cleanFront least s) (leb (last t) 1048574 && (leb (t .oldest) (pick (leb least 4) 0 (t .current)) && (all (λ (x : Slot). isPage (length (t .pages)) (x .root)) (t .slots) && rule2 t))) e .0
+    both-true (cleanFront least s)
+    (leb (last t) 1048574
+    && (leb (t .oldest) (pick (leb least 4) 0 (t .current))
+    && (all (λ (x : Slot). isPage (length (t .pages)) (x .root)) (t .slots) && rule2 t))) e .0

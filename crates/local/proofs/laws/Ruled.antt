@@ -43,22 +43,31 @@ module _ (least : ℕ) (s : List ℕ) (size : ℕ) (z : Sized least s size) (r :
   unfolding cleanFront
   counted =
       eqb-true (readHeader least s .pages) (sizeOf least s)
-      (both-true (eqb (readHeader least s .pages) (sizeOf least s)) (zeroFrom s (74 + rootBits least + oldestBits least) (512 * least) && (leb roots (64 * least) && zeroFrom s (512 * least + 32 * roots) (2560 * least))) (both .0) .0)
+      (both-true (eqb (readHeader least s .pages) (sizeOf least s))
+      (zeroFrom s (74 + rootBits least + oldestBits least) (512 * least)
+      && (leb roots (64 * least) && zeroFrom s (512 * least + 32 * roots) (2560 * least))) (both .0) .0)
 
-  parts : ((leb roots (64 * least) && leb l 1048574 && oldLow least s size z && rooted size (readSlots s (512 * least) roots)) ≡ true) × (all (pageFine least l size) (readPages least s 5 (size - 5)) ≡ true)
+  parts : ((leb roots (64 * least) && leb l 1048574 && oldLow least s size z && rooted size (readSlots s (512 * least) roots)) ≡ true)
+      × (all (pageFine least l size) (readPages least s 5 (size - 5)) ≡ true)
   parts =
-      both-true (leb roots (64 * least) && leb l 1048574 && oldLow least s size z && rooted size (readSlots s (512 * least) roots)) (all (pageFine least l size) (readPages least s 5 (size - 5)))
+      both-true (leb roots (64 * least) && leb l 1048574 && oldLow least s size z && rooted size (readSlots s (512 * least) roots))
+      (all (pageFine least l size) (readPages least s 5 (size - 5)))
       (sym (rule1-is least s size z) ∙ both-true (cleanPages least s 5 (sizeOf least s - 5)) (rule1 least (decode least s)) (both .1) .1)
 
   -- the oldest version is at most the last
   pub old-low : decode least s .oldest ≤ last (decode least s)
   old-low =
       old-last least (decode least s) (leb-true (decode least s .oldest) (pick (leb least 4) 0 (decode least s .current))
-      (both-true (leb roots (64 * least) && leb l 1048574) (oldLow least s size z) (both-true (leb roots (64 * least) && leb l 1048574 && oldLow least s size z) (rooted size (readSlots s (512 * least) roots)) (parts .0) .0) .1))
+      (both-true (leb roots (64 * least) && leb l 1048574) (oldLow least s size z)
+      (both-true (leb roots (64 * least) && leb l 1048574 && oldLow least s size z) (rooted size (readSlots s (512 * least) roots))
+      (parts .0) .0) .1))
 
   numbers : (roots ≤ 64 * least) × (l ≤ 1048574)
   numbers =
-      let (a, b) = both-true (leb roots (64 * least)) (leb l 1048574) (both-true (leb roots (64 * least) && leb l 1048574) (oldLow least s size z) (both-true (leb roots (64 * least) && leb l 1048574 && oldLow least s size z) (rooted size (readSlots s (512 * least) roots)) (parts .0) .0) .0) in
+      let (a, b) = both-true (leb roots (64 * least)) (leb l 1048574)
+      (both-true (leb roots (64 * least) && leb l 1048574) (oldLow least s size z)
+      (both-true (leb roots (64 * least) && leb l 1048574 && oldLow least s size z) (rooted size (readSlots s (512 * least) roots))
+      (parts .0) .0) .0) in
       (leb-true roots (64 * least) a, leb-true l 1048574 b)
 
   pub last-low : l ≤ 1048574
@@ -97,16 +106,21 @@ module _ (least : ℕ) (s : List ℕ) (size : ℕ) (z : Sized least s size) (r :
 
     empty : levelAt least s n ≡ 0 → countAt least s n ≡ 0
     empty a =
-        eqb-true (countAt least s n) 0 (both-true (eqb (headAt least s n .start) 0 && eqb (headAt least s n .end) 0) (eqb (countAt least s n) 0) (sym (fine-free least l size p a) ∙ fine) .1)
+        eqb-true (countAt least s n) 0
+        (both-true (eqb (headAt least s n .start) 0 && eqb (headAt least s n .end) 0) (eqb (countAt least s n) 0)
+        (sym (fine-free least l size p a) ∙ fine) .1)
 
     level : levelAt least s n ≤ 7
-    level = ⊎-elim (λ a. omega arith) (λ a. leb-true (levelAt least s n) 7 (both-true lv ct (both-true (lv && ct) sp (used a .0) .0) .0)) (same? (levelAt least s n) 0)
+    level =
+        ⊎-elim (λ a. omega arith) (λ a. leb-true (levelAt least s n) 7 (both-true lv ct (both-true (lv && ct) sp (used a .0) .0) .0))
+        (same? (levelAt least s n) 0)
 
     child : (i : ℕ) → (levelAt least s n ≡ 1 → ⊥) → i < countAt least s n → IsPage least s (entryAt least s n i .value)
     child i a lt =
         let e : Entry = entryAt least s n i in
         let each = both-true (inOrder before es) (all (entryOk l size (levelAt least s n)) es) (used (λ q. omega (arith, empty q)) .1) .1 in
-        let ok : entryOk l size (levelAt least s n) e ≡ true = entry-of-all (entryOk l size (levelAt least s n)) p (countAt least s n) i each lt in
+        let ok : entryOk l size (levelAt least s n) e ≡ true
+        = entry-of-all (entryOk l size (levelAt least s n)) p (countAt least s n) i each lt in
         page-num (e .value) (rw (ne-eqb (levelAt least s n) 1 a) at (both-true (spanOk l (e .start) (e .end) && ltb (e .key) 16777216)
         (pick (eqb (levelAt least s n) 1) (leb 1 (e .start) && ltb (e .value) 4294967296) (isPage size (e .value))) ok .1))
 
@@ -119,6 +133,8 @@ module _ (least : ℕ) (s : List ℕ) (size : ℕ) (z : Sized least s size) (r :
         child = λ n i h a lt. child n h i a lt;
         roots = numbers .0;
         root = λ i lt. page-num (slotAt least s i .root)
-            (slot-of-all (λ (x : Slot). isPage size (x .root)) s (512 * least) roots i (both-true (leb roots (64 * least) && leb l 1048574 && oldLow least s size z) (rooted size (readSlots s (512 * least) roots)) (parts .0) .1) lt);
+            (slot-of-all (λ (x : Slot). isPage size (x .root)) s (512 * least) roots i
+            (both-true (leb roots (64 * least) && leb l 1048574 && oldLow least s size z) (rooted size (readSlots s (512 * least) roots))
+            (parts .0) .1) lt);
         pages = counted;
       }

@@ -26,7 +26,9 @@ use Rattle.local.specs.Second.{old, newer, begun}
 module _ (l : ℕ) (s : List ℕ) (o i n : ℕ) where
   pub slots-ok-step : i < n
       → slotsOk l (readSlots s (o + 32 * i) (n - i))
-      ≡ (leb (readSlot s (o + 32 * i) .version) l && (firstOk sooner (readSlot s (o + 32 * i)) (readSlots s (o + 32 * (i + 1)) (n - (i + 1))) && slotsOk l (readSlots s (o + 32 * (i + 1)) (n - (i + 1)))))
+      ≡ (leb (readSlot s (o + 32 * i) .version) l
+      && (firstOk sooner (readSlot s (o + 32 * i)) (readSlots s (o + 32 * (i + 1)) (n - (i + 1)))
+      && slotsOk l (readSlots s (o + 32 * (i + 1)) (n - (i + 1)))))
   unfolding slotsOk
   slots-ok-step h =
       let x : Slot = readSlot s (o + 32 * i) in
@@ -46,7 +48,8 @@ module _ (l : ℕ) (s : List ℕ) (o i n : ℕ) where
   pub slot-none : (x : Slot) → n ≤ i → firstOk sooner x (readSlots s (o + 32 * i) (n - i)) ≡ true
   slot-none x h = ap (firstOk sooner x) (slots-end s (o + 32 * i) i n h)
 
-  pub slot-some : (x : Slot) → i < n → firstOk sooner x (readSlots s (o + 32 * i) (n - i)) ≡ ltb (x .version) (readSlot s (o + 32 * i) .version)
+  pub slot-some : (x : Slot) → i < n → firstOk sooner x (readSlots s (o + 32 * i) (n - i))
+      ≡ ltb (x .version) (readSlot s (o + 32 * i) .version)
   slot-some x h = ap (firstOk sooner x) (slots-step s o i n h)
 
 -- ---- the rule
@@ -66,7 +69,9 @@ module _ (least : ℕ) (s : List ℕ) where
   pub rule2-is : rule2 (decode least s) ≡ (begun least s && newer least s)
   unfolding rule2 slotsOk
   rule2-is = rw (slots-of least s, oldest-of least s)
-      (ap (λ (b : Bool). b && newer least s) (and-assoc (leb (firstVersion (old least s) xs) (old least s)) (inOrder sooner xs) (all (λ (x : Slot). leb (x .version) (last (decode least s))) xs)))
+      (ap (λ (b : Bool). b && newer least s)
+      (and-assoc (leb (firstVersion (old least s) xs) (old least s)) (inOrder sooner xs)
+      (all (λ (x : Slot). leb (x .version) (last (decode least s))) xs)))
 
   -- "Directory versions begin at 0", or at most at the oldest
   pub two-none : roots ≡ 0 → begun least s ≡ false
@@ -90,15 +95,23 @@ module _ (least : ℕ) (s : List ℕ) where
 
   pub root-first : rule2 (decode least s) ≡ true → slotAt least s 0 .version ≤ old least s
   root-first e =
-      omega (arith, first-version (old least s) s (512 * least) roots (some-root e), leb-true (firstVersion (old least s) xs) (old least s) (both-true (leb (firstVersion (old least s) xs) (old least s)) (slotsOk (last (decode least s)) xs) (both-true (begun least s) (newer least s) (sym rule2-is ∙ e) .0) .0))
+      omega (
+        arith,
+        first-version (old least s) s (512 * least) roots (some-root e),
+        leb-true (firstVersion (old least s) xs) (old least s)
+            (both-true (leb (firstVersion (old least s) xs) (old least s)) (slotsOk (last (decode least s)) xs)
+            (both-true (begun least s) (newer least s) (sym rule2-is ∙ e) .0) .0),
+      )
 
 -- ---- the slots from slot i on are newer
 
-pub newer-start : (least : ℕ) (s : List ℕ) → newer least s ≡ all (λ (x : Slot). ltb (old least s) (x .version)) (readSlots s (512 * least + 32 * 1) (readHeader least s .roots - 1))
+pub newer-start : (least : ℕ) (s : List ℕ) → newer least s
+    ≡ all (λ (x : Slot). ltb (old least s) (x .version)) (readSlots s (512 * least + 32 * 1) (readHeader least s .roots - 1))
 unfolding readSlots
 newer-start least s = at (readHeader least s .roots)
   where
-    at : (n : ℕ) → all (λ (x : Slot). ltb (old least s) (x .version)) (drop 1 (readSlots s (512 * least) n)) ≡ all (λ (x : Slot). ltb (old least s) (x .version)) (readSlots s (512 * least + 32 * 1) (n - 1))
+    at : (n : ℕ) → all (λ (x : Slot). ltb (old least s) (x .version)) (drop 1 (readSlots s (512 * least) n))
+        ≡ all (λ (x : Slot). ltb (old least s) (x .version)) (readSlots s (512 * least + 32 * 1) (n - 1))
     at zero = refl
     at (suc n) = let e : 512 * least + 32 * 1 ≡ 512 * least + 32 = omega arith in let f : suc n - 1 ≡ n = omega arith in rw (e, f)
 

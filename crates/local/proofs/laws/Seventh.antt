@@ -17,7 +17,8 @@ use Rattle.local.specs.Seventh.{isYoung, youngOk}
 
 module _ (least : ℕ) (s : List ℕ) (n w : ℕ) where
   young-is : youngOk w (decodePage least (pageOf least s n))
-      ≡ (eqb (levelAt least s n) 0 || (not (eqb (headAt least s n .start) w) || all (isYoung w) (readEntries (pageOf least s n) 128 (countAt least s n))))
+      ≡ (eqb (levelAt least s n) 0
+      || (not (eqb (headAt least s n .start) w) || all (isYoung w) (readEntries (pageOf least s n) 128 (countAt least s n))))
   unfolding youngOk
   young-is = rw (level-of least (pageOf least s n), start-of least (pageOf least s n), entries-of least (pageOf least s n))
 
@@ -28,7 +29,8 @@ module _ (least : ℕ) (s : List ℕ) (n w : ℕ) where
     pub young-other : (headAt least s n .start ≡ w → ⊥) → youngOk w (decodePage least (pageOf least s n)) ≡ true
     young-other e = young-is ∙ rw (ne-eqb (levelAt least s n) 0 u, ne-eqb (headAt least s n .start) w e)
 
-    pub young-here : headAt least s n .start ≡ w → youngOk w (decodePage least (pageOf least s n)) ≡ all (isYoung w) (readEntries (pageOf least s n) 128 (countAt least s n))
+    pub young-here : headAt least s n .start ≡ w → youngOk w (decodePage least (pageOf least s n))
+        ≡ all (isYoung w) (readEntries (pageOf least s n) 128 (countAt least s n))
     young-here e = young-is ∙ rw (ne-eqb (levelAt least s n) 0 u, eq-eqb (headAt least s n .start) w e)
 
 module _ (least : ℕ) (s : List ℕ) (h : Header) (is : h ≡ readHeader least s) where
@@ -39,8 +41,10 @@ module _ (least : ℕ) (s : List ℕ) (h : Header) (is : h ≡ readHeader least 
   unfolding rule7
   seven-shut o = rw (opened-is, o)
 
-  pub seven-open : (w : ℕ) → h .opened ≡ true → w ≡ lastOf (h .opened) (h .current) → rule7 (decode least s) ≡ all (youngOk w) (readPages least s 5 (sizeOf least s - 5))
+  pub seven-open : (w : ℕ) → h .opened ≡ true → w ≡ lastOf (h .opened) (h .current)
+      → rule7 (decode least s) ≡ all (youngOk w) (readPages least s 5 (sizeOf least s - 5))
   unfolding rule7 youngOk
   seven-open w o e =
-      let next : suc (decode least s .current) ≡ w = ap suc (current-of least s ∙ ap (λ (x : Header). x .current) (sym is)) ∙ sym (e ∙ ap (λ (b : Bool). lastOf b (h .current)) o) in
+      let next : suc (decode least s .current) ≡ w = ap suc (current-of least s ∙ ap (λ (x : Header). x .current) (sym is))
+      ∙ sym (e ∙ ap (λ (b : Bool). lastOf b (h .current)) o) in
       rw (opened-is, o, behind least s, next)

@@ -21,7 +21,8 @@ use Rattle.local.proofs.laws.Local.{linkBy}
 -- ---- an entry of page n
 
 module _ (least : ℕ) (s : List ℕ) (n : ℕ) (e : Entry) where
-  pub link-is : IsPage least s (e .value) → linkFull (decode least s) (decodePage least (pageOf least s n)) e ≡ linkBy (headAt least s n) (headAt least s (e .value)) e
+  pub link-is : IsPage least s (e .value) → linkFull (decode least s) (decodePage least (pageOf least s n)) e
+      ≡ linkBy (headAt least s n) (headAt least s (e .value)) e
   unfolding linkBy
   link-is h =
       rw (
@@ -42,10 +43,12 @@ module _ (least : ℕ) (s : List ℕ) (n : ℕ) (e : Entry) where
   pub link-out : skips ≡ true → linkOk (decode least s) (decodePage least (pageOf least s n)) e ≡ true
   link-out z = rw (oldest-of least s, level-of least (pageOf least s n), z)
 
-  pub link-kept : skips ≡ false → linkOk (decode least s) (decodePage least (pageOf least s n)) e ≡ linkFull (decode least s) (decodePage least (pageOf least s n)) e
+  pub link-kept : skips ≡ false → linkOk (decode least s) (decodePage least (pageOf least s n)) e
+      ≡ linkFull (decode least s) (decodePage least (pageOf least s n)) e
   link-kept z =
       let p = decodePage least (pageOf least s n) in
-      ap₂ (λ (x y : ℕ). (not (eqb x 1) && leb (e .end) y) || linkFull (decode least s) p e) (level-of least (pageOf least s n)) (oldest-of least s)
+      ap₂ (λ (x y : ℕ). (not (eqb x 1) && leb (e .end) y) || linkFull (decode least s) p e) (level-of least (pageOf least s n))
+      (oldest-of least s)
       ∙ ap (λ (b : Bool). b || linkFull (decode least s) p e) z
 
   -- one test after the other
@@ -54,14 +57,23 @@ module _ (least : ℕ) (s : List ℕ) (n : ℕ) (e : Entry) where
 
   module _ (a : lies (headAt least s n) e ≡ true) where
     pub link-leaf : levelAt least s n ≡ 1 → linkFull (decode least s) (decodePage least (pageOf least s n)) e ≡ true
-    link-leaf d = rw (start-of least (pageOf least s n), end-of least (pageOf least s n), level-of least (pageOf least s n), a, eq-eqb (levelAt least s n) 1 d)
+    link-leaf d =
+        rw (
+          start-of least (pageOf least s n),
+          end-of least (pageOf least s n),
+          level-of least (pageOf least s n),
+          a,
+          eq-eqb (levelAt least s n) 1 d,
+        )
 
     module _ (d : levelAt least s n ≡ 1 → ⊥) (h : IsPage least s (e .value)) where
-      pub link-child : lies (headAt least s (e .value)) e ≡ false → linkFull (decode least s) (decodePage least (pageOf least s n)) e ≡ false
+      pub link-child : lies (headAt least s (e .value)) e ≡ false
+          → linkFull (decode least s) (decodePage least (pageOf least s n)) e ≡ false
       unfolding linkBy
       link-child b = link-is h ∙ rw (a, ne-eqb (levelAt least s n) 1 d, b)
 
-      pub link-level : lies (headAt least s (e .value)) e ≡ true → linkFull (decode least s) (decodePage least (pageOf least s n)) e ≡ eqb (levelAt least s (e .value) + 1) (levelAt least s n)
+      pub link-level : lies (headAt least s (e .value)) e ≡ true
+          → linkFull (decode least s) (decodePage least (pageOf least s n)) e ≡ eqb (levelAt least s (e .value) + 1) (levelAt least s n)
       unfolding linkBy
       link-level b = link-is h ∙ rw (a, ne-eqb (levelAt least s n) 1 d, b)
 
@@ -69,7 +81,8 @@ module _ (least : ℕ) (s : List ℕ) (n : ℕ) (e : Entry) where
 pub by-lower : (h c : Head) (e : Entry) → (h .level ≡ 1 → ⊥) → linkBy h c e ≡ true → c .level + 1 ≡ h .level
 unfolding linkBy
 by-lower h c e d t =
-    let x : (eqb (h .level) 1 || (lies c e && eqb (c .level + 1) (h .level))) ≡ true = both-true (lies h e) (eqb (h .level) 1 || (lies c e && eqb (c .level + 1) (h .level))) t .1 in
+    let x : (eqb (h .level) 1 || (lies c e && eqb (c .level + 1) (h .level))) ≡ true
+    = both-true (lies h e) (eqb (h .level) 1 || (lies c e && eqb (c .level + 1) (h .level))) t .1 in
     eqb-true (c .level + 1) (h .level) (both-true (lies c e) (eqb (c .level + 1) (h .level)) (rw (ne-eqb (h .level) 1 d) at x) .1)
 
 -- ---- page n
@@ -80,7 +93,8 @@ module _ (least : ℕ) (s : List ℕ) (n : ℕ) where
   links-free e = rw (level-of least (pageOf least s n), eq-eqb (levelAt least s n) 0 e)
 
   pub links-used : (levelAt least s n ≡ 0 → ⊥)
-      → linksOk (decode least s) (decodePage least (pageOf least s n)) ≡ all (linkOk (decode least s) (decodePage least (pageOf least s n))) (readEntries (pageOf least s n) 128 (countAt least s n))
+      → linksOk (decode least s) (decodePage least (pageOf least s n))
+      ≡ all (linkOk (decode least s) (decodePage least (pageOf least s n))) (readEntries (pageOf least s n) 128 (countAt least s n))
   unfolding linksOk
   links-used e =
       let f : Entry → Bool = linkOk (decode least s) (decodePage least (pageOf least s n)) in
@@ -95,6 +109,8 @@ module _ (least : ℕ) (s : List ℕ) where
   unfolding rootUsed
   root-used-is x h = rw (page-at least s (x .root) (h .0) (h .1), level-of least (pageOf least s (x .root)))
 
-  pub rule3-is : rule3 (decode least s) ≡ (all (linksOk (decode least s)) (readPages least s 5 (sizeOf least s - 5)) && all (rootUsed (decode least s)) (readSlots s (512 * least) (readHeader least s .roots)))
+  pub rule3-is : rule3 (decode least s)
+      ≡ (all (linksOk (decode least s)) (readPages least s 5 (sizeOf least s - 5))
+      && all (rootUsed (decode least s)) (readSlots s (512 * least) (readHeader least s .roots)))
   unfolding rule3 linksOk rootUsed
   rule3-is = rw (behind least s, slots-of least s)

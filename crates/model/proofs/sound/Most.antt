@@ -23,7 +23,7 @@ use Rattle.model.proofs.tree.Tree.{Row, Holds, Tree, row-le}
 use Rattle.model.proofs.tree.Shows.{Shows}
 use Rattle.model.proofs.sound.Ready.{shows-all}
 use Rattle.model.proofs.sound.Count.{tally, leafIn, leaves, leaves-split, tree-count}
-use Rattle.model.proofs.plan.PlanSizes.{pairs-few}
+use Rattle.model.proofs.needs.Sizes.{pairs-few}
 
 -- of the numbers below n, none of the first five passes
 tally-behind : (f : ℕ → Bool) → ((i : ℕ) → i < 5 → f i ≡ false) → (n : ℕ) → tally f n ≤ n - 5

@@ -27,9 +27,11 @@ same-length c = search needs
 returns-2 : tie.Need-returns-2
 unfolding deleteNamed
 returns-2 c =
-    let h = c .before .before .before .before in
-    let e = h .before .unknown .ensures ∙ ap unknown (h .before .before .kind-of .ensures) in
-    c .before .before .delete .ensures ∙ goes _ _ _ _ e (h .if1 .left)
+    let at-if1 = c .before .before .before .before in
+    let at-unknown = at-if1 .before in
+    let at-kind-of = at-unknown .before in
+    let e = at-unknown .unknown .ensures ∙ ap unknown (at-kind-of .kind-of .ensures) in
+    c .before .before .delete .ensures ∙ goes _ _ _ _ e (at-if1 .if1 .left)
 
 pub delete-spec : {M : Type 1} → statement M
 delete-spec =

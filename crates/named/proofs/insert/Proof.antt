@@ -16,7 +16,8 @@ allowed-requires c κs = search needs
 returns : tie.Need-returns
 unfolding insertNamed
 returns c =
-    let x = c .before .before .before .before .before .args .value in
+    let at-start = c .before .before .before .before .before in
+    let x = at-start .args .value in
     let e = c .before .allowed .ensures ∙ ap (λ (q : Known). allowed q x) (c .before .before .kind-of .ensures) in
     refuses _ _ _ _ e (c .if1 .taken)
 
@@ -29,10 +30,13 @@ same-length c = search needs
 returns-2 : tie.Need-returns-2
 unfolding insertNamed
 returns-2 c =
-    let h = c .before .before .before .before in
-    let x = h .before .before .before .before .before .args .value in
-    let e = h .before .allowed .ensures ∙ ap (λ (q : Known). allowed q x) (h .before .before .kind-of .ensures) in
-    c .before .before .insert .ensures ∙ goes _ _ _ _ e (h .if1 .left)
+    let at-if1 = c .before .before .before .before in
+    let at-allowed = at-if1 .before in
+    let at-kind-of = at-allowed .before in
+    let at-start = at-kind-of .before .before .before in
+    let x = at-start .args .value in
+    let e = at-allowed .allowed .ensures ∙ ap (λ (q : Known). allowed q x) (at-kind-of .kind-of .ensures) in
+    c .before .before .insert .ensures ∙ goes _ _ _ _ e (at-if1 .if1 .left)
 
 pub insert-spec : {M : Type 1} → statement M
 insert-spec =

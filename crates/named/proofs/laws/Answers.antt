@@ -47,15 +47,21 @@ module _ (least : ℕ) (table b : List ℕ) (lo hi v n : ℕ) (ns : List ℕ) (e
   abbrev met : Bool → Listed
   met q = pick q (rangeLent least b lo hi v ns) (kept 17)
 
-  by-number : (q : Bool) → allKnown table (rangeOf (decode least b) lo hi v) ≡ q → judgedFirst n kept (met q) ≡ rangeNamedBy least table b lo hi v ns
+  by-number : (q : Bool) → allKnown table (rangeOf (decode least b) lo hi v) ≡ q
+      → judgedFirst n kept (met q) ≡ rangeNamedBy least table b lo hi v ns
   unfolding rangeNamedBy
-  by-number q f = ap (λ (m : ℕ). judgedFirst m kept (met q)) (e ∙ sym (barred-is least b lo hi v)) ∙ ap (λ (x : Bool). judgedFirst (barred least b lo hi v) kept (met x)) (sym f)
+  by-number q f =
+      ap (λ (m : ℕ). judgedFirst m kept (met q)) (e ∙ sym (barred-is least b lo hi v))
+      ∙ ap (λ (x : Bool). judgedFirst (barred least b lo hi v) kept (met x)) (sym f)
 
   pub named-refused : (n ≡ 0 → ⊥) → kept n ≡ rangeNamedBy least table b lo hi v ns
-  named-refused z = refused-by n kept (met (allKnown table (rangeOf (decode least b) lo hi v))) z ∙ by-number (allKnown table (rangeOf (decode least b) lo hi v)) refl
+  named-refused z =
+      refused-by n kept (met (allKnown table (rangeOf (decode least b) lo hi v))) z
+      ∙ by-number (allKnown table (rangeOf (decode least b) lo hi v)) refl
 
   pub named-unknown : n ≡ 0 → allKnown table (rangeOf (decode least b) lo hi v) ≡ false → kept 17 ≡ rangeNamedBy least table b lo hi v ns
   named-unknown z f = goes-by n kept (met false) z ∙ by-number false f
 
-  pub named-done : n ≡ 0 → allKnown table (rangeOf (decode least b) lo hi v) ≡ true → rangeLent least b lo hi v ns ≡ rangeNamedBy least table b lo hi v ns
+  pub named-done : n ≡ 0 → allKnown table (rangeOf (decode least b) lo hi v) ≡ true
+      → rangeLent least b lo hi v ns ≡ rangeNamedBy least table b lo hi v ns
   named-done z f = goes-by n kept (met true) z ∙ by-number true f

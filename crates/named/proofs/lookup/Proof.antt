@@ -24,9 +24,9 @@ view-value-requires c κs = search needs
 returns-2 : tie.Need-returns-2
 unfolding lookupNamed
 returns-2 c =
-    let h = c .before in
-    let e = h .before .unknown .ensures ∙ ap unknown (h .before .before .kind-of .ensures) in
-    c .view-value .ensures ∙ goes _ _ _ _ e (h .if1 .left)
+    let at-if1 = c .before in
+    let e = at-if1 .before .unknown .ensures ∙ ap unknown (at-if1 .before .before .kind-of .ensures) in
+    c .view-value .ensures ∙ goes _ _ _ _ e (at-if1 .if1 .left)
 
 pub lookup-spec : {M : Type 1} → statement M
 lookup-spec =

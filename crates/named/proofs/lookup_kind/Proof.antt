@@ -16,7 +16,8 @@ unlike-requires c κs = search needs
 returns : tie.Need-returns
 unfolding kindNamed
 returns c =
-    let a = c .before .before .before .before .before .args in
+    let at-start = c .before .before .before .before .before in
+    let a = at-start .args in
     let e = c .before .unlike .ensures ∙ ap (λ (q : Known). unlike (a .number) q) (c .before .before .kind-of .ensures) in
     refuses _ _ _ _ e (c .if1 .taken)
 
@@ -26,10 +27,11 @@ view-value-requires c κs = search needs
 returns-2 : tie.Need-returns-2
 unfolding kindNamed
 returns-2 c =
-    let h = c .before in
-    let a = h .before .before .before .before .before .args in
-    let e = h .before .unlike .ensures ∙ ap (λ (q : Known). unlike (a .number) q) (h .before .before .kind-of .ensures) in
-    c .view-value .ensures ∙ goes _ _ _ _ e (h .if1 .left)
+    let at-if1 = c .before in
+    let at-start = at-if1 .before .before .before .before .before in
+    let a = at-start .args in
+    let e = at-if1 .before .unlike .ensures ∙ ap (λ (q : Known). unlike (a .number) q) (at-if1 .before .before .kind-of .ensures) in
+    c .view-value .ensures ∙ goes _ _ _ _ e (at-if1 .if1 .left)
 
 pub lookup-kind-spec : {M : Type 1} → statement M
 lookup-kind-spec =

@@ -2,30 +2,30 @@
 use Prim.Native.Nat.{ℕ, _-_, _<_, _≤_}
 use native.Mathlib.Omega.{arith}
 use mathlib.Core.Bool.{Bool, true, false, _&&_}
-use mathlib.Core.Path.{_≡_, ap, sym, _∙_}
+use mathlib.Core.Path.{_≡_, refl, ap, sym, _∙_}
 use Rattle.near.specs.declared.within.Within.{Within}
-use Rattle.near.specs.Within.{NearRight}
+use Rattle.near.specs.Within.{foundAs, NearRight}
 
-pub given-up : (left : ℕ) (x : Bool) → NearRight left x (record { fine = false; left = 0 })
-given-up left x = record { less = omega arith; right = λ lt. absurd (omega arith) }
+pub given-up : (left : ℕ) (x : Bool) (r : Within) → r ≡ foundAs false 0 → NearRight left x r
+given-up left x r e = let z = ap (λ (w : Within). w .left) e in record { less = omega (arith, z); right = λ lt. absurd (omega (arith, z)) }
 
--- ---- of x, once `rest` is left
+pub settled : (left : ℕ) (b x : Bool) → b ≡ x → (r : Within) → r ≡ foundAs b left → NearRight left x r
+settled left b x e r f = let z = ap (λ (w : Within). w .left) f in record { less = omega (arith, z); right = λ lt. ap (λ (w : Within). w .fine) f ∙ e }
 
-module _ (left rest : ℕ) (le : rest ≤ left) where
-  pub settled : (x b : Bool) → (0 < rest → x ≡ b) → NearRight left x (record { fine = b; left = rest })
-  settled x b q = record { less = le; right = λ lt. sym (q lt) }
+and-true : (b : Bool) → (b && true) ≡ b
+and-true true = refl
+and-true false = refl
 
-  -- x is y and z, and of y r was found
-  module _ (x y z : Bool) (r : Within) (q : 0 < rest → x ≡ (y && z)) (k : NearRight rest y r) where
-    by : 0 < r .left → x ≡ (r .fine && z)
-    by lt = q (omega (arith, k .less)) ∙ ap (λ (b : Bool). b && z) (sym (k .right lt))
+-- ---- a page's children one after another: x is what r says and z, where something is left
 
-    pub ends : r .fine ≡ false → NearRight left x r
-    ends f = record { less = omega (arith, k .less); right = λ lt. f ∙ sym (by lt ∙ ap (λ (b : Bool). b && z) f) }
+module _ (left : ℕ) (x z : Bool) (r : Within) (less : r .left ≤ left) (q : 0 < r .left → x ≡ (r .fine && z)) where
+  pub ends-wrong : r .fine ≡ false → NearRight left x r
+  ends-wrong f = record { less = less; right = λ lt. f ∙ sym (q lt ∙ ap (λ (b : Bool). b && z) f) }
 
-    pub goes-on : r .fine ≡ true → (r .left ≤ left) × (0 < r .left → x ≡ z)
-    goes-on f = (omega (arith, k .less), λ lt. by lt ∙ ap (λ (b : Bool). b && z) f)
+  pub ends-right : z ≡ true → NearRight left x r
+  ends-right f = record { less = less; right = λ lt. sym (q lt ∙ ap (λ (b : Bool). r .fine && b) f ∙ and-true (r .fine)) }
 
--- a call that has read a page has left one more
-pub fewer : (left : ℕ) (x : Bool) (r : Within) → NearRight (left - 1) x r → NearRight left x r
-fewer left x r k = record { less = omega (arith, k .less); right = k .right }
+-- x is y and z, and a call that had `rest` found r of y
+module _ (left rest : ℕ) (le : rest ≤ left) (x y z : Bool) (r : Within) (q : 0 < rest → x ≡ (y && z)) (k : NearRight (rest - 1) y r) where
+  pub goes-on : (r .left ≤ left) × (0 < r .left → x ≡ (r .fine && z))
+  goes-on = (omega (arith, k .less), λ lt. q (omega (arith, k .less)) ∙ ap (λ (b : Bool). b && z) (sym (k .right lt)))

@@ -29,13 +29,24 @@ loop-less c = omega arith
 
 loop-again : tie.Need-loop-again Inv-loop μ-loop
 loop-again c =
-    (omega arith, omega arith, omega (arith, c .before .before .put-entry .kept .0), c .before .before .put-entry .ensures ∙ rw (c .before .before .before .before .before .loop .inv .3) (blanked-more (c .before .before .before .before .before .before .before .args .page .now) (c .before .before .before .before .before .before .before .args .j) (c .before .before .before .before .before .loop .k) (omega arith)))
+    let at-put-entry = c .before .before in
+    let at-loop = at-put-entry .before .before .before in
+    let at-start = at-loop .before .before in (
+      omega arith,
+      omega arith,
+      omega (arith, at-put-entry .put-entry .kept .0),
+      at-put-entry .put-entry .ensures ∙ rw (at-loop .loop .inv .3)
+          (blanked-more (at-start .args .page .now) (at-start .args .j) (at-loop .loop .k) (omega arith)),
+    )
 
 same-length : tie.Need-same-length Inv-loop μ-loop
 same-length c = omega arith
 
 returns : tie.Need-returns Inv-loop μ-loop
-returns c = let e : c .before .loop .k ≡ c .before .before .before .args .n = omega arith in c .before .loop .inv .3 ∙ ap (λ (k : ℕ). blanked (c .before .before .before .args .page .now) (c .before .before .before .args .j) (k - c .before .before .before .args .j)) e
+returns c =
+    let at-start = c .before .before .before in
+    let e : c .before .loop .k ≡ at-start .args .n = omega arith in
+    c .before .loop .inv .3 ∙ ap (λ (k : ℕ). blanked (at-start .args .page .now) (at-start .args .j) (k - at-start .args .j)) e
 
 pub blank-spec : {M : Type 1} → statement M
 blank-spec =

@@ -28,7 +28,13 @@ loop-less : tie.Need-loop-less Inv-loop μ-loop
 loop-less c = omega arith
 
 loop-again : tie.Need-loop-again Inv-loop μ-loop
-loop-again c = (omega arith, c .before .loop .inv .1, simp length-set (c .before .loop .inv .2), rw (c .before .loop .inv .3) (fill-more (c .before .loop .i) 0 (c .before .before .args .page .now) (omega arith)))
+loop-again c =
+    let at-loop = c .before in (
+      omega arith,
+      at-loop .loop .inv .1,
+      simp length-set (at-loop .loop .inv .2),
+      rw (at-loop .loop .inv .3) (fill-more (at-loop .loop .i) 0 (at-loop .before .args .page .now) (omega arith)),
+    )
 
 same-length : tie.Need-same-length Inv-loop μ-loop
 same-length c = omega arith
@@ -39,7 +45,8 @@ returns c =
     let l = c .before .loop in let p = c .before .before .args .page .now in
     let e : l .i ≡ length p = omega arith in
     let f : length p ≤ l .i = omega arith in
-    l .inv .3 ∙ ap (λ (x : List ℕ). replicate (l .i) 0 ++ x) (drop-of-length-le p f) ∙ append-nil (replicate (l .i) 0) ∙ ap (λ (i : ℕ). replicate i 0) e
+    l .inv .3 ∙ ap (λ (x : List ℕ). replicate (l .i) 0 ++ x) (drop-of-length-le p f) ∙ append-nil (replicate (l .i) 0)
+    ∙ ap (λ (i : ℕ). replicate i 0) e
 
 pub clear-spec : {M : Type 1} → statement M
 clear-spec =

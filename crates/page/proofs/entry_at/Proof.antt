@@ -31,8 +31,12 @@ field-requires-3 c κs = search needs
 
 returns : tie.Need-returns
 returns c =
-    let a = c .before .before .before .before .before .args in
-    words-entry (a .page .now) (128 + 96 * a .i) (c .before .before .before .field .result) (c .before .before .field2 .result) (c .before .start-of .result) (c .field3 .result) (c .before .before .before .field .ensures) (c .before .before .field2 .ensures) (c .before .start-of .ensures) (c .field3 .ensures)
+    let at-field2 = c .before .before in
+    let at-field = at-field2 .before in
+    let at-start = at-field .before .before in
+    let a = at-start .args in
+    words-entry (a .page .now) (128 + 96 * a .i) (at-field .field .result) (at-field2 .field2 .result) (c .before .start-of .result)
+    (c .field3 .result) (at-field .field .ensures) (at-field2 .field2 .ensures) (c .before .start-of .ensures) (c .field3 .ensures)
 
 pub entry-at-spec : {M : Type 1} → statement M
 entry-at-spec =

@@ -14,7 +14,8 @@ front-requires c κs = search needs
 
 returns : tie.Need-returns
 returns c =
-    let a = c .before .before .before .before .args in
+    let at-start = c .before .before .before .before in
+    let a = at-start .args in
     c .front .ensures ∙ front-five (a .l .least) (a .page .now) nil (c .before .if1 .taken)
 
 front-requires-2 : tie.Need-front-requires-2
@@ -22,7 +23,8 @@ front-requires-2 c κs = search needs
 
 returns-2 : tie.Need-returns-2
 returns-2 c =
-    let a = c .before .before .before .before .args in
+    let at-start = c .before .before .before .before in
+    let a = at-start .args in
     c .front2 .ensures ∙ front-six (a .l .least) (a .page .now) nil (c .before .if1 .left)
 
 pub head-of-spec : {M : Type 1} → statement M

@@ -48,7 +48,8 @@ unfolding cleanPage
 passed least p e =
     let c : ℕ = countOf least p in
     let a : ℕ = spareAt least (field p 0 4) in
-    let x = both-true (leb c (5 * least)) (eqb (field p a (128 - a)) 0 && eqb (field p (128 + 96 * c) (512 * least - (128 + 96 * c))) 0) e in
+    let x = both-true (leb c (5 * least)) (eqb (field p a (128 - a)) 0 && eqb (field p (128 + 96 * c) (512 * least - (128 + 96 * c))) 0)
+    e in
     let y = both-true (eqb (field p a (128 - a)) 0) (eqb (field p (128 + 96 * c) (512 * least - (128 + 96 * c))) 0) (x .1) in
     record { room = leb-true _ _ (x .0); spare = eqb-true _ _ (y .0); rest = eqb-true _ _ (y .1) }
 
@@ -70,13 +71,15 @@ free-live least p eight x z =
     zero-field p a (liveBits least) (λ i l k. zero-at p a (128 - a) e i l (omega (arith, count-bits least eight, live-bits least)))
 
 -- the test and the right live count give the record
-pub clean-page : (least : ℕ) (p : List ℕ) → least ≤ 8 → length p ≡ 64 * least → Bytes p → CleanPassed least p → liveOf least p ≡ liveIn least (decodePage least p .entries) → Clean least p
+pub clean-page : (least : ℕ) (p : List ℕ) → least ≤ 8 → length p ≡ 64 * least → Bytes p → CleanPassed least p
+    → liveOf least p ≡ liveIn least (decodePage least p .entries) → Clean least p
 clean-page least p eight n b x live =
     record {
       size = n;
       bytes = b;
       room = x .room;
-      spare = zero-later p (spareAt least (field p 0 4)) (44 + countBits least + liveBits least) (spare-low least (field p 0 4)) (omega (arith, count-bits least eight, live-bits least)) (x .spare);
+      spare = zero-later p (spareAt least (field p 0 4)) (44 + countBits least + liveBits least) (spare-low least (field p 0 4))
+          (omega (arith, count-bits least eight, live-bits least)) (x .spare);
       live = live;
       rest = x .rest;
     }
@@ -93,13 +96,19 @@ module _ (least : ℕ) (four : 4 ≤ least) (eight : least ≤ 8) (p : List ℕ)
   entries =
       let k : readHead least p .count ≡ n = sym (count-of least p) in
       let es : decodePage least p .entries ≡ readEntries p 128 n = entries-of least p ∙ ap (readEntries p 128) k in
-      rw (es, padded-bytes least (readEntries p 128 n), entries-part p 16 n (c .bytes) (omega (arith, c .size, c .room)), length-entries p 128 n)
+      rw (
+        es,
+        padded-bytes least (readEntries p 128 n),
+        entries-part p 16 n (c .bytes) (omega (arith, c .size, c .room)),
+        length-entries p 128 n,
+      )
 
   rest-is : take left (drop (16 + 12 * n) p) ≡ zeros left
   rest-is =
       let a : 128 + 96 * n ≡ 8 * (16 + 12 * n) = omega arith in
       let b : 512 * least - (128 + 96 * n) ≡ 8 * left = omega arith in
-      zero-part p (16 + 12 * n) left (c .bytes) (omega (arith, c .size, c .room)) (ap (λ (x : ℕ). field p x (8 * left)) (sym a) ∙ ap (field p (128 + 96 * n)) (sym b) ∙ c .rest)
+      zero-part p (16 + 12 * n) left (c .bytes) (omega (arith, c .size, c .room))
+      (ap (λ (x : ℕ). field p x (8 * left)) (sym a) ∙ ap (field p (128 + 96 * n)) (sym b) ∙ c .rest)
 
   pub exact : Exact least p
   exact = record { size = c .size; room = c .room; same = same }
@@ -116,11 +125,16 @@ module _ (least : ℕ) (four : 4 ≤ least) (eight : least ≤ 8) (p : List ℕ)
       same : encodePage least (decodePage least p) ≡ p
       same =
           let x : List ℕ = take (12 * n) (drop 16 p) in
-          let e1 : (x ++ zeros a) ++ zeros b ≡ x ++ take left (drop (16 + 12 * n) p) = append-assoc x (zeros a) (zeros b) ∙ ap (λ (y : List ℕ). x ++ y) joined in
+          let e1 : (x ++ zeros a) ++ zeros b ≡ x ++ take left (drop (16 + 12 * n) p) = append-assoc x (zeros a) (zeros b)
+          ∙ ap (λ (y : List ℕ). x ++ y) joined in
           let e2 : x ++ take left (drop (16 + 12 * n) p) ≡ take (12 * n + left) (drop 16 p) = two-parts p 16 (12 * n) left in
-          let e3 : take 16 (drop 0 p) ++ take (12 * n + left) (drop 16 p) ≡ take (16 + (12 * n + left)) (drop 0 p) = two-parts p 0 16 (12 * n + left) in
-          let front : frontBytes least (readHead least p) (liveOf least p) ≡ take 16 (drop 0 p) = head-part least eight p (c .bytes) (omega (arith, c .size)) (c .spare) in
+          let e3 : take 16 (drop 0 p) ++ take (12 * n + left) (drop 16 p) ≡ take (16 + (12 * n + left)) (drop 0 p)
+          = two-parts p 0 16 (12 * n + left) in
+          let front : frontBytes least (readHead least p) (liveOf least p) ≡ take 16 (drop 0 p)
+          = head-part least eight p (c .bytes) (omega (arith, c .size)) (c .spare) in
           encode-is least (decodePage least p)
-          ∙ ap (λ (h : Head). frontBytes least h (liveIn least (decodePage least p .entries)) ++ bodyBytes least (padded least (decodePage least p .entries))) (head-is least p)
-          ∙ ap (λ (n : ℕ). frontBytes least (readHead least p) n ++ bodyBytes least (padded least (decodePage least p .entries))) (sym (c .live))
+          ∙ ap (λ (h : Head). frontBytes least h (liveIn least (decodePage least p .entries)) ++ bodyBytes least
+          (padded least (decodePage least p .entries))) (head-is least p)
+          ∙ ap (λ (n : ℕ). frontBytes least (readHead least p) n ++ bodyBytes least (padded least (decodePage least p .entries)))
+          (sym (c .live))
           ∙ rw (front, entries, e1, e2, e3) (take-all (16 + (12 * n + left)) p (omega (arith, c .size, c .room)))

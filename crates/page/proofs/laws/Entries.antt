@@ -4,7 +4,8 @@ use mathlib.Core.Path.{_≡_, refl, ap, sym, _∙_}
 use mathlib.Core.List.{List, [], _∷_, _++_, append-assoc}
 use mathlib.Core.Logic.{⊎-elim}
 use native.Mathlib.Omega.{arith}
-use lib.ListN.{length, getD, set, take, drop, replicate, length-append, length-replicate, getD-replicate, List·getD-append, List·getD-eq-default}
+use lib.ListN.{length, getD, set, take, drop, replicate, length-append, length-replicate, getD-replicate, List·getD-append}
+use lib.ListN.{List·getD-eq-default}
 use lib.Seq.{getD-append-add}
 use Rattle.bits.proofs.laws.Put.{less}
 use Rattle.bits.proofs.laws.Append.{field-part}
@@ -73,10 +74,12 @@ module _ (h z : List ℕ) (l : List Entry) (i : ℕ) (sixteen : length h ≡ 16)
   at : (a : ℕ) → 128 + 96 * i + a ≡ 8 * (length h + i * 12) + a
   at a = omega arith
 
-  pub entry-put : (e : Entry) → FieldsFit e → lay (h ++ (entriesBytes l ++ z)) (128 + 96 * i) (entryParts e) ≡ h ++ (entriesBytes (set l i e) ++ z)
+  pub entry-put : (e : Entry) → FieldsFit e → lay (h ++ (entriesBytes l ++ z)) (128 + 96 * i) (entryParts e)
+      ≡ h ++ (entriesBytes (set l i e) ++ z)
   entry-put e s =
       let o : 128 + 96 * i ≡ 8 * (length h + i * 12) = omega arith in
-      rw (o, entries-rows l, entries-rows (set l i e)) (row-lay entryBytes unused 12 h z l i lt even (entryParts e) e (omega arith) (entry-over (getD l i unused) e s))
+      rw (o, entries-rows l, entries-rows (set l i e))
+      (row-lay entryBytes unused 12 h z l i lt even (entryParts e) e (omega arith) (entry-over (getD l i unused) e s))
 
   field-at : (a n : ℕ) → a + n ≤ 96 → field (h ++ (entriesBytes l ++ z)) (128 + 96 * i + a) n ≡ field (entryBytes (getD l i unused)) a n
   field-at a n le = rw (at a, entries-rows l) (row-field entryBytes unused 12 h z l i lt even a n (omega arith))
@@ -86,7 +89,8 @@ module _ (h z : List ℕ) (l : List Entry) (i : ℕ) (sixteen : length h ≡ 16)
   entry-get s =
       let o : 128 + 96 * i ≡ 128 + 96 * i + 0 = omega arith in
       let e : readEntry (entryBytes (getD l i unused)) 0 ≡ getD l i unused = entry-read (getD l i unused) s in
-      let k : field (h ++ (entriesBytes l ++ z)) (128 + 96 * i) 24 ≡ field (entryBytes (getD l i unused)) 0 24 = rw o (field-at 0 24 (omega arith)) in
+      let k : field (h ++ (entriesBytes l ++ z)) (128 + 96 * i) 24 ≡ field (entryBytes (getD l i unused)) 0 24
+      = rw o (field-at 0 24 (omega arith)) in
       rw (k, field-at 24 20 (omega arith), field-at 44 20 (omega arith), field-at 64 32 (omega arith)) e
 
 -- ---- what is read is what stands there
@@ -95,11 +99,14 @@ pub entry-part : (s : List ℕ) (a : ℕ) → Bytes s → a + 12 ≤ length s �
 unfolding entryBytes readEntry
 entry-part s a b h =
     let e : 8 * a + 0 ≡ 8 * a = omega arith in
-    packed-whole (take 12 (drop a s)) 12 (entryParts (readEntry s (8 * a))) (part-bytes s a 12 b) (part-length s a 12 h) (omega arith)
-    (field-part s a 12 0 24 (omega arith) ∙ ap (λ (x : ℕ). field s x 24) e, (field-part s a 12 24 20 (omega arith), (field-part s a 12 44 20 (omega arith), (field-part s a 12 64 32 (omega arith), refl))))
+    packed-whole (take 12 (drop a s)) 12 (entryParts (readEntry s (8 * a))) (part-bytes s a 12 b) (part-length s a 12 h) (omega arith) (
+      field-part s a 12 0 24 (omega arith) ∙ ap (λ (x : ℕ). field s x 24) e,
+      (field-part s a 12 24 20 (omega arith), (field-part s a 12 44 20 (omega arith), (field-part s a 12 64 32 (omega arith), refl))),
+    )
     (λ i l k. absurd (omega arith))
 
-pub entries-part : (s : List ℕ) (a n : ℕ) → Bytes s → a + 12 * n ≤ length s → entriesBytes (readEntries s (8 * a) n) ≡ take (12 * n) (drop a s)
+pub entries-part : (s : List ℕ) (a n : ℕ) → Bytes s → a + 12 * n ≤ length s
+    → entriesBytes (readEntries s (8 * a) n) ≡ take (12 * n) (drop a s)
 unfolding entriesBytes readEntries
 entries-part s a zero b h = refl
 entries-part s a (suc n) b h =
@@ -123,12 +130,14 @@ module _ (least : ℕ) (es : List Entry) where
 
       blank : (j : ℕ) → getD (replicate n unused) j unused ≡ unused
       blank j =
-          ⊎-elim (λ l. getD-replicate n j unused unused l) (λ l. List·getD-eq-default (replicate n unused) unused (rw (length-replicate n unused) l)) (less j n)
+          ⊎-elim (λ l. getD-replicate n j unused unused l)
+          (λ l. List·getD-eq-default (replicate n unused) unused (rw (length-replicate n unused) l)) (less j n)
 
       high : length es ≤ k → getD (es ++ replicate n unused) k unused ≡ getD es k unused
       high l =
           let e : k ≡ length es + (k - length es) = omega arith in
-          ap (λ (x : ℕ). getD (es ++ replicate n unused) x unused) e ∙ getD-append-add es (replicate n unused) (k - length es) unused ∙ blank (k - length es)
+          ap (λ (x : ℕ). getD (es ++ replicate n unused) x unused) e ∙ getD-append-add es (replicate n unused) (k - length es) unused
+          ∙ blank (k - length es)
           ∙ sym (List·getD-eq-default es unused l)
 
   pub padded-sized : ((k : ℕ) → FieldsFit (getD es k unused)) → (k : ℕ) → FieldsFit (getD (padded least es) k unused)
@@ -137,4 +146,6 @@ module _ (least : ℕ) (es : List Entry) where
   -- their bytes end in zeros
   pub padded-bytes : entriesBytes (padded least es) ≡ entriesBytes es ++ zeros (12 * (5 * least - length es))
   unfolding padded
-  padded-bytes = entries-append es (replicate (5 * least - length es) unused) ∙ ap (λ (x : List ℕ). entriesBytes es ++ x) (unused-zeros (5 * least - length es))
+  padded-bytes =
+      entries-append es (replicate (5 * least - length es) unused)
+      ∙ ap (λ (x : List ℕ). entriesBytes es ++ x) (unused-zeros (5 * least - length es))

@@ -12,13 +12,15 @@ use Rattle.model.specs.Field.{zeros}
 use Rattle.model.specs.Page.{Page, free}
 use Rattle.model.specs.Basic.{those}
 use Rattle.model.specs.Limits.{liveBits}
-use Rattle.model.specs.Layout.{lives, liveIn, liveOf, entriesBytes, readEntry, readEntries, unused, padded, headBytes, encodePage, decodePage, countOf}
-use Rattle.model.proofs.plan.PlanSizes.{few-those}
+use Rattle.model.specs.Layout.{lives, liveIn, liveOf, entriesBytes, readEntry, readEntries, unused, padded, headBytes, encodePage}
+use Rattle.model.specs.Layout.{decodePage, countOf}
+use Rattle.model.proofs.needs.Sizes.{few-those}
 use Rattle.page.specs.declared.Head.{Head}
 use Rattle.page.proofs.laws.Editions.{count-bits, live-bits, shown-fits, shown-none}
 use Rattle.page.specs.Head.{readHead, headOf, frontBytes, putLive, HeadFits}
 use Rattle.page.proofs.laws.Head.{partsOf}
-use Rattle.page.proofs.laws.Read.{sized-unused, sized-entries, length-entries, entries-at, level-of, start-of, end-of, count-of, entries-of, level-lt, start-lt, end-lt}
+use Rattle.page.proofs.laws.Read.{sized-unused, sized-entries, length-entries, entries-at, level-of, start-of, end-of, count-of}
+use Rattle.page.proofs.laws.Read.{entries-of, level-lt, start-lt, end-lt}
 use Rattle.page.proofs.laws.Entries.{entries-length, entry-get, length-padded, padded-get, padded-sized, unused-zeros}
 use Rattle.page.proofs.laws.Front.{head-length, head-read, live-read, live-put}
 use Rattle.page.specs.Exact.{Valid, Exact, bodyBytes, encodeWith}
@@ -40,10 +42,12 @@ valid-read least p h =
 -- the front of what is shown is the one that is read
 pub head-is : (least : ℕ) (p : List ℕ) → headOf (decodePage least p) ≡ readHead least p
 head-is least p =
-    let e : length (decodePage least p .entries) ≡ readHead least p .count = ap length (entries-of least p) ∙ length-entries p 128 (readHead least p .count) in
+    let e : length (decodePage least p .entries) ≡ readHead least p .count = ap length (entries-of least p)
+    ∙ length-entries p 128 (readHead least p .count) in
     λ i. record { level = level-of least p i; count = e i; start = start-of least p i; end = end-of least p i }
 
-pub encode-is : (least : ℕ) (p : Page) → encodePage least p ≡ frontBytes least (headOf p) (liveIn least (p .entries)) ++ bodyBytes least (padded least (p .entries))
+pub encode-is : (least : ℕ) (p : Page) → encodePage least p
+    ≡ frontBytes least (headOf p) (liveIn least (p .entries)) ++ bodyBytes least (padded least (p .entries))
 unfolding encodePage
 encode-is least p = refl
 
@@ -59,10 +63,12 @@ unfolding liveIn
 live-fits least es eight h = shown-fits least (length (those lives es)) (omega (arith, few-those lives es))
 
 -- the right one laid over
-pub live-right : (least : ℕ) (p : Page) (m : ℕ) → least ≤ 8 → length (p .entries) ≤ 5 * least → putLive least (encodeWith least p m) (liveIn least (p .entries)) ≡ encodePage least p
+pub live-right : (least : ℕ) (p : Page) (m : ℕ) → least ≤ 8 → length (p .entries) ≤ 5 * least
+    → putLive least (encodeWith least p m) (liveIn least (p .entries)) ≡ encodePage least p
 unfolding encodeWith
 live-right least p m eight h =
-    live-put least eight (headOf p) m (liveIn least (p .entries)) (bodyBytes least (padded least (p .entries))) (live-fits least (p .entries) eight h) ∙ sym (encode-is least p)
+    live-put least eight (headOf p) m (liveIn least (p .entries)) (bodyBytes least (padded least (p .entries)))
+    (live-fits least (p .entries) eight h) ∙ sym (encode-is least p)
 
 module _ (least : ℕ) (four : 4 ≤ least) where
   pub body-length : (l : List Entry) → length l ≡ 5 * least → length (bodyBytes least l) ≡ 64 * least - 16
@@ -70,8 +76,13 @@ module _ (least : ℕ) (four : 4 ≤ least) where
 
   pub encode-length : (p : Page) → length (p .entries) ≤ 5 * least → length (encodePage least p) ≡ 64 * least
   encode-length p h =
-      ap length (encode-is least p) ∙ length-append (frontBytes least (headOf p) (liveIn least (p .entries))) (bodyBytes least (padded least (p .entries)))
-      ∙ omega (arith, head-length least (headOf p) (liveIn least (p .entries)), body-length (padded least (p .entries)) (length-padded least (p .entries) h))
+      ap length (encode-is least p) ∙ length-append (frontBytes least (headOf p) (liveIn least (p .entries)))
+      (bodyBytes least (padded least (p .entries)))
+      ∙ omega (
+        arith,
+        head-length least (headOf p) (liveIn least (p .entries)),
+        body-length (padded least (p .entries)) (length-padded least (p .entries) h),
+      )
 
   module _ (eight : least ≤ 8) where
     -- "free pages, are all zero"
@@ -81,7 +92,8 @@ module _ (least : ℕ) (four : 4 ≤ least) where
         let n : 5 * least - 0 ≡ 5 * least = omega arith in
         let e : 16 + (12 * (5 * least) + (4 * least - 16)) ≡ 64 * least = omega arith in
         rw (
-          packed-zeros 16 (partsOf least (headOf free) (liveIn least (free .entries))) (omega (arith, count-bits least eight, live-bits least)) (refl, (refl, (refl, (refl, (live-none least, refl))))),
+          packed-zeros 16 (partsOf least (headOf free) (liveIn least (free .entries)))
+              (omega (arith, count-bits least eight, live-bits least)) (refl, (refl, (refl, (refl, (live-none least, refl))))),
           n,
           unused-zeros (5 * least),
           zeros-append (12 * (5 * least)) (4 * least - 16),
@@ -95,12 +107,14 @@ module _ (least : ℕ) (four : 4 ≤ least) where
     pub encode-head : (p : Page) → Valid least p → readHead least (encodePage least p) ≡ headOf p
     encode-head p v =
         rw (encode-is least p)
-        (head-read least eight (headOf p) (liveIn least (p .entries)) (bodyBytes least (padded least (p .entries))) (head-valid p v) (live-fits least (p .entries) eight (v .room)))
+        (head-read least eight (headOf p) (liveIn least (p .entries)) (bodyBytes least (padded least (p .entries))) (head-valid p v)
+        (live-fits least (p .entries) eight (v .room)))
 
     pub encode-live : (p : Page) → Valid least p → liveOf least (encodePage least p) ≡ liveIn least (p .entries)
     encode-live p v =
         rw (encode-is least p)
-        (live-read least eight (headOf p) (liveIn least (p .entries)) (bodyBytes least (padded least (p .entries))) (head-valid p v) (live-fits least (p .entries) eight (v .room)))
+        (live-read least eight (headOf p) (liveIn least (p .entries)) (bodyBytes least (padded least (p .entries))) (head-valid p v)
+        (live-fits least (p .entries) eight (v .room)))
 
     pub decode-encode : (p : Page) → Valid least p → decodePage least (encodePage least p) ≡ p
     decode-encode p v =
@@ -112,7 +126,8 @@ module _ (least : ℕ) (four : 4 ≤ least) where
         let read : (k : ℕ) → k < n → readEntry b (128 + 96 * k) ≡ getD (p .entries) k unused
         = λ k lt.
         rw (encode-is least p)
-        (entry-get (frontBytes least (headOf p) (liveIn least (p .entries))) (zeros (4 * least - 16)) l k (head-length least (headOf p) (liveIn least (p .entries))) (omega (arith, v .room)) (padded-sized least (p .entries) (v .sized) k)
+        (entry-get (frontBytes least (headOf p) (liveIn least (p .entries))) (zeros (4 * least - 16)) l k
+        (head-length least (headOf p) (liveIn least (p .entries))) (omega (arith, v .room)) (padded-sized least (p .entries) (v .sized) k)
         ∙ padded-get least (p .entries) k) in
         let es : readEntries b 128 n ≡ p .entries
         = ext-getD unused (readEntries b 128 n) (p .entries) (length-entries b 128 n) λ k lt.
@@ -128,7 +143,12 @@ module _ (least : ℕ) (four : 4 ≤ least) where
     encode-count p v = count-of least (encodePage least p) ∙ ap (λ (h : Head). h .count) (encode-head p v)
 
     pub encode-exact : (p : Page) → Valid least p → Exact least (encodePage least p)
-    encode-exact p v = record { size = encode-length p (v .room); room = omega (arith, encode-count p v, v .room); same = ap (encodePage least) (decode-encode p v) }
+    encode-exact p v =
+        record {
+          size = encode-length p (v .room);
+          room = omega (arith, encode-count p v, v .room);
+          same = ap (encodePage least) (decode-encode p v);
+        }
 
     -- exact bytes have the right live count
     pub exact-live : (p : List ℕ) → Exact least p → liveOf least p ≡ liveIn least (decodePage least p .entries)

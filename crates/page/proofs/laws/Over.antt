@@ -3,7 +3,8 @@ use Prim.Native.Nat.{ℕ, suc, _+_, _*_, _-_, _<_, _≤_}
 use mathlib.Core.Path.{_≡_, refl, ap, sym, _∙_}
 use mathlib.Core.List.{List, [], _∷_, _++_, append-assoc}
 use native.Mathlib.Omega.{arith}
-use lib.ListN.{length, getD, set, take, drop, replicate, length-append, length-drop, length-replicate, take-append-drop, replicate-append-replicate}
+use lib.ListN.{length, getD, set, take, drop, replicate, length-append, length-drop, length-replicate, take-append-drop}
+use lib.ListN.{replicate-append-replicate}
 use lib.Seq.{drop-cons, set-at, getD-append-add, getD-drop, length-take-le, drop-at, drop-drop}
 use Rattle.model.specs.declared.Entry.{Entry}
 use Rattle.model.specs.Layout.{unused, padded}
@@ -34,10 +35,12 @@ unfolding over
 over-own l i h = rw (length-take-le i l h) (take-append-drop i l)
 
 drop-unused : (n k t : ℕ) → n + k ≡ t → drop n (replicate t unused) ≡ replicate k unused
-drop-unused n k t e = rw (← e, ← replicate-append-replicate n k unused) (drop-at (replicate n unused) (replicate k unused) n (length-replicate n unused))
+drop-unused n k t e =
+    rw (← e, ← replicate-append-replicate n k unused) (drop-at (replicate n unused) (replicate k unused) n (length-replicate n unused))
 
 -- at least as many as were in use
-pub over-padded : (least : ℕ) (out es : List Entry) → length es ≤ length out → length out ≤ 5 * least → over out (padded least es) ≡ padded least out
+pub over-padded : (least : ℕ) (out es : List Entry) → length es ≤ length out → length out ≤ 5 * least
+    → over out (padded least es) ≡ padded least out
 unfolding over padded
 over-padded least out es h k =
     let n : ℕ = length out - length es in
@@ -47,12 +50,19 @@ over-padded least out es h k =
     = ap (λ (x : ℕ). drop x (es ++ u)) e ∙ sym (drop-drop n (length es) (es ++ u)) ∙ ap (drop n) (drop-at es u (length es) refl) in
     ap (λ (x : List Entry). out ++ x) (d ∙ drop-unused n (5 * least - length out) (5 * least - length es) (omega arith))
 
-pub padded-unused : (least : ℕ) (out : List Entry) (n : ℕ) → length out + n ≤ 5 * least → padded least (out ++ replicate n unused) ≡ padded least out
+pub padded-unused : (least : ℕ) (out : List Entry) (n : ℕ) → length out + n ≤ 5 * least
+    → padded least (out ++ replicate n unused) ≡ padded least out
 unfolding padded
 padded-unused least out n h =
-    let e : length (out ++ replicate n unused) ≡ length out + n = length-append out (replicate n unused) ∙ ap (λ (x : ℕ). length out + x) (length-replicate n unused) in
+    let e : length (out ++ replicate n unused) ≡ length out + n = length-append out (replicate n unused)
+    ∙ ap (λ (x : ℕ). length out + x) (length-replicate n unused) in
     let f : n + (5 * least - (length out + n)) ≡ 5 * least - length out = omega arith in
-    rw (e, append-assoc out (replicate n unused) (replicate (5 * least - (length out + n)) unused), replicate-append-replicate n (5 * least - (length out + n)) unused, f)
+    rw (
+      e,
+      append-assoc out (replicate n unused) (replicate (5 * least - (length out + n)) unused),
+      replicate-append-replicate n (5 * least - (length out + n)) unused,
+      f,
+    )
 
 pub length-blank : (out : List Entry) (n : ℕ) → length (out ++ replicate n unused) ≡ length out + n
 length-blank out n = length-append out (replicate n unused) ∙ ap (λ (x : ℕ). length out + x) (length-replicate n unused)

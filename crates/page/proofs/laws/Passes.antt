@@ -37,8 +37,10 @@ module _ (least : ℕ) (four : 4 ≤ least) (eight : least ≤ 8) (p : Page) whe
   encode-bytes =
       let b : List ℕ = bodyBytes least (padded least (p .entries)) in
       λ i. rw (encode-is least p)
-      (bytes-append (frontBytes least (headOf p) (liveIn least (p .entries))) b (head-bytes least eight (headOf p) (liveIn least (p .entries)))
-      (bytes-append (entriesBytes (padded least (p .entries))) (zeros (4 * least - 16)) (entries-bytes (padded least (p .entries))) (bytes-zeros (4 * least - 16))) i)
+      (bytes-append (frontBytes least (headOf p) (liveIn least (p .entries))) b
+      (head-bytes least eight (headOf p) (liveIn least (p .entries)))
+      (bytes-append (entriesBytes (padded least (p .entries))) (zeros (4 * least - 16)) (entries-bytes (padded least (p .entries)))
+      (bytes-zeros (4 * least - 16))) i)
 
   module _ (v : Valid least p) where
     n : ℕ
@@ -49,7 +51,8 @@ module _ (least : ℕ) (four : 4 ≤ least) (eight : least ≤ 8) (p : Page) whe
     unfolding headBytes
     spare a h k =
         rw (encode-is least p)
-        (packed-spare 16 (partsOf least (headOf p) (liveIn least (p .entries))) (bodyBytes least (padded least (p .entries))) a (128 - a) (omega (arith, total-is least eight (headOf p) (liveIn least (p .entries)))) (omega arith))
+        (packed-spare 16 (partsOf least (headOf p) (liveIn least (p .entries))) (bodyBytes least (padded least (p .entries))) a (128 - a)
+        (omega (arith, total-is least eight (headOf p) (liveIn least (p .entries)))) (omega arith))
 
     live-is : (s : List ℕ) → liveOf least s ≡ 0 → field s (44 + countBits least) (liveBits least) ≡ 0
     unfolding liveOf
@@ -60,7 +63,8 @@ module _ (least : ℕ) (four : 4 ≤ least) (eight : least ≤ 8) (p : Page) whe
     level-read s = refl
 
     -- of a free page those of the live count too
-    free-spare : field (encodePage least p) 0 4 ≡ 0 → p .entries ≡ [] → field (encodePage least p) (44 + countBits least + 0) (128 - (44 + countBits least + 0)) ≡ 0
+    free-spare : field (encodePage least p) 0 4 ≡ 0 → p .entries ≡ []
+        → field (encodePage least p) (44 + countBits least + 0) (128 - (44 + countBits least + 0)) ≡ 0
     free-spare z e =
         let a : ℕ = 44 + countBits least + 0 in
         let s : List ℕ = encodePage least p in
@@ -82,13 +86,17 @@ module _ (least : ℕ) (four : 4 ≤ least) (eight : least ≤ 8) (p : Page) whe
         let b : ℕ = 4 * least - 16 in
         let e : encodePage least p ≡ (h ++ es) ++ zeros (a + b)
         = encode-is least p
-        ∙ ap (λ (x : List ℕ). h ++ x) (ap (λ (x : List ℕ). x ++ zeros b) (padded-bytes least (p .entries)) ∙ append-assoc es (zeros a) (zeros b) ∙ ap (λ (x : List ℕ). es ++ x) (zeros-append a b))
+        ∙ ap (λ (x : List ℕ). h ++ x)
+        (ap (λ (x : List ℕ). x ++ zeros b) (padded-bytes least (p .entries)) ∙ append-assoc es (zeros a) (zeros b)
+        ∙ ap (λ (x : List ℕ). es ++ x) (zeros-append a b))
         ∙ sym (append-assoc h es (zeros (a + b))) in
-        rw e (zeros-behind (h ++ es) (a + b) (128 + 96 * n) (512 * least - (128 + 96 * n)) (omega (arith, length-append h es, head-length least (headOf p) (liveIn least (p .entries)), entries-length (p .entries))))
+        rw e (zeros-behind (h ++ es) (a + b) (128 + 96 * n) (512 * least - (128 + 96 * n))
+        (omega (arith, length-append h es, head-length least (headOf p) (liveIn least (p .entries)), entries-length (p .entries))))
 
     -- "free pages are all zero": a free page that has no entries has no live ones
     module _ (none : p .level ≡ 0 → p .entries ≡ []) where
-      spare-at : field (encodePage least p) (spareAt least (field (encodePage least p) 0 4)) (128 - spareAt least (field (encodePage least p) 0 4)) ≡ 0
+      spare-at : field (encodePage least p) (spareAt least (field (encodePage least p) 0 4))
+          (128 - spareAt least (field (encodePage least p) 0 4)) ≡ 0
       spare-at = at (eqb (field s 0 4) 0) refl
         where
           s : List ℕ
@@ -97,7 +105,8 @@ module _ (least : ℕ) (four : 4 ≤ least) (eight : least ≤ 8) (p : Page) whe
           level : field s 0 4 ≡ p .level
           level = level-read s ∙ ap (λ (h : Head). h .level) (encode-head least four eight p v)
 
-          at : (b : Bool) → eqb (field s 0 4) 0 ≡ b → field s (44 + countBits least + pick b 0 (liveBits least)) (128 - (44 + countBits least + pick b 0 (liveBits least))) ≡ 0
+          at : (b : Bool) → eqb (field s 0 4) 0 ≡ b
+              → field s (44 + countBits least + pick b 0 (liveBits least)) (128 - (44 + countBits least + pick b 0 (liveBits least))) ≡ 0
           at true e = let z : field s 0 4 ≡ 0 = eqb-true (field s 0 4) 0 e in free-spare z (none (sym level ∙ z))
           at false e = spare (44 + countBits least + liveBits least) (omega arith) (omega (arith, count-bits least eight, live-bits least))
 

@@ -55,7 +55,8 @@ module _ (least : ℕ) (p : List ℕ) where
 
 pub read-sized : (s : List ℕ) (o : ℕ) → FieldsFit (readEntry s o)
 unfolding readEntry
-read-sized s o = record { key = field-lt s o 24; start = field-lt s (o + 24) 20; end = field-lt s (o + 44) 20; value = field-lt s (o + 64) 32 }
+read-sized s o =
+    record { key = field-lt s o 24; start = field-lt s (o + 24) 20; end = field-lt s (o + 44) 20; value = field-lt s (o + 64) 32 }
 
 pub sized-unused : FieldsFit unused
 sized-unused = omega arith

@@ -77,48 +77,65 @@ module _ (least : ℕ) (four : 4 ≤ least) (eight : least ≤ 8) (p : List ℕ)
   staged-from i h =
       let own : over (take i es) l ≡ l = over-first i h in
       let e : decodePage least p .entries ≡ es = entries-of least p ∙ ap (readEntries p 128) (sym (count-of least p)) in
-      sym (x .same) ∙ encode-is least (decodePage least p) ∙ ap (λ (h : Head). frontBytes least h (liveIn least (decodePage least p .entries)) ++ bodyBytes least (padded least (decodePage least p .entries))) (head-is least p)
-      ∙ ap (λ (n : ℕ). frontBytes least (readHead least p) n ++ bodyBytes least (padded least (decodePage least p .entries))) (sym (exact-live least four eight p x))
+      sym (x .same) ∙ encode-is least (decodePage least p)
+      ∙ ap (λ (h : Head). frontBytes least h (liveIn least (decodePage least p .entries)) ++ bodyBytes least
+      (padded least (decodePage least p .entries))) (head-is least p)
+      ∙ ap (λ (n : ℕ). frontBytes least (readHead least p) n ++ bodyBytes least (padded least (decodePage least p .entries)))
+      (sym (exact-live least four eight p x))
       ∙ ap (λ (y : List Entry). frontBytes least (readHead least p) (liveOf least p) ++ bodyBytes least y) (ap (padded least) e ∙ sym own)
 
   pub staged-put : (out : List Entry) (e : Entry) → length out < 5 * least → FieldsFit e
       → lay (staged least p out) (128 + 96 * length out) (entryParts e) ≡ staged least p (out ++ e ∷ [])
   unfolding staged hd
   staged-put out e lt z =
-      entry-put hd (zeros (4 * least - 16)) (over out l) (length out) sixteen (omega (arith, full, length-over out l (omega (arith, full)))) e z
+      entry-put hd (zeros (4 * least - 16)) (over out l) (length out) sixteen
+      (omega (arith, full, length-over out l (omega (arith, full)))) e z
       ∙ ap (λ (y : List Entry). hd ++ bodyBytes least y) (over-put out l e (omega (arith, full)))
 
-  pub staged-read : (out : List Entry) (i : ℕ) → length out ≤ i → i < countOf least p → readEntry (staged least p out) (128 + 96 * i) ≡ getD (entriesIn least p) i unused
+  pub staged-read : (out : List Entry) (i : ℕ) → length out ≤ i → i < countOf least p
+      → readEntry (staged least p out) (128 + 96 * i) ≡ getD (entriesIn least p) i unused
   unfolding staged hd
   staged-read out i h lt =
       let g : getD (over out l) i unused ≡ getD es i unused = over-high out l i h ∙ padded-get least es i in
-      entry-get hd (zeros (4 * least - 16)) (over out l) i sixteen (omega (arith, x .room, full, length-over out l (omega (arith, x .room, full)))) (rw g (sized-entries p 128 (countOf least p) i)) ∙ g
+      entry-get hd (zeros (4 * least - 16)) (over out l) i sixteen
+      (omega (arith, x .room, full, length-over out l (omega (arith, x .room, full)))) (rw g (sized-entries p 128 (countOf least p) i)) ∙ g
 
-  pub staged-blank : (out : List Entry) (n : ℕ) → length out + n ≤ 5 * least → blanked (staged least p out) (length out) n ≡ staged least p (out ++ replicate n unused)
+  pub staged-blank : (out : List Entry) (n : ℕ) → length out + n ≤ 5 * least
+      → blanked (staged least p out) (length out) n ≡ staged least p (out ++ replicate n unused)
   unfolding blanked
   staged-blank out zero le = rw (append-nil out)
   staged-blank out (suc n) le =
       let m : List Entry = out ++ replicate n unused in
       let e : length out + n ≡ length m = sym (length-blank out n) in
       let f : replicate (suc n) unused ≡ replicate n unused ++ unused ∷ [] = snoc n in
-      rw (staged-blank out n (omega arith), e, staged-put m unused (omega arith) sized-unused, f, append-assoc out (replicate n unused) (unused ∷ []))
+      rw (
+        staged-blank out n (omega arith),
+        e,
+        staged-put m unused (omega arith) sized-unused,
+        f,
+        append-assoc out (replicate n unused) (unused ∷ []),
+      )
     where
       snoc : (n : ℕ) → replicate (suc n) unused ≡ replicate n unused ++ unused ∷ []
       snoc zero = refl
       snoc (suc n) = ap (λ (x : List Entry). unused ∷ x) (snoc n)
 
   -- and a front for them: the live count is left as it was
-  pub staged-end : (out : List Entry) (h : Head) → countOf least p ≤ length out → length out ≤ 5 * least → HeadFits least h → h .count ≡ length out
+  pub staged-end : (out : List Entry) (h : Head) → countOf least p ≤ length out → length out ≤ 5 * least → HeadFits least h
+      → h .count ≡ length out
       → putHead least (staged least p out) h ≡ encodeWith least (pageWith h out) (liveOf least p)
   unfolding staged encodeWith
   staged-end out h le most f n =
       head-put least eight (readHead least p) h (liveOf least p) (bodyBytes least (over out l)) (read-fits least p) (live-lt least p) f
-      ∙ ap (λ (y : List Entry). frontBytes least h (liveOf least p) ++ bodyBytes least y) (over-padded least out es (omega (arith, count)) most)
-      ∙ ap (λ (k : ℕ). frontBytes least (record { level = h .level; count = k; start = h .start; end = h .end }) (liveOf least p) ++ bodyBytes least (padded least out)) n
+      ∙ ap (λ (y : List Entry). frontBytes least h (liveOf least p) ++ bodyBytes least y)
+      (over-padded least out es (omega (arith, count)) most)
+      ∙ ap (λ (k : ℕ). frontBytes least (record { level = h .level; count = k; start = h .start; end = h .end })
+      (liveOf least p) ++ bodyBytes least (padded least out)) n
 
   -- the same where fewer are left, and the others made unused
   pub staged-shut : (out : List Entry) (h : Head) → length out ≤ countOf least p → HeadFits least h → h .count ≡ length out
-      → putHead least (blanked (staged least p out) (length out) (countOf least p - length out)) h ≡ encodeWith least (pageWith h out) (liveOf least p)
+      → putHead least (blanked (staged least p out) (length out) (countOf least p - length out)) h
+      ≡ encodeWith least (pageWith h out) (liveOf least p)
   unfolding staged encodeWith
   staged-shut out h le f n =
       let k : ℕ = countOf least p - length out in
@@ -128,4 +145,5 @@ module _ (least : ℕ) (four : 4 ≤ least) (eight : least ≤ 8) (p : List ℕ)
       (head-put least eight (readHead least p) h (liveOf least p) (bodyBytes least (over m l)) (read-fits least p) (live-lt least p) f
       ∙ ap (λ (y : List Entry). frontBytes least h (liveOf least p) ++ bodyBytes least y)
       (over-padded least m es (omega (arith, count)) (omega (arith, x .room)) ∙ padded-unused least out k (omega (arith, x .room)))
-      ∙ ap (λ (c : ℕ). frontBytes least (record { level = h .level; count = c; start = h .start; end = h .end }) (liveOf least p) ++ bodyBytes least (padded least out)) n)
+      ∙ ap (λ (c : ℕ). frontBytes least (record { level = h .level; count = c; start = h .start; end = h .end })
+      (liveOf least p) ++ bodyBytes least (padded least out)) n)

@@ -29,7 +29,8 @@ module _ (p : List ℕ) (o : ℕ) where
   start-is : field p o 32 % 256 * 4096 + field p (o + 32) 32 / 1048576 ≡ field p (o + 24) 20
   start-is =
       let x : field p o 32 % 256 ≡ field p (o + 24) 8 = ap (λ (y : ℕ). y % 256) first-is ∙ low (field p o 24) 8 (field-lt p (o + 24) 8) in
-      let z : field p (o + 32) 32 / 1048576 ≡ field p (o + 32) 12 = ap (λ (y : ℕ). y / 1048576) second-is ∙ high (field p (o + 32) 12) 20 (field-lt p (o + 44) 20) in
+      let z : field p (o + 32) 32 / 1048576 ≡ field p (o + 32) 12 = ap (λ (y : ℕ). y / 1048576) second-is
+      ∙ high (field p (o + 32) 12) 20 (field-lt p (o + 44) 20) in
       ap₂ (λ (y w : ℕ). y * 4096 + w) x z ∙ sym between-is
 
   end-is : field p (o + 32) 32 % 1048576 ≡ field p (o + 44) 20
@@ -38,7 +39,8 @@ module _ (p : List ℕ) (o : ℕ) where
   abbrev pub byWords : ℕ → ℕ → ℕ → ℕ → Entry
   byWords a b start value = record { key = a / 256; start = start; end = b % 1048576; value = value }
 
-  pub words-entry : (a b start value : ℕ) → a ≡ field p o 32 → b ≡ field p (o + 32) 32 → start ≡ a % 256 * 4096 + b / 1048576 → value ≡ field p (o + 64) 32
+  pub words-entry : (a b start value : ℕ) → a ≡ field p o 32 → b ≡ field p (o + 32) 32 → start ≡ a % 256 * 4096 + b / 1048576
+      → value ≡ field p (o + 64) 32
       → byWords a b start value ≡ readEntry p o
   unfolding readEntry
   words-entry a b start value e f g h =
@@ -60,13 +62,15 @@ module _ (p : List ℕ) (o : ℕ) (e : Entry) (z : FieldsFit e) where
   eight = omega (arith, z .start)
 
   put-first : putField p o 32 one ≡ putField (putField p o 24 (e .key)) (o + 24) 8 (e .start / 4096)
-  put-first = put-split p o 24 8 one ∙ ap₂ (λ (x y : ℕ). putField (putField p o 24 x) (o + 24) 8 y) (high (e .key) 8 eight) (low (e .key) 8 eight)
+  put-first =
+      put-split p o 24 8 one ∙ ap₂ (λ (x y : ℕ). putField (putField p o 24 x) (o + 24) 8 y) (high (e .key) 8 eight) (low (e .key) 8 eight)
 
   module _ (q : List ℕ) where
     put-second : putField q (o + 32) 32 two ≡ putField (putField q (o + 32) 12 (e .start % 4096)) (o + 44) 20 (e .end)
     put-second =
         let h : o + 32 + 12 ≡ o + 44 = omega arith in
-        rw h at (put-split q (o + 32) 12 20 two) ∙ ap₂ (λ (x y : ℕ). putField (putField q (o + 32) 12 x) (o + 44) 20 y) (high (e .start % 4096) 20 (z .end)) (low (e .start % 4096) 20 (z .end))
+        rw h at (put-split q (o + 32) 12 20 two) ∙ ap₂ (λ (x y : ℕ). putField (putField q (o + 32) 12 x) (o + 44) 20 y)
+        (high (e .start % 4096) 20 (z .end)) (low (e .start % 4096) 20 (z .end))
 
     put-between : putField q (o + 24) 20 (e .start) ≡ putField (putField q (o + 24) 8 (e .start / 4096)) (o + 32) 12 (e .start % 4096)
     put-between = let h : o + 24 + 8 ≡ o + 32 = omega arith in rw h at (put-split q (o + 24) 8 12 (e .start))
@@ -79,6 +83,7 @@ module _ (p : List ℕ) (o : ℕ) (e : Entry) (z : FieldsFit e) where
       let k : o + 44 + 20 ≡ o + 64 = omega arith in
       let q : List ℕ = putField p o 24 (e .key) in
       let x : putField (putField p o 32 a) (o + 32) 32 b ≡ putField (putField q (o + 24) 20 (e .start)) (o + 44) 20 (e .end)
-      = ap₂ (λ (m n : ℕ). putField (putField p o 32 m) (o + 32) 32 n) f g ∙ put-second (putField p o 32 one) ∙ ap (λ (t : List ℕ). putField (putField t (o + 32) 12 (e .start % 4096)) (o + 44) 20 (e .end)) put-first
+      = ap₂ (λ (m n : ℕ). putField (putField p o 32 m) (o + 32) 32 n) f g ∙ put-second (putField p o 32 one)
+      ∙ ap (λ (t : List ℕ). putField (putField t (o + 32) 12 (e .start % 4096)) (o + 44) 20 (e .end)) put-first
       ∙ ap (λ (t : List ℕ). putField t (o + 44) 20 (e .end)) (sym (put-between q)) in
       rw (h, k) (ap (λ (t : List ℕ). putField t (o + 64) 32 (e .value)) x)

@@ -19,10 +19,14 @@ unfolding liveOf field
 returns c = rw (le-leb (c .before .before .before .args .l .least) 4 (c .if1 .taken))
 
 add-field : tie.Need-add-field
-add-field c = omega (arith, counter-counts (c .before .before .before .before .pre .0))
+add-field c =
+    let at-start = c .before .before .before .before in
+    omega (arith, counter-counts (at-start .pre .0))
 
 field-requires : tie.Need-field-requires
-field-requires c κs = omega (arith, counter-counts (c .before .before .before .before .pre .0))
+field-requires c κs =
+    let at-start = c .before .before .before .before in
+    omega (arith, counter-counts (at-start .pre .0))
 
 wide-requires : tie.Need-wide-requires
 wide-requires c κs = search needs
@@ -30,11 +34,12 @@ wide-requires c κs = search needs
 returns-2 : tie.Need-returns-2
 unfolding liveOf
 returns-2 c =
-    let a = c .before .before .before .before .before .before .args in
+    let at-start = c .before .before .before .before .before .before in
+    let a = at-start .args in
     let p : List ℕ = a .page .now in
     let e : leb (a .l .least) 4 ≡ false = lt-leb (a .l .least) 4 (c .before .before .before .if1 .left) in
     let six : 6 ≡ liveBits (a .l .least) = rw e in
-    c .wide .ensures ∙ c .before .field .ensures ∙ ap (λ (x : ℕ). field p (44 + x) 6) (counter-is (c .before .before .before .before .before .before .pre .0))
+    c .wide .ensures ∙ c .before .field .ensures ∙ ap (λ (x : ℕ). field p (44 + x) 6) (counter-is (at-start .pre .0))
     ∙ ap (field p (44 + countBits (a .l .least))) six
 
 pub live-of-spec : {M : Type 1} → statement M

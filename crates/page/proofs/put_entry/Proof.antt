@@ -53,11 +53,24 @@ same-length c = search needs
 
 returns : tie.Need-returns
 returns c =
-    let a = c .before .before .before .before .before .before .before .before .before .before .before .before .before .before .before .before .before .before .before .before .args in
-    let one = c .before .before .before .before .before .before .before .before .before .before .before .before .before .before .before .before .first-of .ensures .0 ∙ ap₂ (λ (x y : ℕ). x * 256 + y / 4096) (c .before .before .before .before .before .before .before .before .before .before .before .before .before .before .before .before .before .before .long .ensures) (c .before .before .before .before .before .before .before .before .before .before .before .before .before .before .before .before .before .long2 .ensures) in
-    let two = c .before .before .before .before .before .before .before .before .before .before .before .before .before .second-of .ensures .0 ∙ ap₂ (λ (x y : ℕ). x % 4096 * 1048576 + y) (c .before .before .before .before .before .before .before .before .before .before .before .before .before .before .before .long3 .ensures) (c .before .before .before .before .before .before .before .before .before .before .before .before .before .before .long4 .ensures) in
+    let at-put-field2 = c .before .before .before .before .before .before .before in
+    let at-put-field = at-put-field2 .before .before .before .before in
+    let at-second-of = at-put-field .before .before in
+    let at-long4 = at-second-of .before in
+    let at-long3 = at-long4 .before in
+    let at-first-of = at-long3 .before in
+    let at-long2 = at-first-of .before in
+    let at-long = at-long2 .before in
+    let at-start = at-long .before .before in
+    let a = at-start .args in
+    let one = at-first-of .first-of .ensures .0 ∙ ap₂ (λ (x y : ℕ). x * 256 + y / 4096) (at-long .long .ensures)
+    (at-long2 .long2 .ensures) in
+    let two = at-second-of .second-of .ensures .0
+    ∙ ap₂ (λ (x y : ℕ). x % 4096 * 1048576 + y) (at-long3 .long3 .ensures) (at-long4 .long4 .ensures) in
     c .before .before .put-field3 .ensures
-    ∙ rw (c .before .before .before .before .before .before .before .put-field2 .ensures, c .before .before .before .before .before .before .before .before .before .before .before .put-field .ensures) (words-lay (a .page .now) (128 + 96 * a .i) (a .e) (c .before .before .before .before .before .before .before .before .before .before .before .before .before .before .before .before .before .before .before .before .pre .2) (c .before .before .before .before .before .before .before .before .before .before .before .before .before .before .before .before .first-of .result) (c .before .before .before .before .before .before .before .before .before .before .before .before .before .second-of .result) one two)
+    ∙ rw (at-put-field2 .put-field2 .ensures, at-put-field .put-field .ensures)
+    (words-lay (a .page .now) (128 + 96 * a .i) (a .e) (at-start .pre .2) (at-first-of .first-of .result)
+    (at-second-of .second-of .result) one two)
 
 pub put-entry-spec : {M : Type 1} → statement M
 put-entry-spec =

@@ -15,25 +15,35 @@ put-field-requires : tie.Need-put-field-requires
 put-field-requires c κs = search needs
 
 put-field-requires-2 : tie.Need-put-field-requires-2
-put-field-requires-2 c κs = let p = c .before .before .before .before .before .before .before .pre in (omega (arith, p .0), p .1 .count, omega (arith, p .0), omega arith)
+put-field-requires-2 c κs =
+    let at-start = c .before .before .before .before .before .before .before in
+    let p = at-start .pre in (omega (arith, p .0), p .1 .count, omega (arith, p .0), omega arith)
 
 add-put-field : tie.Need-add-put-field
-add-put-field c = omega (arith, c .before .before .before .before .before .before .before .before .before .before .before .pre .0)
+add-put-field c =
+    let at-start = c .before .before .before .before .before .before .before .before .before .before .before in
+    omega (arith, at-start .pre .0)
 
 cast-put-field-2 : tie.Need-cast-put-field-2
 cast-put-field-2 c = search needs
 
 put-field-requires-3 : tie.Need-put-field-requires-3
-put-field-requires-3 c κs = omega (arith, c .before .before .before .before .before .before .before .before .before .before .before .before .pre .0)
+put-field-requires-3 c κs =
+    let at-start = c .before .before .before .before .before .before .before .before .before .before .before .before in
+    omega (arith, at-start .pre .0)
 
 add-put-field-2 : tie.Need-add-put-field-2
-add-put-field-2 c = omega (arith, c .before .before .before .before .before .before .before .before .before .before .before .before .before .before .before .before .pre .0)
+add-put-field-2 c =
+    let at-start = c .before .before .before .before .before .before .before .before .before .before .before .before .before .before .before .before in
+    omega (arith, at-start .pre .0)
 
 cast-put-field-3 : tie.Need-cast-put-field-3
 cast-put-field-3 c = search needs
 
 put-field-requires-4 : tie.Need-put-field-requires-4
-put-field-requires-4 c κs = omega (arith, c .before .before .before .before .before .before .before .before .before .before .before .before .before .before .before .before .before .pre .0)
+put-field-requires-4 c κs =
+    let at-start = c .before .before .before .before .before .before .before .before .before .before .before .before .before .before .before .before .before in
+    omega (arith, at-start .pre .0)
 
 same-length : tie.Need-same-length
 same-length c = search needs
@@ -41,7 +51,8 @@ same-length c = search needs
 returns : tie.Need-returns
 unfolding putFront lay
 returns c =
-    let w = c .before .before .before .before .before .before .before .before .before .before .before .before .before .before .before .before .before .before .before .before .args .w in
+    let at-start = c .before .before .before .before .before .before .before .before .before .before .before .before .before .before .before .before .before .before .before .before in
+    let w = at-start .args .w in
     let a : 4 + w + 20 ≡ 24 + w = omega arith in
     rw a cc
 

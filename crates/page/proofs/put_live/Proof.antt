@@ -19,10 +19,14 @@ unfolding putLive putField
 returns c = rw (le-leb (c .before .before .before .args .l .least) 4 (c .if1 .taken))
 
 add-put-field : tie.Need-add-put-field
-add-put-field c = omega (arith, counter-counts (c .before .before .before .before .before .pre .0))
+add-put-field c =
+    let at-start = c .before .before .before .before .before in
+    omega (arith, counter-counts (at-start .pre .0))
 
 put-field-requires : tie.Need-put-field-requires
-put-field-requires c κs = omega (arith, counter-counts (c .before .before .before .before .before .pre .0))
+put-field-requires c κs =
+    let at-start = c .before .before .before .before .before in
+    omega (arith, counter-counts (at-start .pre .0))
 
 same-length : tie.Need-same-length
 same-length c = search needs
@@ -30,12 +34,14 @@ same-length c = search needs
 returns-2 : tie.Need-returns-2
 unfolding putLive
 returns-2 c =
-    let a = c .before .before .before .before .before .before .before .before .args in
+    let at-if1 = c .before .before .before .before .before in
+    let at-start = at-if1 .before .before .before in
+    let a = at-start .args in
     let p : List ℕ = a .page .now in
-    let e : leb (a .l .least) 4 ≡ false = lt-leb (a .l .least) 4 (c .before .before .before .before .before .if1 .left) in
+    let e : leb (a .l .least) 4 ≡ false = lt-leb (a .l .least) 4 (at-if1 .if1 .left) in
     let six : 6 ≡ liveBits (a .l .least) = rw e in
     let shown : a .n ≡ liveShown (a .l .least) (a .n) = rw e in
-    c .before .before .put-field .ensures ∙ ap (λ (x : ℕ). putField p (44 + x) 6 (a .n)) (counter-is (c .before .before .before .before .before .before .before .before .pre .0))
+    c .before .before .put-field .ensures ∙ ap (λ (x : ℕ). putField p (44 + x) 6 (a .n)) (counter-is (at-start .pre .0))
     ∙ (λ i. putField p (44 + countBits (a .l .least)) (six i) (shown i))
 
 pub put-live-spec : {M : Type 1} → statement M

@@ -20,7 +20,7 @@ use Rattle.store.proofs.laws.Holds.{encoded-length, page-encoded, header-encode
 use Rattle.store.proofs.laws.Sure.{sure, held, same-bytes}
 use Rattle.model.proofs.sound.ByRule.{used-in, high-used}
 use Rattle.model.proofs.sound.Ready.{level-used}
-use Rattle.model.proofs.plan.PlanSizes.{pairs-few, wanted-few}
+use Rattle.model.proofs.needs.Sizes.{pairs-few, wanted-few}
 use Rattle.edit.specs.declared.Change as code
 use Rattle.edit.specs.Change.{changeOf}
 use Rattle.gather.specs.Kept.{Counted, Fits}

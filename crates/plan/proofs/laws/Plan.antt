@@ -14,8 +14,8 @@ use Rattle.model.specs.Walk as walk
 use Rattle.model.specs.Rules as rules
 use Rattle.model.specs.Entry.{pair}
 use Rattle.model.specs.Needs.{fills, actives, takesInPlace, groupAt, goes}
-use Rattle.model.specs.Plan as plan
-use Rattle.model.specs.Plan.{routersTo}
+use Rattle.outlook.specs.Plan as plan
+use Rattle.model.specs.Rules.{routersTo}
 use Rattle.model.specs.Page as changes
 use Rattle.edit.specs.Change.{one}
 use Rattle.gather.specs.Gather.{Good, pairsIn}
@@ -30,7 +30,8 @@ use Rattle.plan.specs.Plan.{plannedOf, nowhere, upsOf}
 
 -- ---- a group
 
-module _ (least w : ℕ) (ps : List Page) (g : Group) (z : Good (g .all)) (u : Numbers) (left : ℕ) (v : Numbered u (actives w ps (routersOf (g .routers)))) (need : ℕ) (e : need ≡ pick (leb (g .all .n) (4 * least)) 1 2) where
+module _ (least w : ℕ) (ps : List Page) (g : Group) (z : Good (g .all)) (u : Numbers) (left : ℕ)
+    (v : Numbered u (actives w ps (routersOf (g .routers)))) (need : ℕ) (e : need ≡ pick (leb (g .all .n) (4 * least)) 1 2) where
   need-is : need ≡ fills least (pairsIn (g .all))
   need-is = e ∙ rw (length-pairs (g .all) z)
 
@@ -38,7 +39,9 @@ module _ (least w : ℕ) (ps : List Page) (g : Group) (z : Good (g .all)) (u : N
   unfolding plannedOf plan.planGroup plan.spent groupOf
   group-fails h = sym (rw (← need-is, ← v .count, lt-leb need (u .n + left) h))
 
-  pub group-rises : (c : changes.Change) → need ≤ u .n + left → c ≡ rules.exchange (routersOf (g .routers)) (routersTo (routersOf (g .routers)) (rules.parts least (pairsIn (g .all))) (u .first) (u .second))
+  pub group-rises : (c : changes.Change) → need ≤ u .n + left
+      → c ≡ rules.exchange (routersOf (g .routers))
+      (routersTo (routersOf (g .routers)) (rules.parts least (pairsIn (g .all))) (u .first) (u .second))
       → plan.rises c (u .n + left - need) ≡ plan.planGroup least w ps (groupOf g) left
   unfolding plan.planGroup plan.spent plan.parentChange groupOf
   group-rises c h f = sym (rw (← need-is, ← v .count, le-leb need (u .n + left) h, ← v .first, ← v .second, ← f))
@@ -50,13 +53,16 @@ module _ (least w : ℕ) (ps : List Page) (a : walk.Around) (c : changes.Change)
   unfolding plan.planWork plan.planBy
   level-settles e = sym (rw e)
 
-  pub level-group : takesInPlace least w c (page ps (a .own .value)) ≡ false → plan.planGroup least w ps (groupAt least w ps a c) left ≡ plan.planWork least w ps a c left
+  pub level-group : takesInPlace least w c (page ps (a .own .value)) ≡ false
+      → plan.planGroup least w ps (groupAt least w ps a c) left ≡ plan.planWork least w ps a c left
   unfolding plan.planWork plan.planBy
   level-group e = sym (rw e)
 
 module _ (least w : ℕ) (ps : List Page) (r : ℕ) (xs : List Around) (c : changes.Change) (left : ℕ) where
   pub up-step : (k : ℕ) → 0 < k
-      → plan.planUp least w ps r (upsOf xs k) c left ≡ plan.planOn (plan.planWork least w ps (aroundOf (getD xs (k - 1) nowhere)) c left) (λ (c′ : changes.Change) (left′ : ℕ). plan.planUp least w ps r (upsOf xs (k - 1)) c′ left′)
+      → plan.planUp least w ps r (upsOf xs k) c left
+      ≡ plan.planOn (plan.planWork least w ps (aroundOf (getD xs (k - 1) nowhere)) c left)
+      (λ (c′ : changes.Change) (left′ : ℕ). plan.planUp least w ps r (upsOf xs (k - 1)) c′ left′)
   unfolding plan.planUp upsOf
   up-step k h = let e : k ≡ suc (k - 1) = omega arith in ap (λ (j : ℕ). plan.planUp least w ps r (upsOf xs j) c left) e
 
@@ -81,11 +87,13 @@ module _ (least w : ℕ) (ps : List Page) (r : ℕ) (c : changes.Change) (left :
   unfolding plan.planRoot plan.rootBy
   root-goes e = sym (rw e)
 
-  pub root-stays : goes w c (page ps r) ≡ false → rules.roomy least w c (page ps r) ≡ true → plan.keepsRoot ≡ plan.planRoot least w ps r c left
+  pub root-stays : goes w c (page ps r) ≡ false → rules.roomy least w c (page ps r) ≡ true
+      → plan.keepsRoot ≡ plan.planRoot least w ps r c left
   unfolding plan.planRoot plan.rootBy
   root-stays e f = sym (rw (e, f))
 
-  module _ (e : goes w c (page ps r) ≡ false) (f : rules.roomy least w c (page ps r) ≡ false) (have need : ℕ) (h : have ≡ one (active w (page ps r)) + left) (n : need ≡ plan.rootFills least (changes.wanted w c (page ps r))) where
+  module _ (e : goes w c (page ps r) ≡ false) (f : rules.roomy least w c (page ps r) ≡ false) (have need : ℕ)
+      (h : have ≡ one (active w (page ps r)) + left) (n : need ≡ plan.rootFills least (changes.wanted w c (page ps r))) where
     pub root-lacks : have < need → plan.lacksPage ≡ plan.planRoot least w ps r c left
     unfolding plan.planRoot plan.rootBy
     root-lacks lt = sym (rw (e, f, active-one w ps r, ← h, ← n, lt-leb need have lt))

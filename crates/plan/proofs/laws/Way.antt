@@ -45,10 +45,12 @@ unfolding lookedFrom
 looked-start k [] h = absurd (omega arith)
 looked-start k (x ∷ xs) h = refl
 
-from-on : (k : ℕ) (l : Option Pair) (x y : Pair) (ys : List Pair) → y .key ≤ k → walk.aroundFrom k l x (y ∷ ys) ≡ walk.aroundFrom k (some x) y ys
+from-on : (k : ℕ) (l : Option Pair) (x y : Pair) (ys : List Pair) → y .key ≤ k
+    → walk.aroundFrom k l x (y ∷ ys) ≡ walk.aroundFrom k (some x) y ys
 from-on k l x y ys h = rw (walk.aroundFrom, le-leb (y .key) k h)
 
-from-here : (k : ℕ) (l : Option Pair) (x y : Pair) (ys : List Pair) → k < y .key → walk.aroundFrom k l x (y ∷ ys) ≡ record { left = l; own = x; right = some y }
+from-here : (k : ℕ) (l : Option Pair) (x y : Pair) (ys : List Pair) → k < y .key
+    → walk.aroundFrom k l x (y ∷ ys) ≡ record { left = l; own = x; right = some y }
 from-here k l x y ys h = rw (walk.aroundFrom, lt-leb (y .key) k h)
 
 module _ (k : ℕ) (xs : List Pair) (i : ℕ) where
@@ -83,13 +85,22 @@ module _ (k : ℕ) (xs : List Pair) (i : ℕ) where
 -- as it is taken from a list by value
 module _ (g : Gather) (z : Good g) (i : ℕ) (one : 1 ≤ i) (le : i ≤ g .n) where
   abbrev pub taken : ℕ → Around
-  taken p = record { leftmost = ltb i 2; left = getD (g .list) p nil; own = getD (g .list) (i - 1) nil; rightmost = leb (g .n) i; right = getD (g .list) i nil }
+  taken p =
+      record {
+        leftmost = ltb i 2;
+        left = getD (g .list) p nil;
+        own = getD (g .list) (i - 1) nil;
+        rightmost = leb (g .n) i;
+        right = getD (g .list) i nil;
+      }
 
   pub taken-is : (p : ℕ) → p ≡ i - 2 → aroundOf (taken p) ≡ placeAt (pairsIn g) i
   unfolding aroundOf placeAt
   taken-is p e =
       rw (e, length-pairs g z, pair-at g (i - 2) (omega arith), pair-at g (i - 1) (omega arith))
-      (ap (λ (x : Option Pair). record { left = beside (ltb i 2) (getD (g .list) (i - 2) nil); own = getD (g .list) (i - 1) nil; right = x }) (at (leb (g .n) i) refl))
+      (ap (λ (x : Option Pair).
+      record { left = beside (ltb i 2) (getD (g .list) (i - 2) nil); own = getD (g .list) (i - 1) nil; right = x })
+      (at (leb (g .n) i) refl))
     where
       at : (b : Bool) → leb (g .n) i ≡ b → beside b (getD (g .list) i nil) ≡ beside b (getD (pairsIn g) i nil)
       at true h = refl
@@ -99,7 +110,8 @@ module _ (g : Gather) (z : Good g) (i : ℕ) (one : 1 ≤ i) (le : i ≤ g .n) w
   member k h = (rw (← pair-at g k h) (in-getD nil (pairsIn g) k (omega (arith, length-pairs g z))), z .fits k)
 
   pub taken-among : (p : ℕ) → p ≡ i - 2 → Among (pairsIn g) (taken p)
-  taken-among p e = record { own = member (i - 1) (omega arith); left = member p (omega arith); right = λ h. member i (leb-false (g .n) i h) }
+  taken-among p e =
+      record { own = member (i - 1) (omega arith); left = member p (omega arith); right = λ h. member i (leb-false (g .n) i h) }
 
 ups-before : (xs : List Around) (n m : ℕ) (a : Around) → m ≤ n → upsOf (set xs n a) m ≡ upsOf xs m
 unfolding upsOf
@@ -111,7 +123,8 @@ unfolding upsOf
 ups-more xs n a h = sym (rw (add-one, getD-set-same xs n a nowhere h, ups-before xs n n a (omega arith)))
 
 -- one place more
-pub at-more : (P : Around → Type 0) (xs : List Around) (n : ℕ) (a : Around) → n < length xs → ((k : ℕ) → k < n → P (getD xs k nowhere)) → P a
+pub at-more : (P : Around → Type 0) (xs : List Around) (n : ℕ) (a : Around) → n < length xs → ((k : ℕ) → k < n → P (getD xs k nowhere))
+    → P a
     → (k : ℕ) → k < n + 1 → P (getD (set xs n a) k nowhere)
 at-more P xs n a h f p k lt =
     ⊎-elim (λ (q : k < n). subst P (sym (getD-set-other xs n k a nowhere (λ (e : k ≡ n). omega arith))) (f k q))
@@ -121,7 +134,8 @@ at-more P xs n a h f p k lt =
     (less k n)
 
 -- one level down
-pub down-step : (up : ℕ) (ps : List Page) (w k n : ℕ) (a : walk.Around) (acc : List walk.Around) → 0 < up → a ≡ walk.around k (pairsAt w (page ps n))
+pub down-step : (up : ℕ) (ps : List Page) (w k n : ℕ) (a : walk.Around) (acc : List walk.Around) → 0 < up
+    → a ≡ walk.around k (pairsAt w (page ps n))
     → walk.wayDown up ps w k n acc ≡ walk.wayDown (up - 1) ps w k (a .own .value) (a ∷ acc)
 down-step zero ps w k n a acc h e = absurd (omega arith)
 down-step (suc up) ps w k n a acc h e =
@@ -136,10 +150,14 @@ own-is a = refl
 module _ {l : Limits} {b : List ℕ} {w : ℕ} (r : Walkable l b w) (up n k : ℕ) (c : Covers (l .least) w (pagesOf l b) (suc up) n k) where
   router : (x : Pair) → In x (pairsAt w (page (pagesOf l b) n)) × Fitting x → Router l b x
   router x (i, f) =
-      record { inside = inside-used (r .edition) b (r .sound) (x .value) up (covers-later (l .least) w (pagesOf l b) up n k c x i .level); fits = f }
+      record {
+        inside = inside-used (r .edition) b (r .sound) (x .value) up (covers-later (l .least) w (pagesOf l b) up n k c x i .level);
+        fits = f;
+      }
 
   pub placed : (a : Around) → Among (pairsAt w (page (pagesOf l b) n)) a → Placed l b a
-  placed a m = record { own = router (a .own) (m .own); left = λ e. router (a .left) (m .left); right = λ e. router (a .right) (m .right e) }
+  placed a m =
+      record { own = router (a .own) (m .own); left = λ e. router (a .left) (m .left); right = λ e. router (a .right) (m .right e) }
 
 pub some-live : (k : ℕ) (xs : List Pair) → startsBy k xs ≡ true → 0 < length xs
 some-live k [] e = absurd (let z : _≡_ {A = ℕ} 0 1 = cc in omega arith)
@@ -158,7 +176,9 @@ module _ (l : Limits) (b : List ℕ) (w k root : ℕ) where
 
   module _ (r : Walkable l b w) (low : k < walk.keyLimit) (is : root ≡ walk.rootAt (decode (l .least) b .slots) w) where
     root-covers : Covers (l .least) w (pagesOf l b) (walk.heightOf (pagesOf l b) root) root k
-    root-covers = rw is (covers-root (l .least) (omega (arith, r .edition .four)) (decode (l .least) b) (sure (r .edition) b (r .sound)) w k (r .version) low)
+    root-covers =
+        rw is (covers-root (l .least) (omega (arith, r .edition .four)) (decode (l .least) b) (sure (r .edition) b (r .sound)) w k
+        (r .version) low)
 
     pub root-inside : Inside l b root
     root-inside = inside-used (r .edition) b (r .sound) root (walk.heightOf (pagesOf l b) root) (root-covers .level)
@@ -170,7 +190,8 @@ module _ (l : Limits) (b : List ℕ) (w k root : ℕ) where
     unfolding upsOf
     going-start up e =
         let h : up ≡ walk.heightOf (pagesOf l b) root = omega (arith, root-level) in
-        let used : isFree (page (pagesOf l b) root) ≡ false = level-used (page (pagesOf l b) root) (walk.heightOf (pagesOf l b) root) root-level in
+        let used : isFree (page (pagesOf l b) root) ≡ false
+        = level-used (page (pagesOf l b) root) (walk.heightOf (pagesOf l b) root) root-level in
         record {
           size = length-replicate 8 nowhere;
           few = omega (arith, sure (r .edition) b (r .sound) .pages root used .low);
@@ -179,7 +200,8 @@ module _ (l : Limits) (b : List ℕ) (w k root : ℕ) where
           ups = rw (h, is);
         }
 
-    pub going-end : (xs : List Around) (up n at : ℕ) → up ≤ 0 → WayCome xs up n at → Leads l b w k (record { root = root; list = xs; n = n })
+    pub going-end : (xs : List Around) (up n at : ℕ) → up ≤ 0 → WayCome xs up n at
+        → Leads l b w k (record { root = root; list = xs; n = n })
     going-end xs up n at h g =
         let e : up ≡ 0 = omega arith in
         record {
@@ -198,7 +220,8 @@ module _ (l : Limits) (b : List ℕ) (w k root : ℕ) where
       pub going-live : 0 < length (pairsAt w (page (pagesOf l b) at))
       going-live = some-live k (pairsAt w (page (pagesOf l b) at)) (covers-starts (l .least) w (pagesOf l b) (up - 1) at k covers-suc)
 
-      pub going-step : (a : Around) → aroundOf a ≡ walk.around k (pairsAt w (page (pagesOf l b) at)) → Among (pairsAt w (page (pagesOf l b) at)) a
+      pub going-step : (a : Around) → aroundOf a ≡ walk.around k (pairsAt w (page (pagesOf l b) at))
+          → Among (pairsAt w (page (pagesOf l b) at)) a
           → WayCome (set xs n a) (up - 1) (n + 1) (a .own .value)
       going-step a e m =
           let lt : n < length xs = omega (arith, g .size, g .few) in

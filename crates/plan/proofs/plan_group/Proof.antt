@@ -18,29 +18,51 @@ fills-requires c κs = search needs
 
 two : (c : tie.After-active-ones) → c .active-ones .result .n ≤ 2
 two c =
-    let s = c .before .before in
-    omega (arith, c .active-ones .ensures .count, actives-two (s .args .w) (pagesOf (s .args .l) (s .args .s .now)) (s .args .g .routers))
+    let at-start = c .before .before in
+    omega (
+      arith,
+      c .active-ones .ensures .count,
+      actives-two (at-start .args .w) (pagesOf (at-start .args .l) (at-start .args .s .now)) (at-start .args .g .routers),
+    )
 
 add-have : tie.Need-add-have
-add-have c = omega (arith, two (c .before .before .before), c .before .before .before .before .before .pre .2)
+add-have c =
+    let at-start = c .before .before .before .before .before in
+    omega (arith, two (c .before .before .before), at-start .pre .2)
 
 returns : tie.Need-returns
 returns c =
-    let ps = pagesOf (c .before .before .before .before .before .before .args .l) (c .before .before .before .before .before .before .args .s .now) in
-    (group-fails (c .before .before .before .before .before .before .args .l .least) (c .before .before .before .before .before .before .args .w) ps (c .before .before .before .before .before .before .args .g) (c .before .before .before .before .before .before .pre .1 .good) (c .before .before .before .before .active-ones .result) (c .before .before .before .before .before .before .args .left) (c .before .before .before .before .active-ones .ensures) (c .before .before .fills .result) (c .before .before .fills .ensures) (c .if1 .taken), tt)
+    let at-fills = c .before .before in
+    let at-active-ones = at-fills .before .before in
+    let at-start = at-active-ones .before .before in
+    let ps = pagesOf (at-start .args .l) (at-start .args .s .now) in (
+      group-fails (at-start .args .l .least) (at-start .args .w) ps (at-start .args .g) (at-start .pre .1 .good)
+          (at-active-ones .active-ones .result) (at-start .args .left) (at-active-ones .active-ones .ensures) (at-fills .fills .result)
+          (at-fills .fills .ensures) (c .if1 .taken),
+      tt,
+    )
 
 parent-change-requires : tie.Need-parent-change-requires
 parent-change-requires c κs =
-    let ps = pagesOf (c .before .before .before .before .before .before .args .l) (c .before .before .before .before .before .before .args .s .now) in
-    let (x, y) = numbers-small (c .before .before .before .before .before .before .args .l) (c .before .before .before .before .before .before .args .s .now) (c .before .before .before .before .before .before .pre .0) (c .before .before .before .before .active-ones .result) (actives (c .before .before .before .before .before .before .args .w) ps (routersOf (c .before .before .before .before .before .before .args .g .routers))) (c .before .before .before .before .active-ones .ensures) (active-in (c .before .before .before .before .before .before .args .l) (c .before .before .before .before .before .before .args .s .now) (c .before .before .before .before .before .before .args .w) (c .before .before .before .before .before .before .args .g .routers) (c .before .before .before .before .before .before .pre .1 .routed)) in
-    (c .before .before .before .before .before .before .pre .0 .edition, c .before .before .before .before .before .before .pre .1 .good, c .before .before .before .before .before .before .pre .1 .routed .first .fits, x, y)
+    let at-active-ones = c .before .before .before .before in
+    let at-start = at-active-ones .before .before in
+    let ps = pagesOf (at-start .args .l) (at-start .args .s .now) in
+    let (x, y) = numbers-small (at-start .args .l) (at-start .args .s .now) (at-start .pre .0) (at-active-ones .active-ones .result)
+    (actives (at-start .args .w) ps (routersOf (at-start .args .g .routers))) (at-active-ones .active-ones .ensures)
+    (active-in (at-start .args .l) (at-start .args .s .now) (at-start .args .w) (at-start .args .g .routers) (at-start .pre .1 .routed)) in
+    (at-start .pre .0 .edition, at-start .pre .1 .good, at-start .pre .1 .routed .first .fits, x, y)
 
 returns-2 : tie.Need-returns-2
 unfolding plannedOf
 returns-2 c =
-    let ps = pagesOf (c .before .before .before .before .before .before .before .args .l) (c .before .before .before .before .before .before .before .args .s .now) in (
-      group-rises (c .before .before .before .before .before .before .before .args .l .least) (c .before .before .before .before .before .before .before .args .w) ps (c .before .before .before .before .before .before .before .args .g) (c .before .before .before .before .before .before .before .pre .1 .good) (c .before .before .before .before .before .active-ones .result) (c .before .before .before .before .before .before .before .args .left) (c .before .before .before .before .before .active-ones .ensures) (c .before .before .before .fills .result) (c .before .before .before .fills .ensures) _ (c .before .if1 .left) (c .parent-change .ensures .0),
-      (c .parent-change .ensures .1, omega (arith, two (c .before .before .before .before .before))),
+    let at-fills = c .before .before .before in
+    let at-active-ones = at-fills .before .before in
+    let at-start = at-active-ones .before .before in
+    let ps = pagesOf (at-start .args .l) (at-start .args .s .now) in (
+      group-rises (at-start .args .l .least) (at-start .args .w) ps (at-start .args .g) (at-start .pre .1 .good)
+          (at-active-ones .active-ones .result) (at-start .args .left) (at-active-ones .active-ones .ensures) (at-fills .fills .result)
+          (at-fills .fills .ensures) _ (c .before .if1 .left) (c .parent-change .ensures .0),
+      (c .parent-change .ensures .1, omega (arith, two at-active-ones)),
     )
 
 pub plan-group-spec : {M : Type 1} → statement M

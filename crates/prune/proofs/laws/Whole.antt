@@ -33,7 +33,8 @@ use Rattle.store.specs.Set.{withPages, withSlots}
 use Rattle.store.proofs.laws.Set.{slot-set, holds-slots}
 use Rattle.store.proofs.laws.Sure.{sure}
 use Rattle.turn.specs.Turned.{HeadedBytes}
-use Rattle.prune.proofs.laws.Pages.{free-pruned, frees, valid-pruned}
+use Rattle.turn.proofs.laws.Partly.{frees}
+use Rattle.prune.proofs.laws.Pages.{free-pruned, valid-pruned}
 use Rattle.prune.specs.Shift.{shifted}
 use Rattle.prune.proofs.laws.Shift.{stage, stage-start, stage-length, stage-step, stage-end, shifted-directory}
 use Rattle.prune.specs.Needed.{Needed}
@@ -145,7 +146,7 @@ pub pages-hold : (least v : ℕ) (s : Store) → Holds least s → Holds least (
 pages-hold least v s h = record {
   five = omega (arith, h .five, length-map (s .pages) (prunedPage v));
   most = omega (arith, h .most, length-map (s .pages) (prunedPage v));
-  front = take-map (prunedPage v) 5 (s .pages) ∙ ap (map (prunedPage v)) (h .front) ∙ frees v 5;
+  front = take-map (prunedPage v) 5 (s .pages) ∙ ap (map (prunedPage v)) (h .front) ∙ frees (prunedPage v) (free-pruned v) 5;
   current = h .current;
   oldest = h .oldest;
   few = h .few;

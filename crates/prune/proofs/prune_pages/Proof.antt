@@ -5,12 +5,14 @@ use mathlib.Core.Path.{_≡_, refl, sym, _∙_}
 use lib.ListN.{length}
 use borrow.Author.Needs.{needs}
 use Rattle.model.specs.Layout.{decode}
-use Rattle.prune.proofs.laws.Pruned.{PrunedBelow, pruned-start, pruned-short, pruned-end, pruned-part, pruned-exact, pruned-step}
+use Rattle.model.specs.Calls.{prunedPage}
+use Rattle.turn.proofs.laws.Rewritten.{Rewritten, rewritten-start, rewritten-short, rewritten-end, rewritten-part, rewritten-exact, rewritten-step}
+use Rattle.prune.proofs.laws.Pages.{free-pruned, valid-pruned}
 use Rattle.prune.proofs.prune_pages.Statement.{statement}
 use Rattle.prune.proofs.prune_pages.Tie as tie
 
 abbrev Inv-loop : tie.InvT-loop
-Inv-loop s₀ l size v n₀ s n = (5 ≤ n) × (n ≤ size) × (length s ≡ length s₀) × PrunedBelow (l .least) (decode (l .least) s₀) v n s
+Inv-loop s₀ l size v n₀ s n = (5 ≤ n) × (n ≤ size) × (length s ≡ length s₀) × Rewritten (l .least) (prunedPage v) (decode (l .least) s₀) n s
 
 abbrev μ-loop : tie.MeasureT-loop
 μ-loop s₀ l size v n₀ s n = size - n
@@ -19,7 +21,7 @@ loop-holds : tie.Need-loop-holds Inv-loop μ-loop
 loop-holds c =
     let a = c .before .args in
     let k = c .before .pre .1 in
-    (omega arith, omega (arith, k .holds .five, c .before .pre .2), refl, pruned-start (a .l .least) (c .before .pre .0 .four) (c .before .pre .0 .eight) (decode (a .l .least) (a .s .now)) (a .v) (a .s .now) (sym (k .same)) (k .holds))
+    (omega arith, omega (arith, k .holds .five, c .before .pre .2), refl, rewritten-start (a .l .least) (c .before .pre .0 .four) (c .before .pre .0 .eight) (prunedPage (a .v)) (decode (a .l .least) (a .s .now)) (free-pruned (a .v)) (a .s .now) (sym (k .same)) (k .holds))
 
 prune-page-requires : tie.Need-prune-page-requires Inv-loop μ-loop
 prune-page-requires c κs =
@@ -29,9 +31,9 @@ prune-page-requires c κs =
     let st = decode (a .l .least) (a .s .now) in
     let low : l .n < length (st .pages) = omega (arith, c .before .loop-test .taken, c .before .before .before .before .pre .2) in (
       d,
-      pruned-part (a .l .least) (d .four) (d .eight) st (a .v) (l .n) (l .s) (l .inv .3) (l .inv .0) low,
-      pruned-short (a .l .least) (d .four) (d .eight) st (a .v) (l .n) (l .s) (l .inv .3),
-      pruned-exact (a .l .least) (d .four) (d .eight) st (a .v) (l .n) (l .s) (l .inv .3) (l .inv .0) low,
+      rewritten-part (a .l .least) (d .four) (d .eight) (prunedPage (a .v)) st (l .n) (l .s) (l .inv .3) (l .inv .0) low,
+      rewritten-short (a .l .least) (d .four) (d .eight) (prunedPage (a .v)) st (l .n) (l .s) (l .inv .3),
+      rewritten-exact (a .l .least) (d .four) (d .eight) (prunedPage (a .v)) st (l .n) (l .s) (l .inv .3) (l .inv .0) low,
     )
 
 add-n : tie.Need-add-n Inv-loop μ-loop
@@ -50,7 +52,7 @@ loop-again c =
       omega (arith, l .inv .0),
       omega (arith, c .before .before .before .before .loop-test .taken),
       c .before .before .prune-page .kept .0 ∙ l .inv .2,
-      pruned-step (a .l .least) (d .four) (d .eight) st (a .v) (l .n) (l .s) (l .inv .3) (l .inv .0) low _ (c .before .before .prune-page .ensures),
+      rewritten-step (a .l .least) (d .four) (d .eight) (prunedPage (a .v)) st (l .n) (l .s) (l .inv .3) (l .inv .0) low (valid-pruned (a .l .least) (a .v)) _ (c .before .before .prune-page .ensures),
     )
 
 same-length : tie.Need-same-length Inv-loop μ-loop
@@ -61,7 +63,7 @@ returns c =
     let a = c .before .before .before .args in
     let l = c .before .loop in
     let d = c .before .before .before .pre .0 in
-    pruned-end (a .l .least) (d .four) (d .eight) (decode (a .l .least) (a .s .now)) (a .v) (l .n) (l .s) (l .inv .3) (omega (arith, c .loop-test .left, c .before .before .before .pre .2))
+    rewritten-end (a .l .least) (d .four) (d .eight) (prunedPage (a .v)) (decode (a .l .least) (a .s .now)) (l .n) (l .s) (l .inv .3) (omega (arith, c .loop-test .left, c .before .before .before .pre .2))
 
 pub prune-pages-spec : {M : Type 1} → statement M
 prune-pages-spec =

@@ -21,35 +21,47 @@ returns c =
 
 returns-2 : tie.Need-returns-2
 returns-2 c =
-    let a = c .before .before .before .before .args in
+    let at-start = c .before .before .before .before in
+    let a = at-start .args in
     let e = c .before .before .number .ensures in
     gives-five (a .l .least) (a .s .now) (a .v) (sym e ∙ c .before .if1 .left) (a .bad) (c .if2 .taken)
 
 header-requires : tie.Need-header-requires
 header-requires c κs =
-    let a = c .before .before .before .before .args in
+    let at-start = c .before .before .before .before in
+    let a = at-start .args in
     let e = c .before .before .number .ensures in
     let h = zero-sound (a .l .least) (a .s .now) (sym e ∙ c .before .if1 .left) in
-    (c .before .before .before .before .pre, omega (arith, front (c .before .before .before .before .pre) (a .s .now) h), few (c .before .before .before .before .pre) (a .s .now) h)
+    (at-start .pre, omega (arith, front (at-start .pre) (a .s .now) h), few (at-start .pre) (a .s .now) h)
 
 unreadable-requires : tie.Need-unreadable-requires
-unreadable-requires c κs = rw (c .header .ensures) (current-lt (c .before .before .before .before .before .args .l .least) (c .before .before .before .before .before .args .s .now))
+unreadable-requires c κs =
+    let at-start = c .before .before .before .before .before in
+    rw (c .header .ensures) (current-lt (at-start .args .l .least) (at-start .args .s .now))
 
 returns-3 : tie.Need-returns-3
 returns-3 c =
-    let a = c .before .before .before .before .before .before .before .args in
-    let e = c .before .before .before .before .before .number .ensures in
+    let at-if1 = c .before .before .before .before in
+    let at-number = at-if1 .before in
+    let at-start = at-number .before .before in
+    let a = at-start .args in
+    let e = at-number .number .ensures in
     let h = c .before .before .header in
     let u = c .before .unreadable in
-    gives-six (a .l .least) (a .s .now) (a .v) (sym e ∙ c .before .before .before .before .if1 .left) (a .bad) (c .before .before .before .if2 .left) (unread-of (a .l .least) (a .s .now) (h .result) (h .ensures) (a .v) (u .result) (u .ensures) ∙ c .if3 .taken)
+    gives-six (a .l .least) (a .s .now) (a .v) (sym e ∙ at-if1 .if1 .left) (a .bad) (c .before .before .before .if2 .left)
+    (unread-of (a .l .least) (a .s .now) (h .result) (h .ensures) (a .v) (u .result) (u .ensures) ∙ c .if3 .taken)
 
 returns-4 : tie.Need-returns-4
 returns-4 c =
-    let a = c .before .before .before .before .before .before .before .args in
-    let e = c .before .before .before .before .before .number .ensures in
+    let at-if1 = c .before .before .before .before in
+    let at-number = at-if1 .before in
+    let at-start = at-number .before .before in
+    let a = at-start .args in
+    let e = at-number .number .ensures in
     let h = c .before .before .header in
     let u = c .before .unreadable in
-    gives-none (a .l .least) (a .s .now) (a .v) (sym e ∙ c .before .before .before .before .if1 .left) (a .bad) (c .before .before .before .if2 .left) (unread-of (a .l .least) (a .s .now) (h .result) (h .ensures) (a .v) (u .result) (u .ensures) ∙ c .if3 .left)
+    gives-none (a .l .least) (a .s .now) (a .v) (sym e ∙ at-if1 .if1 .left) (a .bad) (c .before .before .before .if2 .left)
+    (unread-of (a .l .least) (a .s .now) (h .result) (h .ensures) (a .v) (u .result) (u .ensures) ∙ c .if3 .left)
 
 pub guard-reading-spec : {M : Type 1} → statement M
 guard-reading-spec =

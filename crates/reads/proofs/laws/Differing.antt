@@ -32,7 +32,9 @@ module _ (least : ℕ) (b : List ℕ) (u v : ℕ) where
     difference-guard : differenceLent least b u v ns ≡ judgedFirst (guarded least b (differing u v)) kept walked
     unfolding differenceLent difference
     difference-guard =
-        by-guard least b (differing u v) {A = Listed} kept (λ (n : ℕ). listed ns (toldBy deltaNumbers 4 n (length ns) (differ (settings (decode least b) u) (settings (decode least b) v)))) (unfold toldBy in λ n. refl)
+        by-guard least b (differing u v) {A = Listed} kept
+        (λ (n : ℕ). listed ns (toldBy deltaNumbers 4 n (length ns) (differ (settings (decode least b) u) (settings (decode least b) v))))
+        (unfold toldBy in λ n. refl)
 
     -- by the number that the guard gave
     module _ (n : ℕ) (e : n ≡ guarded least b (differing u v)) where
@@ -71,10 +73,22 @@ no-six false e = refl
 
 module _ {l : Limits} (d : Edition l) (b : List ℕ) (u v : ℕ) (z : guarded (l .least) b (differing u v) ≡ 0) where
   both-read : (unreadable (decode (l .least) b) u ≡ false) × (unreadable (decode (l .least) b) v ≡ false)
-  both-read = neither (unreadable (decode (l .least) b) u) (unreadable (decode (l .least) b) v) (no-six (eitherUnreadable (decode (l .least) b) u v) (guard-chain (l .least) b (differing u v) z))
+  both-read =
+      neither (unreadable (decode (l .least) b) u) (unreadable (decode (l .least) b) v)
+      (no-six (eitherUnreadable (decode (l .least) b) u v) (guard-chain (l .least) b (differing u v) z))
 
   pub reads-old : Walkable l b u
-  reads-old = record { edition = d; sound = guard-sound (l .least) b (differing u v) z; version = readable-of (decode (l .least) b) u (both-read .0) }
+  reads-old =
+      record {
+        edition = d;
+        sound = guard-sound (l .least) b (differing u v) z;
+        version = readable-of (decode (l .least) b) u (both-read .0);
+      }
 
   pub reads-new : Walkable l b v
-  reads-new = record { edition = d; sound = guard-sound (l .least) b (differing u v) z; version = readable-of (decode (l .least) b) v (both-read .1) }
+  reads-new =
+      record {
+        edition = d;
+        sound = guard-sound (l .least) b (differing u v) z;
+        version = readable-of (decode (l .least) b) v (both-read .1);
+      }

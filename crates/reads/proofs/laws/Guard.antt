@@ -47,7 +47,8 @@ module _ (least : ℕ) (b : List ℕ) (rules : Store → List Rule) where
 
   -- a call that judges first and then goes by its chain is a call that goes by its guard
   pub by-guard {ℓ} : {A : Type ℓ} (refuse : ℕ → A) (go : ℕ → A) → ((n : ℕ) → go (suc n) ≡ refuse (suc n))
-      → judgedFirst (judged least b .number) refuse (go (firstOf (rules (decode least b)))) ≡ judgedFirst (guarded least b rules) refuse (go 0)
+      → judgedFirst (judged least b .number) refuse (go (firstOf (rules (decode least b))))
+      ≡ judgedFirst (guarded least b rules) refuse (go 0)
   unfolding guarded
   by-guard {A} refuse go same = at (judged least b .number) (firstOf (rules (decode least b)))
     where
@@ -92,9 +93,12 @@ chain-result (x ∷ xs) r n = at (x .number) (x .holds) (n .0) (chain-result xs 
     at (suc m) false p ih = ih
 
 -- the call goes by its guard
-pub lent-guard : (least : ℕ) (b : List ℕ) (rules : Store → List Rule) (f to : Store → Result) → Numbered (rules (decode least b)) → f (decode least b) ≡ numbered (rules (decode least b)) (to (decode least b))
+pub lent-guard : (least : ℕ) (b : List ℕ) (rules : Store → List Rule) (f to : Store → Result) → Numbered (rules (decode least b))
+    → f (decode least b) ≡ numbered (rules (decode least b)) (to (decode least b))
     → lent least f b ≡ judgedFirst (guarded least b rules) (λ n. record { number = n; store = b }) (left least b (to (decode least b)))
 unfolding lent
 lent-guard least b rules f to n e =
-    ap (λ (r : Result). judgedFirst (judged least b .number) (λ k. record { number = k; store = b }) (left least b r)) (e ∙ chain-result (rules (decode least b)) (to (decode least b)) n)
-    ∙ by-guard least b rules {A = Outcome} (λ k. record { number = k; store = b }) (λ (k : ℕ). left least b (unless k (to (decode least b)))) (λ k. refl)
+    ap (λ (r : Result). judgedFirst (judged least b .number) (λ k. record { number = k; store = b }) (left least b r))
+    (e ∙ chain-result (rules (decode least b)) (to (decode least b)) n)
+    ∙ by-guard least b rules {A = Outcome} (λ k. record { number = k; store = b })
+    (λ (k : ℕ). left least b (unless k (to (decode least b)))) (λ k. refl)

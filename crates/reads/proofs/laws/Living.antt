@@ -31,7 +31,8 @@ module _ (least : ℕ) (b : List ℕ) (k : ℕ) where
     unfolding lifeLent lived
     life-by =
         rw e
-        (sym (by-guard least b (living k) {A = Listed} kept (λ (m : ℕ). listed ns (toldBy stretchNumbers 3 m (length ns) (life (decode least b) k))) (unfold toldBy in λ m. refl)))
+        (sym (by-guard least b (living k) {A = Listed} kept
+        (λ (m : ℕ). listed ns (toldBy stretchNumbers 3 m (length ns) (life (decode least b) k))) (unfold toldBy in λ m. refl)))
 
     pub life-refused : (n ≡ 0 → ⊥) → kept n ≡ lifeLent least b k ns
     life-refused z = refused-by n kept told z ∙ life-by

@@ -33,7 +33,8 @@ module _ {l : Limits} (d : Edition l) (b : List ℕ) (h : isSound (l .least) b �
   pub looks-six : k < keyLimit → unreadable (decode (l .least) b) v ≡ true → Refused 6 ≡ lookupLent (l .least) b k v
   looks-six e f = goes false true (lt-leb keyLimit k e) f
 
-  pub looks : k < keyLimit → unreadable (decode (l .least) b) v ≡ false → lookedAt (lookup (decode (l .least) b) k v) ≡ lookupLent (l .least) b k v
+  pub looks : k < keyLimit → unreadable (decode (l .least) b) v ≡ false
+      → lookedAt (lookup (decode (l .least) b) k v) ≡ lookupLent (l .least) b k v
   looks e f = goes false false (lt-leb keyLimit k e) f
 
 module _ {l : Limits} (d : Edition l) (b : List ℕ) (h : isSound (l .least) b ≡ true) (lo hi v : ℕ) (ns : List ℕ) where
@@ -48,7 +49,8 @@ module _ {l : Limits} (d : Edition l) (b : List ℕ) (h : isSound (l .least) b �
   unfolding rangedBy
   ranges-five e = tells true (unreadable (decode (l .least) b) v) e refl
 
-  pub ranges-six : badRange lo hi ≡ false → unreadable (decode (l .least) b) v ≡ true → record { number = 6; count = 0; list = ns } ≡ rangeLent (l .least) b lo hi v ns
+  pub ranges-six : badRange lo hi ≡ false → unreadable (decode (l .least) b) v ≡ true
+      → record { number = 6; count = 0; list = ns } ≡ rangeLent (l .least) b lo hi v ns
   unfolding rangedBy
   ranges-six e f = tells false true e f
 

@@ -25,10 +25,12 @@ use Rattle.reads.specs.Reading.{reading}
 
 module _ (least : ℕ) (b : List ℕ) where
   pub visits-guard : (k v : ℕ) (ns : List ℕ) → visitsLent least b k v ns
-      ≡ judgedFirst (guarded least b (reading (leb keyLimit k) v)) (λ n. record { number = n; count = 0; list = ns }) (listed ns (toldBy pageNumber 1 0 (length ns) (lookupVisits (decode least b) k v)))
+      ≡ judgedFirst (guarded least b (reading (leb keyLimit k) v)) (λ n. record { number = n; count = 0; list = ns })
+      (listed ns (toldBy pageNumber 1 0 (length ns) (lookupVisits (decode least b) k v)))
   unfolding visitsLent visits
   visits-guard k v ns =
-      by-guard least b (reading (leb keyLimit k) v) {A = Listed} (λ n. record { number = n; count = 0; list = ns }) (λ (n : ℕ). listed ns (toldBy pageNumber 1 n (length ns) (lookupVisits (decode least b) k v))) (unfold toldBy in λ n. refl)
+      by-guard least b (reading (leb keyLimit k) v) {A = Listed} (λ n. record { number = n; count = 0; list = ns })
+      (λ (n : ℕ). listed ns (toldBy pageNumber 1 n (length ns) (lookupVisits (decode least b) k v))) (unfold toldBy in λ n. refl)
 
   -- by the number that the guard gave
   module _ (k v n : ℕ) (ns : List ℕ) (e : n ≡ guarded least b (reading (leb keyLimit k) v)) where
@@ -50,7 +52,8 @@ module _ (least : ℕ) (b : List ℕ) where
   -- ---- what the guard gives
 
   -- a version that cannot be read, by the header
-  pub unread-of : (h : Header) → h ≡ readHeader least b → (v : ℕ) (y : Bool) → y ≡ beyond (lastOf (h .opened) (h .current)) (h .oldest) v → unreadable (decode least b) v ≡ y
+  pub unread-of : (h : Header) → h ≡ readHeader least b → (v : ℕ) (y : Bool) → y ≡ beyond (lastOf (h .opened) (h .current)) (h .oldest) v
+      → unreadable (decode least b) v ≡ y
   unfolding decode
   unread-of h e v y f = sym (ap (λ (x : Header). beyond (lastOf (x .opened) (x .current)) (x .oldest) v) e) ∙ sym f
 
@@ -83,7 +86,8 @@ module _ {l : Limits} (d : Edition l) (b : List ℕ) (bad : Bool) (v : ℕ) (z :
   reads = record {
     edition = d;
     sound = guard-sound (l .least) b (reading bad v) z;
-    version = readable-of (decode (l .least) b) v (none-holds bad (unreadable (decode (l .least) b) v) (guard-chain (l .least) b (reading bad v) z) .1);
+    version = readable-of (decode (l .least) b) v
+        (none-holds bad (unreadable (decode (l .least) b) v) (guard-chain (l .least) b (reading bad v) z) .1);
   }
 
   pub keys-right : bad ≡ false

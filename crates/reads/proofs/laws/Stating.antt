@@ -37,9 +37,20 @@ module _ {l : Limits} {b : List ℕ} (k : ExactBytes l b) where
 
   -- the header has the number of pages, that of roots and the oldest version
   abbrev by-header : Header → ℕ → ℕ → State
-  by-header h edition free = record { number = 0; pages = h .pages; current = h .current; opened = h .opened; roots = h .roots; edition = edition; free = free; oldest = h .oldest }
+  by-header h edition free =
+      record {
+        number = 0;
+        pages = h .pages;
+        current = h .current;
+        opened = h .opened;
+        roots = h .roots;
+        edition = edition;
+        free = free;
+        oldest = h .oldest;
+      }
 
-  pub told : (h : Header) → h ≡ readHeader (l .least) b → (edition : ℕ) → edition ≡ editionOf (l .least) → (free : ℕ) → free ≡ length (freeOnes (pagesOf l b))
+  pub told : (h : Header) → h ≡ readHeader (l .least) b → (edition : ℕ) → edition ≡ editionOf (l .least) → (free : ℕ)
+      → free ≡ length (freeOnes (pagesOf l b))
       → by-header h edition free ≡ stateOf (l .least) (decode (l .least) b)
   unfolding stateOf
   told h e edition f free g = λ i. by-header ((e ∙ header-is k) i) (f i) (g i)

@@ -21,18 +21,25 @@ enum-told-2 c = search needs
 
 returns : tie.Need-returns
 returns c =
-    let a = c .before .before .before .before .before .before .args in
-    value-so _ (a .e .value) (lookup (decode (a .l .least) (a .s .now)) (a .e .key) (a .v)) (sym (c .before .before .x .given .1) ∙ c .before .before .before .before .lookup .ensures)
+    let at-lookup = c .before .before .before .before in
+    let at-start = at-lookup .before .before in
+    let a = at-start .args in
+    value-so _ (a .e .value) (lookup (decode (a .l .least) (a .s .now)) (a .e .key) (a .v))
+    (sym (c .before .before .x .given .1) ∙ at-lookup .lookup .ensures)
 
 returns-2 : tie.Need-returns-2
 returns-2 c =
-    let a = c .before .before .before .before .args in
-    absent-so (a .e .value) (lookup (decode (a .l .least) (a .s .now)) (a .e .key) (a .v)) (sym (c .enum-told .given .1) ∙ c .before .before .lookup .ensures)
+    let at-start = c .before .before .before .before in
+    let a = at-start .args in
+    absent-so (a .e .value) (lookup (decode (a .l .least) (a .s .now)) (a .e .key) (a .v))
+    (sym (c .enum-told .given .1) ∙ c .before .before .lookup .ensures)
 
 returns-3 : tie.Need-returns-3
 returns-3 c =
-    let a = c .before .before .before .before .args in
-    refused-so _ (a .e .value) (lookup (decode (a .l .least) (a .s .now)) (a .e .key) (a .v)) (sym (c .enum-told2 .given .1) ∙ c .before .before .lookup .ensures)
+    let at-start = c .before .before .before .before in
+    let a = at-start .args in
+    refused-so _ (a .e .value) (lookup (decode (a .l .least) (a .s .now)) (a .e .key) (a .v))
+    (sym (c .enum-told2 .given .1) ∙ c .before .before .lookup .ensures)
 
 pub has-spec : {M : Type 1} → statement M
 has-spec =

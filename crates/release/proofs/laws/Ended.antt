@@ -26,12 +26,18 @@ use Rattle.release.specs.Opened.{Opened}
 
 module _ (s : Store) (p : Page) (leaf : p .level ≡ 1) (h : p .end < next s) where
   quiet : (e : Entry) → e .end ≤ p .end → e .start < e .end → settled s e ≡ true
-  quiet e a b = rw (ne-eqb (e .start) (next s) (λ (z : e .start ≡ next s). omega (arith, z, h, a, b)), ne-eqb (e .end) (next s) (λ (z : e .end ≡ next s). omega (arith, z, h, a)))
+  quiet e a b =
+      rw (
+        ne-eqb (e .start) (next s) (λ (z : e .start ≡ next s). omega (arith, z, h, a, b)),
+        ne-eqb (e .end) (next s) (λ (z : e .end ≡ next s). omega (arith, z, h, a)),
+      )
 
-  all-quiet : (es : List Entry) → all (entryOk (last s) (length (s .pages)) (p .level)) es ≡ true → all (liesWell s p) es ≡ true → all (settled s) es ≡ true
+  all-quiet : (es : List Entry) → all (entryOk (last s) (length (s .pages)) (p .level)) es ≡ true → all (liesWell s p) es ≡ true
+      → all (settled s) es ≡ true
   all-quiet [] a b = refl
   all-quiet (e ∷ es) a b =
-      let (x, xs) = both-true (entryOk (last s) (length (s .pages)) (p .level) e) (all (entryOk (last s) (length (s .pages)) (p .level)) es) a in
+      let (x, xs) = both-true (entryOk (last s) (length (s .pages)) (p .level) e)
+      (all (entryOk (last s) (length (s .pages)) (p .level)) es) a in
       let (y, ys) = both-true (liesWell s p e) (all (liesWell s p) es) b in
       let g = entry-ok s p e x y in
       both-intro (settled s e) (all (settled s) es) (quiet e (g .sooner (inl leaf)) (g .span .some)) (all-quiet es xs ys)
@@ -42,11 +48,15 @@ end-read least p = refl
 
 module _ {l : Limits} {b : List ℕ} {c : ℕ} (o : Opened l b c) (n : ℕ) (e : page (decode (l .least) b .pages) n .level ≡ 1) where
   end-is : page (decode (l .least) b .pages) n .end ≡ readHead (l .least) (pageOf (l .least) b n) .end
-  end-is = ap (λ (p : Page). p .end) (page-at (l .least) b n (five (o .edition) b (o .sound) n 0 e) (size (o .edition) b (o .sound) n 0 e)) ∙ end-read (l .least) (pageOf (l .least) b n)
+  end-is =
+      ap (λ (p : Page). p .end) (page-at (l .least) b n (five (o .edition) b (o .sound) n 0 e) (size (o .edition) b (o .sound) n 0 e))
+      ∙ end-read (l .least) (pageOf (l .least) b n)
 
-  pub ended-settled : readHead (l .least) (pageOf (l .least) b n) .end ≤ c → true ≡ all (settled (decode (l .least) b)) (page (decode (l .least) b .pages) n .entries)
+  pub ended-settled : readHead (l .least) (pageOf (l .least) b n) .end ≤ c
+      → true ≡ all (settled (decode (l .least) b)) (page (decode (l .least) b .pages) n .entries)
   ended-settled h =
       let s : Store = decode (l .least) b in
       let d = sure (o .edition) b (o .sound) in
       let u : isFree (page (s .pages) n) ≡ false = level-used (page (s .pages) n) 0 e in
-      sym (all-quiet s (page (s .pages) n) e (omega (arith, h, end-is, o .current)) (page (s .pages) n .entries) (d .pages n u .entries) (d .spans n u))
+      sym (all-quiet s (page (s .pages) n) e (omega (arith, h, end-is, o .current)) (page (s .pages) n .entries) (d .pages n u .entries)
+      (d .spans n u))

@@ -1,4 +1,5 @@
--- The leaves tell exactly: each entry that starts or ends at the open version leaves the settings as they were if and only if the two versions
+-- The leaves tell exactly: each entry that starts or ends at the open version leaves the settings as they were if and only if the two
+-- versions
 -- have the same.
 -- Assumes nothing.
 use Prim.Native.Nat.{ℕ, suc, _-_, _≤_, _<_}
@@ -42,7 +43,8 @@ module _ (least : ℕ) (two : 2 ≤ least) (s : Store) (d : Sound least s) (o : 
   reads : (v : ℕ) → s .current ≤ v → v ≤ next s → Readable s v
   reads v g h = omega (arith, last-is, old-current least s (d .old-low))
 
-  has-is : (v : ℕ) → s .current ≤ v → v ≤ next s → (e : Entry) → e .key < keyLimit → has s v e ≡ isValue (find (e .key) (settings s v)) (e .value)
+  has-is : (v : ℕ) → s .current ≤ v → v ≤ next s → (e : Entry) → e .key < keyLimit
+      → has s v e ≡ isValue (find (e .key) (settings s v)) (e .value)
   has-is v g h e low = ap (λ (x : Option ℕ). isValue x (e .value)) (lookup-is least two s d (e .key) v low (reads v g h))
 
   value-of : (x : Option ℕ) (z : ℕ) → isValue x z ≡ true → x ≡ some z
@@ -58,26 +60,33 @@ module _ (least : ℕ) (two : 2 ≤ least) (s : Store) (d : Sound least s) (o : 
         g : GoodEntry s (page (s .pages) n) e
         g = entry-of least s d n (level-used (page (s .pages) n) 0 l) e i
 
-        shown : (v u : ℕ) → s .current ≤ v → v ≤ next s → s .current ≤ u → u ≤ next s → settings s v ≡ settings s u → liveAt u e ≡ true → has s v e ≡ true
+        shown : (v u : ℕ) → s .current ≤ v → v ≤ next s → s .current ≤ u → u ≤ next s → settings s v ≡ settings s u → liveAt u e ≡ true
+            → has s v e ≡ true
         shown v u p h r k f a =
             has-is v p h e (g .key) ∙ ap (λ (us : List Pair). isValue (find (e .key) us) (e .value)) f
-            ∙ ap (λ (x : Option ℕ). isValue x (e .value)) (alive-found least two s d u (reads u r k) n l e i a) ∙ eq-eqb (e .value) (e .value) refl
+            ∙ ap (λ (x : Option ℕ). isValue x (e .value)) (alive-found least two s d u (reads u r k) n l e i a)
+            ∙ eq-eqb (e .value) (e .value) refl
 
         ends : (e .end ≤ last s) ⊎ (e .end ≡ alive) → e .start ≡ next s → next s < e .end
         ends (inl x) y = absurd (omega (arith, g .span .some, last-is))
         ends (inr x) y = omega (arith, g .span .some)
 
-        at : (x : Bool) → eqb (e .start) (next s) ≡ x → (y : Bool) → eqb (e .end) (next s) ≡ y → pick x (has s (s .current) e) (pick y (has s (next s) e) true) ≡ true
+        at : (x : Bool) → eqb (e .start) (next s) ≡ x → (y : Bool) → eqb (e .end) (next s) ≡ y
+            → pick x (has s (s .current) e) (pick y (has s (next s) e) true) ≡ true
         at true x y z =
             let a = eqb-true (e .start) (next s) x in
-            shown (s .current) (next s) (omega arith) (omega arith) (omega arith) (omega arith) q (of-within (e .start) (e .end) (next s) (omega arith) (ends (g .span .ends) a))
+            shown (s .current) (next s) (omega arith) (omega arith) (omega arith) (omega arith) q
+            (of-within (e .start) (e .end) (next s) (omega arith) (ends (g .span .ends) a))
         at false x true z =
             let b = eqb-true (e .end) (next s) z in
-            shown (next s) (s .current) (omega arith) (omega arith) (omega arith) (omega arith) (sym q) (of-within (e .start) (e .end) (s .current) (omega (arith, g .span .some)) (omega arith))
+            shown (next s) (s .current) (omega arith) (omega arith) (omega arith) (omega arith) (sym q)
+            (of-within (e .start) (e .end) (s .current) (omega (arith, g .span .some)) (omega arith))
         at false x false z = refl
 
   equal-settled : settings s (s .current) ≡ settings s (next s) → settledFrom s 5 ≡ true
-  equal-settled q = all-by (λ (m : ℕ). leafSettled s (page (s .pages) m)) (count 5 (length (s .pages) - 5)) (λ m i. at m (eqb (page (s .pages) m .level) 1) refl)
+  equal-settled q =
+      all-by (λ (m : ℕ). leafSettled s (page (s .pages) m)) (count 5 (length (s .pages) - 5))
+      (λ m i. at m (eqb (page (s .pages) m .level) 1) refl)
     where
       at : (m : ℕ) (b : Bool) → eqb (page (s .pages) m .level) 1 ≡ b → pick b (all (settled s) (page (s .pages) m .entries)) true ≡ true
       at m true e = all-by (settled s) (page (s .pages) m .entries) (settled-entry q m (eqb-true (page (s .pages) m .level) 1 e))
@@ -91,15 +100,20 @@ module _ (least : ℕ) (two : 2 ≤ least) (s : Store) (d : Sound least s) (o : 
         let u = level-used (page (s .pages) n) 0 l in
         let five : 5 ≤ n = high-used s n (d .front) u in
         let size : n < length (s .pages) = used-in (s .pages) n u in
-        let p = all-in (λ (m : ℕ). leafSettled s (page (s .pages) m)) n (count 5 (length (s .pages) - 5)) h (in-count n 5 (length (s .pages) - 5) five (omega arith)) in
-        all-in (settled s) e (page (s .pages) n .entries) (ap (λ (b : Bool). pick b (all (settled s) (page (s .pages) n .entries)) true) (sym (eq-eqb (page (s .pages) n .level) 1 l)) ∙ p) i
+        let p = all-in (λ (m : ℕ). leafSettled s (page (s .pages) m)) n (count 5 (length (s .pages) - 5)) h
+        (in-count n 5 (length (s .pages) - 5) five (omega arith)) in
+        all-in (settled s) e (page (s .pages) n .entries)
+        (ap (λ (b : Bool). pick b (all (settled s) (page (s .pages) n .entries)) true) (sym (eq-eqb (page (s .pages) n .level) 1 l)) ∙ p) i
 
     -- what the open version has, the current one has
     back : (k z : ℕ) → find k (settings s (next s)) ≡ some z → find k (settings s (s .current)) ≡ some z
     back k z f = by (found-alive least two s d (next s) (reads (next s) (omega arith) (omega arith) .from) k z f)
       where
         by : LeafAlive s (next s) k z → find k (settings s (s .current)) ≡ some z
-        by a = subst (λ (y : ℕ). find k (settings s (s .current)) ≡ some y) (a .value) (subst (λ (y : ℕ). find y (settings s (s .current)) ≡ some (a .entry .value)) (a .key) (at (eqb (a .entry .start) (next s)) refl))
+        by a =
+            subst (λ (y : ℕ). find k (settings s (s .current)) ≡ some y) (a .value)
+            (subst (λ (y : ℕ). find y (settings s (s .current)) ≡ some (a .entry .value)) (a .key)
+            (at (eqb (a .entry .start) (next s)) refl))
           where
             g : GoodEntry s (page (s .pages) (a .number)) (a .entry)
             g = entry-of least s d (a .number) (level-used (page (s .pages) (a .number)) 0 (a .leaf)) (a .entry) (a .is-in)
@@ -108,18 +122,24 @@ module _ (least : ℕ) (two : 2 ≤ least) (s : Store) (d : Sound least s) (o : 
             at true x =
                 value-of (find (a .entry .key) (settings s (s .current))) (a .entry .value)
                 (sym (has-is (s .current) (omega arith) (omega arith) (a .entry) (g .key))
-                ∙ ap (λ (b : Bool). pick b (has s (s .current) (a .entry)) (pick (eqb (a .entry .end) (next s)) (has s (next s) (a .entry)) true)) (sym x) ∙ entry-settled (a .number) (a .leaf) (a .entry) (a .is-in))
+                ∙ ap (λ (b : Bool). pick b (has s (s .current) (a .entry))
+                (pick (eqb (a .entry .end) (next s)) (has s (next s) (a .entry)) true)) (sym x)
+                ∙ entry-settled (a .number) (a .leaf) (a .entry) (a .is-in))
             at false x =
                 let (p, r) = within-of (a .entry .start) (a .entry .end) (next s) (a .live) in
                 let n : a .entry .start ≡ next s → ⊥ = eqb-false (a .entry .start) (next s) x in
-                alive-found least two s d (s .current) (reads (s .current) (omega arith) (omega arith)) (a .number) (a .leaf) (a .entry) (a .is-in) (of-within (a .entry .start) (a .entry .end) (s .current) (less (a .entry .start) (s .current) p n) (omega arith))
+                alive-found least two s d (s .current) (reads (s .current) (omega arith) (omega arith)) (a .number) (a .leaf) (a .entry)
+                (a .is-in) (of-within (a .entry .start) (a .entry .end) (s .current) (less (a .entry .start) (s .current) p n)
+                (omega arith))
 
     -- and the other way round
     on : (k z : ℕ) → find k (settings s (s .current)) ≡ some z → find k (settings s (next s)) ≡ some z
     on k z f = by (found-alive least two s d (s .current) (reads (s .current) (omega arith) (omega arith) .from) k z f)
       where
         by : LeafAlive s (s .current) k z → find k (settings s (next s)) ≡ some z
-        by a = subst (λ (y : ℕ). find k (settings s (next s)) ≡ some y) (a .value) (subst (λ (y : ℕ). find y (settings s (next s)) ≡ some (a .entry .value)) (a .key) (at (eqb (a .entry .end) (next s)) refl))
+        by a =
+            subst (λ (y : ℕ). find k (settings s (next s)) ≡ some y) (a .value)
+            (subst (λ (y : ℕ). find y (settings s (next s)) ≡ some (a .entry .value)) (a .key) (at (eqb (a .entry .end) (next s)) refl))
           where
             g : GoodEntry s (page (s .pages) (a .number)) (a .entry)
             g = entry-of least s d (a .number) (level-used (page (s .pages) (a .number)) 0 (a .leaf)) (a .entry) (a .is-in)
@@ -129,15 +149,18 @@ module _ (least : ℕ) (two : 2 ≤ least) (s : Store) (d : Sound least s) (o : 
 
             at : (b : Bool) → eqb (a .entry .end) (next s) ≡ b → find (a .entry .key) (settings s (next s)) ≡ some (a .entry .value)
             at true x =
-                let n : eqb (a .entry .start) (next s) ≡ false = ne-eqb (a .entry .start) (next s) (λ (e : a .entry .start ≡ next s). omega (arith, span .0)) in
+                let n : eqb (a .entry .start) (next s) ≡ false
+                = ne-eqb (a .entry .start) (next s) (λ (e : a .entry .start ≡ next s). omega (arith, span .0)) in
                 value-of (find (a .entry .key) (settings s (next s))) (a .entry .value)
                 (sym (has-is (next s) (omega arith) (omega arith) (a .entry) (g .key))
                 ∙ ap (λ (b : Bool). pick b (has s (next s) (a .entry)) true) (sym x)
-                ∙ ap (λ (b : Bool). pick b (has s (s .current) (a .entry)) (pick (eqb (a .entry .end) (next s)) (has s (next s) (a .entry)) true)) (sym n)
+                ∙ ap (λ (b : Bool). pick b (has s (s .current) (a .entry))
+                (pick (eqb (a .entry .end) (next s)) (has s (next s) (a .entry)) true)) (sym n)
                 ∙ entry-settled (a .number) (a .leaf) (a .entry) (a .is-in))
             at false x =
                 alive-found least two s d (next s) (reads (next s) (omega arith) (omega arith)) (a .number) (a .leaf) (a .entry) (a .is-in)
-                (of-within (a .entry .start) (a .entry .end) (next s) (omega (arith, span .0)) (more (a .entry .end) (s .current) (span .1) (eqb-false (a .entry .end) (next s) x)))
+                (of-within (a .entry .start) (a .entry .end) (next s) (omega (arith, span .0))
+                (more (a .entry .end) (s .current) (span .1) (eqb-false (a .entry .end) (next s) x)))
 
     options : (a b : Option ℕ) → ((z : ℕ) → a ≡ some z → b ≡ some z) → ((z : ℕ) → b ≡ some z → a ≡ some z) → a ≡ b
     options none none f g = refl
@@ -146,8 +169,11 @@ module _ (least : ℕ) (two : 2 ≤ least) (s : Store) (d : Sound least s) (o : 
 
     settled-equal : settings s (s .current) ≡ settings s (next s)
     settled-equal =
-        finds-equal (λ (k : ℕ). within 0 keyLimit k) (settings s (s .current)) (settings s (next s)) (settings-rise least two s d (s .current) (reads (s .current) (omega arith) (omega arith))) (settings-rise least two s d (next s) (reads (next s) (omega arith) (omega arith)))
-        (settings-low least two s d (s .current) (reads (s .current) (omega arith) (omega arith))) (settings-low least two s d (next s) (reads (next s) (omega arith) (omega arith)))
+        finds-equal (λ (k : ℕ). within 0 keyLimit k) (settings s (s .current)) (settings s (next s))
+        (settings-rise least two s d (s .current) (reads (s .current) (omega arith) (omega arith)))
+        (settings-rise least two s d (next s) (reads (next s) (omega arith) (omega arith)))
+        (settings-low least two s d (s .current) (reads (s .current) (omega arith) (omega arith)))
+        (settings-low least two s d (next s) (reads (next s) (omega arith) (omega arith)))
         (λ k i. options (find k (settings s (s .current))) (find k (settings s (next s))) (on k) (back k))
 
   -- Nothing is told by the walks that the leaves do not tell.
@@ -157,7 +183,9 @@ module _ (least : ℕ) (two : 2 ≤ least) (s : Store) (d : Sound least s) (o : 
       yes : settledFrom s 5 ≡ true → unchanged s ≡ true
       yes h = ap (samePairs (settings s (s .current))) (sym (settled-equal h)) ∙ equal-same (settings s (s .current))
 
-      at : (settledFrom s 5 ≡ true) ⊎ (settledFrom s 5 ≡ false) → (unchanged s ≡ true) ⊎ (unchanged s ≡ false) → settledFrom s 5 ≡ unchanged s
+      at : (settledFrom s 5 ≡ true) ⊎ (settledFrom s 5 ≡ false) → (unchanged s ≡ true) ⊎ (unchanged s ≡ false)
+          → settledFrom s 5 ≡ unchanged s
       at (inl a) b = a ∙ sym (yes a)
       at (inr a) (inr b) = a ∙ sym b
-      at (inr a) (inl b) = absurd (not-both (settledFrom s 5) (equal-settled (same-equal (settings s (s .current)) (settings s (next s)) b)) a)
+      at (inr a) (inl b) =
+          absurd (not-both (settledFrom s 5) (equal-settled (same-equal (settings s (s .current)) (settings s (next s)) b)) a)

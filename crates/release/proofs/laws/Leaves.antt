@@ -34,13 +34,15 @@ find-in : (k z : ℕ) (us : List Pair) → find k us ≡ some z → In (pair k z
 find-in k z [] h = absurd (let n : _≡_ {A = ℕ} 0 1 = cc in omega arith)
 find-in k z (u ∷ us) h = at (eqb (u .key) k) refl h (λ g. find-in k z us g)
   where
-    at : (b : Bool) → eqb (u .key) k ≡ b → pick b (some (u .value)) (find k us) ≡ some z → (find k us ≡ some z → In (pair k z) us) → In (pair k z) (u ∷ us)
+    at : (b : Bool) → eqb (u .key) k ≡ b → pick b (some (u .value)) (find k us) ≡ some z → (find k us ≡ some z → In (pair k z) us)
+        → In (pair k z) (u ∷ us)
     at true e g ih = let v : u .value ≡ z = cc in inl (λ i. record { key = sym (eqb-true (u .key) k e) i; value = sym v i })
     at false e g ih = inr (ih g)
 
 in-find : (x : Pair) (us : List Pair) → rising us ≡ true → In x us → find (x .key) us ≡ some (x .value)
 in-find x [] r i = absurd i
-in-find x (u ∷ us) r (inl e) = ap (λ (y : Pair). find (y .key) (u ∷ us)) e ∙ rw (eq-eqb (u .key) (u .key) refl) (ap (λ (y : Pair). some (y .value)) (sym e))
+in-find x (u ∷ us) r (inl e) =
+    ap (λ (y : Pair). find (y .key) (u ∷ us)) e ∙ rw (eq-eqb (u .key) (u .key) refl) (ap (λ (y : Pair). some (y .value)) (sym e))
 in-find x (u ∷ us) r (inr i) =
     let (a, b) = both-true (all (λ (y : Pair). ltb (u .key) (y .key)) us) (rising us) r in
     let l = all-in (λ (y : Pair). ltb (u .key) (y .key)) x us a i in
@@ -53,7 +55,9 @@ module _ (ps : List Page) (v : ℕ) where
   leaf-shown : (l n m : ℕ) (x : Pair) → Reach ps v l n 0 m → In x (pairsAt v (page ps m)) → In x (below l ps v n)
   leaf-shown zero n m x r i = subst (λ (k : ℕ). In x (pairsAt v (page ps k))) (r .number) i
   leaf-shown (suc l) n m x (inl r) i = absurd (omega (arith, r .height))
-  leaf-shown (suc l) n m x (inr r) i = flat-in (λ (y : Pair). below l ps v (y .value)) x (r .router) (pairsAt v (page ps n)) (r .is-in) (leaf-shown l (r .router .value) m x (r .rest) i)
+  leaf-shown (suc l) n m x (inr r) i =
+      flat-in (λ (y : Pair). below l ps v (y .value)) x (r .router) (pairsAt v (page ps n)) (r .is-in)
+      (leaf-shown l (r .router .value) m x (r .rest) i)
 
   shown-leaf : (l n : ℕ) (x : Pair) → In x (below l ps v n) → (m : ℕ) × (Reach ps v l n 0 m) × (In x (pairsAt v (page ps m)))
   shown-leaf zero n x i = (n, record { height = refl; number = refl }, i)
@@ -90,9 +94,17 @@ module _ (least : ℕ) (two : 2 ≤ least) (s : Store) (d : Sound least s) where
         value = sym (ap (λ (x : Pair). x .value) (g .is));
       }
 
-  pub alive-found : (v : ℕ) → Readable s v → (n : ℕ) → page (s .pages) n .level ≡ 1 → (e : Entry) → In e (page (s .pages) n .entries) → liveAt v e ≡ true → find (e .key) (settings s v) ≡ some (e .value)
+  pub alive-found : (v : ℕ) → Readable s v → (n : ℕ) → page (s .pages) n .level ≡ 1 → (e : Entry) → In e (page (s .pages) n .entries)
+      → liveAt v e ≡ true → find (e .key) (settings s v) ≡ some (e .value)
   alive-found v h n l e i a =
       let (j, r) = reached-of least two s d v h n (lives-by least two s d v (h .from) n e (level-used (page (s .pages) n) 0 l) i a) in
-      let z : j ≡ 0 = omega (arith, reach-level least two s d v (h .from) (height v) (rootAt (s .slots) v) j n (root-level least two s d v (h .from)) r) in
+      let z : j ≡ 0
+      = omega (
+        arith,
+        reach-level least two s d v (h .from) (height v) (rootAt (s .slots) v) j n
+            (root-level least two s d v (h .from)) r,
+      ) in
       in-find (pairOf e) (settings s v) (settings-rise least two s d v h)
-      (leaf-shown (s .pages) v (height v) (rootAt (s .slots) v) n (pairOf e) (subst (λ (k : ℕ). Reach (s .pages) v (height v) (rootAt (s .slots) v) k n) z r) (map-in pairOf e (those (liveAt v) (page (s .pages) n .entries)) (those-in (liveAt v) e (page (s .pages) n .entries) a i)))
+      (leaf-shown (s .pages) v (height v) (rootAt (s .slots) v) n (pairOf e)
+      (subst (λ (k : ℕ). Reach (s .pages) v (height v) (rootAt (s .slots) v) k n) z r)
+      (map-in pairOf e (those (liveAt v) (page (s .pages) n .entries)) (those-in (liveAt v) e (page (s .pages) n .entries) a i)))

@@ -34,7 +34,17 @@ module _ {l : Limits} {b : List ℕ} {c : ℕ} (o : Opened l b c) where
 
   -- both versions can be read
   pub reads-upto : (v : ℕ) → c ≤ v → v ≤ c + 1 → Walkable l b v
-  reads-upto v g h = record { edition = o .edition; sound = o .sound; version = omega (arith, last-is, o .current, old-current (l .least) (decode (l .least) b) (sure (o .edition) b (o .sound) .old-low)) }
+  reads-upto v g h =
+      record {
+        edition = o .edition;
+        sound = o .sound;
+        version = omega (
+          arith,
+          last-is,
+          o .current,
+          old-current (l .least) (decode (l .least) b) (sure (o .edition) b (o .sound) .old-low),
+        );
+      }
 
   next-is : next (decode (l .least) b) ≡ c + 1
   next-is = omega (arith, o .current)
@@ -46,17 +56,22 @@ module _ {l : Limits} {b : List ℕ} {c : ℕ} (o : Opened l b c) where
   size-is = count-pages (l .least) b (omega (arith, whole (o .edition) b (o .sound) .six))
 
   pub header-size : Bytes b → readHeader (l .least) b .pages ≡ length (decode (l .least) b .pages)
-  header-size y = sym (ap (λ (h : Header). h .pages) (header-of (l .least) (o .edition .four) (o .edition .eight) b (sizeOf (l .least) b) (exact (o .edition) b (o .sound) y)))
+  header-size y =
+      sym (ap (λ (h : Header). h .pages)
+      (header-of (l .least) (o .edition .four) (o .edition .eight) b (sizeOf (l .least) b) (exact (o .edition) b (o .sound) y)))
 
   -- the whole by its pages
   pub whole-is : settledFrom (decode (l .least) b) 5 ≡ unchanged (decode (l .least) b)
-  whole-is = settled-unchanged (l .least) (omega (arith, o .edition .four)) (decode (l .least) b) (sure (o .edition) b (o .sound)) (o .opened)
+  whole-is =
+      settled-unchanged (l .least) (omega (arith, o .edition .four)) (decode (l .least) b) (sure (o .edition) b (o .sound)) (o .opened)
 
   -- ---- an entry
 
   module _ (e : Entry) where
     abbrev by : Bool → Bool → Bool
-    by x y = pick x (has (decode (l .least) b) (decode (l .least) b .current) e) (pick y (has (decode (l .least) b) (next (decode (l .least) b)) e) true)
+    by x y =
+        pick x (has (decode (l .least) b) (decode (l .least) b .current) e)
+        (pick y (has (decode (l .least) b) (next (decode (l .least) b)) e) true)
 
     starts-not : (e .start ≡ c + 1 → ⊥) → eqb (e .start) (next (decode (l .least) b)) ≡ false
     starts-not h = ne-eqb (e .start) (next (decode (l .least) b)) (λ z. h (z ∙ next-is))
@@ -64,7 +79,8 @@ module _ {l : Limits} {b : List ℕ} {c : ℕ} (o : Opened l b c) where
     pub settled-start : e .start ≡ c + 1 → has (decode (l .least) b) c e ≡ settled (decode (l .least) b) e
     settled-start h =
         ap (λ (v : ℕ). has (decode (l .least) b) v e) (sym (o .current))
-        ∙ sym (ap (λ (x : Bool). by x (eqb (e .end) (next (decode (l .least) b)))) (eq-eqb (e .start) (next (decode (l .least) b)) (h ∙ sym next-is)))
+        ∙ sym (ap (λ (x : Bool). by x (eqb (e .end) (next (decode (l .least) b))))
+        (eq-eqb (e .start) (next (decode (l .least) b)) (h ∙ sym next-is)))
 
     pub settled-end : (e .start ≡ c + 1 → ⊥) → e .end ≡ c + 1 → has (decode (l .least) b) (c + 1) e ≡ settled (decode (l .least) b) e
     settled-end n h =

@@ -49,7 +49,8 @@ module _ (s : Store) (n : ℕ) (h : n < length (s .pages)) (r : Bool) (g : r ≡
   page-on =
       let e : length (s .pages) - n ≡ suc (length (s .pages) - (n + 1)) = omega arith in
       let f : n + 1 ≡ suc n = omega arith in
-      ap (λ (k : ℕ). all (pageSettled s) (count n k)) e ∙ ap₂ (λ (b : Bool) (m : ℕ). b && all (pageSettled s) (count m (length (s .pages) - (n + 1)))) (sym g) (sym f)
+      ap (λ (k : ℕ). all (pageSettled s) (count n k)) e
+      ∙ ap₂ (λ (b : Bool) (m : ℕ). b && all (pageSettled s) (count m (length (s .pages) - (n + 1)))) (sym g) (sym f)
 
   pub from-stops : r ≡ false → settledFrom s n ≡ false
   from-stops z = page-on ∙ ap (λ (b : Bool). b && settledFrom s (n + 1)) z
@@ -70,14 +71,22 @@ module _ (least : ℕ) (b : List ℕ) (n : ℕ) (five : 5 ≤ n) (size : n < siz
   level-is = ap (λ (p : Page). p .level) page-is ∙ level-of least (pageOf least b n)
 
   pub entries-are : page (decode least b .pages) n .entries ≡ from (pageOf least b n) 0 (readHead least (pageOf least b n) .count)
-  entries-are = ap (λ (p : Page). p .entries) page-is ∙ entries-of least (pageOf least b n) ∙ from-start (pageOf least b n) (readHead least (pageOf least b n) .count)
+  entries-are =
+      ap (λ (p : Page). p .entries) page-is ∙ entries-of least (pageOf least b n)
+      ∙ from-start (pageOf least b n) (readHead least (pageOf least b n) .count)
 
   -- a page that is no leaf
   pub no-leaf : (readHead least (pageOf least b n) .level ≡ 1 → ⊥) → true ≡ leafSettled (decode least b) (page (decode least b .pages) n)
-  no-leaf h = sym (ap (λ (q : Bool). pick q (all (settled (decode least b)) (page (decode least b .pages) n .entries)) true) (ne-eqb (page (decode least b .pages) n .level) 1 (λ e. h (sym level-is ∙ e))))
+  no-leaf h =
+      sym (ap (λ (q : Bool). pick q (all (settled (decode least b)) (page (decode least b .pages) n .entries)) true)
+      (ne-eqb (page (decode least b .pages) n .level) 1 (λ e. h (sym level-is ∙ e))))
 
-  pub a-leaf : page (decode least b .pages) n .level ≡ 1 → all (settled (decode least b)) (page (decode least b .pages) n .entries) ≡ leafSettled (decode least b) (page (decode least b .pages) n)
-  a-leaf h = sym (ap (λ (q : Bool). pick q (all (settled (decode least b)) (page (decode least b .pages) n .entries)) true) (eq-eqb (page (decode least b .pages) n .level) 1 h))
+  pub a-leaf : page (decode least b .pages) n .level ≡ 1
+      → all (settled (decode least b)) (page (decode least b .pages) n .entries)
+      ≡ leafSettled (decode least b) (page (decode least b .pages) n)
+  a-leaf h =
+      sym (ap (λ (q : Bool). pick q (all (settled (decode least b)) (page (decode least b .pages) n .entries)) true)
+      (eq-eqb (page (decode least b .pages) n .level) 1 h))
 
 -- a key as it is read
 pub key-low : (p : List ℕ) (i : ℕ) (e : Entry) → e ≡ entry p i → e .key < keyLimit

@@ -11,17 +11,19 @@ use Rattle.release.proofs.leaf_settled.Tie as tie
 
 part-requires : tie.Need-part-requires
 part-requires c κs =
-    let o = c .before .pre .0 in
-    let b = c .before .args .s .now in
-    (o .edition, inside (o .edition) b (o .sound) _ 0 (c .before .pre .1) .part, few (o .edition) b (o .sound))
+    let at-start = c .before in
+    let o = at-start .pre .0 in
+    let b = at-start .args .s .now in
+    (o .edition, inside (o .edition) b (o .sound) _ 0 (at-start .pre .1) .part, few (o .edition) b (o .sound))
 
 head-of-requires : tie.Need-head-of-requires
 head-of-requires c κs = search needs
 
 returns : tie.Need-returns
 returns c =
-    let a = c .before .before .before .before .before .args in
-    let p = c .before .before .before .before .before .pre in
+    let at-start = c .before .before .before .before .before in
+    let a = at-start .args in
+    let p = at-start .pre in
     let h = rw (c .before .before .before .part .ensures .0) at (c .before .before .head-of .ensures) in
     ended-settled (p .0) (a .n) (p .1) (subst (λ (x : Head). x .end ≤ a .c) h (c .if1 .taken))
 

@@ -9,34 +9,40 @@ use Rattle.release.proofs.page_settled.Tie as tie
 
 part-requires : tie.Need-part-requires
 part-requires c κs =
-    let o = c .before .pre .0 in
-    let b = c .before .args .s .now in
-    (o .edition, part-in (o .edition) b (o .sound) (c .before .args .n) (c .before .pre .2), few (o .edition) b (o .sound))
+    let at-start = c .before in
+    let o = at-start .pre .0 in
+    let b = at-start .args .s .now in
+    (o .edition, part-in (o .edition) b (o .sound) (at-start .args .n) (at-start .pre .2), few (o .edition) b (o .sound))
 
 head-of-requires : tie.Need-head-of-requires
 head-of-requires c κs = search needs
 
 returns : tie.Need-returns
 returns c =
-    let a = c .before .before .before .before .before .args in
-    let p = c .before .before .before .before .before .pre in
+    let at-start = c .before .before .before .before .before in
+    let a = at-start .args in
+    let p = at-start .pre in
     let h = rw (c .before .before .before .part .ensures .0) at (c .before .before .head-of .ensures) in
     no-leaf (a .l .least) (a .s .now) (a .n) (p .1) (p .2) (λ e. c .if1 .taken (ap (λ (x : Head). x .level) h ∙ e))
 
 leaf-settled-requires : tie.Need-leaf-settled-requires
 leaf-settled-requires c κs =
-    let a = c .before .before .before .before .before .args in
-    let p = c .before .before .before .before .before .pre in
+    let at-start = c .before .before .before .before .before in
+    let a = at-start .args in
+    let p = at-start .pre in
     let h = rw (c .before .before .before .part .ensures .0) at (c .before .before .head-of .ensures) in
     (p .0, level-is (a .l .least) (a .s .now) (a .n) (p .1) (p .2) ∙ sym (ap (λ (x : Head). x .level) h) ∙ c .if1 .left)
 
 returns-2 : tie.Need-returns-2
 returns-2 c =
-    let a = c .before .before .before .before .before .before .args in
-    let p = c .before .before .before .before .before .before .pre in
-    let h = rw (c .before .before .before .before .part .ensures .0) at (c .before .before .before .head-of .ensures) in
+    let at-part = c .before .before .before .before in
+    let at-start = at-part .before .before in
+    let a = at-start .args in
+    let p = at-start .pre in
+    let h = rw (at-part .part .ensures .0) at (c .before .before .before .head-of .ensures) in
     c .leaf-settled .ensures
-    ∙ a-leaf (a .l .least) (a .s .now) (a .n) (p .1) (p .2) (level-is (a .l .least) (a .s .now) (a .n) (p .1) (p .2) ∙ sym (ap (λ (x : Head). x .level) h) ∙ c .before .if1 .left)
+    ∙ a-leaf (a .l .least) (a .s .now) (a .n) (p .1) (p .2)
+    (level-is (a .l .least) (a .s .now) (a .n) (p .1) (p .2) ∙ sym (ap (λ (x : Head). x .level) h) ∙ c .before .if1 .left)
 
 pub page-settled-spec : {M : Type 1} → statement M
 page-settled-spec =

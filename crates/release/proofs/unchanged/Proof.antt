@@ -16,7 +16,8 @@ use Rattle.release.proofs.unchanged.Statement.{statement}
 use Rattle.release.proofs.unchanged.Tie as tie
 
 abbrev Inv-loop : tie.InvT-loop
-Inv-loop s l c size n₀ n = (size ≡ length (decode (l .least) s .pages)) × (5 ≤ n) × (unchanged (decode (l .least) s) ≡ settledFrom (decode (l .least) s) n)
+Inv-loop s l c size n₀ n =
+    (size ≡ length (decode (l .least) s .pages)) × (5 ≤ n) × (unchanged (decode (l .least) s) ≡ settledFrom (decode (l .least) s) n)
 
 abbrev μ-loop : tie.MeasureT-loop
 μ-loop s l c size n₀ n = size - n
@@ -32,19 +33,26 @@ wide-requires c κs = search needs
 
 loop-holds : tie.Need-loop-holds Inv-loop μ-loop
 loop-holds c =
-    let o = c .before .before .before .pre in
-    (c .wide .ensures ∙ ap (λ (h : Header). h .pages) (c .before .header .ensures) ∙ header-size o (λ i. c .before .before .shared-slice-known .given i .fits), omega arith, sym (whole-is o))
+    let o = c .before .before .before .pre in (
+      c .wide .ensures ∙ ap (λ (h : Header). h .pages) (c .before .header .ensures)
+          ∙ header-size o (λ i. c .before .before .shared-slice-known .given i .fits),
+      omega arith,
+      sym (whole-is o),
+    )
 
 page-settled-requires : tie.Need-page-settled-requires Inv-loop μ-loop
 page-settled-requires c κs =
-    let o = c .before .before .before .before .before .pre in
+    let at-start = c .before .before .before .before .before in
+    let o = at-start .pre in
     (o, c .before .loop .inv .1, omega (arith, size-is o, c .before .loop .inv .0))
 
 returns : tie.Need-returns Inv-loop μ-loop
 returns c =
-    let a = c .before .before .before .before .before .before .before .args in
+    let at-start = c .before .before .before .before .before .before .before in
+    let a = at-start .args in
     let l = c .before .before .before .loop in
-    sym (l .inv .2 ∙ from-stops (decode (a .l .least) (a .s .now)) (l .n) (omega (arith, l .inv .0)) _ (c .before .page-settled .ensures) (not-true _ (c .if1 .taken)))
+    sym (l .inv .2 ∙ from-stops (decode (a .l .least) (a .s .now)) (l .n) (omega (arith, l .inv .0)) _ (c .before .page-settled .ensures)
+    (not-true _ (c .if1 .taken)))
 
 add-n : tie.Need-add-n Inv-loop μ-loop
 add-n c = search needs
@@ -54,13 +62,20 @@ loop-less c = search needs
 
 loop-again : tie.Need-loop-again Inv-loop μ-loop
 loop-again c =
-    let a = c .before .before .before .before .before .before .before .args in
-    let l = c .before .before .before .loop in
-    (l .inv .0, omega (arith, l .inv .1), l .inv .2 ∙ from-goes (decode (a .l .least) (a .s .now)) (l .n) (omega (arith, l .inv .0)) _ (c .before .page-settled .ensures) (not-false _ (c .if1 .left)))
+    let at-start = c .before .before .before .before .before .before .before in
+    let a = at-start .args in
+    let l = c .before .before .before .loop in (
+      l .inv .0,
+      omega (arith, l .inv .1),
+      l .inv .2
+          ∙ from-goes (decode (a .l .least) (a .s .now)) (l .n) (omega (arith, l .inv .0)) _ (c .before .page-settled .ensures)
+          (not-false _ (c .if1 .left)),
+    )
 
 returns-2 : tie.Need-returns-2 Inv-loop μ-loop
 returns-2 c =
-    let a = c .before .before .before .before .before .args in
+    let at-start = c .before .before .before .before .before in
+    let a = at-start .args in
     let l = c .before .loop in
     sym (l .inv .2 ∙ from-done (decode (a .l .least) (a .s .now)) (l .n) (omega (arith, l .inv .0)))
 

@@ -19,7 +19,11 @@ same-length : tie.Need-same-length
 same-length c = search needs
 
 returns : tie.Need-returns
-returns c = (c .wide .ensures ∙ ap (λ (x : Pair). x .value) (sym (pair-at (c .before .before .before .before .before .before .before .before .args .want) 0 (c .before .before .before .before .before .before .before .before .pre .4))), c .before .before .before .go-in .ensures)
+returns c =
+    let at-start = c .before .before .before .before .before .before .before .before in (
+      c .wide .ensures ∙ ap (λ (x : Pair). x .value) (sym (pair-at (at-start .args .want) 0 (at-start .pre .4))),
+      c .before .before .before .go-in .ensures,
+    )
 
 pub give-way-spec : {M : Type 1} → statement M
 give-way-spec =

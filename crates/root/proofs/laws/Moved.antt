@@ -22,18 +22,27 @@ use Rattle.parts.specs.Kept.{Inside, pagesOf}
 module _ (l : Limits) (b : List ℕ) (s : Store) (n : ℕ) where
   -- the store that is left
   abbrev after : Store
-  after = record { current = s .current; opened = s .opened; oldest = s .oldest; slots = climb.putSlot (next s) n (s .slots); pages = pagesOf l b }
+  after =
+      record {
+        current = s .current;
+        opened = s .opened;
+        oldest = s .oldest;
+        slots = climb.putSlot (next s) n (s .slots);
+        pages = pagesOf l b;
+      }
 
   roots-in : Sound (l .least) after → Inside l b n
   unfolding climb.putSlot
   roots-in d =
       let new : Slot = record { version = next s; root = n } in
       let h : isPage (length (pagesOf l b)) n ≡ true
-      = all-in (λ (x : Slot). isPage (length (pagesOf l b)) (x .root)) new (climb.putSlot (next s) n (s .slots)) (d .roots) (in-right new (those (λ (x : Slot). not (eqb (x .version) (next s))) (s .slots)) (new ∷ []) (inl refl)) in
+      = all-in (λ (x : Slot). isPage (length (pagesOf l b)) (x .root)) new (climb.putSlot (next s) n (s .slots)) (d .roots)
+      (in-right new (those (λ (x : Slot). not (eqb (x .version) (next s))) (s .slots)) (new ∷ []) (inl refl)) in
       let (low, high) = both-true (leb 5 n) (ltb n (length (pagesOf l b))) h in
       record { low = leb-true 5 n low; high = ltb-true n (length (pagesOf l b)) high }
 
-  pub moved-inside : (t : Store) → climb.rooted (l .least) s (climb.moves n (pagesOf l b)) ≡ climb.done t → Sound (l .least) t → Inside l b n
+  pub moved-inside : (t : Store) → climb.rooted (l .least) s (climb.moves n (pagesOf l b)) ≡ climb.done t → Sound (l .least) t
+      → Inside l b n
   unfolding climb.rooted climb.slotted
   moved-inside t e d = by (leb (length (climb.putSlot (next s) n (s .slots))) (64 * l .least)) e
     where

@@ -22,11 +22,13 @@ use Rattle.group.specs.declared.Routers.{Routers}
 use Rattle.group.specs.Group.{routersOf, groupOf, Router, Grouped}
 use Rattle.root.specs.Renew.{aloneWith}
 
-pub alone-is : (w : ℕ) (ps : List Page) (n : ℕ) (c : Change) (want : Gather) → pairsIn want ≡ wanted w c (page ps n) → groupOf (aloneWith n want) ≡ rootGroup w ps n c
+pub alone-is : (w : ℕ) (ps : List Page) (n : ℕ) (c : Change) (want : Gather) → pairsIn want ≡ wanted w c (page ps n)
+    → groupOf (aloneWith n want) ≡ rootGroup w ps n c
 unfolding groupOf routersOf
 alone-is w ps n c want e = ap (λ (xs : List Pair). record { routers = pair 0 n ∷ []; pairs = xs }) e
 
-pub alone-grouped : {l : Limits} {b : List ℕ} → ExactBytes l b → (n : ℕ) → Inside l b n → (want : Gather) → Good want → want .n < 7 * l .least → Grouped l b (aloneWith n want)
+pub alone-grouped : {l : Limits} {b : List ℕ} → ExactBytes l b → (n : ℕ) → Inside l b n → (want : Gather) → Good want
+    → want .n < 7 * l .least → Grouped l b (aloneWith n want)
 alone-grouped {l} {b} k n i want z few =
     let r : Router l b (pair 0 n) = record { inside = i; fits = record { key = omega arith; value = omega (arith, i .high, k .most) } } in
     record { routed = record { first = r; second = r }; good = z; few = few }

@@ -23,14 +23,18 @@ module _ (least w : ℕ) (ps : List Page) (n : ℕ) (c : Change) where
   abbrev here : Page
   here = page ps n
 
-  going : (b : Bool) (want : List Pair) → (b && eqb (length want) 1) ≡ true → climb.moves (getD want 0 nil .value) (set ps n (gone w (page ps n))) ≡ climb.rootGo least b w ps n c (page ps n) want
+  going : (b : Bool) (want : List Pair) → (b && eqb (length want) 1) ≡ true
+      → climb.moves (getD want 0 nil .value) (set ps n (gone w (page ps n))) ≡ climb.rootGo least b w ps n c (page ps n) want
   unfolding climb.rootGo
   going true [] h = absurd (not-both false h refl)
   going true (x ∷ []) h = refl
-  going true (x ∷ y ∷ zs) h = absurd (not-both (eqb (suc (suc (length zs))) 1) h (ne-eqb (suc (suc (length zs))) 1 (λ (z : suc (suc (length zs)) ≡ 1). omega arith)))
+  going true (x ∷ y ∷ zs) h =
+      absurd (not-both (eqb (suc (suc (length zs))) 1) h
+      (ne-eqb (suc (suc (length zs))) 1 (λ (z : suc (suc (length zs)) ≡ 1). omega arith)))
   going false want h = absurd (not-both false h refl)
 
-  staying : (b : Bool) (want : List Pair) → (b && eqb (length want) 1) ≡ false → climb.rootGo least b w ps n c (page ps n) want ≡ climb.rootStay least (roomy least w c (page ps n)) w ps n c (page ps n)
+  staying : (b : Bool) (want : List Pair) → (b && eqb (length want) 1) ≡ false
+      → climb.rootGo least b w ps n c (page ps n) want ≡ climb.rootStay least (roomy least w c (page ps n)) w ps n c (page ps n)
   unfolding climb.rootGo
   staying true [] h = refl
   staying true (x ∷ []) h = absurd (not-both true refl h)
@@ -39,9 +43,11 @@ module _ (least w : ℕ) (ps : List Page) (n : ℕ) (c : Change) where
 
   -- it has a router then
   pub goes-some : goes w c (page ps n) ≡ true → 0 < length (wanted w c (page ps n))
-  goes-some h = omega (arith, eqb-true (length (wanted w c here)) 1 (both-true (leb 2 (here .level)) (eqb (length (wanted w c here)) 1) h .1))
+  goes-some h =
+      omega (arith, eqb-true (length (wanted w c here)) 1 (both-true (leb 2 (here .level)) (eqb (length (wanted w c here)) 1) h .1))
 
-  pub root-goes : goes w c (page ps n) ≡ true → climb.moves (getD (wanted w c (page ps n)) 0 nil .value) (set ps n (gone w (page ps n))) ≡ climb.workRoot least w ps n c
+  pub root-goes : goes w c (page ps n) ≡ true → climb.moves (getD (wanted w c (page ps n)) 0 nil .value) (set ps n (gone w (page ps n)))
+      ≡ climb.workRoot least w ps n c
   unfolding climb.workRoot
   root-goes h = going (leb 2 (here .level)) (wanted w c here) h
 
@@ -54,6 +60,7 @@ module _ (least w : ℕ) (ps : List Page) (n : ℕ) (c : Change) where
     unfolding climb.rootStay
     root-stays e = sym (stays-here ∙ rw e)
 
-    pub root-renews : roomy least w c (page ps n) ≡ false → climb.newRoot w (page ps n .level) (rebuild least w (page ps n .level) ps (rootGroup w ps n c)) ≡ climb.workRoot least w ps n c
+    pub root-renews : roomy least w c (page ps n) ≡ false
+        → climb.newRoot w (page ps n .level) (rebuild least w (page ps n .level) ps (rootGroup w ps n c)) ≡ climb.workRoot least w ps n c
     unfolding climb.rootStay
     root-renews e = sym (stays-here ∙ rw e)

@@ -20,7 +20,7 @@ use Rattle.model.specs.Layout.{noSlot, headerOf, readHeader, readSlot, encode, 
 use Rattle.model.specs.Judged.{isSound}
 use Rattle.model.specs.Climb.{putSlot}
 use Rattle.model.specs.Needs.{hasSlot}
-use Rattle.model.proofs.plan.PlanSlots.{last-slot, put-new, put-over}
+use Rattle.model.proofs.needs.OpenSlot.{last-slot, put-new, put-over}
 use Rattle.store.specs.Slots.{SlotFits, slotParts}
 use Rattle.store.specs.Header.{putHeader}
 use Rattle.store.proofs.laws.Holds.{slot-encoded}
@@ -42,7 +42,12 @@ pub slotted-sound : {l : Limits} → Edition l → (b : List ℕ) → isSound (l
 slotted-sound {l} d b h o =
     let e : lastOf (decode (l .least) b .opened) (decode (l .least) b .current) ≡ next (decode (l .least) b) = rw o in
     let z = sure d b h in
-    record { some = some-slot (decode (l .least) b .oldest) (slotsOf l b) (z .begins); rises = z .rises; upto = rw e at (z .upto); low = omega (arith, z .last-low) }
+    record {
+      some = some-slot (decode (l .least) b .oldest) (slotsOf l b) (z .begins);
+      rises = z .rises;
+      upto = rw e at (z .upto);
+      low = omega (arith, z .last-low);
+    }
 
 -- pages that change leave the slots as they are
 pub slotted-after : {l : Limits} {b b′ : List ℕ} {ps : List Page} → ExactBytes l b → Becomes l b b′ ps → Slotted l b → Slotted l b′
@@ -74,7 +79,8 @@ module _ {l : Limits} {b : List ℕ} (k : ExactBytes l b) (z : Slotted l b) wher
   last-place = omega (arith, z .some)
 
   -- the last slot says whether the open version has one
-  pub has-slot-is : eqb (readSlot b (512 * l .least + 32 * (length (slotsOf l b) - 1)) .version) (next (decode (l .least) b)) ≡ hasSlot (decode (l .least) b)
+  pub has-slot-is : eqb (readSlot b (512 * l .least + 32 * (length (slotsOf l b) - 1)) .version) (next (decode (l .least) b))
+      ≡ hasSlot (decode (l .least) b)
   has-slot-is =
       rw (slot-is k (length (slotsOf l b) - 1) (omega (arith, z .some)))
       (sym (last-slot (next (decode (l .least) b)) (length (slotsOf l b) - 1) (slotsOf l b) last-place (z .rises) (z .upto)))
@@ -88,16 +94,19 @@ module _ {l : Limits} {b : List ℕ} (k : ExactBytes l b) (z : Slotted l b) wher
 
     -- it is replaced
     pub replaced : hasSlot (decode (l .least) b) ≡ true
-        → lay b (512 * l .least + 32 * (length (slotsOf l b) - 1)) (slotParts new) ≡ encode (l .least) (withSlots (decode (l .least) b) (putSlot (next (decode (l .least) b)) n (slotsOf l b)))
+        → lay b (512 * l .least + 32 * (length (slotsOf l b) - 1)) (slotParts new)
+        ≡ encode (l .least) (withSlots (decode (l .least) b) (putSlot (next (decode (l .least) b)) n (slotsOf l b)))
     replaced h =
         ap (λ (x : List ℕ). lay x (512 * l .least + 32 * (length (slotsOf l b) - 1)) (slotParts new)) (sym (k .same))
-        ∙ slot-set (l .least) (k .edition .four) (k .edition .eight) (decode (l .least) b) (k .holds) (length (slotsOf l b) - 1) new (omega (arith, z .some)) new-fits
+        ∙ slot-set (l .least) (k .edition .four) (k .edition .eight) (decode (l .least) b) (k .holds) (length (slotsOf l b) - 1) new
+        (omega (arith, z .some)) new-fits
         ∙ ap (λ (xs : List Slot). encode (l .least) (withSlots (decode (l .least) b) xs))
         (sym (put-over (next (decode (l .least) b)) n (length (slotsOf l b) - 1) (slotsOf l b) last-place (z .rises) (z .upto) h))
 
     -- or taken behind the others
     pub added : hasSlot (decode (l .least) b) ≡ false → length (slotsOf l b) < 64 * l .least
-        → putHeader (l .least) (lay b (512 * l .least + 32 * length (slotsOf l b)) (slotParts new)) (withRoots (readHeader (l .least) b) (length (slotsOf l b) + 1))
+        → putHeader (l .least) (lay b (512 * l .least + 32 * length (slotsOf l b)) (slotParts new))
+        (withRoots (readHeader (l .least) b) (length (slotsOf l b) + 1))
         ≡ encode (l .least) (withSlots (decode (l .least) b) (putSlot (next (decode (l .least) b)) n (slotsOf l b)))
     added h lt =
         let s : Store = decode (l .least) b in
@@ -106,6 +115,7 @@ module _ {l : Limits} {b : List ℕ} (k : ExactBytes l b) (z : Slotted l b) wher
         let head : withRoots (readHeader (l .least) b) (length (s .slots) + 1) ≡ headerOf (withSlots s (s .slots ++ new ∷ []))
         = ap (λ (x : Header). withRoots x (length (s .slots) + 1)) (header-is k) ∙ ap (withRoots (headerOf s)) count in
         ap (putHeader (l .least) c) head
-        ∙ ap (λ (x : List ℕ). putHeader (l .least) (lay x (512 * l .least + 32 * length (s .slots)) (slotParts new)) (headerOf (withSlots s (s .slots ++ new ∷ [])))) (sym (k .same))
+        ∙ ap (λ (x : List ℕ). putHeader (l .least) (lay x (512 * l .least + 32 * length (s .slots)) (slotParts new))
+        (headerOf (withSlots s (s .slots ++ new ∷ [])))) (sym (k .same))
         ∙ slot-add (l .least) (k .edition .four) (k .edition .eight) s (k .holds) new lt new-fits
         ∙ ap (λ (xs : List Slot). encode (l .least) (withSlots s xs)) (sym (put-new (next s) n (s .slots) h))

@@ -27,13 +27,24 @@ goes-requires : tie.Need-goes-requires
 goes-requires c κs = search needs
 
 goes-is : (c : tie.After-goes)
-    → c .goes .result ≡ goes (c .before .before .before .before .before .args .w) (changeOf (c .before .before .before .before .before .args .c)) (page (pagesOf (c .before .before .before .before .before .args .l) (c .before .before .before .before .before .args .s .now)) (c .before .before .before .before .before .args .n))
+    →
+    let at-start = c .before .before .before .before .before in
+    c .goes .result ≡ goes (at-start .args .w) (changeOf (at-start .args .c))
+    (page (pagesOf (at-start .args .l) (at-start .args .s .now)) (at-start .args .n))
 goes-is c = c .goes .ensures ∙ rw (listed (c .before .before .wanted-of .ensures))
 
 give-way-requires : tie.Need-give-way-requires
 give-way-requires c κs =
-    let h = goes-some (c .before .before .before .before .before .before .before .args .l .least) (c .before .before .before .before .before .before .before .args .w) (pagesOf (c .before .before .before .before .before .before .before .args .l) (c .before .before .before .before .before .before .before .args .s .now)) (c .before .before .before .before .before .before .before .args .n) (changeOf (c .before .before .before .before .before .before .before .args .c)) (sym (goes-is (c .before .before)) ∙ c .before .if1 .taken) in
-    (c .before .before .before .before .before .before .before .pre .0, c .before .before .before .before .before .before .before .pre .1, c .before .before .before .before .before .before .before .pre .3, c .before .before .before .before .wanted-of .ensures .good, omega (arith, listed (c .before .before .before .before .wanted-of .ensures)))
+    let at-wanted-of = c .before .before .before .before in
+    let at-start = at-wanted-of .before .before .before in
+    let h = goes-some (at-start .args .l .least) (at-start .args .w) (pagesOf (at-start .args .l) (at-start .args .s .now))
+    (at-start .args .n) (changeOf (at-start .args .c)) (sym (goes-is (c .before .before)) ∙ c .before .if1 .taken) in (
+      at-start .pre .0,
+      at-start .pre .1,
+      at-start .pre .3,
+      at-wanted-of .wanted-of .ensures .good,
+      omega (arith, listed (at-wanted-of .wanted-of .ensures)),
+    )
 
 same-length : tie.Need-same-length
 same-length c = search needs
@@ -41,16 +52,33 @@ same-length c = search needs
 returns : tie.Need-returns
 unfolding rootedOf
 returns c =
-    let d = c .before .before .give-way .ensures .1 in (
-      rw (c .before .before .give-way .ensures .0, c .before .before .before .before .before .before .before .wanted-of .ensures .is, pages-are (c .before .before .before .before .before .before .before .before .before .before .pre .0) d) (root-goes (c .before .before .before .before .before .before .before .before .before .before .args .l .least) (c .before .before .before .before .before .before .before .before .before .before .args .w) (pagesOf (c .before .before .before .before .before .before .before .before .before .before .args .l) (c .before .before .before .before .before .before .before .before .before .before .args .s .now)) (c .before .before .before .before .before .before .before .before .before .before .args .n) (changeOf (c .before .before .before .before .before .before .before .before .before .before .args .c)) (sym (goes-is (c .before .before .before .before .before)) ∙ c .before .before .before .before .if1 .taken)),
-      itself (c .before .before .before .before .before .before .before .before .before .before .pre .0) d,
+    let at-give-way = c .before .before in
+    let at-if1 = at-give-way .before .before in
+    let at-goes = at-if1 .before in
+    let at-wanted-of = at-goes .before .before in
+    let at-start = at-wanted-of .before .before .before in
+    let d = at-give-way .give-way .ensures .1 in (
+      rw (at-give-way .give-way .ensures .0, at-wanted-of .wanted-of .ensures .is, pages-are (at-start .pre .0) d)
+          (root-goes (at-start .args .l .least) (at-start .args .w) (pagesOf (at-start .args .l) (at-start .args .s .now))
+          (at-start .args .n) (changeOf (at-start .args .c)) (sym (goes-is at-goes) ∙ at-if1 .if1 .taken)),
+      itself (at-start .pre .0) d,
     )
 
 has-room-requires : tie.Need-has-room-requires
 has-room-requires c κs = search needs
 
 change-in-requires : tie.Need-change-in-requires
-change-in-requires c κs = (c .before .before .before .before .before .before .before .before .before .before .pre .0, c .before .before .before .before .before .before .before .before .before .before .pre .1, c .before .before .before .before .before .before .before .before .before .before .pre .3, c .before .before .before .before .before .before .before .before .before .before .pre .2, leb-true (length (changed (c .before .before .before .before .before .before .before .before .before .before .args .w) (changeOf (c .before .before .before .before .before .before .before .before .before .before .args .c)) (page (pagesOf (c .before .before .before .before .before .before .before .before .before .before .args .l) (c .before .before .before .before .before .before .before .before .before .before .args .s .now)) (c .before .before .before .before .before .before .before .before .before .before .args .n)) .entries)) (5 * c .before .before .before .before .before .before .before .before .before .before .args .l .least) (sym (c .before .before .has-room .ensures) ∙ c .before .if2 .taken))
+change-in-requires c κs =
+    let at-start = c .before .before .before .before .before .before .before .before .before .before in (
+      at-start .pre .0,
+      at-start .pre .1,
+      at-start .pre .3,
+      at-start .pre .2,
+      leb-true (length
+          (changed (at-start .args .w) (changeOf (at-start .args .c))
+          (page (pagesOf (at-start .args .l) (at-start .args .s .now)) (at-start .args .n)) .entries)) (5 * at-start .args .l .least)
+          (sym (c .before .before .has-room .ensures) ∙ c .before .if2 .taken),
+    )
 
 same-length-2 : tie.Need-same-length-2
 same-length-2 c = search needs
@@ -58,35 +86,69 @@ same-length-2 c = search needs
 returns-2 : tie.Need-returns-2
 unfolding rootedOf
 returns-2 c =
+    let at-if2 = c .before .before .before .before in
+    let at-has-room = at-if2 .before in
+    let at-if1 = at-has-room .before .before in
+    let at-goes = at-if1 .before in
+    let at-start = at-goes .before .before .before .before .before in
     let d = c .before .before .change-in .ensures in (
-      rw (pages-are (c .before .before .before .before .before .before .before .before .before .before .before .before .before .pre .0) d) (root-stays (c .before .before .before .before .before .before .before .before .before .before .before .before .before .args .l .least) (c .before .before .before .before .before .before .before .before .before .before .before .before .before .args .w) (pagesOf (c .before .before .before .before .before .before .before .before .before .before .before .before .before .args .l) (c .before .before .before .before .before .before .before .before .before .before .before .before .before .args .s .now)) (c .before .before .before .before .before .before .before .before .before .before .before .before .before .args .n) (changeOf (c .before .before .before .before .before .before .before .before .before .before .before .before .before .args .c)) (sym (goes-is (c .before .before .before .before .before .before .before .before)) ∙ c .before .before .before .before .before .before .before .if1 .left) (sym (c .before .before .before .before .before .has-room .ensures) ∙ c .before .before .before .before .if2 .taken)),
-      itself (c .before .before .before .before .before .before .before .before .before .before .before .before .before .pre .0) d,
+      rw (pages-are (at-start .pre .0) d)
+          (root-stays (at-start .args .l .least) (at-start .args .w) (pagesOf (at-start .args .l) (at-start .args .s .now))
+          (at-start .args .n) (changeOf (at-start .args .c)) (sym (goes-is at-goes) ∙ at-if1 .if1 .left)
+          (sym (at-has-room .has-room .ensures) ∙ at-if2 .if2 .taken)),
+      itself (at-start .pre .0) d,
     )
 
 level-of-requires : tie.Need-level-of-requires
 level-of-requires c κs = search needs
 
 alone-requires : tie.Need-alone-requires
-alone-requires c κs = omega (arith, c .before .before .before .before .before .before .before .before .before .before .before .before .pre .1 .high, c .before .before .before .before .before .before .before .before .before .before .before .before .pre .0 .most)
+alone-requires c κs =
+    let at-start = c .before .before .before .before .before .before .before .before .before .before .before .before in
+    omega (arith, at-start .pre .1 .high, at-start .pre .0 .most)
 
 new-root-requires : tie.Need-new-root-requires
-new-root-requires c κs = (
-  c .before .before .before .before .before .before .before .before .before .before .before .before .before .pre .0,
-  rw (c .alone .ensures) (alone-grouped (c .before .before .before .before .before .before .before .before .before .before .before .before .before .pre .0) (c .before .before .before .before .before .before .before .before .before .before .before .before .before .args .n) (c .before .before .before .before .before .before .before .before .before .before .before .before .before .pre .1) (c .before .before .before .before .before .before .before .before .before .before .wanted-of .result) (c .before .before .before .before .before .before .before .before .before .before .wanted-of .ensures .good) (omega (arith, listed (c .before .before .before .before .before .before .before .before .before .before .wanted-of .ensures), wanted-room (c .before .before .before .before .before .before .before .before .before .before .before .before .before .pre .0) (c .before .before .before .before .before .before .before .before .before .before .before .before .before .pre .1) (c .before .before .before .before .before .before .before .before .before .before .before .before .before .args .w) (c .before .before .before .before .before .before .before .before .before .before .before .before .before .args .c) (c .before .before .before .before .before .before .before .before .before .before .before .before .before .pre .2)))),
-  c .before .before .before .before .before .before .before .before .before .before .before .before .before .pre .3,
-  omega (arith, c .before .before .level-of .ensures, c .before .before .before .before .before .before .before .before .before .before .before .before .before .pre .5),
-  c .before .before .before .before .before .before .before .before .before .before .before .before .before .pre .4,
-)
+new-root-requires c κs =
+    let at-wanted-of = c .before .before .before .before .before .before .before .before .before .before in
+    let at-start = at-wanted-of .before .before .before in (
+      at-start .pre .0,
+      rw (c .alone .ensures)
+          (alone-grouped (at-start .pre .0) (at-start .args .n) (at-start .pre .1) (at-wanted-of .wanted-of .result)
+          (at-wanted-of .wanted-of .ensures .good)
+          (omega (
+            arith,
+            listed (at-wanted-of .wanted-of .ensures),
+            wanted-room (at-start .pre .0) (at-start .pre .1) (at-start .args .w) (at-start .args .c) (at-start .pre .2),
+          ))),
+      at-start .pre .3,
+      omega (arith, c .before .before .level-of .ensures, at-start .pre .5),
+      at-start .pre .4,
+    )
 
 same-length-3 : tie.Need-same-length-3
 same-length-3 c = search needs
 
 returns-3 : tie.Need-returns-3
-returns-3 c = (
-  rw (c .before .before .before .before .before .level-of .ensures, c .before .before .before .alone .ensures, alone-is (c .before .before .before .before .before .before .before .before .before .before .before .before .before .before .before .before .args .w) (pagesOf (c .before .before .before .before .before .before .before .before .before .before .before .before .before .before .before .before .args .l) (c .before .before .before .before .before .before .before .before .before .before .before .before .before .before .before .before .args .s .now)) (c .before .before .before .before .before .before .before .before .before .before .before .before .before .before .before .before .args .n) (changeOf (c .before .before .before .before .before .before .before .before .before .before .before .before .before .before .before .before .args .c)) (c .before .before .before .before .before .before .before .before .before .before .before .before .before .wanted-of .result) (c .before .before .before .before .before .before .before .before .before .before .before .before .before .wanted-of .ensures .is)) at (c .before .before .new-root .ensures .0)
-      ∙ root-renews (c .before .before .before .before .before .before .before .before .before .before .before .before .before .before .before .before .args .l .least) (c .before .before .before .before .before .before .before .before .before .before .before .before .before .before .before .before .args .w) (pagesOf (c .before .before .before .before .before .before .before .before .before .before .before .before .before .before .before .before .args .l) (c .before .before .before .before .before .before .before .before .before .before .before .before .before .before .before .before .args .s .now)) (c .before .before .before .before .before .before .before .before .before .before .before .before .before .before .before .before .args .n) (changeOf (c .before .before .before .before .before .before .before .before .before .before .before .before .before .before .before .before .args .c)) (sym (goes-is (c .before .before .before .before .before .before .before .before .before .before .before)) ∙ c .before .before .before .before .before .before .before .before .before .before .if1 .left) (sym (c .before .before .before .before .before .before .before .before .has-room .ensures) ∙ c .before .before .before .before .before .before .before .if2 .left),
-  c .before .before .new-root .ensures .1,
-)
+returns-3 c =
+    let at-new-root = c .before .before in
+    let at-level-of = at-new-root .before .before .before in
+    let at-if2 = at-level-of .before .before in
+    let at-has-room = at-if2 .before in
+    let at-if1 = at-has-room .before .before in
+    let at-goes = at-if1 .before in
+    let at-wanted-of = at-goes .before .before in
+    let at-start = at-wanted-of .before .before .before in (
+      rw (
+        at-level-of .level-of .ensures,
+        at-new-root .before .alone .ensures,
+        alone-is (at-start .args .w) (pagesOf (at-start .args .l) (at-start .args .s .now)) (at-start .args .n)
+            (changeOf (at-start .args .c)) (at-wanted-of .wanted-of .result) (at-wanted-of .wanted-of .ensures .is),
+      ) at (at-new-root .new-root .ensures .0)
+          ∙ root-renews (at-start .args .l .least) (at-start .args .w) (pagesOf (at-start .args .l) (at-start .args .s .now))
+          (at-start .args .n) (changeOf (at-start .args .c)) (sym (goes-is at-goes) ∙ at-if1 .if1 .left)
+          (sym (at-has-room .has-room .ensures) ∙ at-if2 .if2 .left),
+      at-new-root .new-root .ensures .1,
+    )
 
 pub work-root-spec : {M : Type 1} → statement M
 work-root-spec =

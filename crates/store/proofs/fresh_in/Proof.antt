@@ -19,24 +19,32 @@ same-length c = search needs
 
 returns : tie.Need-returns
 returns c =
-    let a = c .before .before .before .before .args in
+    let at-start = c .before .before .before .before in
+    let a = at-start .args in
     let b : List ℕ = a .s .now in
     let no : lengthOk (a .l .least) b ≡ false = sym (c .before .whole .ensures) ∙ not-true _ (c .if1 .taken) in
     (refused-number (a .l .least) b no, refused-store (a .l .least) b no)
 
 make-requires : tie.Need-make-requires
 make-requires c κs =
-    let e = c .before .before .before .before .before in
-    (e .pre .0, e .pre .1, whole-length (e .args .l .least) (e .args .s .now) (sym (c .before .before .whole .ensures) ∙ not-false _ (c .before .if1 .left)))
+    let at-start = c .before .before .before .before .before in (
+      at-start .pre .0,
+      at-start .pre .1,
+      whole-length (at-start .args .l .least) (at-start .args .s .now)
+          (sym (c .before .before .whole .ensures) ∙ not-false _ (c .before .if1 .left)),
+    )
 
 same-length-2 : tie.Need-same-length-2
 same-length-2 c = search needs
 
 returns-2 : tie.Need-returns-2
 returns-2 c =
-    let a = c .before .before .before .before .before .before .before .before .args in
+    let at-if1 = c .before .before .before .before in
+    let at-whole = at-if1 .before in
+    let at-start = at-whole .before .before .before in
+    let a = at-start .args in
     let b : List ℕ = a .s .now in
-    let yes : lengthOk (a .l .least) b ≡ true = sym (c .before .before .before .before .before .whole .ensures) ∙ not-false _ (c .before .before .before .before .if1 .left) in
+    let yes : lengthOk (a .l .least) b ≡ true = sym (at-whole .whole .ensures) ∙ not-false _ (at-if1 .if1 .left) in
     (done-number (a .l .least) b yes, c .before .before .make .ensures ∙ done-store (a .l .least) b yes)
 
 pub fresh-in-spec : {M : Type 1} → statement M

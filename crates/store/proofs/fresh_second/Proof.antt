@@ -14,17 +14,24 @@ edition-two-requires : tie.Need-edition-two-requires
 edition-two-requires c κs = search needs
 
 fresh-in-requires : tie.Need-fresh-in-requires
-fresh-in-requires c κs = (edition-of 8 (c .edition-two .ensures) (omega arith) (omega arith), ap (λ (l : Limits). editionOf (l .least)) (sym (c .edition-two .ensures)))
+fresh-in-requires c κs = (
+  edition-of 8 (c .edition-two .ensures) (omega arith) (omega arith),
+  ap (λ (l : Limits). editionOf (l .least)) (sym (c .edition-two .ensures)),
+)
 
 same-length : tie.Need-same-length
 same-length c = search needs
 
 returns : tie.Need-returns
 returns c =
-    let d = c .before .before in
-    let b = d .before .before .before .before .args .s .now in
-    let l : d .before .edition-two .result .least ≡ 8 = ap (λ (x : Limits). x .least) (d .before .edition-two .ensures) in
-    (d .fresh-in .ensures .0 ∙ ap (λ (n : ℕ). freshLent n b .number) l, d .fresh-in .ensures .1 ∙ ap (λ (n : ℕ). freshLent n b .store) l)
+    let at-fresh-in = c .before .before in
+    let at-edition-two = at-fresh-in .before in
+    let at-start = at-edition-two .before .before .before in
+    let b = at-start .args .s .now in
+    let l : at-edition-two .edition-two .result .least ≡ 8 = ap (λ (x : Limits). x .least) (at-edition-two .edition-two .ensures) in (
+      at-fresh-in .fresh-in .ensures .0 ∙ ap (λ (n : ℕ). freshLent n b .number) l,
+      at-fresh-in .fresh-in .ensures .1 ∙ ap (λ (n : ℕ). freshLent n b .store) l,
+    )
 
 pub fresh-second-spec : {M : Type 1} → statement M
 fresh-second-spec = tie.close (tie.spec edition-two-requires fresh-in-requires same-length returns)

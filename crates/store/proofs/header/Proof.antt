@@ -16,17 +16,27 @@ field-requires-3 : tie.Need-field-requires-3
 field-requires-3 c κs = search needs
 
 field-requires-4 : tie.Need-field-requires-4
-field-requires-4 c κs = omega (arith, rooter-roots (c .before .before .before .before .pre .0))
+field-requires-4 c κs =
+    let at-start = c .before .before .before .before in
+    omega (arith, rooter-roots (at-start .pre .0))
 
 add-field : tie.Need-add-field
-add-field c = omega (arith, rooter-roots (c .before .before .before .before .before .before .pre .0))
+add-field c =
+    let at-start = c .before .before .before .before .before .before in
+    omega (arith, rooter-roots (at-start .pre .0))
 
 field-requires-5 : tie.Need-field-requires-5
-field-requires-5 c κs = omega (arith, rooter-roots (c .before .before .before .before .before .before .pre .0), aged-few (c .before .before .before .before .before .before .pre .0))
+field-requires-5 c κs =
+    let at-start = c .before .before .before .before .before .before in
+    omega (arith, rooter-roots (at-start .pre .0), aged-few (at-start .pre .0))
 
 returns : tie.Need-returns
 unfolding readHeader
-returns c = rw (← rooter-is (c .before .before .before .before .before .before .before .pre .0), ← aged-is (c .before .before .before .before .before .before .before .pre .0)) cc
+returns c =
+    rw (
+      ← rooter-is (c .before .before .before .before .before .before .before .pre .0),
+      ← aged-is (c .before .before .before .before .before .before .before .pre .0),
+    ) cc
 
 pub header-spec : {M : Type 1} → statement M
 header-spec =

@@ -29,12 +29,14 @@ use Rattle.page.proofs.laws.Clean.{passed, free-live}
 use Rattle.store.proofs.laws.Read.{page-at}
 use Rattle.store.proofs.laws.Tested.{Counted, pages-clean}
 
-pub pages-counted : (least v : ℕ) (s : List ℕ) (n k : ℕ) → countedPages least v s n k ≡ true → (m : ℕ) → n ≤ m → m < n + k → countedPage least v (pageOf least s m) ≡ true
+pub pages-counted : (least v : ℕ) (s : List ℕ) (n k : ℕ) → countedPages least v s n k ≡ true → (m : ℕ) → n ≤ m → m < n + k
+    → countedPage least v (pageOf least s m) ≡ true
 unfolding countedPages
 pages-counted least v s n zero e m l h = absurd (omega arith)
 pages-counted least v s n (suc k) e m l h =
     let x = both-true (countedPage least v (pageOf least s n)) (countedPages least v s (n + 1) k) e in
-    ⊎-elim (λ q. pages-counted least v s (n + 1) k (x .1) m (omega arith) (omega arith)) (λ q. let i : m ≡ n = omega arith in rw i (x .0)) (less n m)
+    ⊎-elim (λ q. pages-counted least v s (n + 1) k (x .1) m (omega arith) (omega arith)) (λ q. let i : m ≡ n = omega arith in rw i (x .0))
+    (less n m)
 
 -- what rule 8 says of a used page
 used-counted : (least v : ℕ) (p : List ℕ) → isFree (decodePage least p) ≡ false → countedPage least v p ≡ true
@@ -84,14 +86,17 @@ module _ (least : ℕ) (eight : least ≤ 8) (b : List ℕ) (a : Accepted least 
       at : (f : Bool) → isFree q ≡ f → liveOf least p ≡ liveIn least (q .entries)
       at true e =
           let blank : q ≡ free = sym here ∙ sure .zeros n (subst (λ (x : Page). isFree x ≡ true) (sym here) e) in
-          let c : cleanPage least p ≡ true = pages-clean least b 5 (sizeOf least b - 5) (pages-of least b (a .is-clean)) n five (omega arith) in
+          let c : cleanPage least p ≡ true = pages-clean least b 5 (sizeOf least b - 5) (pages-of least b (a .is-clean)) n five
+          (omega arith) in
           free-live least p eight (passed least p c) (level-is least p ∙ eqb-true (q .level) 0 e)
           ∙ sym (ap (λ (x : Page). liveIn least (x .entries)) blank ∙ live-none least)
       at false e =
-          let c : countedPage least (last s) p ≡ true = pages-counted least (last s) b 5 (sizeOf least b - 5) (eight-of least b (a .is-counted)) n five (omega arith) in
+          let c : countedPage least (last s) p ≡ true
+          = pages-counted least (last s) b 5 (sizeOf least b - 5) (eight-of least b (a .is-counted)) n five (omega arith) in
           let u : isFree (page (s .pages) n) ≡ false = subst (λ (x : Page). isFree x ≡ false) (sym here) e in
           let es : those (liveAt (last s)) (page (s .pages) n .entries) ≡ those lives (page (s .pages) n .entries)
-          = those-last (last s) (length (s .pages)) (page (s .pages) n .level) (sure .last-low) (page (s .pages) n .entries) (sure .pages n u .entries) in
+          = those-last (last s) (length (s .pages)) (page (s .pages) n .level) (sure .last-low) (page (s .pages) n .entries)
+          (sure .pages n u .entries) in
           let fs : those (liveAt (last s)) (q .entries) ≡ those lives (q .entries)
           = subst (λ (x : Page). those (liveAt (last s)) (x .entries) ≡ those lives (x .entries)) here es in
           used-counted least (last s) p e c ∙ ap (λ (x : List Entry). liveShown least (length x)) fs ∙ live-is least (q .entries)

@@ -41,17 +41,27 @@ module _ (b : List ℕ) where
       pub lent-second : getD b 4 0 ≡ 2 → lentOf 0 8 ≡ lentAs b
       unfolding byEdition
       lent-second e =
-          rw (le-ltb (length b) 5 h, m, edition-byte 4 (omega arith), ne-eqb (getD b 4 0) 1 (λ q. omega arith), edition-byte 8 (omega arith), eq-eqb (getD b 4 0) 2 e)
+          rw (
+            le-ltb (length b) 5 h,
+            m,
+            edition-byte 4 (omega arith),
+            ne-eqb (getD b 4 0) 1 (λ q. omega arith),
+            edition-byte 8 (omega arith),
+            eq-eqb (getD b 4 0) 2 e,
+          )
 
       pub lent-neither : getD b 4 0 < 256 → getD b 4 0 ≢ 1 → getD b 4 0 ≢ 2 → lentOf 3 4 ≡ lentAs b
       unfolding byEdition
-      lent-neither s n k = rw (le-ltb (length b) 5 h, m, edition-byte 4 s, ne-eqb (getD b 4 0) 1 n, edition-byte 8 s, ne-eqb (getD b 4 0) 2 k)
+      lent-neither s n k =
+          rw (le-ltb (length b) 5 h, m, edition-byte 4 s, ne-eqb (getD b 4 0) 1 n, edition-byte 8 s, ne-eqb (getD b 4 0) 2 k)
 
 -- ---- a call by the edition found
 
 module _ (r : Lent) (b : List ℕ) (e : r ≡ lentAs b) where
   pub is-edition : Edition (r .limits)
-  is-edition = edition-of (leastOf b) (ap (λ (x : Lent). x .limits) e) (edition-four (leastOf b) (least-is b)) (edition-eight (leastOf b) (least-is b))
+  is-edition =
+      edition-of (leastOf b) (ap (λ (x : Lent). x .limits) e) (edition-four (leastOf b) (least-is b))
+      (edition-eight (leastOf b) (least-is b))
 
   module _ {A : Type 0} (f g : ℕ → A) where
     pub refused-early : r .number ≢ 0 → f (r .number) ≡ byEdition b f g

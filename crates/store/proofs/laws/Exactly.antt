@@ -13,7 +13,8 @@ use Rattle.model.specs.declared.Slot.{Slot}
 use Rattle.model.specs.Limits.{rootBits, oldestBits}
 use Rattle.model.specs.Field.{field, Bytes}
 use Rattle.model.specs.Store.{Store}
-use Rattle.model.specs.Layout.{pageOf, readHeader, readSlots, readPages, slotsBytes, pagesBytes, headerBytes, headerOf, encode, decode, sizeOf}
+use Rattle.model.specs.Layout.{pageOf, readHeader, readSlots, readPages, slotsBytes, pagesBytes, headerBytes, headerOf, encode, decode}
+use Rattle.model.specs.Layout.{sizeOf}
 use Rattle.page.proofs.laws.Clean.{Clean, exact}
 use Rattle.store.proofs.laws.Read.{size-is, length-slots, count-pages, behind, current-of, opened-of, oldest-of, slots-of}
 use Rattle.store.proofs.laws.Parts.{page-take}
@@ -38,17 +39,26 @@ frontOf least s = headerBytes least (headerOf s) ++ slotsBytes (directory least 
 
 pub encode-is : (least : ℕ) (s : Store) → encode least s ≡ frontOf least s ++ pagesBytes least (drop 5 (s .pages))
 unfolding encode directory
-encode-is least s = sym (append-assoc (headerBytes least (headerOf s)) (slotsBytes (directory least (s .slots))) (pagesBytes least (drop 5 (s .pages))))
+encode-is least s =
+    sym (append-assoc (headerBytes least (headerOf s)) (slotsBytes (directory least (s .slots))) (pagesBytes least (drop 5 (s .pages))))
 
 module _ (least : ℕ) (four : 4 ≤ least) (eight : least ≤ 8) (s : List ℕ) where
   -- clean pages, written again
-  pub pages-part : (n k : ℕ) → ((m : ℕ) → n ≤ m → m < n + k → Clean least (pageOf least s m)) → pagesBytes least (readPages least s n k) ≡ take (k * (64 * least)) (drop (n * (64 * least)) s)
+  pub pages-part : (n k : ℕ) → ((m : ℕ) → n ≤ m → m < n + k → Clean least (pageOf least s m))
+      → pagesBytes least (readPages least s n k) ≡ take (k * (64 * least)) (drop (n * (64 * least)) s)
   unfolding pagesBytes readPages
   pages-part n zero c = let e : 0 * (64 * least) ≡ 0 = omega arith in rw e
   pages-part n (suc k) c =
-      let e : (n + 1) * (64 * least) ≡ n * (64 * least) + 64 * least = ap (λ (x : ℕ). x * (64 * least)) (add-one n) ∙ suc-mul n (64 * least) in
+      let e : (n + 1) * (64 * least) ≡ n * (64 * least) + 64 * least = ap (λ (x : ℕ). x * (64 * least)) (add-one n)
+      ∙ suc-mul n (64 * least) in
       let f : suc k * (64 * least) ≡ 64 * least + k * (64 * least) = omega (arith, suc-mul k (64 * least)) in
-      rw (exact least four eight (pageOf least s n) (c n (omega arith) (omega arith)) .same, pages-part (n + 1) k (λ m l h. c m (omega arith) (omega arith)), page-take least s n, e, f)
+      rw (
+        exact least four eight (pageOf least s n) (c n (omega arith) (omega arith)) .same,
+        pages-part (n + 1) k (λ m l h. c m (omega arith) (omega arith)),
+        page-take least s n,
+        e,
+        f,
+      )
       (two-parts s (n * (64 * least)) (64 * least) (k * (64 * least)))
 
   module _ (size : ℕ) (x : Exactly least s size) where
@@ -63,7 +73,8 @@ module _ (least : ℕ) (four : 4 ≤ least) (eight : least ≤ 8) (s : List ℕ)
 
     pub header-of : headerOf (decode least s) ≡ readHeader least s
     header-of =
-        let p : length (decode least s .pages) ≡ readHeader least s .pages = count-pages least s (omega (arith, size-of, x .six)) ∙ size-of ∙ sym (x .counted) in
+        let p : length (decode least s .pages) ≡ readHeader least s .pages = count-pages least s (omega (arith, size-of, x .six)) ∙ size-of
+        ∙ sym (x .counted) in
         let n : length (decode least s .slots) ≡ r = ap length (slots-of least s) ∙ length-slots s (512 * least) r in
         λ i. record { pages = p i; current = current-of least s i; opened = opened-of least s i; roots = n i; oldest = oldest-of least s i }
 
@@ -96,8 +107,11 @@ module _ (least : ℕ) (four : 4 ≤ least) (eight : least ≤ 8) (s : List ℕ)
         let n : size ≡ size - 5 + 5 = omega (arith, x .six) in
         let q : size * (64 * least) ≡ k + 5 * (64 * least) = ap (λ (y : ℕ). y * (64 * least)) n ∙ add-mul (size - 5) 5 (64 * least) in
         let whole : length s ≤ 64 * least + (256 * least + k) = omega (arith, x .whole) in
-        let e1 : take (256 * least) (drop (64 * least) s) ++ take k (drop (64 * least + 256 * least) s) ≡ take (256 * least + k) (drop (64 * least) s) = two-parts s (64 * least) (256 * least) k in
+        let e1 : take (256 * least) (drop (64 * least) s) ++ take k (drop (64 * least + 256 * least) s)
+        ≡ take (256 * least + k) (drop (64 * least) s) = two-parts s (64 * least) (256 * least) k in
         let zero : 64 * least ≡ 0 + 64 * least = omega arith in
-        let e2 : take (64 * least) (drop 0 s) ++ take (256 * least + k) (drop (64 * least) s) ≡ take (64 * least + (256 * least + k)) (drop 0 s)
-        = ap (λ (y : ℕ). take (64 * least) (drop 0 s) ++ take (256 * least + k) (drop y s)) zero ∙ two-parts s 0 (64 * least) (256 * least + k) in
+        let e2 : take (64 * least) (drop 0 s) ++ take (256 * least + k) (drop (64 * least) s)
+        ≡ take (64 * least + (256 * least + k)) (drop 0 s)
+        = ap (λ (y : ℕ). take (64 * least) (drop 0 s) ++ take (256 * least + k) (drop y s)) zero
+        ∙ two-parts s 0 (64 * least) (256 * least + k) in
         rw (front-is, directory-is, p, e1, e2) (take-all (64 * least + (256 * least + k)) s whole)

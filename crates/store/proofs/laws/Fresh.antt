@@ -39,7 +39,8 @@ freshHeader n = record { pages = n; current = 0; opened = false; roots = 1; olde
 
 -- ---- the name, byte by byte
 
-pub name-laid : (s : List ℕ) (e : ℕ) → Bytes s → 5 ≤ length s → e < 256 → set (set (set (set (set s 0 0x52) 1 0x43) 2 0x53) 3 0x54) 4 e ≡ lay s 0 (namedBy e)
+pub name-laid : (s : List ℕ) (e : ℕ) → Bytes s → 5 ≤ length s → e < 256
+    → set (set (set (set (set s 0 0x52) 1 0x43) 2 0x53) 3 0x54) 4 e ≡ lay s 0 (namedBy e)
 unfolding lay
 name-laid s e b h he =
     let s1 : List ℕ = putField s 0 8 0x52 in
@@ -91,7 +92,9 @@ module _ (least : ℕ) (four : 4 ≤ least) (eight : least ≤ 8) where
   root-put : putHead least (encodePage least free) rootHead ≡ encodePage least (filled 0 1 [])
   root-put =
       ap (λ (b : List ℕ). putHead least b rootHead) (page.encode-is least free)
-      ∙ head-put least eight (headOf free) rootHead (liveIn least []) (bodyBytes least (padded least [])) (head-valid least four eight free (valid-free least)) (live-fits least [] eight (omega arith)) (record { level = omega arith; count = omega (arith, count-bits least eight); start = omega arith; end = omega arith })
+      ∙ head-put least eight (headOf free) rootHead (liveIn least []) (bodyBytes least (padded least []))
+      (head-valid least four eight free (valid-free least)) (live-fits least [] eight (omega arith))
+      (record { level = omega arith; count = omega (arith, count-bits least eight); start = omega arith; end = omega arith })
       ∙ sym (page.encode-is least (filled 0 1 []))
 
   module _ (size : ℕ) (six : 6 ≤ size) (most : size ≤ 4096) where
@@ -105,10 +108,17 @@ module _ (least : ℕ) (four : 4 ≤ least) (eight : least ≤ 8) where
     unfolding slotsBytes
     clear-is =
         let n : size ≡ size - 5 + 5 = omega arith in
-        let q : size * (64 * least) ≡ (size - 5) * (64 * least) + 5 * (64 * least) = ap (λ (y : ℕ). y * (64 * least)) n ∙ add-mul (size - 5) 5 (64 * least) in
+        let q : size * (64 * least) ≡ (size - 5) * (64 * least) + 5 * (64 * least) = ap (λ (y : ℕ). y * (64 * least)) n
+        ∙ add-mul (size - 5) 5 (64 * least) in
         let d : slotsBytes (directory least []) ≡ zeros (4 * (64 * least - 0)) = directory-bytes least [] in
         let e : 64 * least + (4 * (64 * least - 0) + (size - 5) * (64 * least)) ≡ size * (64 * least) = omega arith in
-        sym (rw (d, free-bytes (size - 5), zeros-append (4 * (64 * least - 0)) ((size - 5) * (64 * least)), zeros-append (64 * least) (4 * (64 * least - 0) + (size - 5) * (64 * least)), e))
+        sym (rw (
+          d,
+          free-bytes (size - 5),
+          zeros-append (4 * (64 * least - 0)) ((size - 5) * (64 * least)),
+          zeros-append (64 * least) (4 * (64 * least - 0) + (size - 5) * (64 * least)),
+          e,
+        ))
 
     named : List ℕ
     named = lay (zeros (64 * least)) 0 (nameParts least)
@@ -121,23 +131,29 @@ module _ (least : ℕ) (four : 4 ≤ least) (eight : least ≤ 8) where
     unfolding named
     name-is = rw clear-is (lay-left (zeros (64 * least)) rest 0 (nameParts least) (omega (arith, length-zeros (64 * least))))
 
-    header-laid : putHeader least (lay (zeros (size * (64 * least))) 0 (nameParts least)) (freshHeader size) ≡ bytesOf least (freshHeader size) (directory least []) ps
+    header-laid : putHeader least (lay (zeros (size * (64 * least))) 0 (nameParts least)) (freshHeader size)
+        ≡ bytesOf least (freshHeader size) (directory least []) ps
     unfolding putHeader named
     header-laid =
         rw (name-is, header-is least four eight (freshHeader size))
-        (lay-left named rest 40 (valueParts least (freshHeader size)) (omega (arith, named-length, root-bits least eight, oldest-bits least)))
+        (lay-left named rest 40 (valueParts least (freshHeader size))
+        (omega (arith, named-length, root-bits least eight, oldest-bits least)))
 
     abbrev dir : List Slot
     dir = directory least (rootSlot ∷ [])
 
-    slot-laid : lay (bytesOf least (freshHeader size) (directory least []) ps) (512 * least + 32 * 0) (slotParts rootSlot) ≡ bytesOf least (freshHeader size) dir ps
+    slot-laid : lay (bytesOf least (freshHeader size) (directory least []) ps) (512 * least + 32 * 0) (slotParts rootSlot)
+        ≡ bytesOf least (freshHeader size) dir ps
     slot-laid =
-        slot-in least four eight (freshHeader size) (directory least []) ps 0 rootSlot (omega (arith, directory-length least [] (omega arith))) (record { version = omega arith; root = omega arith })
+        slot-in least four eight (freshHeader size) (directory least []) ps 0 rootSlot
+        (omega (arith, directory-length least [] (omega arith))) (record { version = omega arith; root = omega arith })
         ∙ ap (λ (xs : List Slot). bytesOf least (freshHeader size) xs ps) (directory-add least [] rootSlot (omega arith))
 
     -- the bytes before page 5 is written
     abbrev pub begun : List ℕ
-    begun = lay (putHeader least (lay (zeros (size * (64 * least))) 0 (nameParts least)) (freshHeader size)) (512 * least + 32 * 0) (slotParts rootSlot)
+    begun =
+        lay (putHeader least (lay (zeros (size * (64 * least))) 0 (nameParts least)) (freshHeader size)) (512 * least + 32 * 0)
+        (slotParts rootSlot)
 
     begun-is : begun ≡ bytesOf least (freshHeader size) dir ps
     begun-is = ap (λ (b : List ℕ). lay b (512 * least + 32 * 0) (slotParts rootSlot)) header-laid ∙ slot-laid
@@ -149,11 +165,20 @@ module _ (least : ℕ) (four : 4 ≤ least) (eight : least ≤ 8) where
         let full : length dir ≡ 64 * least = directory-length least (rootSlot ∷ []) (omega arith) in
         let n : length ps ≡ size - 5 = length-replicate (size - 5) free in
         let p : pageOf least (bytesOf least h dir ps) 5 ≡ encodePage least free
-        = page-out least four eight h dir ps full (all-free (size - 5)) 5 (omega arith) (omega arith) ∙ ap (encodePage least) (get-free (size - 5) 0) in
+        = page-out least four eight h dir ps full (all-free (size - 5)) 5 (omega arith) (omega arith)
+        ∙ ap (encodePage least) (get-free (size - 5) 0) in
         let e : headerOf (fresh size) ≡ h
-        = λ i. record { pages = (length-set (replicate size free) 5 q ∙ length-replicate size free) i; current = 0; opened = false; roots = 1; oldest = 0 } in
-        let d : drop 5 (set (replicate size free) 5 q) ≡ set ps 0 q = drop-set (replicate size free) 5 5 q (omega arith) ∙ ap (λ (l : List Page). set l 0 q) (drop-free size) in
+        = λ i. record {
+          pages = (length-set (replicate size free) 5 q ∙ length-replicate size free) i;
+          current = 0;
+          opened = false;
+          roots = 1;
+          oldest = 0;
+        } in
+        let d : drop 5 (set (replicate size free) 5 q) ≡ set ps 0 q = drop-set (replicate size free) 5 5 q (omega arith)
+        ∙ ap (λ (l : List Page). set l 0 q) (drop-free size) in
         ap (λ (b : List ℕ). withPage least b 5 (putHead least (pageOf least b 5) rootHead)) begun-is
         ∙ ap (withPage least (bytesOf least h dir ps) 5) (ap (λ (b : List ℕ). putHead least b rootHead) p ∙ root-put)
         ∙ page-in least four eight h dir ps full (all-free (size - 5)) 5 q (omega arith) (omega arith)
-        ∙ ap (λ (g : Header). bytesOf least g dir (set ps 0 q)) (sym e) ∙ ap (bytesOf least (headerOf (fresh size)) dir) (sym d) ∙ sym (encode-of least (fresh size))
+        ∙ ap (λ (g : Header). bytesOf least g dir (set ps 0 q)) (sym e) ∙ ap (bytesOf least (headerOf (fresh size)) dir) (sym d)
+        ∙ sym (encode-of least (fresh size))

@@ -8,7 +8,8 @@ use lib.Dec.{leb, eqb}
 use lib.ListN.{length, take, drop}
 use Rattle.bits.proofs.laws.Laws.{field-lt}
 use Rattle.bits.proofs.laws.Append.{field-left, field-part, bit-part}
-use Rattle.bits.proofs.laws.Lay.{Shows, Fit, total, length-lay, bytes-lay, length-packed, bytes-packed, packed-shows, packed-whole, zero-at, part-bytes, part-length, bytes-zeros, length-zeros}
+use Rattle.bits.proofs.laws.Lay.{Shows, Fit, total, length-lay, bytes-lay, length-packed, bytes-packed, packed-shows, packed-whole}
+use Rattle.bits.proofs.laws.Lay.{zero-at, part-bytes, part-length, bytes-zeros, length-zeros}
 use Rattle.bits.proofs.laws.Over.{lay-left, lay-append, lay-twice}
 use Rattle.model.specs.declared.Header.{Header}
 use Rattle.model.specs.Basic.{pick}
@@ -23,7 +24,8 @@ abbrev pub nameParts : ℕ → List Part
 nameParts least = namedBy (editionOf least)
 
 pub header-fits : (least : ℕ) (s : List ℕ) → HeaderFits least (readHeader least s)
-header-fits least s = record { pages = pages-lt least s; current = current-lt least s; roots = roots-lt least s; oldest = oldest-lt least s }
+header-fits least s =
+    record { pages = pages-lt least s; current = current-lt least s; roots = roots-lt least s; oldest = oldest-lt least s }
 
 pub bit-small : (b : Bool) → bit b < 2 ^ 1
 bit-small true = omega arith
@@ -81,14 +83,17 @@ module _ (least : ℕ) (four : 4 ≤ least) (eight : least ≤ 8) where
   unfolding headerBytes putHeader packed
   header-is h = lay-append (zeros (64 * least)) 0 (nameParts least) (valueParts least h)
 
-  pub header-put : (g h : Header) (f : List ℕ) → HeaderFits least h → putHeader least (headerBytes least g ++ f) h ≡ headerBytes least h ++ f
+  pub header-put : (g h : Header) (f : List ℕ) → HeaderFits least h
+      → putHeader least (headerBytes least g ++ f) h ≡ headerBytes least h ++ f
   unfolding putHeader named
   header-put g h f z =
       let a : List ℕ = lay named 40 (valueParts least g) in
       let n : length a ≡ 64 * least = length-lay named 40 (valueParts least g) ∙ named-length in
       rw (header-is g, header-is h)
       (lay-left a f 40 (valueParts least h) (omega (arith, width, age))
-      ∙ ap (λ (x : List ℕ). x ++ f) (lay-twice named 40 (valueParts least g) (valueParts least h) named-bytes (omega (arith, width, age, named-length)) refl (values-fit h z)))
+      ∙ ap (λ (x : List ℕ). x ++ f)
+      (lay-twice named 40 (valueParts least g) (valueParts least h) named-bytes (omega (arith, width, age, named-length)) refl
+      (values-fit h z)))
 
   pub header-bytes : (h : Header) → Bytes (headerBytes least h)
   unfolding headerBytes
@@ -110,14 +115,17 @@ module _ (least : ℕ) (four : 4 ≤ least) (eight : least ≤ 8) where
       let v = s .1 .1 .1 .1 .1 in
       let a : field (t ++ f) 40 13 ≡ h .pages = field-left t f 40 13 (omega arith) ∙ v .0 in
       let b : field (t ++ f) 53 20 ≡ h .current = field-left t f 53 20 (omega arith) ∙ v .1 .0 in
-      let c : eqb (field (t ++ f) 73 1) 1 ≡ h .opened = ap (λ (x : ℕ). eqb x 1) (field-left t f 73 1 (omega arith) ∙ v .1 .1 .0) ∙ bit-back (h .opened) in
+      let c : eqb (field (t ++ f) 73 1) 1 ≡ h .opened = ap (λ (x : ℕ). eqb x 1) (field-left t f 73 1 (omega arith) ∙ v .1 .1 .0)
+      ∙ bit-back (h .opened) in
       let g : Aged (oldestBits least) = age in
       let d : field (t ++ f) 74 (rootBits least) ≡ h .roots = field-left t f 74 (rootBits least) (omega arith) ∙ v .1 .1 .1 .0 in
-      let e : field (t ++ f) (74 + rootBits least) (oldestBits least) ≡ h .oldest = field-left t f (74 + rootBits least) (oldestBits least) (omega arith) ∙ v .1 .1 .1 .1 .0 in
+      let e : field (t ++ f) (74 + rootBits least) (oldestBits least) ≡ h .oldest
+      = field-left t f (74 + rootBits least) (oldestBits least) (omega arith) ∙ v .1 .1 .1 .1 .0 in
       λ i. record { pages = a i; current = b i; opened = c i; roots = d i; oldest = e i }
 
   -- a page 0 with the name, whose spare bits are zero, is that of the header that is read
-  pub header-part : (s : List ℕ) → Bytes s → 64 * least ≤ length s → Shows s 0 (nameParts least) → field s (74 + rootBits least + oldestBits least) (512 * least - (74 + rootBits least + oldestBits least)) ≡ 0
+  pub header-part : (s : List ℕ) → Bytes s → 64 * least ≤ length s → Shows s 0 (nameParts least)
+      → field s (74 + rootBits least + oldestBits least) (512 * least - (74 + rootBits least + oldestBits least)) ≡ 0
       → headerBytes least (readHeader least s) ≡ take (64 * least) (drop 0 s)
   unfolding headerBytes readHeader
   header-part s b len names e =
@@ -127,7 +135,8 @@ module _ (least : ℕ) (four : 4 ≤ least) (eight : least ≤ 8) where
       let g : Aged (oldestBits least) = age in
       let at : (a n : ℕ) → a + n ≤ 512 * least → field t a n ≡ field s a n
       = λ a n l. field-part s 0 (64 * least) a n (omega arith) ∙ ap (λ (y : ℕ). field s y n) (omega arith) in
-      packed-whole t (64 * least) (headerParts least h) (part-bytes s 0 (64 * least) b) (part-length s 0 (64 * least) (omega arith)) (omega (arith, total-is h)) (
+      packed-whole t (64 * least) (headerParts least h) (part-bytes s 0 (64 * least) b) (part-length s 0 (64 * least) (omega arith))
+      (omega (arith, total-is h)) (
         at 0 8 (omega arith) ∙ names .0,
         (
           at 8 8 (omega arith) ∙ names .1 .0,
@@ -137,10 +146,21 @@ module _ (least : ℕ) (four : 4 ≤ least) (eight : least ≤ 8) where
               at 24 8 (omega arith) ∙ names .1 .1 .1 .0,
               (
                 at 32 8 (omega arith) ∙ names .1 .1 .1 .1 .0,
-                (at 40 13 (omega arith), (at 53 20 (omega arith), (at 73 1 (omega arith) ∙ sym (bit-field s 73), (at 74 (rootBits least) (omega arith), (at (74 + rootBits least) (oldestBits least) (omega arith), refl))))),
+                (
+                  at 40 13 (omega arith),
+                  (
+                    at 53 20 (omega arith),
+                    (
+                      at 73 1 (omega arith) ∙ sym (bit-field s 73),
+                      (at 74 (rootBits least) (omega arith), (at (74 + rootBits least) (oldestBits least) (omega arith), refl)),
+                    ),
+                  ),
+                ),
               ),
             ),
           ),
         ),
       )
-      (λ i l k. bit-part s 0 (64 * least) i (omega arith) ∙ zero-at s (74 + rootBits least + oldestBits least) (512 * least - (74 + rootBits least + oldestBits least)) e (8 * 0 + i) (omega (arith, total-is h)) (omega arith))
+      (λ i l k. bit-part s 0 (64 * least) i (omega arith)
+      ∙ zero-at s (74 + rootBits least + oldestBits least) (512 * least - (74 + rootBits least + oldestBits least)) e (8 * 0 + i)
+      (omega (arith, total-is h)) (omega arith))

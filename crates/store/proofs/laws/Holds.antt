@@ -9,7 +9,8 @@ use lib.Seq.{ext-getD, getD-drop}
 use Rattle.model.specs.declared.Header.{Header}
 use Rattle.model.specs.Page.{Page, free}
 use Rattle.model.specs.Store.{Store, page}
-use Rattle.model.specs.Layout.{pageOf, decodePage, encodePage, readHeader, readSlot, readSlots, readPages, slotsBytes, pagesBytes, headerBytes, headerOf, noSlot, encode, decode, sizeOf}
+use Rattle.model.specs.Layout.{pageOf, decodePage, encodePage, readHeader, readSlot, readSlots, readPages, slotsBytes, pagesBytes}
+use Rattle.model.specs.Layout.{headerBytes, headerOf, noSlot, encode, decode, sizeOf}
 use Rattle.page.proofs.laws.Editions.{root-bits}
 use Rattle.page.proofs.laws.Exact.{decode-encode}
 use Rattle.store.proofs.laws.Read.{size-is, length-slots, length-pages, pages-at, slots-at}
@@ -31,7 +32,12 @@ module _ (least : ℕ) (four : 4 ≤ least) (eight : least ≤ 8) (s : Store) (v
   pub front-length : length (frontOf least s) ≡ 5 * (64 * least)
   front-length =
       length-append (headerBytes least (headerOf s)) (slotsBytes (directory least (s .slots)))
-      ∙ omega (arith, header-length least (headerOf s), slots-length (directory least (s .slots)), directory-length least (s .slots) (v .few))
+      ∙ omega (
+        arith,
+        header-length least (headerOf s),
+        slots-length (directory least (s .slots)),
+        directory-length least (s .slots) (v .few),
+      )
 
   pub behind-valid : AllValid least (drop 5 (s .pages))
   behind-valid k = rw (getD-drop 5 (s .pages) k free) (v .pages (5 + k))
@@ -54,7 +60,9 @@ module _ (least : ℕ) (four : 4 ≤ least) (eight : least ≤ 8) (s : Store) (v
 
   pub header-encoded : readHeader least (encode least s) ≡ headerOf s
   unfolding encode
-  header-encoded = header-read least four eight (headerOf s) (slotsBytes (s .slots ++ replicate (64 * least - length (s .slots)) noSlot) ++ pagesBytes least ps) header-holds
+  header-encoded =
+      header-read least four eight (headerOf s)
+      (slotsBytes (s .slots ++ replicate (64 * least - length (s .slots)) noSlot) ++ pagesBytes least ps) header-holds
 
   pub slot-encoded : (k : ℕ) → k < length (s .slots) → readSlot (encode least s) (512 * least + 32 * k) ≡ getD (s .slots) k noSlot
   unfolding encode directory
@@ -63,7 +71,8 @@ module _ (least : ℕ) (four : 4 ≤ least) (eight : least ≤ 8) (s : Store) (v
       let o : 512 * least + 32 * k ≡ 8 * length h + 32 * k = omega (arith, header-length least (headerOf s)) in
       let g : getD (directory least (s .slots)) k noSlot ≡ getD (s .slots) k noSlot = directory-low least (s .slots) k lt in
       rw o
-      (slot-get h (pagesBytes least ps) (directory least (s .slots)) k (omega (arith, v .few, directory-length least (s .slots) (v .few))) (rw g (v .slots k)) ∙ g)
+      (slot-get h (pagesBytes least ps) (directory least (s .slots)) k (omega (arith, v .few, directory-length least (s .slots) (v .few)))
+      (rw g (v .slots k)) ∙ g)
 
   slots-encoded : readSlots (encode least s) (512 * least) (length (s .slots)) ≡ s .slots
   slots-encoded =
@@ -90,5 +99,12 @@ module _ (least : ℕ) (four : 4 ≤ least) (eight : least ≤ 8) (s : Store) (v
       let p : replicate 5 free ++ readPages least b 5 (sizeOf least b - 5) ≡ s .pages
       = ap (λ (k : ℕ). replicate 5 free ++ readPages least b 5 (k - 5)) n ∙ ap (λ (l : List Page). replicate 5 free ++ l) pages-encoded
       ∙ ap (λ (l : List Page). l ++ drop 5 (s .pages)) (sym (v .front)) ∙ take-append-drop 5 (s .pages) in
-      let q : readSlots b (512 * least) (readHeader least b .roots) ≡ s .slots = ap (λ (h : Header). readSlots b (512 * least) (h .roots)) header-encoded ∙ slots-encoded in
-      λ i. record { current = header-encoded i .current; opened = header-encoded i .opened; oldest = header-encoded i .oldest; slots = q i; pages = p i }
+      let q : readSlots b (512 * least) (readHeader least b .roots) ≡ s .slots
+      = ap (λ (h : Header). readSlots b (512 * least) (h .roots)) header-encoded ∙ slots-encoded in
+      λ i. record {
+        current = header-encoded i .current;
+        opened = header-encoded i .opened;
+        oldest = header-encoded i .oldest;
+        slots = q i;
+        pages = p i;
+      }

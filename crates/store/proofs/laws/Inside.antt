@@ -29,18 +29,21 @@ module _ (least : ℕ) (four : 4 ≤ least) (eight : least ≤ 8) (h : Header) (
   pub header-in : (g : Header) → HeaderFits least g → putHeader least (bytesOf least h xs ps) g ≡ bytesOf least g xs ps
   header-in g f = header-put least four eight h g (slotsBytes xs ++ pagesBytes least ps) f
 
-  pub slot-in : (i : ℕ) (x : Slot) → i < length xs → SlotFits x → lay (bytesOf least h xs ps) (512 * least + 32 * i) (slotParts x) ≡ bytesOf least h (set xs i x) ps
+  pub slot-in : (i : ℕ) (x : Slot) → i < length xs → SlotFits x
+      → lay (bytesOf least h xs ps) (512 * least + 32 * i) (slotParts x) ≡ bytesOf least h (set xs i x) ps
   slot-in i x lt f =
       let o : 512 * least + 32 * i ≡ 8 * length (headerBytes least h) + 32 * i = omega (arith, header-length least h) in
       rw o (slot-put (headerBytes least h) (pagesBytes least ps) xs i lt x f)
 
-  pub page-out : length xs ≡ 64 * least → AllValid least ps → (n : ℕ) → 5 ≤ n → n < 5 + length ps → pageOf least (bytesOf least h xs ps) n ≡ encodePage least (getD ps (n - 5) free)
+  pub page-out : length xs ≡ 64 * least → AllValid least ps → (n : ℕ) → 5 ≤ n → n < 5 + length ps
+      → pageOf least (bytesOf least h xs ps) n ≡ encodePage least (getD ps (n - 5) free)
   page-out full v n le lt =
       let a : List ℕ = headerBytes least h in
       let b : List ℕ = slotsBytes xs in
       let whole : length (a ++ b) ≡ 5 * (64 * least) = length-append a b ∙ omega (arith, header-length least h, slots-length xs) in
       let e : n ≡ 5 + (n - 5) = omega arith in
-      ap (λ (k : ℕ). pageOf least (a ++ (b ++ pagesBytes least ps)) k) e ∙ ap (λ (s : List ℕ). pageOf least s (5 + (n - 5))) (sym (append-assoc a b (pagesBytes least ps)))
+      ap (λ (k : ℕ). pageOf least (a ++ (b ++ pagesBytes least ps)) k) e
+      ∙ ap (λ (s : List ℕ). pageOf least s (5 + (n - 5))) (sym (append-assoc a b (pagesBytes least ps)))
       ∙ page-of least four ps v (a ++ b) 5 whole (n - 5) (omega arith)
 
   pub page-in : length xs ≡ 64 * least → AllValid least ps → (n : ℕ) (q : Page) → 5 ≤ n → n < 5 + length ps
@@ -68,11 +71,13 @@ module _ (least : ℕ) (xs : List Slot) where
   unfolding directory
   after x =
       let n : length (xs ++ x ∷ []) ≡ length xs + 1 = length-append xs (x ∷ []) in
-      append-assoc xs (x ∷ []) (replicate (64 * least - length (xs ++ x ∷ [])) noSlot) ∙ ap (λ (k : ℕ). xs ++ x ∷ replicate (64 * least - k) noSlot) n
+      append-assoc xs (x ∷ []) (replicate (64 * least - length (xs ++ x ∷ [])) noSlot)
+      ∙ ap (λ (k : ℕ). xs ++ x ∷ replicate (64 * least - k) noSlot) n
 
   before : length xs < 64 * least → directory least xs ≡ xs ++ noSlot ∷ replicate (64 * least - (length xs + 1)) noSlot
   unfolding directory
-  before lt = let e : 64 * least - length xs ≡ suc (64 * least - (length xs + 1)) = omega arith in ap (λ (k : ℕ). xs ++ replicate k noSlot) e
+  before lt =
+      let e : 64 * least - length xs ≡ suc (64 * least - (length xs + 1)) = omega arith in ap (λ (k : ℕ). xs ++ replicate k noSlot) e
 
   pub directory-add : (x : Slot) → length xs < 64 * least → set (directory least xs) (length xs) x ≡ directory least (xs ++ x ∷ [])
   directory-add x lt = rw (before lt, after x) (set-at xs noSlot (replicate (64 * least - (length xs + 1)) noSlot) x (length xs) refl)

@@ -36,4 +36,5 @@ module _ (least : ℕ) (four : 4 ≤ least) (ps : List Page) (v : AllValid least
 
     pub with-page : (q : Page) → withPage least (h ++ pagesBytes least ps) (a + k) (encodePage least q) ≡ h ++ pagesBytes least (set ps k q)
     unfolding withPage
-    with-page q = rw (at, behind-all least h ps, behind-all least h (set ps k q)) (row-with (encodePage least) free (64 * least) h [] ps k lt even q)
+    with-page q =
+        rw (at, behind-all least h ps, behind-all least h (set ps k q)) (row-with (encodePage least) free (64 * least) h [] ps k lt even q)

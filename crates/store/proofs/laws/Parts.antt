@@ -18,7 +18,8 @@ page-fits least size n s e h = rw e (subst (λ (x : ℕ). x ≤ size * (64 * lea
 -- a byte of one page is in no other
 apart : (m n b i : ℕ) → i < b → m ≢ n → (m * b + i < n * b) ⊎ (n * b + b ≤ m * b + i)
 apart m n b i h ne =
-    ⊎-elim (λ l. inl (omega (arith, suc-mul m b, mul-le-mul-right b l))) (λ l. inr (omega (arith, suc-mul n b, mul-le-mul-right b (later l)))) (less m n)
+    ⊎-elim (λ l. inl (omega (arith, suc-mul m b, mul-le-mul-right b l)))
+    (λ l. inr (omega (arith, suc-mul n b, mul-le-mul-right b (later l)))) (less m n)
   where
     later : n ≤ m → n < m
     later l = ⊎-elim (λ (k : n < m). k) (λ k. absurd (ne (omega arith))) (less n m)
@@ -30,7 +31,8 @@ module _ (least : ℕ) (s : List ℕ) (n : ℕ) where
   part-page a b ea eb = let f : a + b - a ≡ b = omega arith in rw (f, ea, eb)
 
   -- when it comes back as q, the whole is this
-  pub part-back : (a b : ℕ) (q : List ℕ) → a ≡ n * (64 * least) → b ≡ 64 * least → take a s ++ (q ++ drop (a + b - a) (drop a s)) ≡ withPage least s n q
+  pub part-back : (a b : ℕ) (q : List ℕ) → a ≡ n * (64 * least) → b ≡ 64 * least
+      → take a s ++ (q ++ drop (a + b - a) (drop a s)) ≡ withPage least s n q
   unfolding withPage
   part-back a b q ea eb = let f : a + b - a ≡ b = omega arith in rw (f, drop-drop b a s, ea, eb)
 
@@ -58,7 +60,8 @@ module _ (least : ℕ) (s : List ℕ) (n : ℕ) (q : List ℕ) (len : length q �
   pub byte-other : (i : ℕ) → (i < n * (64 * least)) ⊎ (n * (64 * least) + 64 * least ≤ i) → getD (withPage least s n q) i 0 ≡ getD s i 0
   unfolding withPage
   byte-other i (inl l) =
-      List·getD-append (take (n * (64 * least)) s) (q ++ drop (n * (64 * least) + 64 * least) s) 0 i (omega (arith, front)) ∙ getD-take (n * (64 * least)) s i 0 l
+      List·getD-append (take (n * (64 * least)) s) (q ++ drop (n * (64 * least) + 64 * least) s) 0 i (omega (arith, front))
+      ∙ getD-take (n * (64 * least)) s i 0 l
   byte-other i (inr l) =
       let a : ℕ = n * (64 * least) in
       let z : List ℕ = drop (a + 64 * least) s in
@@ -74,7 +77,8 @@ module _ (least : ℕ) (s : List ℕ) (n : ℕ) (q : List ℕ) (len : length q �
   page-other m ne h =
       let t : List ℕ = withPage least s n q in
       let lt : length t ≡ length s = length-withPage in
-      ext-getD 0 (take (64 * least) (drop (m * (64 * least)) t)) (take (64 * least) (drop (m * (64 * least)) s)) (simp (length-take, length-drop, lt)) λ i l.
+      ext-getD 0 (take (64 * least) (drop (m * (64 * least)) t)) (take (64 * least) (drop (m * (64 * least)) s))
+      (simp (length-take, length-drop, lt)) λ i l.
       let k : i < 64 * least = omega (arith, length-take (64 * least) (drop (m * (64 * least)) t)) in
       getD-take (64 * least) (drop (m * (64 * least)) t) i 0 k ∙ getD-drop (m * (64 * least)) t i 0
       ∙ byte-other (m * (64 * least) + i) (apart m n (64 * least) i k ne)

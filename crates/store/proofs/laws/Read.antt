@@ -31,7 +31,8 @@ slots-at s o (suc n) zero h = let e : o + 32 * 0 ≡ o = omega arith in rw e
 slots-at s o (suc n) (suc k) h = let e : o + 32 * suc k ≡ o + 32 + 32 * k = omega arith in rw e (slots-at s (o + 32) n k (omega arith))
 
 -- those from slot i on, for a loop
-pub slots-step : (s : List ℕ) (o i n : ℕ) → i < n → readSlots s (o + 32 * i) (n - i) ≡ readSlot s (o + 32 * i) ∷ readSlots s (o + 32 * (i + 1)) (n - (i + 1))
+pub slots-step : (s : List ℕ) (o i n : ℕ) → i < n
+    → readSlots s (o + 32 * i) (n - i) ≡ readSlot s (o + 32 * i) ∷ readSlots s (o + 32 * (i + 1)) (n - (i + 1))
 unfolding readSlots
 slots-step s o i n h =
     let e : n - i ≡ suc (n - (i + 1)) = omega arith in
@@ -57,7 +58,8 @@ module _ (least : ℕ) (s : List ℕ) where
   pages-at n (suc k) (suc j) h = let e : n + suc j ≡ n + 1 + j = omega arith in rw e (pages-at (n + 1) k j (omega arith))
 
   -- those from page n up to, not including, page m, for a loop
-  pub pages-step : (n m : ℕ) → n < m → readPages least s n (m - n) ≡ decodePage least (pageOf least s n) ∷ readPages least s (n + 1) (m - (n + 1))
+  pub pages-step : (n m : ℕ) → n < m → readPages least s n (m - n)
+      ≡ decodePage least (pageOf least s n) ∷ readPages least s (n + 1) (m - (n + 1))
   unfolding readPages
   pages-step n m h = let e : m - n ≡ suc (m - (n + 1)) = omega arith in rw e
 

@@ -73,12 +73,15 @@ module _ (h z : List ℕ) (l : List Slot) (i : ℕ) (lt : i < length l) where
   even : Even slotBytes noSlot 4 l
   even k = slot-length (getD l k noSlot)
 
-  pub slot-put : (x : Slot) → SlotFits x → lay (h ++ (slotsBytes l ++ z)) (8 * length h + 32 * i) (slotParts x) ≡ h ++ (slotsBytes (set l i x) ++ z)
+  pub slot-put : (x : Slot) → SlotFits x → lay (h ++ (slotsBytes l ++ z)) (8 * length h + 32 * i) (slotParts x)
+      ≡ h ++ (slotsBytes (set l i x) ++ z)
   slot-put x f =
       let o : 8 * length h + 32 * i ≡ 8 * (length h + i * 4) = omega arith in
-      rw (o, slots-rows l, slots-rows (set l i x)) (row-lay slotBytes noSlot 4 h z l i lt even (slotParts x) x (omega arith) (slot-over (getD l i noSlot) x f))
+      rw (o, slots-rows l, slots-rows (set l i x))
+      (row-lay slotBytes noSlot 4 h z l i lt even (slotParts x) x (omega arith) (slot-over (getD l i noSlot) x f))
 
-  field-at : (a n : ℕ) → a + n ≤ 32 → field (h ++ (slotsBytes l ++ z)) (8 * length h + 32 * i + a) n ≡ field (slotBytes (getD l i noSlot)) a n
+  field-at : (a n : ℕ) → a + n ≤ 32 → field (h ++ (slotsBytes l ++ z)) (8 * length h + 32 * i + a) n
+      ≡ field (slotBytes (getD l i noSlot)) a n
   field-at a n le =
       let o : 8 * length h + 32 * i + a ≡ 8 * (length h + i * 4) + a = omega arith in
       rw (o, slots-rows l) (row-field slotBytes noSlot 4 h z l i lt even a n (omega arith))
@@ -88,7 +91,8 @@ module _ (h z : List ℕ) (l : List Slot) (i : ℕ) (lt : i < length l) where
   slot-get f =
       let o : 8 * length h + 32 * i ≡ 8 * length h + 32 * i + 0 = omega arith in
       let e : readSlot (slotBytes (getD l i noSlot)) 0 ≡ getD l i noSlot = slot-read (getD l i noSlot) f in
-      let k : field (h ++ (slotsBytes l ++ z)) (8 * length h + 32 * i) 20 ≡ field (slotBytes (getD l i noSlot)) 0 20 = rw o (field-at 0 20 (omega arith)) in
+      let k : field (h ++ (slotsBytes l ++ z)) (8 * length h + 32 * i) 20 ≡ field (slotBytes (getD l i noSlot)) 0 20
+      = rw o (field-at 0 20 (omega arith)) in
       rw (k, field-at 20 12 (omega arith)) e
 
 -- ---- what is read is what stands there
@@ -98,7 +102,8 @@ unfolding slotBytes readSlot
 slot-part s a b h =
     let e : 8 * a + 0 ≡ 8 * a = omega arith in
     packed-whole (take 4 (drop a s)) 4 (slotParts (readSlot s (8 * a))) (part-bytes s a 4 b) (part-length s a 4 h) (omega arith)
-    (field-part s a 4 0 20 (omega arith) ∙ ap (λ (x : ℕ). field s x 20) e, (field-part s a 4 20 12 (omega arith), refl)) (λ i l k. absurd (omega arith))
+    (field-part s a 4 0 20 (omega arith) ∙ ap (λ (x : ℕ). field s x 20) e, (field-part s a 4 20 12 (omega arith), refl))
+    (λ i l k. absurd (omega arith))
 
 pub slots-part : (s : List ℕ) (a n : ℕ) → Bytes s → a + 4 * n ≤ length s → slotsBytes (readSlots s (8 * a) n) ≡ take (4 * n) (drop a s)
 unfolding slotsBytes readSlots
@@ -119,7 +124,9 @@ directory-length least xs h = simp (length-append, length-replicate) (omega arit
 
 pub directory-bytes : (least : ℕ) (xs : List Slot) → slotsBytes (directory least xs) ≡ slotsBytes xs ++ zeros (4 * (64 * least - length xs))
 unfolding directory
-directory-bytes least xs = slots-append xs (replicate (64 * least - length xs) noSlot) ∙ ap (λ (y : List ℕ). slotsBytes xs ++ y) (none-zeros (64 * least - length xs))
+directory-bytes least xs =
+    slots-append xs (replicate (64 * least - length xs) noSlot)
+    ∙ ap (λ (y : List ℕ). slotsBytes xs ++ y) (none-zeros (64 * least - length xs))
 
 pub directory-low : (least : ℕ) (xs : List Slot) (k : ℕ) → k < length xs → getD (directory least xs) k noSlot ≡ getD xs k noSlot
 unfolding directory

@@ -43,22 +43,34 @@ module _ {l : Limits} (d : Edition l) (b : List ℕ) (h : isSound (l .least) b �
   part-in n p = page-fits (l .least) (sizeOf (l .least) b) n b (whole .whole) p
 
   pub few : length b ≤ 2 ^ 40
-  few = let q : sizeOf (l .least) b * (64 * l .least) ≤ 4096 * (64 * l .least) = mul-le-mul-right (64 * l .least) (whole .most) in omega (arith, whole .whole, d .eight)
+  few =
+      let q : sizeOf (l .least) b * (64 * l .least) ≤ 4096 * (64 * l .least) = mul-le-mul-right (64 * l .least) (whole .most) in
+      omega (arith, whole .whole, d .eight)
 
   -- header and directory
   pub front : 5 * (64 * l .least) ≤ length b
-  front = let q : 6 * (64 * l .least) ≤ sizeOf (l .least) b * (64 * l .least) = mul-le-mul-right (64 * l .least) (whole .six) in omega (arith, whole .whole)
+  front =
+      let q : 6 * (64 * l .least) ≤ sizeOf (l .least) b * (64 * l .least) = mul-le-mul-right (64 * l .least) (whole .six) in
+      omega (arith, whole .whole)
 
   pub roots : readHeader (l .least) b .roots ≤ 64 * l .least
-  roots = omega (arith, sure .slots-few, ap (λ (xs : List Slot). length xs) (slots-of (l .least) b), length-slots b (512 * l .least) (readHeader (l .least) b .roots))
+  roots =
+      omega (
+        arith,
+        sure .slots-few,
+        ap (λ (xs : List Slot). length xs) (slots-of (l .least) b),
+        length-slots b (512 * l .least) (readHeader (l .least) b .roots),
+      )
 
   module _ (bytes : Bytes b) where
     pub exact : Exactly (l .least) b (sizeOf (l .least) b)
     unfolding clean
     exact =
-        let x = both-true (cleanFront (l .least) b) (cleanPages (l .least) b 5 (sizeOf (l .least) b - 5) && rule1 (l .least) (decode (l .least) b)) (taken .is-clean) in
+        let x = both-true (cleanFront (l .least) b)
+        (cleanPages (l .least) b 5 (sizeOf (l .least) b - 5) && rule1 (l .least) (decode (l .least) b)) (taken .is-clean) in
         let y = both-true (cleanPages (l .least) b 5 (sizeOf (l .least) b - 5)) (rule1 (l .least) (decode (l .least) b)) (x .1) in
-        exactly (l .least) (d .eight) b bytes whole (counted (l .least) (d .eight) b taken) (taken .magic-ok) (taken .edition-ok) (x .0) (y .0)
+        exactly (l .least) (d .eight) b bytes whole (counted (l .least) (d .eight) b taken) (taken .magic-ok) (taken .edition-ok) (x .0)
+        (y .0)
 
     pub held : Holds (l .least) (decode (l .least) b)
     held = holds (l .least) (d .four) (d .eight) b (sizeOf (l .least) b) exact

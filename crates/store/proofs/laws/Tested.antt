@@ -25,7 +25,8 @@ use Rattle.model.proofs.lists.Lists.{both-true}
 use Rattle.page.specs.Exact.{Valid}
 use Rattle.page.proofs.laws.Exact.{valid-free, valid-read}
 use Rattle.page.proofs.laws.Clean.{Clean, clean-page, passed}
-use Rattle.store.proofs.laws.Read.{size-is, front-free, front-five, count-pages, page-at, current-of, current-lt, oldest-of, oldest-lt, slots-of, length-slots, pages-lt}
+use Rattle.store.proofs.laws.Read.{size-is, front-free, front-five, count-pages, page-at, current-of, current-lt, oldest-of}
+use Rattle.store.proofs.laws.Read.{oldest-lt, slots-of, length-slots, pages-lt}
 use Rattle.store.proofs.laws.Parts.{page-fits, length-page, page-take}
 use Rattle.store.proofs.laws.Slots.{slots-fit}
 use Rattle.store.proofs.laws.Header.{nameParts}
@@ -61,33 +62,41 @@ unfolding magicOk editionOk
 name-shows least s b m e =
     let t : take 4 s ≡ magic = list-true (take 4 s) magic m in
     let at : (k : ℕ) → k < 4 → field s (8 * k) 8 ≡ getD magic k 0
-    = λ k lt. field-byte s k (b k) ∙ sym (getD-take 4 s k 0 lt) ∙ ap (λ (l : List ℕ). getD l k 0) t in
-    (at 0 (omega arith), (at 1 (omega arith), (at 2 (omega arith), (at 3 (omega arith), (eqb-true (field s 32 8) (editionOf least) e, refl)))))
+    = λ k lt. field-byte s k (b k) ∙ sym (getD-take 4 s k 0 lt) ∙ ap (λ (l : List ℕ). getD l k 0) t in (
+      at 0 (omega arith),
+      (at 1 (omega arith), (at 2 (omega arith), (at 3 (omega arith), (eqb-true (field s 32 8) (editionOf least) e, refl)))),
+    )
 
 -- ---- zero bits
 
-pub pages-clean : (least : ℕ) (s : List ℕ) (n k : ℕ) → cleanPages least s n k ≡ true → (m : ℕ) → n ≤ m → m < n + k → cleanPage least (pageOf least s m) ≡ true
+pub pages-clean : (least : ℕ) (s : List ℕ) (n k : ℕ) → cleanPages least s n k ≡ true → (m : ℕ) → n ≤ m → m < n + k
+    → cleanPage least (pageOf least s m) ≡ true
 unfolding cleanPages
 pages-clean least s n zero e m l h = absurd (omega arith)
 pages-clean least s n (suc k) e m l h =
     let x = both-true (cleanPage least (pageOf least s n)) (cleanPages least s (n + 1) k) e in
-    ⊎-elim (λ q. pages-clean least s (n + 1) k (x .1) m (omega arith) (omega arith)) (λ q. let i : m ≡ n = omega arith in rw i (x .0)) (less n m)
+    ⊎-elim (λ q. pages-clean least s (n + 1) k (x .1) m (omega arith) (omega arith)) (λ q. let i : m ≡ n = omega arith in rw i (x .0))
+    (less n m)
 
 -- the live count of each page is that of its entries
 abbrev pub Counted : ℕ → List ℕ → Type 0
-Counted least s = (n : ℕ) → 5 ≤ n → n < sizeOf least s → liveOf least (pageOf least s n) ≡ liveIn least (decodePage least (pageOf least s n) .entries)
+Counted least s =
+    (n : ℕ) → 5 ≤ n → n < sizeOf least s → liveOf least (pageOf least s n) ≡ liveIn least (decodePage least (pageOf least s n) .entries)
 
 module _ (least : ℕ) (eight : least ≤ 8) (s : List ℕ) (b : Bytes s) (w : Whole least s) (c8 : Counted least s) where
   page-clean : (n : ℕ) → 5 ≤ n → n < sizeOf least s → cleanPage least (pageOf least s n) ≡ true → Clean least (pageOf least s n)
   page-clean n five lt e =
-      clean-page least (pageOf least s n) eight (length-page least s n (page-fits least (sizeOf least s) n s (w .whole) lt)) (λ i. rw (page-take least s n) (part-bytes s (n * (64 * least)) (64 * least) b i))
+      clean-page least (pageOf least s n) eight (length-page least s n (page-fits least (sizeOf least s) n s (w .whole) lt))
+      (λ i. rw (page-take least s n) (part-bytes s (n * (64 * least)) (64 * least) b i))
       (passed least (pageOf least s n) e) (c8 n five lt)
 
-  pub exactly : magicOk s ≡ true → editionOk least s ≡ true → cleanFront least s ≡ true → cleanPages least s 5 (sizeOf least s - 5) ≡ true → Exactly least s (sizeOf least s)
+  pub exactly : magicOk s ≡ true → editionOk least s ≡ true → cleanFront least s ≡ true → cleanPages least s 5 (sizeOf least s - 5) ≡ true
+      → Exactly least s (sizeOf least s)
   unfolding cleanFront
   exactly m e f c =
       let r : ℕ = readHeader least s .roots in
-      let spare : Bool = eqb (field s (74 + rootBits least + oldestBits least) (512 * least - (74 + rootBits least + oldestBits least))) 0 in
+      let spare : Bool = eqb (field s (74 + rootBits least + oldestBits least) (512 * least - (74 + rootBits least + oldestBits least)))
+      0 in
       let rest : Bool = eqb (field s (512 * least + 32 * r) (2560 * least - (512 * least + 32 * r))) 0 in
       let x = both-true (eqb (readHeader least s .pages) (sizeOf least s)) (spare && (leb r (64 * least) && rest)) f in
       let y = both-true spare (leb r (64 * least) && rest) (x .1) in

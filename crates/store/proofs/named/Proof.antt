@@ -25,7 +25,10 @@ element-copy-out-if1 : tie.Need-element-copy-out-if1 Inv-loop μ-loop
 element-copy-out-if1 c = omega arith
 
 returns : tie.Need-returns Inv-loop μ-loop
-returns c = sym (name-other (c .before .before .before .before .before .before .args .s .now) (c .before .before .before .before .loop .i) (omega arith) (c .if1 .taken))
+returns c =
+    let at-loop = c .before .before .before .before in
+    let at-start = at-loop .before .before in
+    sym (name-other (at-start .args .s .now) (at-loop .loop .i) (omega arith) (c .if1 .taken))
 
 add-i : tie.Need-add-i Inv-loop μ-loop
 add-i c = omega arith
@@ -34,10 +37,13 @@ loop-less : tie.Need-loop-less Inv-loop μ-loop
 loop-less c = omega arith
 
 loop-again : tie.Need-loop-again Inv-loop μ-loop
-loop-again c = (omega arith, refl, below-more _ _ (c .before .before .before .before .loop .inv .2) (c .if1 .left))
+loop-again c =
+    let at-loop = c .before .before .before .before in
+    (omega arith, refl, below-more _ _ (at-loop .loop .inv .2) (c .if1 .left))
 
 returns-2 : tie.Need-returns-2 Inv-loop μ-loop
-returns-2 c = let l = c .before .loop in sym (name-same (c .before .before .before .args .s .now) (omega arith) (λ k h. l .inv .2 k (omega arith)))
+returns-2 c =
+    let l = c .before .loop in sym (name-same (c .before .before .before .args .s .now) (omega arith) (λ k h. l .inv .2 k (omega arith)))
 
 pub named-spec : {M : Type 1} → statement M
 named-spec =

@@ -22,7 +22,9 @@ edition-of-requires : tie.Need-edition-of-requires
 edition-of-requires c κs = search needs
 
 returns : tie.Need-returns
-returns c = let a = c .before .before .before .args in sym (edition-by (a .l .least) (a .s .now) ∙ rw (← c .before .field .ensures, ← c .edition-of .ensures))
+returns c =
+    let a = c .before .before .before .args in sym
+    (edition-by (a .l .least) (a .s .now) ∙ rw (← c .before .field .ensures, ← c .edition-of .ensures))
 
 pub of-edition-spec : {M : Type 1} → statement M
 of-edition-spec = tie.close (tie.spec field-requires edition-of-requires returns)

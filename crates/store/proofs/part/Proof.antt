@@ -25,9 +25,12 @@ part-result-end c = omega (arith, bytes-is (c .before .before .before .pre .0))
 
 returns : tie.Need-returns
 returns c =
-    let a = c .before .before .before .before .args in
-    let e = part-page (a .l .least) (a .s .now) (a .n) (c .before .before .offset .result) (a .l .bytes) (c .before .before .offset .ensures) (bytes-is (c .before .before .before .before .pre .0)) in
-    (e, ap length e ∙ length-page (a .l .least) (a .s .now) (a .n) (c .before .before .before .before .pre .1))
+    let at-offset = c .before .before in
+    let at-start = at-offset .before .before in
+    let a = at-start .args in
+    let e = part-page (a .l .least) (a .s .now) (a .n) (at-offset .offset .result) (a .l .bytes) (at-offset .offset .ensures)
+    (bytes-is (at-start .pre .0)) in
+    (e, ap length e ∙ length-page (a .l .least) (a .s .now) (a .n) (at-start .pre .1))
 
 pub part-spec : {M : Type 1} → statement M
 part-spec =

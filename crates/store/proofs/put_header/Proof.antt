@@ -24,30 +24,71 @@ flag-requires : tie.Need-flag-requires
 flag-requires c κs = search needs
 
 put-field-requires-3 : tie.Need-put-field-requires-3
-put-field-requires-3 c κs = (omega (arith, c .before .before .before .before .before .before .before .before .before .before .before .before .before .pre .0 .four), rw (c .flag .ensures) (bit-small (c .before .before .before .before .before .before .before .before .before .before .before .before .before .args .h .opened)), omega arith, omega arith)
+put-field-requires-3 c κs =
+    let at-start = c .before .before .before .before .before .before .before .before .before .before .before .before .before in
+    (omega (arith, at-start .pre .0 .four), rw (c .flag .ensures) (bit-small (at-start .args .h .opened)), omega arith, omega arith)
 
 cast-put-field-3 : tie.Need-cast-put-field-3
 cast-put-field-3 c = search needs
 
 put-field-requires-4 : tie.Need-put-field-requires-4
-put-field-requires-4 c κs = (omega (arith, c .before .before .before .before .before .before .before .before .before .before .before .before .before .before .before .before .before .before .pre .0 .four, rooter-roots (c .before .before .before .before .before .before .before .before .before .before .before .before .before .before .before .before .before .before .pre .0)), rw (rooter-is (c .before .before .before .before .before .before .before .before .before .before .before .before .before .before .before .before .before .before .pre .0)) (c .before .before .before .before .before .before .before .before .before .before .before .before .before .before .before .before .before .before .pre .1 .roots), omega (arith, rooter-roots (c .before .before .before .before .before .before .before .before .before .before .before .before .before .before .before .before .before .before .pre .0)), omega arith)
+put-field-requires-4 c κs =
+    let at-start = c .before .before .before .before .before .before .before .before .before .before .before .before .before .before .before .before .before .before in (
+      omega (arith, at-start .pre .0 .four, rooter-roots (at-start .pre .0)),
+      rw (rooter-is (at-start .pre .0)) (at-start .pre .1 .roots),
+      omega (arith, rooter-roots (at-start .pre .0)),
+      omega arith,
+    )
 
 add-put-field : tie.Need-add-put-field
-add-put-field c = omega (arith, rooter-roots (c .before .before .before .before .before .before .before .before .before .before .before .before .before .before .before .before .before .before .before .before .before .before .before .pre .0))
+add-put-field c =
+    let at-start = c .before .before .before .before .before .before .before .before .before .before .before .before .before .before .before .before .before .before .before .before .before .before .before in
+    omega (arith, rooter-roots (at-start .pre .0))
 
 cast-put-field-4 : tie.Need-cast-put-field-4
 cast-put-field-4 c = search needs
 
 put-field-requires-5 : tie.Need-put-field-requires-5
 put-field-requires-5 c κs =
-    (omega (arith, c .before .before .before .before .before .put-field4 .kept .0, c .before .before .before .before .before .before .before .before .before .before .put-field3 .kept .0, c .before .before .before .before .before .before .before .before .before .before .before .before .before .before .before .put-field2 .kept .0, c .before .before .before .before .before .before .before .before .before .before .before .before .before .before .before .before .before .before .before .before .put-field .kept .0, c .before .before .before .before .before .before .before .before .before .before .before .before .before .before .before .before .before .before .before .before .before .before .before .before .pre .2, c .before .before .before .before .before .before .before .before .before .before .before .before .before .before .before .before .before .before .before .before .before .before .before .before .pre .0 .four, rooter-roots (c .before .before .before .before .before .before .before .before .before .before .before .before .before .before .before .before .before .before .before .before .before .before .before .before .pre .0), aged-few (c .before .before .before .before .before .before .before .before .before .before .before .before .before .before .before .before .before .before .before .before .before .before .before .before .pre .0)), rw (aged-is (c .before .before .before .before .before .before .before .before .before .before .before .before .before .before .before .before .before .before .before .before .before .before .before .before .pre .0)) (c .before .before .before .before .before .before .before .before .before .before .before .before .before .before .before .before .before .before .before .before .before .before .before .before .pre .1 .oldest), omega (arith, aged-few (c .before .before .before .before .before .before .before .before .before .before .before .before .before .before .before .before .before .before .before .before .before .before .before .before .pre .0)), omega (arith, c .before .before .before .before .before .put-field4 .kept .0, c .before .before .before .before .before .before .before .before .before .before .put-field3 .kept .0, c .before .before .before .before .before .before .before .before .before .before .before .before .before .before .before .put-field2 .kept .0, c .before .before .before .before .before .before .before .before .before .before .before .before .before .before .before .before .before .before .before .before .put-field .kept .0, c .before .before .before .before .before .before .before .before .before .before .before .before .before .before .before .before .before .before .before .before .before .before .before .before .pre .3))
+    let at-put-field4 = c .before .before .before .before .before in
+    let at-put-field3 = at-put-field4 .before .before .before .before .before in
+    let at-put-field2 = at-put-field3 .before .before .before .before .before in
+    let at-put-field = at-put-field2 .before .before .before .before .before in
+    let at-start = at-put-field .before .before .before .before in (
+      omega (
+        arith,
+        at-put-field4 .put-field4 .kept .0,
+        at-put-field3 .put-field3 .kept .0,
+        at-put-field2 .put-field2 .kept .0,
+        at-put-field .put-field .kept .0,
+        at-start .pre .2,
+        at-start .pre .0 .four,
+        rooter-roots (at-start .pre .0),
+        aged-few (at-start .pre .0),
+      ),
+      rw (aged-is (at-start .pre .0)) (at-start .pre .1 .oldest),
+      omega (arith, aged-few (at-start .pre .0)),
+      omega (
+        arith,
+        at-put-field4 .put-field4 .kept .0,
+        at-put-field3 .put-field3 .kept .0,
+        at-put-field2 .put-field2 .kept .0,
+        at-put-field .put-field .kept .0,
+        at-start .pre .3,
+      ),
+    )
 
 same-length : tie.Need-same-length
 same-length c = search needs
 
 returns : tie.Need-returns
 unfolding putHeader lay
-returns c = rw (← rooter-is (c .before .before .before .before .before .before .before .before .before .before .before .before .before .before .before .before .before .before .before .before .before .before .before .before .before .before .before .pre .0), ← aged-is (c .before .before .before .before .before .before .before .before .before .before .before .before .before .before .before .before .before .before .before .before .before .before .before .before .before .before .before .pre .0)) cc
+returns c =
+    rw (
+      ← rooter-is
+          (c .before .before .before .before .before .before .before .before .before .before .before .before .before .before .before .before .before .before .before .before .before .before .before .before .before .before .before .pre .0),
+      ← aged-is (c .before .before .before .before .before .before .before .before .before .before .before .before .before .before .before .before .before .before .before .before .before .before .before .before .before .before .before .pre .0),
+    ) cc
 
 pub put-header-spec : {M : Type 1} → statement M
 put-header-spec =

@@ -11,22 +11,31 @@ use Rattle.store.proofs.whole.Statement.{statement}
 use Rattle.store.proofs.whole.Tie as tie
 
 rem-if1 : tie.Need-rem-if1
-rem-if1 c = omega (arith, bytes-is (c .before .before .pre), c .before .before .pre .four)
+rem-if1 c =
+    let at-start = c .before .before in
+    omega (arith, bytes-is (at-start .pre), at-start .pre .four)
 
 returns : tie.Need-returns
-returns c = let a = c .before .before .before .args in sym (length-odd (a .l .least) (a .s .now) (λ e. c .if1 .taken (ap (λ (b : ℕ). length (a .s .now) % b) (bytes-is (c .before .before .before .pre)) ∙ e)))
+returns c =
+    let at-start = c .before .before .before in
+    let a = at-start .args in
+    sym (length-odd (a .l .least) (a .s .now) (λ e. c .if1 .taken (ap (λ (b : ℕ). length (a .s .now) % b) (bytes-is (at-start .pre)) ∙ e)))
 
 size-requires : tie.Need-size-requires
 size-requires c κs = search needs
 
 returns-2 : tie.Need-returns-2
-returns-2 c = let a = c .before .before .before .before .before .args in sym (length-few (a .l .least) (a .s .now) (rw (← c .before .size .ensures) (c .if2 .taken)))
+returns-2 c =
+    let at-start = c .before .before .before .before .before in
+    let a = at-start .args in sym (length-few (a .l .least) (a .s .now) (rw (← c .before .size .ensures) (c .if2 .taken)))
 
 returns-3 : tie.Need-returns-3
 returns-3 c =
-    let a = c .before .before .before .before .before .args in
-    let e = ap (λ (b : ℕ). length (a .s .now) % b) (sym (bytes-is (c .before .before .before .before .before .pre))) ∙ c .before .before .if1 .left in
-    ap (λ (n : ℕ). leb n 4096) (c .before .size .ensures) ∙ sym (length-rest (a .l .least) (a .s .now) e (rw (← c .before .size .ensures) (c .if2 .left)))
+    let at-start = c .before .before .before .before .before in
+    let a = at-start .args in
+    let e = ap (λ (b : ℕ). length (a .s .now) % b) (sym (bytes-is (at-start .pre))) ∙ c .before .before .if1 .left in
+    ap (λ (n : ℕ). leb n 4096) (c .before .size .ensures)
+    ∙ sym (length-rest (a .l .least) (a .s .now) e (rw (← c .before .size .ensures) (c .if2 .left)))
 
 pub whole-spec : {M : Type 1} → statement M
 whole-spec = tie.close (tie.spec rem-if1 returns size-requires returns-2 returns-3)

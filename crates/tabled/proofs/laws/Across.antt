@@ -55,7 +55,8 @@ module _ (least : ℕ) (b : List ℕ) (v hi : ℕ) where
     -- "follows the last router alive at or below the key, and every later one at or below the high key"
     pub across-on : (level : ℕ) → 1 < level → pageRight least b level m ≡ true → startsBy at (pairsAt v (page ps m)) ≡ true
         → (p : List ℕ) (n : ℕ) → pairsAt v (page ps m) ≡ live v (from p 0 n) → (o : Own) → Owns p v at n o
-        → rangeRight least b v (pred level) hi at m ≡ (rangeRight least b v (pred (level - 1)) hi at (o .page) && rightFrom least b v hi (pred (level - 1)) p n (o .next))
+        → rangeRight least b v (pred level) hi at m
+        ≡ (rangeRight least b v (pred (level - 1)) hi at (o .page) && rightFrom least b v hi (pred (level - 1)) p n (o .next))
     unfolding rangeRight rightFrom
     across-on zero h e f p n q o w = absurd (omega arith)
     across-on (suc zero) h e f p n q o w = absurd (omega arith)
@@ -65,15 +66,18 @@ module _ (least : ℕ) (b : List ℕ) (v hi : ℕ) where
         rw (e, f)
         (ap (λ (xs : List Pair). all g (followed at hi xs)) q ∙ ap (all g) (w .later hi)
         ∙ ap (λ (xs : List Pair). all g (pair at (o .page) ∷ xs)) (upto-between hi (live v (from p (o .next) n)))
-        ∙ sym (ap (λ (u : ℕ). rangeRight least b v u hi at (o .page) && all (λ (r : Pair). rangeRight least b v u hi (r .key) (r .value)) (between 0 hi (live v (from p (o .next) n)))) z))
+        ∙ sym (ap (λ (u : ℕ). rangeRight least b v u hi at (o .page)
+        && all (λ (r : Pair). rangeRight least b v u hi (r .key) (r .value)) (between 0 hi (live v (from p (o .next) n)))) z))
 
   module _ (up : ℕ) (p : List ℕ) (n : ℕ) where
     pub from-on : (i : ℕ) → between 0 hi (live v (from p i n)) ≡ pairOf (entry p i) ∷ between 0 hi (live v (from p (i + 1) n))
-        → rightFrom least b v hi up p n i ≡ (rangeRight least b v up hi (entry p i .key) (entry p i .value) && rightFrom least b v hi up p n (i + 1))
+        → rightFrom least b v hi up p n i
+        ≡ (rangeRight least b v up hi (entry p i .key) (entry p i .value) && rightFrom least b v hi up p n (i + 1))
     unfolding rightFrom
     from-on i e = ap (all (under least b v hi up)) e
 
-    pub from-same : (i j : ℕ) → between 0 hi (live v (from p i n)) ≡ between 0 hi (live v (from p j n)) → rightFrom least b v hi up p n i ≡ rightFrom least b v hi up p n j
+    pub from-same : (i j : ℕ) → between 0 hi (live v (from p i n)) ≡ between 0 hi (live v (from p j n))
+        → rightFrom least b v hi up p n i ≡ rightFrom least b v hi up p n j
     unfolding rightFrom
     from-same i j e = ap (all (under least b v hi up)) e
 
@@ -82,6 +86,9 @@ module _ (least : ℕ) (b : List ℕ) (v hi : ℕ) where
     from-end = ap (all (under least b v hi up)) (next-none p v 0 hi n)
 
     -- the next one, and the rest
-    pub from-first : (i : ℕ) → between 0 hi (live v (from p i n)) ≡ pairOf (entry p i) ∷ between 0 hi (live v (from p (i + 1) n)) → rightFrom least b v hi up p n i ≡ true
+    pub from-first : (i : ℕ) → between 0 hi (live v (from p i n)) ≡ pairOf (entry p i) ∷ between 0 hi (live v (from p (i + 1) n))
+        → rightFrom least b v hi up p n i ≡ true
         → (rangeRight least b v up hi (entry p i .key) (entry p i .value) ≡ true) × (rightFrom least b v hi up p n (i + 1) ≡ true)
-    from-first i e c = both-true (rangeRight least b v up hi (entry p i .key) (entry p i .value)) (rightFrom least b v hi up p n (i + 1)) (sym (from-on i e) ∙ c)
+    from-first i e c =
+        both-true (rangeRight least b v up hi (entry p i .key) (entry p i .value)) (rightFrom least b v hi up p n (i + 1))
+        (sym (from-on i e) ∙ c)

@@ -45,21 +45,30 @@ place-next w n i j h e = h (omega arith)
 
 -- ---- pages that are right
 
-module _ (least : ℕ) (b : List ℕ) (size : ℕ) (z : Sized least b size) (level n : ℕ) (some : 0 < level) (e : pageRight least b level n ≡ true) where
+module _ (least : ℕ) (b : List ℕ) (size : ℕ) (z : Sized least b size) (level n : ℕ) (some : 0 < level)
+    (e : pageRight least b level n ≡ true) where
   pub right-low : n < 4096
-  right-low = ⊎-elim (λ h. omega (arith, z .most)) (λ h. absurd (not-both (pageRight least b level n) e (page-far least b size z level n some h))) (less n size)
+  right-low =
+      ⊎-elim (λ h. omega (arith, z .most)) (λ h. absurd (not-both (pageRight least b level n) e (page-far least b size z level n some h)))
+      (less n size)
 
   pub right-count : countAt least b n ≤ 5 * least
   unfolding pageRight
   right-count =
       clean-count least (pageOf least b n)
-      (both-true (cleanPage least (pageOf least b n)) (pageOk least (last (decode least b)) (length (decode least b .pages)) (page (decode least b .pages) n) && eqb (page (decode least b .pages) n .level) level) e .0)
+      (both-true (cleanPage least (pageOf least b n))
+      (pageOk least (last (decode least b)) (length (decode least b .pages)) (page (decode least b .pages) n)
+      && eqb (page (decode least b .pages) n .level) level) e .0)
 
 right-level : (least : ℕ) (b : List ℕ) (level n : ℕ) → pageRight least b level n ≡ true → page (decode least b .pages) n .level ≡ level
 unfolding pageRight
 right-level least b level n e =
-    let x = both-true (cleanPage least (pageOf least b n)) (pageOk least (last (decode least b)) (length (decode least b .pages)) (page (decode least b .pages) n) && eqb (page (decode least b .pages) n .level) level) e in
-    eqb-true (page (decode least b .pages) n .level) level (both-true (pageOk least (last (decode least b)) (length (decode least b .pages)) (page (decode least b .pages) n)) (eqb (page (decode least b .pages) n .level) level) (x .1) .1)
+    let x = both-true (cleanPage least (pageOf least b n))
+    (pageOk least (last (decode least b)) (length (decode least b .pages)) (page (decode least b .pages) n)
+    && eqb (page (decode least b .pages) n .level) level) e in
+    eqb-true (page (decode least b .pages) n .level) level
+    (both-true (pageOk least (last (decode least b)) (length (decode least b .pages)) (page (decode least b .pages) n))
+    (eqb (page (decode least b .pages) n .level) level) (x .1) .1)
 
 -- a level above the leaves, by the level below its children's
 pub two-up : (level : ℕ) → 1 < level → suc (suc (pred (level - 1))) ≡ level
@@ -84,15 +93,22 @@ module _ (least : ℕ) (b : List ℕ) (size : ℕ) (z : Sized least b size) (v l
   pub table-fewer : (c d : ℕ) (t : List ℕ) → d ≤ c → Table least b v lo hi c t → Table least b v lo hi d t
   table-fewer c d t h x = record { long = x .long; cells = λ up n i q. x .cells up n i (omega arith) }
 
-  pub table-row : (up n c : ℕ) (t : List ℕ) → Table least b v lo hi c t → (up + 2) * 4096 + n < c → pageRight least b (suc (suc up)) n ≡ true → Row least b v lo hi up n 0 t
+  pub table-row : (up n c : ℕ) (t : List ℕ) → Table least b v lo hi c t → (up + 2) * 4096 + n < c
+      → pageRight least b (suc (suc up)) n ≡ true → Row least b v lo hi up n 0 t
   table-row up n c t x h r = record { from = λ i j k. x .cells up n i h r k }
 
   -- one more turn: page n has this level and is right, and all of its places are known; or not
   module _ (up n : ℕ) (low : n < 4096) (t : List ℕ) (x : Table least b v lo hi ((up + 2) * 4096 + n) t) where
     more : ((i : ℕ) → Cell least b v lo hi t up n i) → Table least b v lo hi ((up + 2) * 4096 + n + 1) t
-    more f = record { long = x .long; cells = λ up′ m i q. λ r k. ⊎-elim (λ h. x .cells up′ m i h r k) (λ h. same up′ m i q r k h) (less ((up′ + 2) * 4096 + m) ((up + 2) * 4096 + n)) }
+    more f =
+        record {
+          long = x .long;
+          cells = λ up′ m i q. λ r k. ⊎-elim (λ h. x .cells up′ m i h r k) (λ h. same up′ m i q r k h)
+              (less ((up′ + 2) * 4096 + m) ((up + 2) * 4096 + n));
+        }
       where
-        same : (up′ m i : ℕ) → (up′ + 2) * 4096 + m < (up + 2) * 4096 + n + 1 → pageRight least b (suc (suc up′)) m ≡ true → i ≤ countAt least b m → (up + 2) * 4096 + n ≤ (up′ + 2) * 4096 + m
+        same : (up′ m i : ℕ) → (up′ + 2) * 4096 + m < (up + 2) * 4096 + n + 1 → pageRight least b (suc (suc up′)) m ≡ true
+            → i ≤ countAt least b m → (up + 2) * 4096 + n ≤ (up′ + 2) * 4096 + m
             → getD t (m * w + i) 0 ≡ behind least b v lo hi up′ (pageOf least b m) (countAt least b m) i
         same up′ m i q r k h =
             let lo′ : m < 4096 = right-low least b size z (suc (suc up′)) m (omega arith) r in
@@ -121,7 +137,8 @@ module _ (least : ℕ) (b : List ℕ) (size : ℕ) (z : Sized least b size) (v l
         at (inr h) (inl k) = inr k
         at (inr h) (inr k) =
             let e : m ≡ n = omega arith in
-            let u : suc (suc up′) ≡ suc (suc up) = sym (right-level least b (suc (suc up′)) m r) ∙ ap (λ (y : ℕ). page (decode least b .pages) y .level) e ∙ right-level least b (suc (suc up)) n right in
+            let u : suc (suc up′) ≡ suc (suc up) = sym (right-level least b (suc (suc up′)) m r)
+            ∙ ap (λ (y : ℕ). page (decode least b .pages) y .level) e ∙ right-level least b (suc (suc up)) n right in
             absurd (omega arith)
 
     pub table-put : Table least b v lo hi ((up + 2) * 4096 + n) t → Table least b v lo hi ((up + 2) * 4096 + n) (set t (n * w + j) x)
@@ -129,28 +146,35 @@ module _ (least : ℕ) (b : List ℕ) (size : ℕ) (z : Sized least b size) (v l
       long = omega (arith, k .long, length-set t (n * w + j) x);
       cells = λ up′ m i q. λ r h.
           getD-set-other t (n * w + j) (m * w + i) x 0
-          (place-other w m n i j (omega (arith, right-count least b size z (suc (suc up′)) m (omega arith) r)) (omega (arith, few)) (elsewhere up′ m q r))
+          (place-other w m n i j (omega (arith, right-count least b size z (suc (suc up′)) m (omega arith) r)) (omega (arith, few))
+          (elsewhere up′ m q r))
           ∙ k .cells up′ m i q r h;
     }
 
     module _ (long : 4096 * w ≤ length t) (is : x ≡ behind least b v lo hi up (pageOf least b n) (countAt least b n) j) where
       here : getD (set t (n * w + j) x) (n * w + j) 0 ≡ behind least b v lo hi up (pageOf least b n) (countAt least b n) j
-      here = getD-set-same t (n * w + j) x 0 (place-in w n 4096 j (omega (arith, few)) (right-low least b size z (suc (suc up)) n (omega arith) right) t long) ∙ is
+      here =
+          getD-set-same t (n * w + j) x 0
+          (place-in w n 4096 j (omega (arith, few)) (right-low least b size z (suc (suc up)) n (omega arith) right) t long) ∙ is
 
       -- the last place
       pub row-last : j ≡ countAt least b n → Row least b v lo hi up n j (set t (n * w + j) x)
       row-last e = record {
         from = λ i h k.
             let q : j ≡ i = omega arith in
-            subst (λ (y : ℕ). getD (set t (n * w + j) x) (n * w + y) 0 ≡ behind least b v lo hi up (pageOf least b n) (countAt least b n) y) q here;
+            subst (λ (y : ℕ). getD (set t (n * w + j) x) (n * w + y) 0 ≡ behind least b v lo hi up (pageOf least b n) (countAt least b n) y)
+            q here;
       }
 
       -- one before those that are known
       pub row-more : Row least b v lo hi up n (j + 1) t → Row least b v lo hi up n j (set t (n * w + j) x)
       row-more y = record { from = λ i h k. at i h k (less j i) }
         where
-          at : (i : ℕ) → j ≤ i → i ≤ countAt least b n → (j < i) ⊎ (i ≤ j) → getD (set t (n * w + j) x) (n * w + i) 0 ≡ behind least b v lo hi up (pageOf least b n) (countAt least b n) i
-          at i h k (inl a) = getD-set-other t (n * w + j) (n * w + i) x 0 (place-next w n i j (λ e. omega arith)) ∙ y .from i (omega arith) k
+          at : (i : ℕ) → j ≤ i → i ≤ countAt least b n → (j < i) ⊎ (i ≤ j)
+              → getD (set t (n * w + j) x) (n * w + i) 0 ≡ behind least b v lo hi up (pageOf least b n) (countAt least b n) i
+          at i h k (inl a) =
+              getD-set-other t (n * w + j) (n * w + i) x 0 (place-next w n i j (λ e. omega arith)) ∙ y .from i (omega arith) k
           at i h k (inr a) =
               let q : j ≡ i = omega arith in
-              subst (λ (u : ℕ). getD (set t (n * w + j) x) (n * w + u) 0 ≡ behind least b v lo hi up (pageOf least b n) (countAt least b n) u) q here
+              subst (λ (u : ℕ). getD (set t (n * w + j) x) (n * w + u) 0
+              ≡ behind least b v lo hi up (pageOf least b n) (countAt least b n) u) q here

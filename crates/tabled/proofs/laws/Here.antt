@@ -32,17 +32,22 @@ module _ (least : ℕ) (b : List ℕ) (v hi at n : ℕ) where
   unfolding rangeRight
   page-of zero c = c
   page-of (suc up) c =
-      both-true (pageRight least b (suc (suc up)) n) (startsBy at (shown least b v n) && all (λ (r : Pair). rangeRight least b v up hi (r .key) (r .value)) (followed at hi (shown least b v n))) c .0
+      both-true (pageRight least b (suc (suc up)) n)
+      (startsBy at (shown least b v n) && all (λ (r : Pair). rangeRight least b v up hi (r .key) (r .value))
+      (followed at hi (shown least b v n))) c .0
 
   pub all-of : (up : ℕ) → rangeRight least b v (suc up) hi at n ≡ true
-      → (startsBy at (shown least b v n) ≡ true) × (all (λ (r : Pair). rangeRight least b v up hi (r .key) (r .value)) (followed at hi (shown least b v n)) ≡ true)
+      → (startsBy at (shown least b v n) ≡ true) ×
+      (all (λ (r : Pair). rangeRight least b v up hi (r .key) (r .value)) (followed at hi (shown least b v n)) ≡ true)
   unfolding rangeRight
   all-of up c =
       let xs = followed at hi (shown least b v n) in
       let f : Pair → Bool = λ r. rangeRight least b v up hi (r .key) (r .value) in
-      both-true (startsBy at (shown least b v n)) (all f xs) (both-true (pageRight least b (suc (suc up)) n) (startsBy at (shown least b v n) && all f xs) c .1)
+      both-true (startsBy at (shown least b v n)) (all f xs)
+      (both-true (pageRight least b (suc (suc up)) n) (startsBy at (shown least b v n) && all f xs) c .1)
 
-  starts-of : (up : ℕ) → (up ≡ 0 → ⊥) → rangeRight least b v up hi at n ≡ true → startsBy at (pairsAt v (page (decode least b .pages) n)) ≡ true
+  starts-of : (up : ℕ) → (up ≡ 0 → ⊥) → rangeRight least b v up hi at n ≡ true
+      → startsBy at (pairsAt v (page (decode least b .pages) n)) ≡ true
   starts-of zero z c = absurd (z (omega arith))
   starts-of (suc up) z c = all-of up c .0
 
@@ -72,11 +77,14 @@ module _ {l : Limits} {b : List ℕ} (r : Reads l b) (v hi up n k : ℕ) (c : ra
         down : pred (suc up - 1) ≡ up - 1
         down = ap pred (sub-one (suc up)) ∙ sym (sub-one up)
 
-        both : (rangeRight (l .least) b v (up - 1) hi k (o .page) ≡ true) × (rightFrom (l .least) b v hi (up - 1) p (h .count) (o .next) ≡ true)
+        both : (rangeRight (l .least) b v (up - 1) hi k (o .page) ≡ true)
+            × (rightFrom (l .least) b v hi (up - 1) p (h .count) (o .next) ≡ true)
         both =
-            let q = across-on (l .least) b v hi k n (suc up) (omega arith) (page-of (l .least) b v hi k n up c) (starts-of (l .least) b v hi k n up z c) p (h .count) here-pairs o w in
+            let q = across-on (l .least) b v hi k n (suc up) (omega arith) (page-of (l .least) b v hi k n up c)
+            (starts-of (l .least) b v hi k n up z c) p (h .count) here-pairs o w in
             both-true (rangeRight (l .least) b v (up - 1) hi k (o .page)) (rightFrom (l .least) b v hi (up - 1) p (h .count) (o .next))
-            (sym (q ∙ ap (λ (u : ℕ). rangeRight (l .least) b v u hi k (o .page) && rightFrom (l .least) b v hi u p (h .count) (o .next)) down) ∙ c)
+            (sym (q ∙ ap (λ (u : ℕ). rangeRight (l .least) b v u hi k (o .page) && rightFrom (l .least) b v hi u p (h .count) (o .next))
+            down) ∙ c)
 
         pub here-own : rangeRight (l .least) b v (up - 1) hi k (o .page) ≡ true
         here-own = both .0
@@ -84,5 +92,7 @@ module _ {l : Limits} {b : List ℕ} (r : Reads l b) (v hi up n k : ℕ) (c : ra
         pub here-all : rightFrom (l .least) b v hi (up - 1) p (h .count) (o .next) ≡ true
         here-all = both .1
 
-        pub here-range : (lo : ℕ) → rangeBelow up ps v lo hi k n ≡ rangeBelow (up - 1) ps v lo hi k (o .page) ++ later (up - 1) ps v lo hi p (h .count) (o .next)
-        here-range lo = ap (λ (u : ℕ). rangeBelow u ps v lo hi k n) one-up ∙ followed-through (up - 1) ps v lo hi p (h .count) k n o w here-pairs
+        pub here-range : (lo : ℕ) → rangeBelow up ps v lo hi k n
+            ≡ rangeBelow (up - 1) ps v lo hi k (o .page) ++ later (up - 1) ps v lo hi p (h .count) (o .next)
+        here-range lo =
+            ap (λ (u : ℕ). rangeBelow u ps v lo hi k n) one-up ∙ followed-through (up - 1) ps v lo hi p (h .count) k n o w here-pairs

@@ -32,7 +32,8 @@ use Rattle.walk.specs.Live.{live}
 use Rattle.walk.proofs.laws.Scan.{from-start}
 use Rattle.walk.specs.Sure.{PageStands}
 
-module _ {l : Limits} (d : Edition l) (b : List ℕ) (size : ℕ) (z : Sized (l .least) b size) (up n : ℕ) (e : pageRight (l .least) b (suc up) n ≡ true) where
+module _ {l : Limits} (d : Edition l) (b : List ℕ) (size : ℕ) (z : Sized (l .least) b size) (up n : ℕ)
+    (e : pageRight (l .least) b (suc up) n ≡ true) where
   abbrev least : ℕ
   least = l .least
 
@@ -43,15 +44,20 @@ module _ {l : Limits} (d : Edition l) (b : List ℕ) (size : ℕ) (z : Sized (l 
   q = page (decode least b .pages) n
 
   five : 5 ≤ n
-  five = ⊎-elim (λ h. absurd (not-both (pageRight least b (suc up) n) e (page-low least b size z (suc up) n (omega arith) h))) (λ h. h) (less n 5)
+  five =
+      ⊎-elim (λ h. absurd (not-both (pageRight least b (suc up) n) e (page-low least b size z (suc up) n (omega arith) h))) (λ h. h)
+      (less n 5)
 
   below : n < sizeOf least b
-  below = ⊎-elim (λ h. omega (arith, z .is)) (λ h. absurd (not-both (pageRight least b (suc up) n) e (page-far least b size z (suc up) n (omega arith) h))) (less n size)
+  below =
+      ⊎-elim (λ h. omega (arith, z .is))
+      (λ h. absurd (not-both (pageRight least b (suc up) n) e (page-far least b size z (suc up) n (omega arith) h))) (less n size)
 
   parts : (cleanPage least p ≡ true) × (pageOk least (last (decode least b)) (length (decode least b .pages)) q ≡ true)
   unfolding pageRight
   parts =
-      let x = both-true (cleanPage least p) (pageOk least (last (decode least b)) (length (decode least b .pages)) q && eqb (q .level) (suc up)) e in
+      let x = both-true (cleanPage least p)
+      (pageOk least (last (decode least b)) (length (decode least b .pages)) q && eqb (q .level) (suc up)) e in
       (x .0, both-true (pageOk least (last (decode least b)) (length (decode least b .pages)) q) (eqb (q .level) (suc up)) (x .1) .0)
 
   order : inOrder before (q .entries) ≡ true
@@ -82,6 +88,7 @@ module _ {l : Limits} (d : Edition l) (b : List ℕ) (size : ℕ) (z : Sized (l 
         pairs = λ v. ap (live v) (entries-are ∙ from-start p c);
       }
 
-pub level-inside : {l : Limits} (d : Edition l) (b : List ℕ) (size : ℕ) → Sized (l .least) b size → (level n : ℕ) → 0 < level → pageRight (l .least) b level n ≡ true → PageStands (l .least) b n
+pub level-inside : {l : Limits} (d : Edition l) (b : List ℕ) (size : ℕ) → Sized (l .least) b size → (level n : ℕ) → 0 < level
+    → pageRight (l .least) b level n ≡ true → PageStands (l .least) b n
 level-inside d b size z zero n h e = absurd (omega arith)
 level-inside d b size z (suc up) n h e = right-inside d b size z up n e

@@ -26,10 +26,12 @@ use Rattle.tabled.proofs.laws.Cells.{right-low, table-row}
 use Rattle.tabled.specs.Skips.{Turns, Skips}
 
 -- so it is at an index page of a walk that is right
-pub turns-here : {l : Limits} {b : List ℕ} (r : Reads l b) (v lo hi up n k : ℕ) → rangeRight (l .least) b v up hi k n ≡ true → (up ≡ 0 → ⊥) → (t : List ℕ) → Table (l .least) b v lo hi ((up + 2) * 4096) t → Turns l b v lo hi (up - 1) n t
+pub turns-here : {l : Limits} {b : List ℕ} (r : Reads l b) (v lo hi up n k : ℕ) → rangeRight (l .least) b v up hi k n ≡ true → (up ≡ 0 → ⊥)
+    → (t : List ℕ) → Table (l .least) b v lo hi ((up + 2) * 4096) t → Turns l b v lo hi (up - 1) n t
 turns-here {l} {b} r v lo hi up n k c z t x =
     let e : suc up ≡ suc (suc (up - 1)) = omega arith in
-    let right : pageRight (l .least) b (suc (suc (up - 1))) n ≡ true = subst (λ (u : ℕ). pageRight (l .least) b u n ≡ true) e (page-of (l .least) b v hi k n up c) in
+    let right : pageRight (l .least) b (suc (suc (up - 1))) n ≡ true
+    = subst (λ (u : ℕ). pageRight (l .least) b u n ≡ true) e (page-of (l .least) b v hi k n up c) in
     let low : n < 4096 = right-low (l .least) b (sizeOf (l .least) b) (r .sized) (suc (suc (up - 1))) n (omega arith) right in
     record {
       reads = r;
@@ -59,8 +61,16 @@ module _ (least : ℕ) (b : List ℕ) (v lo hi up n : ℕ) where
   }
 
   -- from one that is passed over to the next one
-  pub skips-on : (i k r : ℕ) → Skips least b v lo hi up n i k → later up ps v lo hi p m k ≡ later up ps v lo hi p m (k + 1) → Skips least b v lo hi up n (k + 1) r → Skips least b v lo hi up n i r
-  skips-on i k r x e y = record { after = omega (arith, x .after, y .after); within = y .within; same = x .same ∙ e ∙ y .same; right = y .right; here = y .here }
+  pub skips-on : (i k r : ℕ) → Skips least b v lo hi up n i k → later up ps v lo hi p m k ≡ later up ps v lo hi p m (k + 1)
+      → Skips least b v lo hi up n (k + 1) r → Skips least b v lo hi up n i r
+  skips-on i k r x e y =
+      record {
+        after = omega (arith, x .after, y .after);
+        within = y .within;
+        same = x .same ∙ e ∙ y .same;
+        right = y .right;
+        here = y .here;
+      }
 
   empty : (xs ys : List Pair) → length xs ≡ 0 → xs ++ ys ≡ ys
   empty [] ys e = refl
@@ -71,12 +81,23 @@ module _ (least : ℕ) (b : List ℕ) (v lo hi up n : ℕ) where
   known i c = told-right (rightFrom least b v hi up p m i) (length (later up ps v lo hi p m i)) c
 
   -- a router with the number of the one behind it finds nothing
-  pub skips-none : (i k : ℕ) → Skips least b v lo hi up n i k → k < m → (t : List ℕ) → Row least b v lo hi up n 0 t → getD t (n * (5 * least + 1) + k) 0 ≡ getD t (n * (5 * least + 1) + (k + 1)) 0
+  pub skips-none : (i k : ℕ) → Skips least b v lo hi up n i k → k < m → (t : List ℕ) → Row least b v lo hi up n 0 t
+      → getD t (n * (5 * least + 1) + k) 0 ≡ getD t (n * (5 * least + 1) + (k + 1)) 0
       → (later up ps v lo hi p m k ≡ later up ps v lo hi p m (k + 1)) × (rightFrom least b v hi up p m (k + 1) ≡ true)
   skips-none i k x h t y e =
       let c = from-first least b v hi up p m k (x .here h) (x .right) in
       let s = later-step up ps v lo hi p m k (x .here h) in
       let xs = rangeBelow up ps v lo hi (entry p k .key) (entry p k .value) in
       let ys = later up ps v lo hi p m (k + 1) in
-      let q : length xs ≡ 0 = omega (arith, known k (x .right), known (k + 1) (c .1), y .from k (omega arith) (omega arith), y .from (k + 1) (omega arith) (omega arith), e, ap (λ (zs : List Pair). length zs) s, length-append xs ys) in
+      let q : length xs ≡ 0
+      = omega (
+        arith,
+        known k (x .right),
+        known (k + 1) (c .1),
+        y .from k (omega arith) (omega arith),
+        y .from (k + 1) (omega arith) (omega arith),
+        e,
+        ap (λ (zs : List Pair). length zs) s,
+        length-append xs ys,
+      ) in
       (s ∙ empty xs ys q, c .1)

@@ -27,13 +27,16 @@ pub none-above : (v k : ℕ) (es : List Entry) → inOrder before es ≡ true �
 none-above v k [] o h = refl
 none-above v k (e ∷ es) o h = at (none-above v k es (order-rest e es o)) (bool-cases (liveAt v e))
   where
-    at : (startsBy k (live v es) ≡ false → above k (live v es) ≡ true) → (liveAt v e ≡ true) ⊎ (liveAt v e ≡ false) → above k (live v (e ∷ es)) ≡ true
+    at : (startsBy k (live v es) ≡ false → above k (live v es) ≡ true) → (liveAt v e ≡ true) ⊎ (liveAt v e ≡ false)
+        → above k (live v (e ∷ es)) ≡ true
     at ih (inl a) = live-above v k e es o (leb-false (e .key) k (sym (ap (startsBy k) (live-on v e es a)) ∙ h))
     at ih (inr a) = ap (above k) (live-off v e es a) ∙ ih (sym (ap (startsBy k) (live-off v e es a)) ∙ h)
 
 some-between : (k : ℕ) (xs : List Pair) → startsBy k xs ≡ true → between 0 k xs ≡ [] → ⊥
 some-between k [] h e = let z : _≡_ {A = ℕ} 0 1 = cc in omega arith
-some-between k (x ∷ xs) h e = let q : (leb 0 (x .key) && leb (x .key) k) ≡ true = rw (le-leb 0 (x .key) (omega arith), h) in (let w = rw q at e in let z : _≡_ {A = ℕ} 0 1 = cc in omega arith)
+some-between k (x ∷ xs) h e =
+    let q : (leb 0 (x .key) && leb (x .key) k) ≡ true = rw (le-leb 0 (x .key) (omega arith), h) in
+    (let w = rw q at e in let z : _≡_ {A = ℕ} 0 1 = cc in omega arith)
 
 module _ (p : List ℕ) (v k n r : ℕ) (s : Stands p n) (x : Next p v 0 k 0 n r) where
   abbrev xs : List Pair

@@ -35,7 +35,8 @@ module _ (v hi : ℕ) (e : Entry) (es : List Entry) where
   followed-not : (liveAt v e && leb (e .key) hi) ≡ false → between 0 hi (live v (e ∷ es)) ≡ between 0 hi (live v es)
   followed-not h = at (liveAt v e) refl (leb (e .key) hi) refl h
     where
-      at : (a : Bool) → liveAt v e ≡ a → (c : Bool) → leb (e .key) hi ≡ c → (a && c) ≡ false → between 0 hi (live v (e ∷ es)) ≡ between 0 hi (live v es)
+      at : (a : Bool) → liveAt v e ≡ a → (c : Bool) → leb (e .key) hi ≡ c → (a && c) ≡ false
+          → between 0 hi (live v (e ∷ es)) ≡ between 0 hi (live v es)
       at false x c y z = ap (between 0 hi) (live-off v e es x)
       at true x false y z = ap (between 0 hi) (live-on v e es x) ∙ rw (le-leb 0 (e .key) (omega arith), y)
       at true x true y z = absurd (let q : _≡_ {A = ℕ} 0 1 = cc in omega arith)
@@ -43,7 +44,8 @@ module _ (v hi : ℕ) (e : Entry) (es : List Entry) where
   followed-so : (liveAt v e && leb (e .key) hi) ≡ true → between 0 hi (live v (e ∷ es)) ≡ pairOf e ∷ between 0 hi (live v es)
   followed-so h = at (liveAt v e) refl (leb (e .key) hi) refl h
     where
-      at : (a : Bool) → liveAt v e ≡ a → (c : Bool) → leb (e .key) hi ≡ c → (a && c) ≡ true → between 0 hi (live v (e ∷ es)) ≡ pairOf e ∷ between 0 hi (live v es)
+      at : (a : Bool) → liveAt v e ≡ a → (c : Bool) → leb (e .key) hi ≡ c → (a && c) ≡ true
+          → between 0 hi (live v (e ∷ es)) ≡ pairOf e ∷ between 0 hi (live v es)
       at false x c y z = absurd (let q : _≡_ {A = ℕ} 0 1 = cc in omega arith)
       at true x false y z = absurd (let q : _≡_ {A = ℕ} 0 1 = cc in omega arith)
       at true x true y z = ap (between 0 hi) (live-on v e es x) ∙ rw (le-leb 0 (e .key) (omega arith), y)
@@ -56,7 +58,8 @@ module _ (least : ℕ) (b : List ℕ) (v lo hi : ℕ) where
   unfolding turn
   turn-not up e h = rw h
 
-  turn-so : (up : ℕ) (e : Entry) → (liveAt v e && leb (e .key) hi) ≡ true → turn least b v lo hi up e ≡ found least b v lo hi up (e .key) (e .value)
+  turn-so : (up : ℕ) (e : Entry) → (liveAt v e && leb (e .key) hi) ≡ true
+      → turn least b v lo hi up e ≡ found least b v lo hi up (e .key) (e .value)
   unfolding turn
   turn-so up e h = rw h
 
@@ -104,7 +107,8 @@ module _ (least : ℕ) (b : List ℕ) (v lo hi : ℕ) where
     unfolding found
     found-wrong level h e = told-wrong _ _ (sym (across-wrong least b v hi at m level h e))
 
-    pub found-none : (level : ℕ) → 1 < level → pageRight least b level m ≡ true → startsBy at (pairsAt v (page ps m)) ≡ false → found least b v lo hi (pred level) at m ≡ 0
+    pub found-none : (level : ℕ) → 1 < level → pageRight least b level m ≡ true → startsBy at (pairsAt v (page ps m)) ≡ false
+        → found least b v lo hi (pred level) at m ≡ 0
     unfolding found
     found-none level h e f = told-wrong _ _ (sym (across-none least b v hi at m level h e f))
 
@@ -114,19 +118,24 @@ module _ (least : ℕ) (b : List ℕ) (v lo hi : ℕ) where
 
     pub found-on : (level : ℕ) → 1 < level → pageRight least b level m ≡ true → startsBy at (pairsAt v (page ps m)) ≡ true
         → (p : List ℕ) (n : ℕ) → pairsAt v (page ps m) ≡ live v (from p 0 n) → (o : Own) → Owns p v at n o
-        → found least b v lo hi (pred level) at m ≡ join (behind least b v lo hi (pred (level - 1)) p n (o .next)) (found least b v lo hi (pred (level - 1)) at (o .page))
+        → found least b v lo hi (pred level) at m
+        ≡ join (behind least b v lo hi (pred (level - 1)) p n (o .next)) (found least b v lo hi (pred (level - 1)) at (o .page))
     unfolding found behind
     found-on zero h e f p n q o w = absurd (omega arith)
     found-on (suc zero) h e f p n q o w = absurd (omega arith)
     found-on (suc (suc up)) h e f p n q o w =
         let z : pred (suc (suc up) - 1) ≡ up = ap pred (sub-one (suc (suc up))) in
         let x = across-on least b v hi at m (suc (suc up)) h e f p n q o w in
-        let y : length (rangeBelow (suc up) ps v lo hi at m) ≡ length (rangeBelow up ps v lo hi at (o .page)) + length (later up ps v lo hi p n (o .next))
-        = ap (λ (xs : List Pair). length xs) (followed-through up ps v lo hi p n at m o w q) ∙ length-append (rangeBelow up ps v lo hi at (o .page)) (later up ps v lo hi p n (o .next)) in
+        let y : length (rangeBelow (suc up) ps v lo hi at m)
+        ≡ length (rangeBelow up ps v lo hi at (o .page)) + length (later up ps v lo hi p n (o .next))
+        = ap (λ (xs : List Pair). length xs) (followed-through up ps v lo hi p n at m o w q)
+        ∙ length-append (rangeBelow up ps v lo hi at (o .page)) (later up ps v lo hi p n (o .next)) in
         ap (λ (k : ℕ). told (rangeRight least b v (suc up) hi at m) k) y
         ∙ ap (λ (t : Bool). told t (length (rangeBelow up ps v lo hi at (o .page)) + length (later up ps v lo hi p n (o .next)))) x
-        ∙ ap (λ (u : ℕ). told (rangeRight least b v u hi at (o .page) && rightFrom least b v hi u p n (o .next)) (length (rangeBelow up ps v lo hi at (o .page)) + length (later up ps v lo hi p n (o .next)))) z
-        ∙ told-both (rangeRight least b v up hi at (o .page)) (rightFrom least b v hi up p n (o .next)) (length (rangeBelow up ps v lo hi at (o .page))) (length (later up ps v lo hi p n (o .next)))
+        ∙ ap (λ (u : ℕ). told (rangeRight least b v u hi at (o .page) && rightFrom least b v hi u p n (o .next))
+        (length (rangeBelow up ps v lo hi at (o .page)) + length (later up ps v lo hi p n (o .next)))) z
+        ∙ told-both (rangeRight least b v up hi at (o .page)) (rightFrom least b v hi up p n (o .next))
+        (length (rangeBelow up ps v lo hi at (o .page))) (length (later up ps v lo hi p n (o .next)))
         ∙ sym (ap (λ (u : ℕ). join (behind least b v lo hi u p n (o .next)) (found least b v lo hi u at (o .page))) z)
 
   -- ---- its routers, from the last one on
@@ -134,29 +143,40 @@ module _ (least : ℕ) (b : List ℕ) (v lo hi : ℕ) where
   module _ (up : ℕ) (p : List ℕ) (n : ℕ) where
     pub behind-end : (behind least b v lo hi) up p n n ≡ 1
     unfolding behind
-    behind-end = ap (λ (t : Bool). told t (length (later up ps v lo hi p n n))) (from-end least b v hi up p n) ∙ ap (λ (xs : List Pair). told true (length xs)) (later-end up ps v lo hi p n) ∙ told-right true 0 refl
+    behind-end =
+        ap (λ (t : Bool). told t (length (later up ps v lo hi p n n))) (from-end least b v hi up p n)
+        ∙ ap (λ (xs : List Pair). told true (length xs)) (later-end up ps v lo hi p n) ∙ told-right true 0 refl
 
-    behind-same : (i j : ℕ) → between 0 hi (live v (from p i n)) ≡ between 0 hi (live v (from p j n)) → behind least b v lo hi up p n i ≡ behind least b v lo hi up p n j
+    behind-same : (i j : ℕ) → between 0 hi (live v (from p i n)) ≡ between 0 hi (live v (from p j n))
+        → behind least b v lo hi up p n i ≡ behind least b v lo hi up p n j
     unfolding behind rightFrom later
     behind-same i j e = ap (λ (xs : List Pair). told (all (under least b v hi up) xs) (length (flatMap (through up ps v lo hi) xs))) e
 
     behind-first : (i : ℕ) → between 0 hi (live v (from p i n)) ≡ pairOf (entry p i) ∷ between 0 hi (live v (from p (i + 1) n))
-        → behind least b v lo hi up p n i ≡ join (behind least b v lo hi up p n (i + 1)) (found least b v lo hi up (entry p i .key) (entry p i .value))
+        → behind least b v lo hi up p n i ≡ join (behind least b v lo hi up p n (i + 1))
+        (found least b v lo hi up (entry p i .key) (entry p i .value))
     unfolding behind found rightFrom later
     behind-first i e =
         let x : Pair = pairOf (entry p i) in
         let xs : List Pair = between 0 hi (live v (from p (i + 1) n)) in
         ap (λ (ys : List Pair). told (all (under least b v hi up) ys) (length (flatMap (through up ps v lo hi) ys))) e
-        ∙ ap (λ (k : ℕ). told (under least b v hi up x && all (under least b v hi up) xs) k) (length-append (through up ps v lo hi x) (flatMap (through up ps v lo hi) xs))
-        ∙ told-both (under least b v hi up x) (all (under least b v hi up) xs) (length (through up ps v lo hi x)) (length (flatMap (through up ps v lo hi) xs))
+        ∙ ap (λ (k : ℕ). told (under least b v hi up x && all (under least b v hi up) xs) k)
+        (length-append (through up ps v lo hi x) (flatMap (through up ps v lo hi) xs))
+        ∙ told-both (under least b v hi up x) (all (under least b v hi up) xs) (length (through up ps v lo hi x))
+        (length (flatMap (through up ps v lo hi) xs))
 
-    pub behind-step : (i : ℕ) → i < n → behind least b v lo hi up p n i ≡ join (behind least b v lo hi up p n (i + 1)) (turn least b v lo hi up (entry p i))
+    pub behind-step : (i : ℕ) → i < n → behind least b v lo hi up p n i
+        ≡ join (behind least b v lo hi up p n (i + 1)) (turn least b v lo hi up (entry p i))
     behind-step i h = at (liveAt v (entry p i) && leb (entry p i .key) hi) refl
       where
-        at : (x : Bool) → (liveAt v (entry p i) && leb (entry p i .key) hi) ≡ x → behind least b v lo hi up p n i ≡ join (behind least b v lo hi up p n (i + 1)) (turn least b v lo hi up (entry p i))
+        at : (x : Bool) → (liveAt v (entry p i) && leb (entry p i .key) hi) ≡ x
+            → behind least b v lo hi up p n i ≡ join (behind least b v lo hi up p n (i + 1)) (turn least b v lo hi up (entry p i))
         at true e =
-            behind-first i (ap (λ (es : List Entry). between 0 hi (live v es)) (from-step p n i h) ∙ followed-so v hi (entry p i) (from p (i + 1) n) e)
+            behind-first i
+            (ap (λ (es : List Entry). between 0 hi (live v es)) (from-step p n i h) ∙ followed-so v hi (entry p i) (from p (i + 1) n) e)
             ∙ ap (join (behind least b v lo hi up p n (i + 1))) (sym (turn-so up (entry p i) e))
         at false e =
-            behind-same i (i + 1) (ap (λ (es : List Entry). between 0 hi (live v es)) (from-step p n i h) ∙ followed-not v hi (entry p i) (from p (i + 1) n) e)
-            ∙ sym (ap (join (behind least b v lo hi up p n (i + 1))) (turn-not up (entry p i) e) ∙ join-last (behind least b v lo hi up p n (i + 1)))
+            behind-same i (i + 1)
+            (ap (λ (es : List Entry). between 0 hi (live v es)) (from-step p n i h) ∙ followed-not v hi (entry p i) (from p (i + 1) n) e)
+            ∙ sym (ap (join (behind least b v lo hi up p n (i + 1))) (turn-not up (entry p i) e)
+            ∙ join-last (behind least b v lo hi up p n (i + 1)))

@@ -22,11 +22,14 @@ next-place-requires c κs = (rw (c .head-of .ensures, c .before .part .ensures .
 
 returns : tie.Need-returns
 returns c =
-    let a = c .before .before .before .before .args in
-    let i = c .before .before .before .before .pre .1 in
+    let at-part = c .before .before in
+    let at-start = at-part .before .before in
+    let a = at-start .args in
+    let i = at-start .pre .1 in
     let p = pageOf (a .l .least) (a .s .now) (a .n) in
-    rw (c .before .head-of .ensures, c .before .before .part .ensures .0)
-    (starts-next p (a .v) (a .key) (readHead (a .l .least) p .count) (c .next-place .result) (i .stands) (rw (c .before .head-of .ensures, c .before .before .part .ensures .0) at (c .next-place .ensures))
+    rw (c .before .head-of .ensures, at-part .part .ensures .0)
+    (starts-next p (a .v) (a .key) (readHead (a .l .least) p .count) (c .next-place .result) (i .stands)
+    (rw (c .before .head-of .ensures, at-part .part .ensures .0) at (c .next-place .ensures))
     ∙ sym (ap (λ (xs : List Pair). startsBy (a .key) xs) (i .pairs (a .v))))
 
 pub starts-spec : {M : Type 1} → statement M

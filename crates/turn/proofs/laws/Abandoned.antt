@@ -49,7 +49,7 @@ pub back-holds : (least w : ℕ) (s : Store) → 0 < w → w < 2 ^ 20 → Holds 
 back-holds least w s p q h = record {
   five = omega (arith, h .five, length-map (s .pages) (back w));
   most = omega (arith, h .most, length-map (s .pages) (back w));
-  front = take-map (back w) 5 (s .pages) ∙ ap (map (back w)) (h .front) ∙ frees w 5 p;
+  front = take-map (back w) 5 (s .pages) ∙ ap (map (back w)) (h .front) ∙ frees (back w) (free-back w p) 5;
   current = h .current;
   oldest = h .oldest;
   few = h .few;

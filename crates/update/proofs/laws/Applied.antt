@@ -13,9 +13,9 @@ use Rattle.model.specs.Layout.{encode, decode}
 use Rattle.model.specs.Walk.{Around}
 use Rattle.model.specs.Rules.{settled, upward, lacking}
 use Rattle.model.specs.Climb.{Rooted, stays, moves, lacks, workRoot, climb, putSlot, Result, done, refused, slotted, rooted}
-use Rattle.model.specs.Plan.{slotLeft}
+use Rattle.model.specs.Needs.{slotLeft}
 use Rattle.model.specs.Lent.{left}
-use Rattle.model.proofs.plan.PlanSlots.{slot-left}
+use Rattle.model.proofs.needs.OpenSlot.{slot-left}
 use Rattle.store.specs.Set.{withPages, withSlots}
 use Rattle.edit.specs.declared.Change as code
 use Rattle.edit.specs.Change.{changeOf}

@@ -8,8 +8,8 @@ use lib.ListN.{length, drop, length-drop}
 use Rattle.model.specs.Basic.{pick, keep}
 use Rattle.model.specs.Page.{Page, isFree}
 use Rattle.model.specs.Store.{freeFrom, freeOnes}
-use Rattle.model.specs.Plan as plan
-use Rattle.model.specs.Plan.{outlookNumber}
+use Rattle.outlook.specs.Plan as plan
+use Rattle.outlook.specs.Plan.{outlookNumber}
 use Rattle.plan.specs.declared.Outlook.{Outlook}
 use Rattle.plan.specs.declared.Outlook.the-variants.{Keeps, Moves, Lacks}
 use Rattle.plan.specs.Plan.{outlookOf}

@@ -13,11 +13,12 @@ use Rattle.model.specs.Walk.{Around, keyLimit}
 use Rattle.model.specs.Layout.{decode}
 use Rattle.model.specs.Judged.{isSound}
 use Rattle.model.specs.Climb.{climb, refused, rooted, update}
-use Rattle.model.specs.Plan.{planUp, slotLeft, outlookNumber, outlook, plan}
+use Rattle.model.specs.Needs.{slotLeft}
+use Rattle.outlook.specs.Plan.{planUp, outlookNumber, outlook, plan}
 use Rattle.model.specs.Lent.{left}
 use Rattle.model.proofs.sound.ByRule.{Sound, old-current}
 use Rattle.model.proofs.sound.Ready.{ready}
-use Rattle.model.proofs.plan.PlanSound.{plan-refused, plan-done}
+use Rattle.outlook.proofs.laws.PlanSound.{plan-refused, plan-done}
 use Rattle.store.proofs.laws.Sure.{sure}
 use Rattle.walk.specs.Sure.{Walkable}
 use Rattle.edit.specs.declared.Change as code

@@ -15,22 +15,27 @@ edition-lent-requires c κs = search needs
 returns : tie.Need-returns
 unfolding lookupAny
 returns c =
-    let a = c .before .before .before .before .args in
+    let at-start = c .before .before .before .before in
+    let a = at-start .args in
     let b = a .s .now in
     let e = c .before .before .edition-lent in
     refused-early (e .result) b (e .ensures) (λ (n : ℕ). Refused n) (λ (least : ℕ). lookupLent least b (a .key) (a .v)) (c .if1 .taken)
 
 lookup-requires : tie.Need-lookup-requires
-lookup-requires c κs = let e = c .before .before .edition-lent in is-edition (e .result) (c .before .before .before .before .args .s .now) (e .ensures)
+lookup-requires c κs =
+    let at-start = c .before .before .before .before in
+    let e = c .before .before .edition-lent in is-edition (e .result) (at-start .args .s .now) (e .ensures)
 
 returns-2 : tie.Need-returns-2
 unfolding lookupAny
 returns-2 c =
-    let h = c .before in
-    let a = h .before .before .before .before .args in
+    let at-if1 = c .before in
+    let at-start = at-if1 .before .before .before .before in
+    let a = at-start .args in
     let b = a .s .now in
-    let e = h .before .before .edition-lent in
-    c .lookup .ensures ∙ gone-on (e .result) b (e .ensures) (λ (n : ℕ). Refused n) (λ (least : ℕ). lookupLent least b (a .key) (a .v)) (h .if1 .left)
+    let e = at-if1 .before .before .edition-lent in
+    c .lookup .ensures ∙ gone-on (e .result) b (e .ensures) (λ (n : ℕ). Refused n) (λ (least : ℕ). lookupLent least b (a .key) (a .v))
+    (at-if1 .if1 .left)
 
 pub lookup-spec : {M : Type 1} → statement M
 lookup-spec = tie.close (tie.spec edition-lent-requires returns lookup-requires returns-2)

@@ -19,21 +19,25 @@ untold-requires c κs = search needs
 returns : tie.Need-returns
 unfolding stateAny
 returns c =
-    let h = c .before in
-    let b = h .before .before .before .before .args .s .now in
-    let e = h .before .before .edition-lent in
-    c .untold .ensures ∙ refused-early (e .result) b (e .ensures) {A = State} untold (λ (least : ℕ). stateLent least b) (h .if1 .taken)
+    let at-if1 = c .before in
+    let at-start = at-if1 .before .before .before .before in
+    let b = at-start .args .s .now in
+    let e = at-if1 .before .before .edition-lent in
+    c .untold .ensures ∙ refused-early (e .result) b (e .ensures) {A = State} untold (λ (least : ℕ). stateLent least b) (at-if1 .if1 .taken)
 
 state-in-requires : tie.Need-state-in-requires
-state-in-requires c κs = let e = c .before .before .edition-lent in is-edition (e .result) (c .before .before .before .before .args .s .now) (e .ensures)
+state-in-requires c κs =
+    let at-start = c .before .before .before .before in
+    let e = c .before .before .edition-lent in is-edition (e .result) (at-start .args .s .now) (e .ensures)
 
 returns-2 : tie.Need-returns-2
 unfolding stateAny
 returns-2 c =
-    let h = c .before in
-    let b = h .before .before .before .before .args .s .now in
-    let e = h .before .before .edition-lent in
-    c .state-in .ensures ∙ gone-on (e .result) b (e .ensures) {A = State} untold (λ (least : ℕ). stateLent least b) (h .if1 .left)
+    let at-if1 = c .before in
+    let at-start = at-if1 .before .before .before .before in
+    let b = at-start .args .s .now in
+    let e = at-if1 .before .before .edition-lent in
+    c .state-in .ensures ∙ gone-on (e .result) b (e .ensures) {A = State} untold (λ (least : ℕ). stateLent least b) (at-if1 .if1 .left)
 
 pub state-spec : {M : Type 1} → statement M
 state-spec = tie.close (tie.spec edition-lent-requires untold-requires returns state-in-requires returns-2)

@@ -59,15 +59,26 @@ edition-one-requires c κs = search needs
 number-requires : tie.Need-number-requires
 number-requires c κs = edition-of 4 (c .edition-one .ensures) (omega arith) (omega arith)
 
+-- the target is as long as its edition asks
+whole-is : (c : tie.Else4) → lengthOk 8 (c .before .before .before .before .before .before .before .before .before .before .args .t .now) ≡ true
+whole-is c =
+    let e = ap (λ (x : Limits). x .least) (c .before .before .edition-two .ensures) in
+    ap (λ (m : ℕ). lengthOk m (c .before .before .before .before .before .before .before .before .before .before .args .t .now)) (sym e) ∙ sym (c .before .whole .ensures) ∙ not-false _ (c .if4 .left)
+
+judged-is : (c : tie.After-number) → c .number .result ≡ judged 4 (c .before .before .before .before .before .before .before .before .before .before .before .before .args .s .now) .number
+judged-is c = c .number .ensures ∙ ap (λ (x : Limits). judged (x .least) (c .before .before .before .before .before .before .before .before .before .before .before .before .args .s .now) .number) (c .before .edition-one .ensures)
+
+opened-is : (c : tie.After-header) → decode 4 (c .before .before .before .before .before .before .before .before .before .before .before .before .before .before .args .s .now) .opened ≡ c .header .result .opened
+opened-is c =
+    let b = c .before .before .before .before .before .before .before .before .before .before .before .before .before .before .args .s .now in
+    let e = ap (λ (x : Limits). readHeader (x .least) b .opened) (c .before .before .before .edition-one .ensures) in
+    opened-of 4 b ∙ sym e ∙ sym (ap (λ (x : Header). x .opened) (c .header .ensures))
+
 returns-5 : tie.Need-returns-5
 returns-5 c =
     let a = c .before .before .before .before .before .before .before .before .before .before .before .before .before .args in
     let n = c .before .before .before .before .before .before .before .before .before .named in
-    let l = ap (λ (x : Limits). x .least) (c .before .before .before .before .before .edition-two .ensures) in
-    let w : lengthOk 8 (a .t .now) ≡ true = ap (λ (m : ℕ). lengthOk m (a .t .now)) (sym l) ∙ sym (c .before .before .before .before .whole .ensures) ∙ not-false _ (c .before .before .before .if4 .left) in
-    let k = ap (λ (x : Limits). x .least) (c .before .before .edition-one .ensures) in
-    let j : c .before .number .result ≡ judged 4 (a .s .now) .number = c .before .number .ensures ∙ ap (λ (m : ℕ). judged m (a .s .now) .number) k in
-    judged-wrong (a .s .now) (a .t .now) (c .before .before .before .before .before .before .before .before .before .before .if1 .left) (sym (n .ensures) ∙ not-false (n .result) (c .before .before .before .before .before .before .before .before .if2 .left)) (c .before .before .before .before .before .before .before .shared-slice-known3 .given 4 .fits) (c .before .before .before .before .before .before .if3 .left) w _ j (c .if5 .taken)
+    judged-wrong (a .s .now) (a .t .now) (c .before .before .before .before .before .before .before .before .before .before .if1 .left) (sym (n .ensures) ∙ not-false (n .result) (c .before .before .before .before .before .before .before .before .if2 .left)) (c .before .before .before .before .before .before .before .shared-slice-known3 .given 4 .fits) (c .before .before .before .before .before .before .if3 .left) (whole-is (c .before .before .before)) _ (judged-is (c .before)) (c .if5 .taken)
 
 header-requires : tie.Need-header-requires
 header-requires c κs =
@@ -80,25 +91,13 @@ returns-6 : tie.Need-returns-6
 returns-6 c =
     let a = c .before .before .before .before .before .before .before .before .before .before .before .before .before .before .before .args in
     let n = c .before .before .before .before .before .before .before .before .before .before .before .named in
-    let l = ap (λ (x : Limits). x .least) (c .before .before .before .before .before .before .before .edition-two .ensures) in
-    let w : lengthOk 8 (a .t .now) ≡ true = ap (λ (m : ℕ). lengthOk m (a .t .now)) (sym l) ∙ sym (c .before .before .before .before .before .before .whole .ensures) ∙ not-false _ (c .before .before .before .before .before .if4 .left) in
-    let k = ap (λ (x : Limits). x .least) (c .before .before .before .before .edition-one .ensures) in
-    let j : c .before .before .before .number .result ≡ judged 4 (a .s .now) .number = c .before .before .before .number .ensures ∙ ap (λ (m : ℕ). judged m (a .s .now) .number) k in
-    let o : decode 4 (a .s .now) .opened ≡ true =
-    opened-of 4 (a .s .now) ∙ ap (λ (m : ℕ). readHeader m (a .s .now) .opened) (sym k) ∙ sym (ap (λ (x : Header). x .opened) (c .before .header .ensures)) ∙ (c .if6 .taken) in
-    is-open (a .s .now) (a .t .now) (c .before .before .before .before .before .before .before .before .before .before .before .before .if1 .left) (sym (n .ensures) ∙ not-false (n .result) (c .before .before .before .before .before .before .before .before .before .before .if2 .left)) (c .before .before .before .before .before .before .before .before .before .shared-slice-known3 .given 4 .fits) (c .before .before .before .before .before .before .before .before .if3 .left) w (sym j ∙ c .before .before .if5 .left) o
+    is-open (a .s .now) (a .t .now) (c .before .before .before .before .before .before .before .before .before .before .before .before .if1 .left) (sym (n .ensures) ∙ not-false (n .result) (c .before .before .before .before .before .before .before .before .before .before .if2 .left)) (c .before .before .before .before .before .before .before .before .before .shared-slice-known3 .given 4 .fits) (c .before .before .before .before .before .before .before .before .if3 .left) (whole-is (c .before .before .before .before .before)) (sym (judged-is (c .before .before .before)) ∙ c .before .before .if5 .left) (opened-is (c .before) ∙ c .if6 .taken)
 
 returns-7 : tie.Need-returns-7
 returns-7 c =
     let a = c .before .before .before .before .before .before .before .before .before .before .before .before .before .before .before .args in
     let n = c .before .before .before .before .before .before .before .before .before .before .before .named in
-    let l = ap (λ (x : Limits). x .least) (c .before .before .before .before .before .before .before .edition-two .ensures) in
-    let w : lengthOk 8 (a .t .now) ≡ true = ap (λ (m : ℕ). lengthOk m (a .t .now)) (sym l) ∙ sym (c .before .before .before .before .before .before .whole .ensures) ∙ not-false _ (c .before .before .before .before .before .if4 .left) in
-    let k = ap (λ (x : Limits). x .least) (c .before .before .before .before .edition-one .ensures) in
-    let j : c .before .before .before .number .result ≡ judged 4 (a .s .now) .number = c .before .before .before .number .ensures ∙ ap (λ (m : ℕ). judged m (a .s .now) .number) k in
-    let o : decode 4 (a .s .now) .opened ≡ false =
-    opened-of 4 (a .s .now) ∙ ap (λ (m : ℕ). readHeader m (a .s .now) .opened) (sym k) ∙ sym (ap (λ (x : Header). x .opened) (c .before .header .ensures)) ∙ (c .if6 .left) in
-    is-shut (a .s .now) (a .t .now) (c .before .before .before .before .before .before .before .before .before .before .before .before .if1 .left) (sym (n .ensures) ∙ not-false (n .result) (c .before .before .before .before .before .before .before .before .before .before .if2 .left)) (c .before .before .before .before .before .before .before .before .before .shared-slice-known3 .given 4 .fits) (c .before .before .before .before .before .before .before .before .if3 .left) w (sym j ∙ c .before .before .if5 .left) o
+    is-shut (a .s .now) (a .t .now) (c .before .before .before .before .before .before .before .before .before .before .before .before .if1 .left) (sym (n .ensures) ∙ not-false (n .result) (c .before .before .before .before .before .before .before .before .before .before .if2 .left)) (c .before .before .before .before .before .before .before .before .before .shared-slice-known3 .given 4 .fits) (c .before .before .before .before .before .before .before .before .if3 .left) (whole-is (c .before .before .before .before .before)) (sym (judged-is (c .before .before .before)) ∙ c .before .before .if5 .left) (opened-is (c .before) ∙ c .if6 .left)
 
 pub guard-spec : {M : Type 1} → statement M
 guard-spec =

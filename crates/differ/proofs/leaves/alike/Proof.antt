@@ -10,23 +10,30 @@ use Rattle.differ.proofs.leaves.alike.Tie as tie
 
 part-requires : tie.Need-part-requires
 part-requires c κs =
-    let r = c .before .pre .0 in
-    (r .edition, covers-inside r _ _ _ (below-covers r _ _ _ (c .before .pre .2)) .part, few (r .edition) (c .before .args .s .now) (r .sound))
+    let at-start = c .before in
+    let r = at-start .pre .0 in (
+      r .edition,
+      covers-inside r _ _ _ (below-covers r _ _ _ (at-start .pre .2)) .part,
+      few (r .edition) (at-start .args .s .now) (r .sound),
+    )
 
 head-of-requires : tie.Need-head-of-requires
 head-of-requires c κs = search needs
 
 same-requires : tie.Need-same-requires
 same-requires c κs =
-    let a = c .before .before .before .args in
-    let p = c .before .before .before .pre in
+    let at-start = c .before .before .before in
+    let a = at-start .args in
+    let p = at-start .pre in
     leaf-stands (p .0) (a .a .low) (a .x) (p .2) _ _ (c .before .part .ensures .0) (c .head-of .ensures)
 
 returns : tie.Need-returns
 returns c =
-    let a = c .before .before .before .before .args in
-    let p = c .before .before .before .before .pre in
-    λ z. same-none (a .a) (p .0) (p .1) (a .x) (a .y) (p .2) (p .3) _ _ (c .before .before .part .ensures .0) (c .before .head-of .ensures) (sym (c .same .ensures) ∙ z)
+    let at-start = c .before .before .before .before in
+    let a = at-start .args in
+    let p = at-start .pre in
+    λ z. same-none (a .a) (p .0) (p .1) (a .x) (a .y) (p .2) (p .3) _ _ (c .before .before .part .ensures .0) (c .before .head-of .ensures)
+    (sym (c .same .ensures) ∙ z)
 
 pub alike-spec : {M : Type 1} → statement M
 alike-spec = tie.close (tie.spec part-requires head-of-requires same-requires returns)

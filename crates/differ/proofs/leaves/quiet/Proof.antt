@@ -28,9 +28,12 @@ moves-requires c κs = search needs
 
 returns : tie.Need-returns Inv-loop μ-loop
 returns c =
-    let a = c .before .before .before .before .before .before .args in
-    let l = c .before .before .before .before .loop in
-    quiet-not (a .page .now) (a .n) (a .u) (a .v) (l .i) (c .before .before .before .loop-test .taken) (rw (c .before .before .entry-at .ensures) at (sym (c .before .moves .ensures) ∙ c .if1 .taken)) ∙ sym (l .inv .1)
+    let at-loop = c .before .before .before .before in
+    let at-start = at-loop .before .before in
+    let a = at-start .args in
+    let l = at-loop .loop in
+    quiet-not (a .page .now) (a .n) (a .u) (a .v) (l .i) (c .before .before .before .loop-test .taken)
+    (rw (c .before .before .entry-at .ensures) at (sym (c .before .moves .ensures) ∙ c .if1 .taken)) ∙ sym (l .inv .1)
 
 add-i : tie.Need-add-i Inv-loop μ-loop
 add-i c = search needs
@@ -40,9 +43,16 @@ loop-less c = search needs
 
 loop-again : tie.Need-loop-again Inv-loop μ-loop
 loop-again c =
-    let a = c .before .before .before .before .before .before .args in
-    let l = c .before .before .before .before .loop in
-    (omega (arith, c .before .before .before .loop-test .taken), l .inv .1 ∙ quiet-on (a .page .now) (a .n) (a .u) (a .v) (l .i) (c .before .before .before .loop-test .taken) (rw (c .before .before .entry-at .ensures) at (sym (c .before .moves .ensures) ∙ c .if1 .left)))
+    let at-test = c .before .before .before in
+    let at-loop = at-test .before in
+    let at-start = at-loop .before .before in
+    let a = at-start .args in
+    let l = at-loop .loop in (
+      omega (arith, at-test .loop-test .taken),
+      l .inv .1
+          ∙ quiet-on (a .page .now) (a .n) (a .u) (a .v) (l .i) (at-test .loop-test .taken)
+          (rw (c .before .before .entry-at .ensures) at (sym (c .before .moves .ensures) ∙ c .if1 .left)),
+    )
 
 returns-2 : tie.Need-returns-2 Inv-loop μ-loop
 returns-2 c =

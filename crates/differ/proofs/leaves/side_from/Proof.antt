@@ -14,13 +14,18 @@ entry-at-requires c κs =
 
 returns : tie.Need-returns
 returns c =
-    let a = c .before .before .before .before .args in
-    rw (c .entry-at .ensures) (at-here (a .page .now) (a .n) (a .v) (a .low) (a .high) (a .i) _ (c .before .before .next-place .ensures) (c .before .before .before .before .pre .2) (c .before .if1 .taken))
+    let at-start = c .before .before .before .before in
+    let a = at-start .args in
+    rw (c .entry-at .ensures)
+    (at-here (a .page .now) (a .n) (a .v) (a .low) (a .high) (a .i) _ (c .before .before .next-place .ensures) (at-start .pre .2)
+    (c .before .if1 .taken))
 
 returns-2 : tie.Need-returns-2
 returns-2 c =
-    let a = c .before .before .before .args in
-    at-none (a .page .now) (a .n) (a .v) (a .low) (a .high) (a .i) _ (c .before .next-place .ensures) (c .before .before .before .pre .2) (omega (arith, c .before .next-place .ensures .within, c .if1 .left))
+    let at-start = c .before .before .before in
+    let a = at-start .args in
+    at-none (a .page .now) (a .n) (a .v) (a .low) (a .high) (a .i) _ (c .before .next-place .ensures) (at-start .pre .2)
+    (omega (arith, c .before .next-place .ensures .within, c .if1 .left))
 
 pub side-from-spec : {M : Type 1} → statement M
 side-from-spec = tie.close (tie.spec next-place-requires entry-at-requires returns returns-2)

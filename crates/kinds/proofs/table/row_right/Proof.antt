@@ -53,8 +53,10 @@ right-kind-requires c κs = search needs
 
 returns-3 : tie.Need-returns-3
 returns-3 c =
-    let h = c .before .before .before .before .before in
-    rw (le-leb _ _ (h .before .if1 .left), lt-ltb _ _ (h .if2 .left)) (c .right-kind .ensures ∙ ap (λ (k : Known). rightKind k) (c .before .row-kind .ensures))
+    let at-if2 = c .before .before .before .before .before in
+    let at-if1 = at-if2 .before in
+    rw (le-leb _ _ (at-if1 .if1 .left), lt-ltb _ _ (at-if2 .if2 .left))
+    (c .right-kind .ensures ∙ ap (λ (k : Known). rightKind k) (c .before .row-kind .ensures))
 
 pub row-right-spec : {M : Type 1} → statement M
 row-right-spec =

@@ -29,12 +29,16 @@ add-result c = search needs
 
 returns : tie.Need-returns Inv-loop μ-loop
 returns c =
-    let h = c .before .before in
-    sym (wrong-here _ _ _ _ (h .loop-test .taken) (sym (c .before .row-right .ensures) ∙ not-true _ (c .if1 .taken))) ∙ h .before .loop .inv .1
+    let at-test = c .before .before in
+    sym (wrong-here _ _ _ _ (at-test .loop-test .taken) (sym (c .before .row-right .ensures) ∙ not-true _ (c .if1 .taken)))
+    ∙ at-test .before .loop .inv .1
 
 -- behind the test, the row is right
 right-row : (c : tie.After-shared-slice-known2 Inv-loop μ-loop)
-    → rowRight (c .before .before .before .before .before .before .args .table .now) (c .before .before .before .before .loop .at) (c .before .before .before .before .loop .least) ≡ true
+    →
+    let at-loop = c .before .before .before .before in
+    let at-start = at-loop .before .before in
+    rowRight (at-start .args .table .now) (at-loop .loop .at) (at-loop .loop .least) ≡ true
 right-row c = sym (c .before .before .row-right .ensures) ∙ not-false _ (c .before .if1 .left)
 
 mul-least : tie.Need-mul-least Inv-loop μ-loop
@@ -45,8 +49,10 @@ shared-slice-read-least c = search needs
 
 add-least : tie.Need-add-least Inv-loop μ-loop
 add-least c =
-    let l = c .before .before .before .before .loop in
-    omega (arith, row-key (c .before .before .before .before .before .before .args .table .now) (l .at) (l .least) (right-row c))
+    let at-loop = c .before .before .before .before in
+    let at-start = at-loop .before .before in
+    let l = at-loop .loop in
+    omega (arith, row-key (at-start .args .table .now) (l .at) (l .least) (right-row c))
 
 add-at : tie.Need-add-at Inv-loop μ-loop
 add-at c = search needs
@@ -59,21 +65,26 @@ loop-less c = search needs
 
 loop-again : tie.Need-loop-again Inv-loop μ-loop
 loop-again c =
-    let h = c .before .before .before in
-    (omega arith, wrong-on _ _ _ _ (h .loop-test .taken) (right-row c) ∙ h .before .loop .inv .1)
+    let at-test = c .before .before .before in
+    let at-loop = at-test .before in
+    (omega arith, wrong-on _ _ _ _ (at-test .loop-test .taken) (right-row c) ∙ at-loop .loop .inv .1)
 
 returns-2 : tie.Need-returns-2 Inv-loop μ-loop
 returns-2 c =
-    let h = c .before in
-    sym (wrong-end _ _ _ _ (h .loop-test .left) ∙ ap (λ (b : Bool). pick b 0 (h .before .loop .at / 4 + 1)) (eq-eqb _ _ (c .if2 .taken))) ∙ h .before .loop .inv .1
+    let at-test = c .before in
+    let at-loop = at-test .before in
+    sym (wrong-end _ _ _ _ (at-test .loop-test .left)
+    ∙ ap (λ (b : Bool). pick b 0 (at-loop .loop .at / 4 + 1)) (eq-eqb _ _ (c .if2 .taken))) ∙ at-loop .loop .inv .1
 
 add-result-2 : tie.Need-add-result-2 Inv-loop μ-loop
 add-result-2 c = search needs
 
 returns-3 : tie.Need-returns-3 Inv-loop μ-loop
 returns-3 c =
-    let h = c .before in
-    sym (wrong-end _ _ _ _ (h .loop-test .left) ∙ ap (λ (b : Bool). pick b 0 (h .before .loop .at / 4 + 1)) (ne-eqb _ _ (c .if2 .left))) ∙ h .before .loop .inv .1
+    let at-test = c .before in
+    let at-loop = at-test .before in
+    sym (wrong-end _ _ _ _ (at-test .loop-test .left) ∙ ap (λ (b : Bool). pick b 0 (at-loop .loop .at / 4 + 1)) (ne-eqb _ _ (c .if2 .left)))
+    ∙ at-loop .loop .inv .1
 
 pub wrong-row-spec : {M : Type 1} → statement M
 wrong-row-spec =

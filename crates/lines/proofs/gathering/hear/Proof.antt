@@ -19,8 +19,10 @@ find-requires c κs = search needs
 
 slice-aggregate-stands : tie.Need-slice-aggregate-stands
 slice-aggregate-stands c =
-    let p : List ℕ = c .before .before .before .before .before .before .args .piece .now in
-    sym (length-take-le (c .before .before .before .before .find .result) p (omega (arith, until-le 10 p, c .before .before .before .before .find .ensures)))
+    let at-find = c .before .before .before .before in
+    let at-start = at-find .before .before in
+    let p : List ℕ = at-start .args .piece .now in
+    sym (length-take-le (at-find .find .result) p (omega (arith, until-le 10 p, at-find .find .ensures)))
 
 stands-requires : tie.Need-stands-requires
 stands-requires c κs = search needs
@@ -33,16 +35,18 @@ add-t15 c = search needs
 
 returns : tie.Need-returns
 returns c =
-    let s = c .before .before .before .before .before .before .before .before in
-    let p : List ℕ = s .args .piece .now in
-    let h : Reading = reading (s .args .held) in
-    let e : ℕ = c .before .before .before .before .before .before .find .result in
-    let empty : s .args .held .len ≡ 0 = omega arith in
-    let none : h .text ≡ [] = ap (λ (n : ℕ). take n (s .args .held .bytes)) empty in
+    let at-find = c .before .before .before .before .before .before in
+    let at-start = at-find .before .before in
+    let p : List ℕ = at-start .args .piece .now in
+    let h : Reading = reading (at-start .args .held) in
+    let e : ℕ = at-find .find .result in
+    let empty : at-start .args .held .len ≡ 0 = omega arith in
+    let none : h .text ≡ [] = ap (λ (n : ℕ). take n (at-start .args .held .bytes)) empty in
     let after : reading (c .next .result) ≡ next h = c .next .ensures .0 in
     let line : c .before .stands .result ≡ lineOf (record { text = take e p; before = h .before }) = c .before .stands .ensures in
     record {
-      step = (λ i. record { after = after i; used = e + 1; heard = Whole (line i) }) ∙ step-standing h p e none (c .before .before .before .before .before .before .find .ensures) (omega arith);
+      step = (λ i. record { after = after i; used = e + 1; heard = Whole (line i) })
+          ∙ step-standing h p e none (at-find .find .ensures) (omega arith);
       room = c .next .ensures .1;
       moves = λ _. omega arith;
       within = omega arith;
@@ -51,8 +55,10 @@ returns c =
 
 slice-aggregate-keep : tie.Need-slice-aggregate-keep
 slice-aggregate-keep c =
-    let p : List ℕ = c .before .before .before .before .before .args .piece .now in
-    sym (length-take-le (c .before .before .before .find .result) p (omega (arith, until-le 10 p, c .before .before .before .find .ensures)))
+    let at-find = c .before .before .before in
+    let at-start = at-find .before .before in
+    let p : List ℕ = at-start .args .piece .now in
+    sym (length-take-le (at-find .find .result) p (omega (arith, until-le 10 p, at-find .find .ensures)))
 
 keep-requires : tie.Need-keep-requires
 keep-requires c κs = search needs
@@ -68,15 +74,17 @@ add-t20 c = search needs
 
 returns-2 : tie.Need-returns-2
 returns-2 c =
-    let s = c .before .before .before .before .before .before .before .before .before in
-    let p : List ℕ = s .args .piece .now in
-    let h : Reading = reading (s .args .held) in
-    let e : ℕ = c .before .before .before .before .before .before .before .find .result in
+    let at-find = c .before .before .before .before .before .before .before in
+    let at-start = at-find .before .before in
+    let p : List ℕ = at-start .args .piece .now in
+    let h : Reading = reading (at-start .args .held) in
+    let e : ℕ = at-find .find .result in
     let more = c .before .before .before .keep .ensures .0 in
     let after : reading (c .next2 .result) ≡ next (kept h (take e p)) = c .next2 .ensures .0 ∙ ap next more in
     let line : c .before .line .result ≡ lineOf (kept h (take e p)) = c .before .line .ensures ∙ ap lineOf more in
     record {
-      step = (λ i. record { after = after i; used = e + 1; heard = Whole (line i) }) ∙ step-whole h p e (c .before .before .before .before .before .before .before .find .ensures) (omega arith);
+      step = (λ i. record { after = after i; used = e + 1; heard = Whole (line i) })
+          ∙ step-whole h p e (at-find .find .ensures) (omega arith);
       room = c .next2 .ensures .1;
       moves = λ _. omega arith;
       within = omega arith;
@@ -85,16 +93,18 @@ returns-2 c =
 
 returns-3 : tie.Need-returns-3
 returns-3 c =
-    let s = c .before .before .before .before .before .before .before in
-    let p : List ℕ = s .args .piece .now in
-    let h : Reading = reading (s .args .held) in
-    let e : ℕ = c .before .before .before .before .before .find .result in
-    let after : reading (c .before .keep .result) ≡ kept h (take e p) = c .before .keep .ensures .0 in
+    let at-keep = c .before in
+    let at-find = at-keep .before .before .before .before in
+    let at-start = at-find .before .before in
+    let p : List ℕ = at-start .args .piece .now in
+    let h : Reading = reading (at-start .args .held) in
+    let e : ℕ = at-find .find .result in
+    let after : reading (at-keep .keep .result) ≡ kept h (take e p) = at-keep .keep .ensures .0 in
     record {
-      step = (λ i. record { after = after i; used = e; heard = Nothing }) ∙ step-part h p e (c .before .before .before .before .before .find .ensures) (omega arith);
-      room = c .before .keep .ensures .1;
+      step = (λ i. record { after = after i; used = e; heard = Nothing }) ∙ step-part h p e (at-find .find .ensures) (omega arith);
+      room = at-keep .keep .ensures .1;
       moves = λ some. omega arith;
-      within = omega (arith, until-le 10 p, c .before .before .before .before .before .find .ensures);
+      within = omega (arith, until-le 10 p, at-find .find .ensures);
       few = omega (arith, ap (λ (r : Reading). r .before) after);
     }
 

@@ -26,53 +26,108 @@ least-requires c κs = search needs
 
 loop-holds : tie.Need-loop-holds Inv-loop μ-loop
 loop-holds c =
-    let h = c .before .before .before .args .held in
-    (omega arith, plain (h .bytes) (c .before .before .before .good .0 .1 .1 .0 .1 .0 .1), rw add-zero (sym (append-nil (take (h .len) (h .bytes)))))
+    let at-start = c .before .before .before in
+    let h = at-start .args .held in
+    (omega arith, plain (h .bytes) (at-start .good .0 .1 .1 .0 .1 .0 .1), rw add-zero (sym (append-nil (take (h .len) (h .bytes)))))
 
 shared-slice-read-bytes : tie.Need-shared-slice-read-bytes Inv-loop μ-loop
-shared-slice-read-bytes c = omega (arith, c .before .before .before .least .ensures, min-le-left (length (c .before .before .before .before .before .before .args .text .now)) (81 - c .before .before .before .before .before .before .args .held .len), min-le-right (length (c .before .before .before .before .before .before .args .text .now)) (81 - c .before .before .before .before .before .before .args .held .len))
+shared-slice-read-bytes c =
+    let at-start = c .before .before .before .before .before .before in
+    omega (
+      arith,
+      c .before .before .before .least .ensures,
+      min-le-left (length (at-start .args .text .now)) (81 - at-start .args .held .len),
+      min-le-right (length (at-start .args .text .now)) (81 - at-start .args .held .len),
+    )
 
 add-bytes : tie.Need-add-bytes Inv-loop μ-loop
-add-bytes c = omega (arith, c .before .before .before .least .ensures, min-le-left (length (c .before .before .before .before .before .before .args .text .now)) (81 - c .before .before .before .before .before .before .args .held .len), min-le-right (length (c .before .before .before .before .before .before .args .text .now)) (81 - c .before .before .before .before .before .before .args .held .len))
+add-bytes c =
+    let at-start = c .before .before .before .before .before .before in
+    omega (
+      arith,
+      c .before .before .before .least .ensures,
+      min-le-left (length (at-start .args .text .now)) (81 - at-start .args .held .len),
+      min-le-right (length (at-start .args .text .now)) (81 - at-start .args .held .len),
+    )
 
 array-write-bytes : tie.Need-array-write-bytes Inv-loop μ-loop
-array-write-bytes c = omega (arith, c .before .before .before .least .ensures, min-le-left (length (c .before .before .before .before .before .before .args .text .now)) (81 - c .before .before .before .before .before .before .args .held .len), min-le-right (length (c .before .before .before .before .before .before .args .text .now)) (81 - c .before .before .before .before .before .before .args .held .len))
+array-write-bytes c =
+    let at-start = c .before .before .before .before .before .before in
+    omega (
+      arith,
+      c .before .before .before .least .ensures,
+      min-le-left (length (at-start .args .text .now)) (81 - at-start .args .held .len),
+      min-le-right (length (at-start .args .text .now)) (81 - at-start .args .held .len),
+    )
 
 add-i : tie.Need-add-i Inv-loop μ-loop
-add-i c = omega (arith, c .before .before .before .least .ensures, min-le-left (length (c .before .before .before .before .before .before .args .text .now)) (81 - c .before .before .before .before .before .before .args .held .len), min-le-right (length (c .before .before .before .before .before .before .args .text .now)) (81 - c .before .before .before .before .before .before .args .held .len))
+add-i c =
+    let at-start = c .before .before .before .before .before .before in
+    omega (
+      arith,
+      c .before .before .before .least .ensures,
+      min-le-left (length (at-start .args .text .now)) (81 - at-start .args .held .len),
+      min-le-right (length (at-start .args .text .now)) (81 - at-start .args .held .len),
+    )
 
 loop-less : tie.Need-loop-less Inv-loop μ-loop
 loop-less c = omega arith
 
 loop-again : tie.Need-loop-again Inv-loop μ-loop
 loop-again c =
-    let a = c .before .before .before .before .before .before .args in
+    let at-start = c .before .before .before .before .before .before in
+    let a = at-start .args in
     let l = c .before .before .loop in
     let e = c .before .before .before .least .ensures in (
       omega arith,
       simp length-set (l .inv .1),
       kept-more (l .bytes) (take (a .held .len) (a .held .bytes)) (a .text .now) (a .held .len) (l .i)
-          (omega (arith, e, min-le-left (length (c .before .before .before .before .before .before .args .text .now)) (81 - c .before .before .before .before .before .before .args .held .len), min-le-right (length (c .before .before .before .before .before .before .args .text .now)) (81 - c .before .before .before .before .before .before .args .held .len)))
-          (omega (arith, e, min-le-left (length (c .before .before .before .before .before .before .args .text .now)) (81 - c .before .before .before .before .before .before .args .held .len), min-le-right (length (c .before .before .before .before .before .before .args .text .now)) (81 - c .before .before .before .before .before .before .args .held .len)))
+          (omega (
+            arith,
+            e,
+            min-le-left (length (at-start .args .text .now)) (81 - at-start .args .held .len),
+            min-le-right (length (at-start .args .text .now)) (81 - at-start .args .held .len),
+          ))
+          (omega (
+            arith,
+            e,
+            min-le-left (length (at-start .args .text .now)) (81 - at-start .args .held .len),
+            min-le-right (length (at-start .args .text .now)) (81 - at-start .args .held .len),
+          ))
           (l .inv .2),
     )
 
 add-t7 : tie.Need-add-t7 Inv-loop μ-loop
-add-t7 c = omega (arith, c .before .before .least .ensures, min-le-left (length (c .before .before .before .before .before .args .text .now)) (81 - c .before .before .before .before .before .args .held .len), min-le-right (length (c .before .before .before .before .before .args .text .now)) (81 - c .before .before .before .before .before .args .held .len))
+add-t7 c =
+    let at-start = c .before .before .before .before .before in
+    omega (
+      arith,
+      c .before .before .least .ensures,
+      min-le-left (length (at-start .args .text .now)) (81 - at-start .args .held .len),
+      min-le-right (length (at-start .args .text .now)) (81 - at-start .args .held .len),
+    )
 
 returns : tie.Need-returns Inv-loop μ-loop
 returns c =
-    let a = c .before .before .before .before .before .args in
+    let at-least = c .before .before in
+    let at-start = at-least .before .before .before in
+    let a = at-start .args in
     let l = c .before .loop in
-    let n : ℕ = c .before .before .least .result in
+    let n : ℕ = at-least .least .result in
     let i : l .i ≡ n = omega arith in
     let t : List ℕ = take (a .held .len) (a .held .bytes) in
-    let len : length t ≡ a .held .len = length-take-le (a .held .len) (a .held .bytes) (omega (arith, plain (a .held .bytes) (c .before .before .before .before .before .good .0 .1 .1 .0 .1 .0 .1))) in
+    let len : length t ≡ a .held .len = length-take-le (a .held .len) (a .held .bytes)
+    (omega (arith, plain (a .held .bytes) (at-start .good .0 .1 .1 .0 .1 .0 .1))) in
     let room : length t ≤ 81 = omega arith in
     let text : take (a .held .len + n) (l .bytes) ≡ take 81 (t ++ a .text .now) =
-    rw i at (l .inv .2) ∙ kept-part t (a .text .now) n room (rw len (c .before .before .least .ensures)) in (
+    rw i at (l .inv .2) ∙ kept-part t (a .text .now) n room (rw len (at-least .least .ensures)) in (
       ap (λ (x : List ℕ). record { text = x; before = a .held .before }) text,
-      omega (arith, c .before .before .least .ensures, min-le-left (length (c .before .before .before .before .before .args .text .now)) (81 - c .before .before .before .before .before .args .held .len), min-le-right (length (c .before .before .before .before .before .args .text .now)) (81 - c .before .before .before .before .before .args .held .len)),
+      omega (
+        arith,
+        at-least .least .ensures,
+        min-le-left (length (at-start .args .text .now)) (81 - at-start .args .held .len),
+        min-le-right (length (at-start .args .text .now)) (81 - at-start .args .held .len),
+      ),
     )
 
 pub keep-spec : {M : Type 1} → statement M

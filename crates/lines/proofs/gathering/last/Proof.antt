@@ -18,9 +18,9 @@ line-requires c κs = search needs
 
 returns-2 : tie.Need-returns-2
 returns-2 c =
-    let s = c .before .before .before in
-    let h = s .args .held in
-    let len = length-take-le (h .len) (h .bytes) (omega (arith, plain (h .bytes) (s .good .0 .1 .1 .0 .1 .0 .1))) in
+    let at-start = c .before .before .before in
+    let h = at-start .args .held in
+    let len = length-take-le (h .len) (h .bytes) (omega (arith, plain (h .bytes) (at-start .good .0 .1 .1 .0 .1 .0 .1))) in
     ap Whole (c .line .ensures) ∙ sym (some-last (take (h .len) (h .bytes)) (lineOf (reading h)) (omega arith))
 
 pub last-spec : {M : Type 1} → statement M

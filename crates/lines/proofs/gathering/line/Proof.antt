@@ -12,8 +12,9 @@ array-share-prefix-bytes c = omega (arith, plain (c .before .args .held .bytes) 
 
 slice-aggregate-stands : tie.Need-slice-aggregate-stands
 slice-aggregate-stands c =
-    let h = c .before .before .args .held in
-    sym (length-take-le (h .len) (h .bytes) (omega (arith, plain (h .bytes) (c .before .before .good .0 .1 .1 .0 .1 .0 .1))))
+    let at-start = c .before .before in
+    let h = at-start .args .held in
+    sym (length-take-le (h .len) (h .bytes) (omega (arith, plain (h .bytes) (at-start .good .0 .1 .1 .0 .1 .0 .1))))
 
 stands-requires : tie.Need-stands-requires
 stands-requires c κs = search needs

@@ -17,7 +17,8 @@ find-requires c κs = search needs
 
 slice-aggregate-after-two : tie.Need-slice-aggregate-after-two
 slice-aggregate-after-two c =
-    sym (length-take-le (c .before .before .find .result) (c .before .before .before .before .before .args .rest .now) (omega arith))
+    let at-start = c .before .before .before .before .before in
+    sym (length-take-le (c .before .before .find .result) (at-start .args .rest .now) (omega arith))
 
 add-after-two : tie.Need-add-after-two
 add-after-two c = search needs
@@ -36,8 +37,10 @@ after-two-requires c κs = search needs
 
 returns : tie.Need-returns
 returns c =
-    let rest : List ℕ = c .before .before .before .before .before .before .before .args .rest .now in
-    rw (cut-found 32 _ rest (c .before .before .before .before .find .result) (c .before .before .before .before .find .ensures) (omega arith)) (c .after-two .ensures)
+    let at-find = c .before .before .before .before in
+    let at-start = at-find .before .before .before in
+    let rest : List ℕ = at-start .args .rest .now in
+    rw (cut-found 32 _ rest (at-find .find .result) (at-find .find .ensures) (omega arith)) (c .after-two .ensures)
 
 number-requires : tie.Need-number-requires
 number-requires c κs = search needs
@@ -48,7 +51,8 @@ with-one-requires c κs = search needs
 returns-2 : tie.Need-returns-2
 unfolding spoken
 returns-2 c =
-    let rest : List ℕ = c .before .before .before .before .before .before .args .rest .now in
+    let at-start = c .before .before .before .before .before .before in
+    let rest : List ℕ = at-start .args .rest .now in
     let whole : length rest ≤ until 32 rest = omega (arith, c .before .before .before .find .ensures) in
     rw (one-word 32 rest whole, c .with-one .ensures, c .before .number .ensures)
 

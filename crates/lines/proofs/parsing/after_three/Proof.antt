@@ -16,10 +16,12 @@ find-requires c κs = search needs
 
 returns : tie.Need-returns
 returns c =
-    let a = c .before .before .before .before .before .before .args in
+    let at-start = c .before .before .before .before .before .before in
+    let a = at-start .args in
     let rest : List ℕ = a .rest .now in
     let short : until 32 rest < length rest = omega (arith, c .before .find .ensures) in
-    rw (cut-at 32 _ rest short) (sym (too-many (a .w .now) (a .a .now) (a .b .now) (take (until 32 rest) rest) (drop (until 32 rest + 1) rest)))
+    rw (cut-at 32 _ rest short)
+    (sym (too-many (a .w .now) (a .a .now) (a .b .now) (take (until 32 rest) rest) (drop (until 32 rest + 1) rest)))
 
 number-requires : tie.Need-number-requires
 number-requires c κs = search needs
@@ -36,8 +38,10 @@ with-three-requires c κs = search needs
 returns-2 : tie.Need-returns-2
 unfolding spoken
 returns-2 c =
-    let rest : List ℕ = c .before .before .before .before .before .before .before .before .before .before .args .rest .now in
-    let whole : length rest ≤ until 32 rest = omega (arith, c .before .before .before .before .before .find .ensures) in
+    let at-find = c .before .before .before .before .before in
+    let at-start = at-find .before .before .before .before .before in
+    let rest : List ℕ = at-start .args .rest .now in
+    let whole : length rest ≤ until 32 rest = omega (arith, at-find .find .ensures) in
     rw (
       one-word 32 rest whole,
       c .with-three .ensures,

@@ -17,7 +17,8 @@ find-requires c κs = search needs
 
 slice-aggregate-after-three : tie.Need-slice-aggregate-after-three
 slice-aggregate-after-three c =
-    sym (length-take-le (c .before .before .find .result) (c .before .before .before .before .before .before .args .rest .now) (omega arith))
+    let at-start = c .before .before .before .before .before .before in
+    sym (length-take-le (c .before .before .find .result) (at-start .args .rest .now) (omega arith))
 
 add-after-three : tie.Need-add-after-three
 add-after-three c = search needs
@@ -36,8 +37,10 @@ after-three-requires c κs = search needs
 
 returns : tie.Need-returns
 returns c =
-    let rest : List ℕ = c .before .before .before .before .before .before .before .before .args .rest .now in
-    rw (cut-found 32 _ rest (c .before .before .before .before .find .result) (c .before .before .before .before .find .ensures) (omega arith)) (c .after-three .ensures)
+    let at-find = c .before .before .before .before in
+    let at-start = at-find .before .before .before .before in
+    let rest : List ℕ = at-start .args .rest .now in
+    rw (cut-found 32 _ rest (at-find .find .result) (at-find .find .ensures) (omega arith)) (c .after-three .ensures)
 
 number-requires : tie.Need-number-requires
 number-requires c κs = search needs
@@ -51,8 +54,10 @@ with-two-requires c κs = search needs
 returns-2 : tie.Need-returns-2
 unfolding spoken
 returns-2 c =
-    let rest : List ℕ = c .before .before .before .before .before .before .before .before .args .rest .now in
-    let whole : length rest ≤ until 32 rest = omega (arith, c .before .before .before .before .find .ensures) in
+    let at-find = c .before .before .before .before in
+    let at-start = at-find .before .before .before .before in
+    let rest : List ℕ = at-start .args .rest .now in
+    let whole : length rest ≤ until 32 rest = omega (arith, at-find .find .ensures) in
     rw (one-word 32 rest whole, c .with-two .ensures, c .before .before .number .ensures, c .before .number2 .ensures)
 
 pub after-two-spec : {M : Type 1} → statement M

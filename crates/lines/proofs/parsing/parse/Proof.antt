@@ -22,7 +22,8 @@ find-requires c κs = search needs
 
 slice-aggregate-after-one : tie.Need-slice-aggregate-after-one
 slice-aggregate-after-one c =
-    sym (length-take-le (c .before .before .find .result) (c .before .before .before .before .before .args .line .now) (omega arith))
+    let at-start = c .before .before .before .before .before in
+    sym (length-take-le (c .before .before .find .result) (at-start .args .line .now) (omega arith))
 
 add-after-one : tie.Need-add-after-one
 add-after-one c = search needs
@@ -42,8 +43,11 @@ after-one-requires c κs = search needs
 returns-2 : tie.Need-returns-2
 unfolding commandOf
 returns-2 c =
-    let line : List ℕ = c .before .before .before .before .before .before .before .args .line .now in
-    rw (le-leb (length line) 80 (c .before .before .before .before .before .if1 .left), cut-found 32 _ line (c .before .before .before .before .find .result) (c .before .before .before .before .find .ensures) (omega arith))
+    let at-find = c .before .before .before .before in
+    let at-if1 = at-find .before in
+    let at-start = at-if1 .before .before in
+    let line : List ℕ = at-start .args .line .now in
+    rw (le-leb (length line) 80 (at-if1 .if1 .left), cut-found 32 _ line (at-find .find .result) (at-find .find .ensures) (omega arith))
     (c .after-one .ensures)
 
 with-none-requires : tie.Need-with-none-requires
@@ -52,7 +56,8 @@ with-none-requires c κs = search needs
 returns-3 : tie.Need-returns-3
 unfolding commandOf spoken
 returns-3 c =
-    let line : List ℕ = c .before .before .before .before .before .args .line .now in
+    let at-start = c .before .before .before .before .before in
+    let line : List ℕ = at-start .args .line .now in
     let whole : length line ≤ until 32 line = omega (arith, c .before .before .find .ensures) in
     rw (le-leb (length line) 80 (c .before .before .before .if1 .left), one-word 32 line whole) (c .with-none .ensures)
 

@@ -20,7 +20,9 @@ same-requires-2 : tie.Need-same-requires-2
 same-requires-2 c κs = search needs
 
 returns-2 : tie.Need-returns-2
-returns-2 c = rw (sym (c .before .before .before .before .same .ensures) ∙ c .before .before .before .if1 .left, sym (c .before .same2 .ensures) ∙ c .if2 .taken)
+returns-2 c =
+    let at-same = c .before .before .before .before in
+    rw (sym (at-same .same .ensures) ∙ c .before .before .before .if1 .left, sym (c .before .same2 .ensures) ∙ c .if2 .taken)
 
 slice-aggregate-same-3 : tie.Need-slice-aggregate-same-3
 slice-aggregate-same-3 c = search needs
@@ -30,11 +32,25 @@ same-requires-3 c κs = search needs
 
 returns-3 : tie.Need-returns-3
 returns-3 c =
-    rw (sym (c .before .before .before .before .before .before .before .same .ensures) ∙ c .before .before .before .before .before .before .if1 .left, sym (c .before .before .before .before .same2 .ensures) ∙ c .before .before .before .if2 .left, sym (c .before .same3 .ensures) ∙ c .if3 .taken)
+    let at-same2 = c .before .before .before .before in
+    let at-if1 = at-same2 .before .before in
+    let at-same = at-if1 .before in
+    rw (
+      sym (at-same .same .ensures) ∙ at-if1 .if1 .left,
+      sym (at-same2 .same2 .ensures) ∙ c .before .before .before .if2 .left,
+      sym (c .before .same3 .ensures) ∙ c .if3 .taken,
+    )
 
 returns-4 : tie.Need-returns-4
 returns-4 c =
-    rw (sym (c .before .before .before .before .before .before .before .same .ensures) ∙ c .before .before .before .before .before .before .if1 .left, sym (c .before .before .before .before .same2 .ensures) ∙ c .before .before .before .if2 .left, sym (c .before .same3 .ensures) ∙ c .if3 .left)
+    let at-same2 = c .before .before .before .before in
+    let at-if1 = at-same2 .before .before in
+    let at-same = at-if1 .before in
+    rw (
+      sym (at-same .same .ensures) ∙ at-if1 .if1 .left,
+      sym (at-same2 .same2 .ensures) ∙ c .before .before .before .if2 .left,
+      sym (c .before .same3 .ensures) ∙ c .if3 .left,
+    )
 
 pub with-none-spec : {M : Type 1} → statement M
 with-none-spec =

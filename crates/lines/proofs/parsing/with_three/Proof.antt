@@ -39,11 +39,17 @@ same-requires c κs = search needs
 
 returns-4 : tie.Need-returns-4
 returns-4 c =
-    rw (c .before .before .before .before .before .before .before .before .before .before .a .given .1, c .before .before .before .before .before .before .before .b .given .1, c .before .before .before .before .c .given .1, sym (c .before .same .ensures) ∙ c .if1 .taken)
+    let at-c = c .before .before .before .before in
+    let at-b = at-c .before .before .before in
+    let at-a = at-b .before .before .before in
+    rw (at-a .a .given .1, at-b .b .given .1, at-c .c .given .1, sym (c .before .same .ensures) ∙ c .if1 .taken)
 
 returns-5 : tie.Need-returns-5
 returns-5 c =
-    rw (c .before .before .before .before .before .before .before .before .before .before .a .given .1, c .before .before .before .before .before .before .before .b .given .1, c .before .before .before .before .c .given .1, sym (c .before .same .ensures) ∙ c .if1 .left)
+    let at-c = c .before .before .before .before in
+    let at-b = at-c .before .before .before in
+    let at-a = at-b .before .before .before in
+    rw (at-a .a .given .1, at-b .b .given .1, at-c .c .given .1, sym (c .before .same .ensures) ∙ c .if1 .left)
 
 pub with-three-spec : {M : Type 1} → statement M
 with-three-spec =

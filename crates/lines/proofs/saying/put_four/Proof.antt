@@ -15,7 +15,9 @@ same-length : tie.Need-same-length
 same-length c = search needs
 
 returns : tie.Need-returns
-returns c = then-put (c .before .before .before .before .before .before .put-pair .ensures) (c .before .before .put-pair2 .ensures) (omega arith)
+returns c =
+    let at-put-pair = c .before .before .before .before .before .before in
+    then-put (at-put-pair .put-pair .ensures) (c .before .before .put-pair2 .ensures) (omega arith)
 
 pub put-four-spec : {M : Type 1} → statement M
 put-four-spec = tie.close (tie.spec put-pair-requires put-pair-requires-2 same-length returns)

@@ -7,28 +7,47 @@ use Rattle.lines.proofs.saying.put_named.Statement.{statement}
 use Rattle.lines.proofs.saying.put_named.Tie as tie
 
 put-requires : tie.Need-put-requires
-put-requires c κs = omega (arith, length-named (c .before .before .before .args .word .now) (c .before .before .before .args .n))
+put-requires c κs =
+    let at-start = c .before .before .before in
+    omega (arith, length-named (at-start .args .word .now) (at-start .args .n))
 
 put-number-requires : tie.Need-put-number-requires
 put-number-requires c κs =
-    omega (arith, length-named (c .before .before .before .before .before .before .before .args .word .now) (c .before .before .before .before .before .before .before .args .n), c .before .before .before .put .kept .1 .0, c .before .before .before .put .ensures .behind)
+    let at-put = c .before .before .before in
+    let at-start = at-put .before .before .before .before in
+    omega (arith, length-named (at-start .args .word .now) (at-start .args .n), at-put .put .kept .1 .0, at-put .put .ensures .behind)
 
 slice-aggregate-put : tie.Need-slice-aggregate-put
 slice-aggregate-put c = search needs
 
 put-requires-2 : tie.Need-put-requires-2
 put-requires-2 c κs =
-    omega (arith, length-named (c .before .before .before .before .before .before .before .before .before .before .before .before .args .word .now) (c .before .before .before .before .before .before .before .before .before .before .before .before .args .n), c .before .before .before .before .before .before .before .before .put .kept .1 .0, c .before .before .before .before .before .before .before .before .put .ensures .behind, c .before .before .before .before .put-number .kept .1 .0, c .before .before .before .before .put-number .ensures .behind)
+    let at-put-number = c .before .before .before .before in
+    let at-put = at-put-number .before .before .before .before in
+    let at-start = at-put .before .before .before .before in
+    omega (
+      arith,
+      length-named (at-start .args .word .now) (at-start .args .n),
+      at-put .put .kept .1 .0,
+      at-put .put .ensures .behind,
+      at-put-number .put-number .kept .1 .0,
+      at-put-number .put-number .ensures .behind,
+    )
 
 same-length : tie.Need-same-length
-same-length c = c .before .before .put2 .kept .1 .0 ∙ c .before .before .before .before .before .before .before .put-number .kept .1 .0 ∙ c .before .before .before .before .before .before .before .before .before .before .before .put .kept .1 .0
+same-length c =
+    let at-put-number = c .before .before .before .before .before .before .before in
+    let at-put = at-put-number .before .before .before .before in
+    c .before .before .put2 .kept .1 .0 ∙ at-put-number .put-number .kept .1 .0 ∙ at-put .put .kept .1 .0
 
 returns : tie.Need-returns
 returns c =
-    let s = c .before .before .before .before .before .before .before .before .before .before .before .before .before .before .before in
-    let p = c .before .before .before .before .before .before .before .before .before .before .before .put in
-    let q = c .before .before .before .before .before .before .before .put-number in
-    let long = length-named (s .args .word .now) (s .args .n) in
+    let at-put-number = c .before .before .before .before .before .before .before in
+    let at-put = at-put-number .before .before .before .before in
+    let at-start = at-put .before .before .before .before in
+    let p = at-put .put in
+    let q = at-put-number .put-number in
+    let long = length-named (at-start .args .word .now) (at-start .args .n) in
     then-put (p .ensures) (then-put (q .ensures) (c .before .before .put2 .ensures) (omega (arith, p .kept .1 .0, p .ensures .behind)))
     (omega arith)
 

@@ -16,24 +16,35 @@ returns c = search needs
 
 put-some-requires : tie.Need-put-some-requires
 put-some-requires c κs =
-    (omega arith, omega (arith, length-fours (c .before .before .before .args .n) (c .before .if1 .left) (c .before .before .before .fits .n .fits)))
+    let at-start = c .before .before .before in
+    (omega arith, omega (arith, length-fours (at-start .args .n) (c .before .if1 .left) (at-start .fits .n .fits)))
 
 put-four-requires : tie.Need-put-four-requires
-put-four-requires c κs = (
-  omega arith,
-  omega (arith, length-fours (c .before .before .before .before .before .before .before .args .n) (c .before .before .before .before .before .if1 .left) (c .before .before .before .before .before .before .before .fits .n .fits), c .before .before .before .put-some .kept .1 .0, c .before .before .before .put-some .ensures .behind),
-)
+put-four-requires c κs =
+    let at-put-some = c .before .before .before in
+    let at-if1 = at-put-some .before .before in
+    let at-start = at-if1 .before .before in (
+      omega arith,
+      omega (
+        arith,
+        length-fours (at-start .args .n) (at-if1 .if1 .left) (at-start .fits .n .fits),
+        at-put-some .put-some .kept .1 .0,
+        at-put-some .put-some .ensures .behind,
+      ),
+    )
 
 same-length-2 : tie.Need-same-length-2
 same-length-2 c = search needs
 
 returns-2 : tie.Need-returns-2
 returns-2 c =
-    let s = c .before .before .before .before .before .before .before .before .before .before in
-    let left = c .before .before .before .before .before .before .before .before .if1 .left in
-    let long = length-fours (s .args .n) left (s .fits .n .fits) in
-    rw (decimal-fours (s .args .n) left (s .fits .n .fits))
-    (then-put (c .before .before .before .before .before .before .put-some .ensures) (c .before .before .put-four .ensures) (omega arith))
+    let at-put-some = c .before .before .before .before .before .before in
+    let at-if1 = at-put-some .before .before in
+    let at-start = at-if1 .before .before in
+    let left = at-if1 .if1 .left in
+    let long = length-fours (at-start .args .n) left (at-start .fits .n .fits) in
+    rw (decimal-fours (at-start .args .n) left (at-start .fits .n .fits))
+    (then-put (at-put-some .put-some .ensures) (c .before .before .put-four .ensures) (omega arith))
 
 pub put-number-spec : {M : Type 1} → statement M
 put-number-spec =

@@ -15,7 +15,9 @@ same-length : tie.Need-same-length
 same-length c = search needs
 
 returns : tie.Need-returns
-returns c = then-put (c .before .before .before .before .before .before .put-digit .ensures) (c .before .before .put-digit2 .ensures) (omega arith)
+returns c =
+    let at-put-digit = c .before .before .before .before .before .before in
+    then-put (at-put-digit .put-digit .ensures) (c .before .before .put-digit2 .ensures) (omega arith)
 
 pub put-pair-spec : {M : Type 1} → statement M
 put-pair-spec = tie.close (tie.spec put-digit-requires put-digit-requires-2 same-length returns)

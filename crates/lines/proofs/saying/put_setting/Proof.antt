@@ -7,23 +7,35 @@ use Rattle.lines.proofs.saying.put_setting.Statement.{statement}
 use Rattle.lines.proofs.saying.put_setting.Tie as tie
 
 put-number-requires : tie.Need-put-number-requires
-put-number-requires c κs = omega (arith, length-setting (c .before .before .args .key) (c .before .before .args .value))
+put-number-requires c κs =
+    let at-start = c .before .before in
+    omega (arith, length-setting (at-start .args .key) (at-start .args .value))
 
 slice-aggregate-put-named : tie.Need-slice-aggregate-put-named
 slice-aggregate-put-named c = search needs
 
 put-named-requires : tie.Need-put-named-requires
 put-named-requires c κs =
-    omega (arith, length-setting (c .before .before .before .before .before .before .before .args .key) (c .before .before .before .before .before .before .before .args .value), c .before .before .before .before .put-number .kept .1 .0, c .before .before .before .before .put-number .ensures .behind)
+    let at-put-number = c .before .before .before .before in
+    let at-start = at-put-number .before .before .before in
+    omega (
+      arith,
+      length-setting (at-start .args .key) (at-start .args .value),
+      at-put-number .put-number .kept .1 .0,
+      at-put-number .put-number .ensures .behind,
+    )
 
 same-length : tie.Need-same-length
-same-length c = c .before .before .put-named .kept .1 .1 .0 ∙ c .before .before .before .before .before .before .before .put-number .kept .1 .0
+same-length c =
+    let at-put-number = c .before .before .before .before .before .before .before in
+    c .before .before .put-named .kept .1 .1 .0 ∙ at-put-number .put-number .kept .1 .0
 
 returns : tie.Need-returns
 returns c =
-    let s = c .before .before .before .before .before .before .before .before .before .before in
-    let long = length-setting (s .args .key) (s .args .value) in
-    then-put (c .before .before .before .before .before .before .before .put-number .ensures) (c .before .before .put-named .ensures) (omega arith)
+    let at-put-number = c .before .before .before .before .before .before .before in
+    let at-start = at-put-number .before .before .before in
+    let long = length-setting (at-start .args .key) (at-start .args .value) in
+    then-put (at-put-number .put-number .ensures) (c .before .before .put-named .ensures) (omega arith)
 
 pub put-setting-spec : {M : Type 1} → statement M
 put-setting-spec =

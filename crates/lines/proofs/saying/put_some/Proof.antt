@@ -16,24 +16,35 @@ returns c = search needs
 
 put-few-requires-2 : tie.Need-put-few-requires-2
 put-few-requires-2 c κs =
-    (omega arith, omega (arith, length-fours (c .before .before .before .args .n) (c .before .if1 .left) (c .before .before .before .fits .n .fits)))
+    let at-start = c .before .before .before in
+    (omega arith, omega (arith, length-fours (at-start .args .n) (c .before .if1 .left) (at-start .fits .n .fits)))
 
 put-four-requires : tie.Need-put-four-requires
-put-four-requires c κs = (
-  omega arith,
-  omega (arith, length-fours (c .before .before .before .before .before .before .before .args .n) (c .before .before .before .before .before .if1 .left) (c .before .before .before .before .before .before .before .fits .n .fits), c .before .before .before .put-few2 .kept .1 .0, c .before .before .before .put-few2 .ensures .behind),
-)
+put-four-requires c κs =
+    let at-put-few2 = c .before .before .before in
+    let at-if1 = at-put-few2 .before .before in
+    let at-start = at-if1 .before .before in (
+      omega arith,
+      omega (
+        arith,
+        length-fours (at-start .args .n) (at-if1 .if1 .left) (at-start .fits .n .fits),
+        at-put-few2 .put-few2 .kept .1 .0,
+        at-put-few2 .put-few2 .ensures .behind,
+      ),
+    )
 
 same-length-2 : tie.Need-same-length-2
 same-length-2 c = search needs
 
 returns-2 : tie.Need-returns-2
 returns-2 c =
-    let s = c .before .before .before .before .before .before .before .before .before .before in
-    let left = c .before .before .before .before .before .before .before .before .if1 .left in
-    let long = length-fours (s .args .n) left (s .fits .n .fits) in
-    rw (decimal-fours (s .args .n) left (s .fits .n .fits))
-    (then-put (c .before .before .before .before .before .before .put-few2 .ensures) (c .before .before .put-four .ensures) (omega arith))
+    let at-put-few2 = c .before .before .before .before .before .before in
+    let at-if1 = at-put-few2 .before .before in
+    let at-start = at-if1 .before .before in
+    let left = at-if1 .if1 .left in
+    let long = length-fours (at-start .args .n) left (at-start .fits .n .fits) in
+    rw (decimal-fours (at-start .args .n) left (at-start .fits .n .fits))
+    (then-put (at-put-few2 .put-few2 .ensures) (c .before .before .put-four .ensures) (omega arith))
 
 pub put-some-spec : {M : Type 1} → statement M
 put-some-spec =

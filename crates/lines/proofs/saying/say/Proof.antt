@@ -64,7 +64,9 @@ enum-known-answer-4 : tie.Need-enum-known-answer-4
 enum-known-answer-4 c = search needs
 
 put-setting-requires : tie.Need-put-setting-requires
-put-setting-requires c κs = omega (arith, short (Setting (c .before .before .answer4 .given .0 .0) (c .before .before .answer4 .given .0 .1 .0)))
+put-setting-requires c κs =
+    let at-answer4 = c .before .before in
+    omega (arith, short (Setting (at-answer4 .answer4 .given .0 .0) (at-answer4 .answer4 .given .0 .1 .0)))
 
 enum-told-3 : tie.Need-enum-told-3
 enum-told-3 c = search needs
@@ -79,43 +81,57 @@ same-length : tie.Need-same-length
 same-length c = search needs
 
 returns : tie.Need-returns
-returns c = said (c .before .before .before .before .before .enum-told .given .1) (c .before .before .put .ensures)
+returns c =
+    let at-enum-told = c .before .before .before .before .before in
+    said (at-enum-told .enum-told .given .1) (c .before .before .put .ensures)
 
 same-length-2 : tie.Need-same-length-2
 same-length-2 c = search needs
 
 returns-2 : tie.Need-returns-2
-returns-2 c = said (c .before .before .before .before .before .before .answer .given .1) (c .before .before .put-named .ensures)
+returns-2 c =
+    let at-answer = c .before .before .before .before .before .before in
+    said (at-answer .answer .given .1) (c .before .before .put-named .ensures)
 
 same-length-3 : tie.Need-same-length-3
 same-length-3 c = search needs
 
 returns-3 : tie.Need-returns-3
-returns-3 c = said (c .before .before .before .before .before .before .answer2 .given .1) (c .before .before .put-named2 .ensures)
+returns-3 c =
+    let at-answer2 = c .before .before .before .before .before .before in
+    said (at-answer2 .answer2 .given .1) (c .before .before .put-named2 .ensures)
 
 same-length-4 : tie.Need-same-length-4
 same-length-4 c = search needs
 
 returns-4 : tie.Need-returns-4
-returns-4 c = said (c .before .before .before .before .before .enum-told2 .given .1) (c .before .before .put2 .ensures)
+returns-4 c =
+    let at-enum-told2 = c .before .before .before .before .before in
+    said (at-enum-told2 .enum-told2 .given .1) (c .before .before .put2 .ensures)
 
 same-length-5 : tie.Need-same-length-5
 same-length-5 c = search needs
 
 returns-5 : tie.Need-returns-5
-returns-5 c = said (c .before .before .before .before .before .before .answer3 .given .1) (c .before .before .put-named3 .ensures)
+returns-5 c =
+    let at-answer3 = c .before .before .before .before .before .before in
+    said (at-answer3 .answer3 .given .1) (c .before .before .put-named3 .ensures)
 
 same-length-6 : tie.Need-same-length-6
 same-length-6 c = search needs
 
 returns-6 : tie.Need-returns-6
-returns-6 c = said (c .before .before .before .before .before .answer4 .given .1) (c .before .before .put-setting .ensures)
+returns-6 c =
+    let at-answer4 = c .before .before .before .before .before in
+    said (at-answer4 .answer4 .given .1) (c .before .before .put-setting .ensures)
 
 same-length-7 : tie.Need-same-length-7
 same-length-7 c = search needs
 
 returns-7 : tie.Need-returns-7
-returns-7 c = said (c .before .before .before .before .before .enum-told3 .given .1) (c .before .before .put3 .ensures)
+returns-7 c =
+    let at-enum-told3 = c .before .before .before .before .before in
+    said (at-enum-told3 .enum-told3 .given .1) (c .before .before .put3 .ensures)
 
 pub say-spec : {M : Type 1} → statement M
 say-spec =

@@ -23,8 +23,9 @@ shared-slice-read-if1 c = search needs
 
 returns : tie.Need-returns Inv-loop μ-loop
 returns c =
+    let at-start = c .before .before .before .before in
     let l = c .before .before .before .loop in
-    omega (arith, until-hit (c .before .before .before .before .args .mark) (c .before .before .before .before .args .s .now) (l .i) (omega arith) (c .if1 .taken))
+    omega (arith, until-hit (at-start .args .mark) (at-start .args .s .now) (l .i) (omega arith) (c .if1 .taken))
 
 add-i : tie.Need-add-i Inv-loop μ-loop
 add-i c = search needs
@@ -34,13 +35,15 @@ loop-less c = search needs
 
 loop-again : tie.Need-loop-again Inv-loop μ-loop
 loop-again c =
+    let at-start = c .before .before .before .before in
     let l = c .before .before .before .loop in
-    omega (arith, until-miss (c .before .before .before .before .args .mark) (c .before .before .before .before .args .s .now) (l .i) (omega arith) (c .if1 .left))
+    omega (arith, until-miss (at-start .args .mark) (at-start .args .s .now) (l .i) (omega arith) (c .if1 .left))
 
 returns-2 : tie.Need-returns-2 Inv-loop μ-loop
 returns-2 c =
+    let at-start = c .before .before in
     let l = c .before .loop in
-    omega (arith, until-end (c .before .before .args .mark) (c .before .before .args .s .now) (l .i) (omega arith))
+    omega (arith, until-end (at-start .args .mark) (at-start .args .s .now) (l .i) (omega arith))
 
 pub find-spec : {M : Type 1} → statement M
 find-spec =

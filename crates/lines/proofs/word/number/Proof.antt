@@ -8,7 +8,8 @@ use borrow.Author.Needs.{needs}
 use Rattle.model.specs.Basic.{all}
 use Rattle.lines.specs.Console.{digit, valueFrom}
 use Rattle.lines.specs.declared.Number.the-variants.{Is}
-use Rattle.lines.proofs.Numbers.{grows, ten-digits, value-step, value-end, digits-on, digits-below, digits-above, digits-end, too-short, too-long, no-digits, too-large, is-number}
+use Rattle.lines.proofs.Numbers.{grows, ten-digits, value-step, value-end, digits-on, digits-below, digits-above, digits-end}
+use Rattle.lines.proofs.Numbers.{too-short, too-long, no-digits, too-large, is-number}
 use Rattle.lines.proofs.word.number.Statement.{statement}
 use Rattle.lines.proofs.word.number.Tie as tie
 
@@ -36,23 +37,31 @@ wide-requires c κs = search needs
 
 returns-3 : tie.Need-returns-3 Inv-loop μ-loop
 returns-3 c =
-    let w : List ℕ = c .before .before .before .before .before .before .before .before .args .word .now in
-    let l = c .before .before .before .before .loop in
+    let at-loop = c .before .before .before .before in
+    let at-start = at-loop .before .before .before .before in
+    let w : List ℕ = at-start .args .word .now in
+    let l = at-loop .loop in
     let low : getD w (l .i) 0 < 48 = omega (arith, c .before .wide .ensures) in
     sym (no-digits w (omega arith) (omega arith) (sym (l .inv .2) ∙ digits-below w (l .i) (omega arith) low))
 
 returns-4 : tie.Need-returns-4 Inv-loop μ-loop
 returns-4 c =
-    let w : List ℕ = c .before .before .before .before .before .before .before .before .before .args .word .now in
-    let l = c .before .before .before .before .before .loop in
+    let at-loop = c .before .before .before .before .before in
+    let at-start = at-loop .before .before .before .before in
+    let w : List ℕ = at-start .args .word .now in
+    let l = at-loop .loop in
     let high : 57 < getD w (l .i) 0 = omega (arith, c .before .before .wide .ensures) in
     sym (no-digits w (omega arith) (omega arith) (sym (l .inv .2) ∙ digits-above w (l .i) (omega arith) high))
 
 mul-n : tie.Need-mul-n Inv-loop μ-loop
-mul-n c = omega (arith, ten-digits (c .before .before .before .before .before .loop .n) (c .before .before .before .before .before .loop .i) (omega arith) (c .before .before .before .before .before .loop .inv .1))
+mul-n c =
+    let at-loop = c .before .before .before .before .before in
+    omega (arith, ten-digits (at-loop .loop .n) (at-loop .loop .i) (omega arith) (at-loop .loop .inv .1))
 
 add-n : tie.Need-add-n Inv-loop μ-loop
-add-n c = omega (arith, ten-digits (c .before .before .before .before .before .loop .n) (c .before .before .before .before .before .loop .i) (omega arith) (c .before .before .before .before .before .loop .inv .1))
+add-n c =
+    let at-loop = c .before .before .before .before .before in
+    omega (arith, ten-digits (at-loop .loop .n) (at-loop .loop .i) (omega arith) (at-loop .loop .inv .1))
 
 add-i : tie.Need-add-i Inv-loop μ-loop
 add-i c = search needs
@@ -62,11 +71,14 @@ loop-less c = search needs
 
 loop-again : tie.Need-loop-again Inv-loop μ-loop
 loop-again c =
-    let w : List ℕ = c .before .before .before .before .before .before .before .before .before .args .word .now in
-    let l = c .before .before .before .before .before .loop in
-    let e : c .before .before .wide .result ≡ getD w (l .i) 0 = c .before .before .wide .ensures in (
+    let at-wide = c .before .before in
+    let at-loop = at-wide .before .before .before in
+    let at-start = at-loop .before .before .before .before in
+    let w : List ℕ = at-start .args .word .now in
+    let l = at-loop .loop in
+    let e : at-wide .wide .result ≡ getD w (l .i) 0 = at-wide .wide .ensures in (
       omega arith,
-      grows (l .n) (l .i) (c .before .before .wide .result - 48) (l .inv .1) (omega arith),
+      grows (l .n) (l .i) (at-wide .wide .result - 48) (l .inv .1) (omega arith),
       digits-on w (l .i) (omega arith) (omega arith) (omega arith) ∙ l .inv .2,
       rw e (sym (value-step (l .n) w (l .i) (omega arith)) ∙ l .inv .3),
     )
@@ -76,14 +88,16 @@ cast-t13 c = search needs
 
 returns-5 : tie.Need-returns-5 Inv-loop μ-loop
 returns-5 c =
-    let w : List ℕ = c .before .before .before .before .before .before .args .word .now in
+    let at-start = c .before .before .before .before .before .before in
+    let w : List ℕ = at-start .args .word .now in
     let l = c .before .before .loop in
     let v : valueFrom 0 w ≡ l .n = sym (l .inv .3) ∙ value-end (l .n) w (l .i) (omega arith) in
     sym (is-number w (omega arith) (omega arith) (sym (l .inv .2) ∙ digits-end w (l .i) (omega arith)) (omega arith) ∙ ap Is v)
 
 returns-6 : tie.Need-returns-6 Inv-loop μ-loop
 returns-6 c =
-    let w : List ℕ = c .before .before .before .before .before .before .args .word .now in
+    let at-start = c .before .before .before .before .before .before in
+    let w : List ℕ = at-start .args .word .now in
     let l = c .before .before .loop in
     let v : valueFrom 0 w ≡ l .n = sym (l .inv .3) ∙ value-end (l .n) w (l .i) (omega arith) in
     sym (too-large w (omega arith) (omega arith) (sym (l .inv .2) ∙ digits-end w (l .i) (omega arith)) (omega arith))

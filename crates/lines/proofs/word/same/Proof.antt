@@ -29,8 +29,10 @@ shared-slice-read-if2-2 c = search needs
 
 returns-2 : tie.Need-returns-2 Inv-loop μ-loop
 returns-2 c =
-    sym (eqList-other (c .before .before .before .before .before .before .args .a .now) (c .before .before .before .before .before .before .args .b .now) (c .before .before .before .before .loop .i) (omega arith) (omega arith) (c .if2 .taken))
-    ∙ c .before .before .before .before .loop .inv .1
+    let at-loop = c .before .before .before .before in
+    let at-start = at-loop .before .before in
+    sym (eqList-other (at-start .args .a .now) (at-start .args .b .now) (at-loop .loop .i) (omega arith) (omega arith) (c .if2 .taken))
+    ∙ at-loop .loop .inv .1
 
 add-i : tie.Need-add-i Inv-loop μ-loop
 add-i c = search needs
@@ -39,14 +41,18 @@ loop-less : tie.Need-loop-less Inv-loop μ-loop
 loop-less c = search needs
 
 loop-again : tie.Need-loop-again Inv-loop μ-loop
-loop-again c = (
-  omega arith,
-  eqList-same (c .before .before .before .before .before .before .args .a .now) (c .before .before .before .before .before .before .args .b .now) (c .before .before .before .before .loop .i) (omega arith) (omega arith) (c .if2 .left) ∙ c .before .before .before .before .loop .inv .1,
-)
+loop-again c =
+    let at-loop = c .before .before .before .before in
+    let at-start = at-loop .before .before in (
+      omega arith,
+      eqList-same (at-start .args .a .now) (at-start .args .b .now) (at-loop .loop .i) (omega arith) (omega arith) (c .if2 .left)
+          ∙ at-loop .loop .inv .1,
+    )
 
 returns-3 : tie.Need-returns-3 Inv-loop μ-loop
 returns-3 c =
-    sym (eqList-end (c .before .before .before .args .a .now) (c .before .before .before .args .b .now) (c .before .loop .i) (omega arith) (omega arith))
+    let at-start = c .before .before .before in
+    sym (eqList-end (at-start .args .a .now) (at-start .args .b .now) (c .before .loop .i) (omega arith) (omega arith))
     ∙ c .before .loop .inv .1
 
 pub same-spec : {M : Type 1} → statement M

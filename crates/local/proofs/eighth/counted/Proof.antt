@@ -14,30 +14,38 @@ use Rattle.local.proofs.eighth.counted.Statement.{statement}
 use Rattle.local.proofs.eighth.counted.Tie as tie
 
 head-of-requires : tie.Need-head-of-requires
-head-of-requires c κs = (c .before .pre .0, omega (arith, c .before .pre .1, c .before .pre .0 .four), omega (arith, c .before .pre .1, c .before .pre .0 .eight))
+head-of-requires c κs =
+    let at-start = c .before in
+    (at-start .pre .0, omega (arith, at-start .pre .1, at-start .pre .0 .four), omega (arith, at-start .pre .1, at-start .pre .0 .eight))
 
 returns : tie.Need-returns
 returns c =
-    let a = c .before .before .before .before .args in
+    let at-start = c .before .before .before .before in
+    let a = at-start .args in
     sym (count-free (a .l .least) (a .page .now) (ap (λ (h : Head). h .level) (sym (c .before .before .head-of .ensures)) ∙ c .if1 .taken))
 
 live-among-requires : tie.Need-live-among-requires
 live-among-requires c κs =
-    let e = c .before .before .before .before in
+    let at-start = c .before .before .before .before in
     let n = ap (λ (h : Head). h .count) (c .before .before .head-of .ensures) in
-    (omega (arith, n, e .pre .1, e .pre .2, e .pre .0 .four), omega (arith, e .pre .1, e .pre .0 .eight))
+    (omega (arith, n, at-start .pre .1, at-start .pre .2, at-start .pre .0 .four), omega (arith, at-start .pre .1, at-start .pre .0 .eight))
 
 live-of-requires : tie.Need-live-of-requires
-live-of-requires c κs = let e = c .before .before .before .before .before in (e .pre .0, omega (arith, e .pre .1, e .pre .0 .four), omega (arith, e .pre .1, e .pre .0 .eight))
+live-of-requires c κs =
+    let at-start = c .before .before .before .before .before in
+    (at-start .pre .0, omega (arith, at-start .pre .1, at-start .pre .0 .four), omega (arith, at-start .pre .1, at-start .pre .0 .eight))
 
 returns-2 : tie.Need-returns-2
 returns-2 c =
-    let a = c .before .before .before .before .before .before .args in
+    let at-head-of = c .before .before .before .before in
+    let at-start = at-head-of .before .before in
+    let a = at-start .args in
     let p : List ℕ = a .page .now in
-    let h = c .before .before .before .before .head-of .ensures in
+    let h = at-head-of .head-of .ensures in
     let n : c .before .live-among .result ≡ length (those lives (readEntries p 128 (readHead (a .l .least) p .count)))
     = c .before .live-among .ensures ∙ ap (λ (x : Head). length (those lives (readEntries p 128 (x .count)))) h in
-    (λ i. eqb (c .live-of .ensures i) (n i)) ∙ sym (count-used (a .l .least) p (λ q. c .before .before .if1 .left (ap (λ (x : Head). x .level) h ∙ q)))
+    (λ i. eqb (c .live-of .ensures i) (n i)) ∙ sym
+    (count-used (a .l .least) p (λ q. c .before .before .if1 .left (ap (λ (x : Head). x .level) h ∙ q)))
 
 pub counted-spec : {M : Type 1} → statement M
 counted-spec = tie.close (tie.spec head-of-requires returns live-among-requires live-of-requires returns-2)

@@ -20,39 +20,72 @@ returns : tie.Need-returns Inv-loop μ-loop
 returns c = let a = c .before .before .before .args in sym (eighth-none (a .l .least) (a .s .now) (c .if1 .taken))
 
 loop-holds : tie.Need-loop-holds Inv-loop μ-loop
-loop-holds c = let e = c .before .before .before in let a = e .args in (omega arith, omega (arith, e .pre .1 .low), eighth-some (a .l .least) (a .s .now) (a .size) (e .pre .1) (e .pre .2) (c .if1 .left))
+loop-holds c =
+    let at-start = c .before .before .before in
+    let a = at-start .args in (
+      omega arith,
+      omega (arith, at-start .pre .1 .low),
+      eighth-some (a .l .least) (a .s .now) (a .size) (at-start .pre .1) (at-start .pre .2) (c .if1 .left),
+    )
 
 part-requires : tie.Need-part-requires Inv-loop μ-loop
 part-requires c κs =
-    let e = c .before .before .before .before .before in let a = e .args in
-    (e .pre .0, part-fits (a .l .least) (e .pre .0 .four) (a .s .now) (c .before .loop .n) (omega (arith, c .loop-test .taken, e .pre .1 .is)), omega (arith, e .pre .1 .long))
+    let at-start = c .before .before .before .before .before in
+    let a = at-start .args in (
+      at-start .pre .0,
+      part-fits (a .l .least) (at-start .pre .0 .four) (a .s .now) (c .before .loop .n)
+          (omega (arith, c .loop-test .taken, at-start .pre .1 .is)),
+      omega (arith, at-start .pre .1 .long),
+    )
 
 counted-requires : tie.Need-counted-requires Inv-loop μ-loop
 counted-requires c κs =
-    let e = c .before .before .before .before .before .before in let a = e .args in let k = c .before .before .loop in
-    (e .pre .0, c .part .ensures .1, rw (c .part .ensures .0) (ruled (a .l .least) (a .s .now) (a .size) (e .pre .1) (e .pre .2) .room (k .n) (k .inv .0, omega (arith, c .before .loop-test .taken, e .pre .1 .is))))
+    let at-start = c .before .before .before .before .before .before in
+    let a = at-start .args in let k = c .before .before .loop in (
+      at-start .pre .0,
+      c .part .ensures .1,
+      rw (c .part .ensures .0)
+          (ruled (a .l .least) (a .s .now) (a .size) (at-start .pre .1) (at-start .pre .2) .room (k .n)
+          (k .inv .0, omega (arith, c .before .loop-test .taken, at-start .pre .1 .is))),
+    )
 
 returns-2 : tie.Need-returns-2 Inv-loop μ-loop
 returns-2 c =
-    let a = c .before .before .before .before .before .before .before .before .args in let k = c .before .before .before .before .loop in
-    sym (k .inv .2 ∙ counts-step (a .l .least) (a .s .now) (k .n) (a .size) (c .before .before .before .loop-test .taken) ∙ rw (← c .before .before .part .ensures .0, ← c .before .counted .ensures, not-true (c .before .counted .result) (c .if2 .taken)))
+    let at-loop = c .before .before .before .before in
+    let at-start = at-loop .before .before .before .before in
+    let a = at-start .args in let k = at-loop .loop in
+    sym (k .inv .2 ∙ counts-step (a .l .least) (a .s .now) (k .n) (a .size) (c .before .before .before .loop-test .taken)
+    ∙ rw (← c .before .before .part .ensures .0, ← c .before .counted .ensures, not-true (c .before .counted .result) (c .if2 .taken)))
 
 add-n : tie.Need-add-n Inv-loop μ-loop
-add-n c = omega (arith, c .before .before .before .loop-test .taken, c .before .before .before .before .before .before .before .before .pre .1 .most)
+add-n c =
+    let at-start = c .before .before .before .before .before .before .before .before in
+    omega (arith, c .before .before .before .loop-test .taken, at-start .pre .1 .most)
 
 loop-less : tie.Need-loop-less Inv-loop μ-loop
 loop-less c = omega (arith, c .before .before .before .loop-test .taken)
 
 loop-again : tie.Need-loop-again Inv-loop μ-loop
 loop-again c =
-    let a = c .before .before .before .before .before .before .before .before .args in let k = c .before .before .before .before .loop in (
+    let at-test = c .before .before .before in
+    let at-loop = at-test .before in
+    let at-start = at-loop .before .before .before .before in
+    let a = at-start .args in let k = at-loop .loop in (
       omega (arith, k .inv .0),
-      omega (arith, c .before .before .before .loop-test .taken),
-      k .inv .2 ∙ counts-step (a .l .least) (a .s .now) (k .n) (a .size) (c .before .before .before .loop-test .taken) ∙ rw (← c .before .before .part .ensures .0, ← c .before .counted .ensures, not-false (c .before .counted .result) (c .if2 .left)),
+      omega (arith, at-test .loop-test .taken),
+      k .inv .2 ∙ counts-step (a .l .least) (a .s .now) (k .n) (a .size) (at-test .loop-test .taken)
+          ∙ rw (
+            ← c .before .before .part .ensures .0,
+            ← c .before .counted .ensures,
+            not-false (c .before .counted .result) (c .if2 .left),
+          ),
     )
 
 returns-3 : tie.Need-returns-3 Inv-loop μ-loop
-returns-3 c = let a = c .before .before .before .before .before .args in let k = c .before .loop in sym (k .inv .2 ∙ counts-end (a .l .least) (a .s .now) (k .n) (a .size) (c .loop-test .left))
+returns-3 c =
+    let at-start = c .before .before .before .before .before in
+    let a = at-start .args in let k = c .before .loop in
+    sym (k .inv .2 ∙ counts-end (a .l .least) (a .s .now) (k .n) (a .size) (c .loop-test .left))
 
 pub eighth-rule-spec : {M : Type 1} → statement M
 eighth-rule-spec =

@@ -23,7 +23,9 @@ live-at-requires : tie.Need-live-at-requires Inv-loop μ-loop
 live-at-requires c κs = search needs
 
 add-live : tie.Need-add-live Inv-loop μ-loop
-add-live c = omega (arith, c .live-at .ensures, live-most (readEntry (c .before .before .before .before .args .page .now) (128 + 96 * c .before .before .loop .i)))
+add-live c =
+    let at-start = c .before .before .before .before in
+    omega (arith, c .live-at .ensures, live-most (readEntry (at-start .args .page .now) (128 + 96 * c .before .before .loop .i)))
 
 add-i : tie.Need-add-i Inv-loop μ-loop
 add-i c = search needs
@@ -33,14 +35,17 @@ loop-less c = omega arith
 
 loop-again : tie.Need-loop-again Inv-loop μ-loop
 loop-again c =
-    let l = c .before .before .loop in let a = c .before .before .before .before .args in (
+    let at-start = c .before .before .before .before in
+    let l = c .before .before .loop in let a = at-start .args in (
       omega arith,
       omega (arith, l .inv .1, c .live-at .ensures, live-most (readEntry (a .page .now) (128 + 96 * l .i))),
       omega (arith, l .inv .2, c .live-at .ensures, live-step (a .page .now) (l .i) (a .n) (omega arith)),
     )
 
 returns : tie.Need-returns Inv-loop μ-loop
-returns c = let l = c .before .loop in let a = c .before .before .before .args in omega (arith, l .inv .2, live-end (a .page .now) (l .i) (a .n) (omega arith))
+returns c =
+    let l = c .before .loop in let a = c .before .before .before .args in
+    omega (arith, l .inv .2, live-end (a .page .now) (l .i) (a .n) (omega arith))
 
 pub live-among-spec : {M : Type 1} → statement M
 live-among-spec = tie.close (tie.spec Inv-loop μ-loop loop-holds live-at-requires add-live add-i loop-less loop-again returns)

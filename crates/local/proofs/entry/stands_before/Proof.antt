@@ -10,7 +10,9 @@ returns-2 : tie.Need-returns-2
 returns-2 c = simp (le-ltb _ _ (c .before .before .before .if1 .left), ne-eqb _ _ (c .if2 .taken))
 
 returns-3 : tie.Need-returns-3
-returns-3 c = simp (le-ltb _ _ (c .before .before .before .before .before .if1 .left), eq-eqb _ _ (c .before .before .if2 .left))
+returns-3 c =
+    let at-if1 = c .before .before .before .before .before in
+    simp (le-ltb _ _ (at-if1 .if1 .left), eq-eqb _ _ (c .before .before .if2 .left))
 
 pub stands-before-spec : {M : Type 1} → statement M
 stands-before-spec = tie.close (tie.spec returns returns-2 returns-3)

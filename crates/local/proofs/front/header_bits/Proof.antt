@@ -8,10 +8,14 @@ add-result : tie.Need-add-result
 add-result c = omega (arith, rooter-roots (c .before .pre))
 
 add-result-2 : tie.Need-add-result-2
-add-result-2 c = omega (arith, rooter-roots (c .before .before .pre), aged-few (c .before .before .pre))
+add-result-2 c =
+    let at-start = c .before .before in
+    omega (arith, rooter-roots (at-start .pre), aged-few (at-start .pre))
 
 returns : tie.Need-returns
-returns c = rw (rooter-is (c .before .before .pre), aged-is (c .before .before .pre))
+returns c =
+    let at-start = c .before .before in
+    rw (rooter-is (at-start .pre), aged-is (at-start .pre))
 
 pub header-bits-spec : {M : Type 1} → statement M
 header-bits-spec = tie.close (tie.spec add-result add-result-2 returns)

@@ -11,7 +11,9 @@ add-if1 : tie.Need-add-if1
 add-if1 c = search needs
 
 returns : tie.Need-returns
-returns c = let a = c .before .before .args in sym (next-none (a .page .now) (readEntry (a .page .now) (128 + 96 * a .i)) (a .i + 1) (a .n) (c .if1 .taken))
+returns c =
+    let a = c .before .before .args in
+    sym (next-none (a .page .now) (readEntry (a .page .now) (128 + 96 * a .i)) (a .i + 1) (a .n) (c .if1 .taken))
 
 entry-at-requires : tie.Need-entry-at-requires
 entry-at-requires c κs = search needs
@@ -26,7 +28,11 @@ stands-before-requires : tie.Need-stands-before-requires
 stands-before-requires c κs = search needs
 
 returns-2 : tie.Need-returns-2
-returns-2 c = let a = c .before .before .before .before .before .args in sym (next-some (a .page .now) (readEntry (a .page .now) (128 + 96 * a .i)) (a .i + 1) (a .n) (c .before .before .before .if1 .left) ∙ rw (← c .before .before .entry-at .ensures, ← c .before .entry-at2 .ensures) (sym (c .stands-before .ensures)))
+returns-2 c =
+    let at-start = c .before .before .before .before .before in
+    let a = at-start .args in
+    sym (next-some (a .page .now) (readEntry (a .page .now) (128 + 96 * a .i)) (a .i + 1) (a .n) (c .before .before .before .if1 .left)
+    ∙ rw (← c .before .before .entry-at .ensures, ← c .before .entry-at2 .ensures) (sym (c .stands-before .ensures)))
 
 pub in-order-spec : {M : Type 1} → statement M
 in-order-spec =

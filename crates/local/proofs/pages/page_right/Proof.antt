@@ -11,47 +11,82 @@ use Rattle.local.proofs.pages.page_right.Statement.{statement}
 use Rattle.local.proofs.pages.page_right.Tie as tie
 
 returns : tie.Need-returns
-returns c = let a = c .before .before .args in sym (page-low (a .l .least) (a .s .now) (a .size) (c .before .before .pre .1 .sized) (a .level) (a .n) (c .before .before .pre .2) (c .if1 .taken))
+returns c =
+    let at-start = c .before .before in
+    let a = at-start .args in
+    sym (page-low (a .l .least) (a .s .now) (a .size) (at-start .pre .1 .sized) (a .level) (a .n) (at-start .pre .2) (c .if1 .taken))
 
 returns-2 : tie.Need-returns-2
-returns-2 c = let a = c .before .before .before .args in sym (page-far (a .l .least) (a .s .now) (a .size) (c .before .before .before .pre .1 .sized) (a .level) (a .n) (c .before .before .before .pre .2) (c .if2 .taken))
+returns-2 c =
+    let at-start = c .before .before .before in
+    let a = at-start .args in
+    sym (page-far (a .l .least) (a .s .now) (a .size) (at-start .pre .1 .sized) (a .level) (a .n) (at-start .pre .2) (c .if2 .taken))
 
 part-requires : tie.Need-part-requires
 part-requires c κs =
-    let a = c .before .before .before .args in
-    let z = c .before .before .before .pre .1 .sized in
-    (c .before .before .before .pre .0, part-fits (a .l .least) (c .before .before .before .pre .0 .four) (a .s .now) (a .n) (omega (arith, z .is, c .if2 .left)), omega (arith, z .long))
+    let at-start = c .before .before .before in
+    let a = at-start .args in
+    let z = at-start .pre .1 .sized in (
+      at-start .pre .0,
+      part-fits (a .l .least) (at-start .pre .0 .four) (a .s .now) (a .n) (omega (arith, z .is, c .if2 .left)),
+      omega (arith, z .long),
+    )
 
 head-of-requires : tie.Need-head-of-requires
-head-of-requires c κs = (c .before .before .before .before .pre .0, omega (arith, c .part .ensures .1, c .before .before .before .before .pre .0 .four), omega (arith, c .part .ensures .1, c .before .before .before .before .pre .0 .eight))
+head-of-requires c κs =
+    let at-start = c .before .before .before .before in (
+      at-start .pre .0,
+      omega (arith, c .part .ensures .1, at-start .pre .0 .four),
+      omega (arith, c .part .ensures .1, at-start .pre .0 .eight),
+    )
 
 returns-3 : tie.Need-returns-3
 returns-3 c =
-    let a = c .before .before .before .before .before .before .before .args in
+    let at-if2 = c .before .before .before .before in
+    let at-if1 = at-if2 .before in
+    let at-start = at-if1 .before .before in
+    let a = at-start .args in
     let h = rw (c .before .before .before .part .ensures .0) at (ap (λ (x : Head). x .level) (c .before .before .head-of .ensures)) in
-    sym (page-other (a .l .least) (a .s .now) (a .size) (c .before .before .before .before .before .before .before .pre .1 .sized) (a .level) (a .n) (c .before .before .before .before .before .before .before .pre .2) (c .before .before .before .before .before .if1 .left) (c .before .before .before .before .if2 .left) (λ e. c .if3 .taken (h ∙ e)))
+    sym (page-other (a .l .least) (a .s .now) (a .size) (at-start .pre .1 .sized) (a .level) (a .n) (at-start .pre .2) (at-if1 .if1 .left)
+    (at-if2 .if2 .left) (λ e. c .if3 .taken (h ∙ e)))
 
 clean-page-requires : tie.Need-clean-page-requires
 clean-page-requires c κs = search needs
 
 returns-4 : tie.Need-returns-4
 returns-4 c =
-    let a = c .before .before .before .before .before .before .before .before .before .args in
-    let k = rw (c .before .before .before .before .before .part .ensures .0) at (sym (c .before .clean-page .ensures) ∙ not-true (c .before .clean-page .result) (c .if4 .taken)) in
-    sym (page-clean (a .l .least) (a .s .now) (a .size) (c .before .before .before .before .before .before .before .before .before .pre .1 .sized) (a .level) (a .n) (c .before .before .before .before .before .before .before .before .before .pre .2) (c .before .before .before .before .before .before .before .if1 .left) (c .before .before .before .before .before .before .if2 .left) k)
+    let at-part = c .before .before .before .before .before in
+    let at-if2 = at-part .before in
+    let at-if1 = at-if2 .before in
+    let at-start = at-if1 .before .before in
+    let a = at-start .args in
+    let k = rw (at-part .part .ensures .0) at
+    (sym (c .before .clean-page .ensures) ∙ not-true (c .before .clean-page .result) (c .if4 .taken)) in
+    sym (page-clean (a .l .least) (a .s .now) (a .size) (at-start .pre .1 .sized) (a .level) (a .n) (at-start .pre .2) (at-if1 .if1 .left)
+    (at-if2 .if2 .left) k)
 
 page-fine-requires : tie.Need-page-fine-requires
 page-fine-requires c κs =
+    let at-part = c .before .before .before .before .before in
+    let at-start = at-part .before .before .before .before in
     let k = sym (c .before .clean-page .ensures) ∙ not-false (c .before .clean-page .result) (c .if4 .left) in
-    (c .before .before .before .before .before .before .before .before .before .pre .0, c .before .before .before .before .before .part .ensures .1, clean-count (c .before .before .before .before .before .before .before .before .before .args .l .least) _ k)
+    (at-start .pre .0, at-part .part .ensures .1, clean-count (at-start .args .l .least) _ k)
 
 returns-5 : tie.Need-returns-5
 returns-5 c =
-    let a = c .before .before .before .before .before .before .before .before .before .before .args in
-    let h = rw (c .before .before .before .before .before .before .part .ensures .0) at (ap (λ (x : Head). x .level) (c .before .before .before .before .before .head-of .ensures)) in
-    let k = rw (c .before .before .before .before .before .before .part .ensures .0) at (sym (c .before .before .clean-page .ensures) ∙ not-false (c .before .before .clean-page .result) (c .before .if4 .left)) in
-    rw (c .before .before .before .before .before .before .before .before .before .before .pre .1 .last, c .before .before .before .before .before .before .part .ensures .0) at (c .page-fine .ensures)
-    ∙ sym (page-rest (a .l .least) (a .s .now) (a .size) (c .before .before .before .before .before .before .before .before .before .before .pre .1 .sized) (a .level) (a .n) (c .before .before .before .before .before .before .before .before .before .before .pre .2) (c .before .before .before .before .before .before .before .before .if1 .left) (c .before .before .before .before .before .before .before .if2 .left) (sym h ∙ c .before .before .before .if3 .left) k)
+    let at-clean-page = c .before .before in
+    let at-head-of = at-clean-page .before .before .before in
+    let at-part = at-head-of .before in
+    let at-if2 = at-part .before in
+    let at-if1 = at-if2 .before in
+    let at-start = at-if1 .before .before in
+    let a = at-start .args in
+    let h = rw (at-part .part .ensures .0) at (ap (λ (x : Head). x .level) (at-head-of .head-of .ensures)) in
+    let k = rw (at-part .part .ensures .0) at
+    (sym (at-clean-page .clean-page .ensures) ∙ not-false (at-clean-page .clean-page .result) (c .before .if4 .left)) in
+    rw (at-start .pre .1 .last, at-part .part .ensures .0) at (c .page-fine .ensures)
+    ∙ sym (page-rest (a .l .least) (a .s .now) (a .size) (at-start .pre .1 .sized) (a .level) (a .n) (at-start .pre .2) (at-if1 .if1 .left)
+    (at-if2 .if2 .left) (sym h ∙ at-clean-page .before .if3 .left) k)
 
 pub page-right-spec : {M : Type 1} → statement M
 page-right-spec =

@@ -11,7 +11,9 @@ add-if1 : tie.Need-add-if1
 add-if1 c = search needs
 
 returns : tie.Need-returns
-returns c = let a = c .before .before .args in sym (slot-none 0 (a .s .now) (512 * a .l .least) (a .i + 1) (a .n) (slotAt (a .l .least) (a .s .now) (a .i)) (c .if1 .taken))
+returns c =
+    let a = c .before .before .args in
+    sym (slot-none 0 (a .s .now) (512 * a .l .least) (a .i + 1) (a .n) (slotAt (a .l .least) (a .s .now) (a .i)) (c .if1 .taken))
 
 slot-requires : tie.Need-slot-requires
 slot-requires c κs = search needs
@@ -23,7 +25,12 @@ slot-requires-2 : tie.Need-slot-requires-2
 slot-requires-2 c κs = search needs
 
 returns-2 : tie.Need-returns-2
-returns-2 c = let a = c .before .before .before .before .before .before .args in sym (slot-some 0 (a .s .now) (512 * a .l .least) (a .i + 1) (a .n) (slotAt (a .l .least) (a .s .now) (a .i)) (c .before .before .before .before .if1 .left) ∙ rw (← c .before .before .before .slot .ensures, ← c .before .before .slot2 .ensures))
+returns-2 c =
+    let at-if1 = c .before .before .before .before in
+    let at-start = at-if1 .before .before in
+    let a = at-start .args in
+    sym (slot-some 0 (a .s .now) (512 * a .l .least) (a .i + 1) (a .n) (slotAt (a .l .least) (a .s .now) (a .i)) (at-if1 .if1 .left)
+    ∙ rw (← c .before .before .before .slot .ensures, ← c .before .before .slot2 .ensures))
 
 pub slot-rises-spec : {M : Type 1} → statement M
 slot-rises-spec =

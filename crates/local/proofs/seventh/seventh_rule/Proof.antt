@@ -8,19 +8,26 @@ use Rattle.local.proofs.seventh.seventh_rule.Statement.{statement}
 use Rattle.local.proofs.seventh.seventh_rule.Tie as tie
 
 returns : tie.Need-returns
-returns c = let b = c .before .before .before in let a = b .args in sym (seven-shut (a .l .least) (a .s .now) (a .h) (b .pre .1 .header) (not-true (a .h .opened) (c .if1 .taken)))
+returns c =
+    let at-start = c .before .before .before in
+    let a = at-start .args in
+    sym (seven-shut (a .l .least) (a .s .now) (a .h) (at-start .pre .1 .header) (not-true (a .h .opened) (c .if1 .taken)))
 
 last-requires : tie.Need-last-requires
-last-requires c κs = let b = c .before .before .before in rw (b .pre .1 .header) (current-lt (b .args .l .least) (b .args .s .now))
+last-requires c κs =
+    let at-start = c .before .before .before in
+    rw (at-start .pre .1 .header) (current-lt (at-start .args .l .least) (at-start .args .s .now))
 
 pages-young-requires : tie.Need-pages-young-requires
 pages-young-requires c κs = search needs
 
 returns-2 : tie.Need-returns-2
 returns-2 c =
-    let b = c .before .before .before .before .before in
-    let a = b .args in
-    c .pages-young .ensures ∙ sym (seven-open (a .l .least) (a .s .now) (a .h) (b .pre .1 .header) (c .before .last .result) (not-false (a .h .opened) (c .before .before .if1 .left)) (c .before .last .ensures))
+    let at-start = c .before .before .before .before .before in
+    let a = at-start .args in
+    c .pages-young .ensures
+    ∙ sym (seven-open (a .l .least) (a .s .now) (a .h) (at-start .pre .1 .header) (c .before .last .result)
+    (not-false (a .h .opened) (c .before .before .if1 .left)) (c .before .last .ensures))
 
 pub seventh-rule-spec : {M : Type 1} → statement M
 seventh-rule-spec = tie.close (tie.spec returns last-requires pages-young-requires returns-2)

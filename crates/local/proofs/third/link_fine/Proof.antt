@@ -15,18 +15,22 @@ skips-requires c κs = search needs
 -- by the bytes
 skipped : (c : tie.After-skips) → let a = c .before .before .args in c .skips .result ≡ skips (a .l .least) (a .s .now) (a .n) (a .e)
 skipped c =
-    let b = c .before .before in
-    c .skips .ensures ∙ ap₂ (λ (h : Head) (o : ℕ). not (eqb (h .level) 1) && leb (b .args .e .end) o) (b .pre .2) (b .pre .4)
+    let at-start = c .before .before in
+    c .skips .ensures ∙ ap₂ (λ (h : Head) (o : ℕ). not (eqb (h .level) 1) && leb (at-start .args .e .end) o) (at-start .pre .2)
+    (at-start .pre .4)
 
 returns : tie.Need-returns
-returns c = let a = c .before .before .before .args in sym (link-out (a .l .least) (a .s .now) (a .n) (a .e) (sym (skipped (c .before)) ∙ c .if1 .taken))
+returns c =
+    let a = c .before .before .before .args in sym
+    (link-out (a .l .least) (a .s .now) (a .n) (a .e) (sym (skipped (c .before)) ∙ c .if1 .taken))
 
 link-ok-requires : tie.Need-link-ok-requires
 link-ok-requires c κs = search needs
 
 returns-2 : tie.Need-returns-2
 returns-2 c =
-    let a = c .before .before .before .before .args in
+    let at-start = c .before .before .before .before in
+    let a = at-start .args in
     c .link-ok .ensures ∙ sym (link-kept (a .l .least) (a .s .now) (a .n) (a .e) (sym (skipped (c .before .before)) ∙ c .before .if1 .left))
 
 pub link-fine-spec : {M : Type 1} → statement M

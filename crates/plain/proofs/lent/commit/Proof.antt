@@ -1,10 +1,10 @@
 -- `lent::commit` meets its contract. Assumes nothing.
-use native.Mathlib.Omega.{arith}
-use mathlib.Core.Path.{refl, sym, _∙_}
+use mathlib.Core.Bool.{true}
+use mathlib.Core.Path.{_≡_, refl, sym, _∙_}
 use borrow.Author.Tests.{not-true, not-false}
 use Rattle.plain.specs.Plain.{Plain, commit}
-use Rattle.plain.specs.Items.{plainOf}
 use Rattle.plain.specs.Guard.{isLent, readPlain}
+use Rattle.plain.proofs.laws.Lending.{refuses, fits, leaves-few}
 use Rattle.plain.proofs.Guards as guards
 use Rattle.plain.proofs.Again as again
 use borrow.Author.Needs.{needs}
@@ -14,12 +14,17 @@ use Rattle.plain.proofs.lent.commit.Tie as tie
 is-lent-requires : tie.Need-is-lent-requires
 is-lent-requires c κs = search needs
 
+-- the list is lent to be read: that it is untouched is no part of the contract
 returns : tie.Need-returns
 returns c =
     let a = c .before .before .before .before .args in
-    let p = readPlain (a .items .now) (a .state .now) in
     let none = sym (c .before .is-lent .ensures) ∙ not-true (c .before .is-lent .result) (c .if1 .taken) in
-    (guards.guarded-none (isLent (a .items .now) (a .state .now)) p (commit p) none, (λ e. refl, λ e. guards.not-both (isLent (a .items .now) (a .state .now)) e none))
+    let r = refuses (a .items .now) (a .state .now) none (commit (readPlain (a .items .now) (a .state .now))) in
+    (r .0, (r .1 .0, r .1 .1 .1))
+
+-- past the test the numbers are a plain store
+yes : (c : tie.Else1) → let a = c .before .before .before .before .args in isLent (a .items .now) (a .state .now) ≡ true
+yes c = sym (c .before .is-lent .ensures) ∙ not-false (c .before .is-lent .result) (c .if1 .left)
 
 state-of-requires : tie.Need-state-of-requires
 state-of-requires c κs = search needs
@@ -27,33 +32,24 @@ state-of-requires c κs = search needs
 commit-requires : tie.Need-commit-requires
 commit-requires c κs =
     let a = c .before .before .before .before .before .before .args in
-    guards.own-held (a .items .now) (a .state .now) (sym (c .before .before .before .is-lent .ensures) ∙ not-false (c .before .before .before .is-lent .result) (c .before .before .if1 .left)) _ (c .state-of .ensures .0)
+    guards.own-held (a .items .now) (a .state .now) (yes (c .before .before)) _ (c .state-of .ensures .0)
 
 keep-requires : tie.Need-keep-requires
 keep-requires c κs =
     let a = c .before .before .before .before .before .before .before .before .args in
-    let ns = a .items .now in
-    let ms = a .state .now in
-    let yes = sym (c .before .before .before .before .before .is-lent .ensures) ∙ not-false (c .before .before .before .before .before .is-lent .result) (c .before .before .before .before .if1 .left) in
+    let lent = yes (c .before .before .before .before) in
     let s = c .before .before .state-of in
     let call = c .before .commit in
-    let p = plainOf (s .result) ns in
-    guards.own-fits ns ms yes (s .result) (s .ensures .0) (call .result) ns (λ (q : Plain). commit q) (call .ensures)
-    (omega (arith, guards.commit-few p, guards.own-items ns ms yes (s .result) (s .ensures .0)))
+    fits (a .items .now) (a .state .now) lent (s .result) (s .ensures .0) (call .result) (a .items .now) (λ (q : Plain). commit q) (call .ensures) (λ q. guards.commit-few q)
 
 returns-2 : tie.Need-returns-2
 returns-2 c =
     let a = c .before .before .before .before .before .before .before .before .before .args in
-    let ns = a .items .now in
-    let ms = a .state .now in
-    let yes = sym (c .before .before .before .before .before .before .is-lent .ensures) ∙ not-false (c .before .before .before .before .before .before .is-lent .result) (c .before .before .before .before .before .if1 .left) in
+    let lent = yes (c .before .before .before .before .before) in
     let s = c .before .before .before .state-of in
     let call = c .before .before .commit in
-    let p = readPlain ns ms in
-    let left = guards.own-left ns ms yes (s .result) (s .ensures .0) (call .result) ns (λ (q : Plain). commit q) (call .ensures) (c .keep .result) (c .keep .last .0) (c .keep .ensures .0) (c .keep .ensures .1) in
-    let lent = again.lent-again ns ms yes (s .result) (s .ensures .0) (call .result) ns (commit (plainOf (s .result) ns)) (call .ensures) (λ h. again.commit-stands (plainOf (s .result) ns) h)
-    (omega (arith, guards.commit-few (plainOf (s .result) ns), guards.own-items ns ms yes (s .result) (s .ensures .0))) refl (c .keep .last .0) (c .keep .ensures .1) in
-    (left ∙ guards.guarded-some (isLent ns ms) p (commit p) yes, (λ e. guards.not-both (isLent ns ms) yes e, lent))
+    let r = leaves-few (a .items .now) (a .state .now) lent (s .result) (s .ensures .0) (call .result) (a .items .now) (λ (q : Plain). commit q) (call .ensures) (λ q. guards.commit-few q) (λ q h. again.commit-stands q h) refl (c .keep .result) (c .keep .last .0) (c .keep .ensures .0) (c .keep .ensures .1) in
+    (r .0, (r .1 .0, r .1 .1 .1))
 
 pub commit-spec : {M : Type 1} → statement M
 commit-spec = tie.close (tie.spec is-lent-requires returns state-of-requires commit-requires keep-requires returns-2)

@@ -1,16 +1,10 @@
 -- `lent::difference` meets its contract. Assumes nothing.
-use mathlib.Core.Bool.{Bool}
-use mathlib.Core.Path.{ap, sym, _∙_}
-use lib.ListN.{length}
+use mathlib.Core.Bool.{true}
+use mathlib.Core.Path.{_≡_, sym, _∙_}
 use borrow.Author.Tests.{not-true, not-false}
-use Rattle.model.specs.Basic.{pick}
-use Rattle.model.specs.Lent.{listed}
-use Rattle.plain.specs.declared.State.{State}
-use Rattle.plain.specs.declared.Told.{Told}
-use Rattle.plain.specs.Plain.{difference}
-use Rattle.plain.specs.Items.{plainOf}
-use Rattle.plain.specs.Tell.{toldAs, toldWith}
-use Rattle.plain.specs.Guard.{readPlain}
+use Rattle.plain.specs.Plain.{Plain, difference}
+use Rattle.plain.specs.Guard.{isLent}
+use Rattle.plain.proofs.laws.Lending.{tells-none, tells}
 use Rattle.plain.proofs.Guards as guards
 use borrow.Author.Needs.{needs}
 use Rattle.plain.proofs.lent.difference.Statement.{statement}
@@ -25,11 +19,12 @@ told-as-requires c κs = search needs
 returns : tie.Need-returns
 returns c =
     let a = c .before .before .before .before .before .args in
-    let ns = a .items .now in
-    let us = a .list .now in
-    let p = readPlain ns (a .state .now) in
     let none = sym (c .before .before .is-lent .ensures) ∙ not-true (c .before .before .is-lent .result) (c .before .if1 .taken) in
-    ap (λ (r : Told). toldWith r us) (c .told-as .ensures) ∙ sym (ap (λ (b : Bool). pick b (listed us (difference p (a .old) (a .new) (length us))) (toldWith (toldAs 4 0) us)) none)
+    tells-none (a .items .now) (a .state .now) none (a .list .now) (λ (q : Plain). difference q (a .old) (a .new)) (c .told-as .result) (c .told-as .ensures)
+
+-- past the test the numbers are a plain store
+yes : (c : tie.Else1) → let a = c .before .before .before .before .args in isLent (a .items .now) (a .state .now) ≡ true
+yes c = sym (c .before .is-lent .ensures) ∙ not-false (c .before .is-lent .result) (c .if1 .left)
 
 state-of-requires : tie.Need-state-of-requires
 state-of-requires c κs = search needs
@@ -37,7 +32,7 @@ state-of-requires c κs = search needs
 difference-requires : tie.Need-difference-requires
 difference-requires c κs =
     let a = c .before .before .before .before .before .before .args in
-    guards.own-held (a .items .now) (a .state .now) (sym (c .before .before .before .is-lent .ensures) ∙ not-false (c .before .before .before .is-lent .result) (c .before .before .if1 .left)) _ (c .before .state-of .ensures .0)
+    guards.own-held (a .items .now) (a .state .now) (yes (c .before .before)) _ (c .before .state-of .ensures .0)
 
 same-length : tie.Need-same-length
 same-length c = search needs
@@ -45,11 +40,9 @@ same-length c = search needs
 returns-2 : tie.Need-returns-2
 returns-2 c =
     let a = c .before .before .before .before .before .before .before .before .before .args in
-    let ns = a .items .now in
-    let us = a .list .now in
-    let p = readPlain ns (a .state .now) in
-    let yes = sym (c .before .before .before .before .before .before .is-lent .ensures) ∙ not-false (c .before .before .before .before .before .before .is-lent .result) (c .before .before .before .before .before .if1 .left) in
-    c .before .before .difference .ensures ∙ ap (λ (t : State). listed us (difference (plainOf t ns) (a .old) (a .new) (length us))) (c .before .before .before .before .state-of .ensures .0) ∙ sym (ap (λ (b : Bool). pick b (listed us (difference p (a .old) (a .new) (length us))) (toldWith (toldAs 4 0) us)) yes)
+    let lent = yes (c .before .before .before .before .before) in
+    let s = c .before .before .before .before .state-of in
+    tells (a .items .now) (a .state .now) lent (s .result) (s .ensures .0) (a .list .now) (λ (q : Plain). difference q (a .old) (a .new)) _ (c .before .before .difference .ensures)
 
 pub difference-spec : {M : Type 1} → statement M
 difference-spec = tie.close (tie.spec is-lent-requires told-as-requires returns state-of-requires difference-requires same-length returns-2)

@@ -18,7 +18,13 @@ abbrev μ-loop : tie.MeasureT-loop
 μ-loop g key list n i₀ i = n - i
 
 loop-holds : tie.Need-loop-holds Inv-loop μ-loop
-loop-holds c = (omega arith, c .before .pre .1, looked-start (c .before .args .key) (pairsIn (c .before .args .g)) (omega (arith, length-pairs (c .before .args .g) (c .before .pre .0))))
+loop-holds c =
+    let at-start = c .before in (
+      omega arith,
+      at-start .pre .1,
+      looked-start (at-start .args .key) (pairsIn (at-start .args .g))
+          (omega (arith, length-pairs (at-start .args .g) (at-start .pre .0))),
+    )
 
 mul-y : tie.Need-mul-y Inv-loop μ-loop
 mul-y c = search needs
@@ -27,13 +33,23 @@ array-copy-out-y : tie.Need-array-copy-out-y Inv-loop μ-loop
 array-copy-out-y c = omega (arith, c .before .before .before .pre .0 .size)
 
 at-place-requires : tie.Need-at-place-requires Inv-loop μ-loop
-at-place-requires c κs = (c .before .before .before .before .before .before .pre .0, c .before .before .before .before .before .before .pre .2, c .before .before .before .before .loop .inv .0, omega arith)
+at-place-requires c κs =
+    let at-loop = c .before .before .before .before in
+    let at-start = at-loop .before .before in
+    (at-start .pre .0, at-start .pre .2, at-loop .loop .inv .0, omega arith)
 
 returns : tie.Need-returns Inv-loop μ-loop
 returns c =
-    let g = c .before .before .before .before .before .before .before .args .g in
-    let e : getD (pairsIn g) (c .before .before .before .before .before .loop .i) nil ≡ getD (g .list) (c .before .before .before .before .before .loop .i) nil = pair-at g (c .before .before .before .before .before .loop .i) (omega arith) in
-    (c .at-place .ensures .0 ∙ sym (c .before .before .before .before .before .loop .inv .2 ∙ looked-here (c .before .before .before .before .before .before .before .args .key) (pairsIn g) (c .before .before .before .before .before .loop .i) (omega (arith, length-pairs g (c .before .before .before .before .before .before .before .pre .0))) (rw e (c .before .if1 .taken))), c .at-place .ensures .1)
+    let at-loop = c .before .before .before .before .before in
+    let at-start = at-loop .before .before in
+    let g = at-start .args .g in
+    let e : getD (pairsIn g) (at-loop .loop .i) nil ≡ getD (g .list) (at-loop .loop .i) nil
+    = pair-at g (at-loop .loop .i) (omega arith) in (
+      c .at-place .ensures .0
+          ∙ sym (at-loop .loop .inv .2 ∙ looked-here (at-start .args .key) (pairsIn g) (at-loop .loop .i)
+          (omega (arith, length-pairs g (at-start .pre .0))) (rw e (c .before .if1 .taken))),
+      c .at-place .ensures .1,
+    )
 
 add-i : tie.Need-add-i Inv-loop μ-loop
 add-i c = search needs
@@ -43,17 +59,33 @@ loop-less c = search needs
 
 loop-again : tie.Need-loop-again Inv-loop μ-loop
 loop-again c =
-    let g = c .before .before .before .before .before .before .args .g in
-    let e : getD (pairsIn g) (c .before .before .before .before .loop .i) nil ≡ getD (g .list) (c .before .before .before .before .loop .i) nil = pair-at g (c .before .before .before .before .loop .i) (omega arith) in
-    (omega arith, omega arith, c .before .before .before .before .loop .inv .2 ∙ looked-on (c .before .before .before .before .before .before .args .key) (pairsIn g) (c .before .before .before .before .loop .i) (c .before .before .before .before .loop .inv .0) (omega (arith, length-pairs g (c .before .before .before .before .before .before .pre .0))) (rw e (c .if1 .left)))
+    let at-loop = c .before .before .before .before in
+    let at-start = at-loop .before .before in
+    let g = at-start .args .g in
+    let e : getD (pairsIn g) (at-loop .loop .i) nil ≡ getD (g .list) (at-loop .loop .i) nil
+    = pair-at g (at-loop .loop .i) (omega arith) in (
+      omega arith,
+      omega arith,
+      at-loop .loop .inv .2
+          ∙ looked-on (at-start .args .key) (pairsIn g) (at-loop .loop .i) (at-loop .loop .inv .0)
+          (omega (arith, length-pairs g (at-start .pre .0))) (rw e (c .if1 .left)),
+    )
 
 at-place-requires-2 : tie.Need-at-place-requires-2 Inv-loop μ-loop
-at-place-requires-2 c κs = (c .before .before .before .pre .0, c .before .before .before .pre .2, c .before .loop .inv .0, omega arith)
+at-place-requires-2 c κs =
+    let at-start = c .before .before .before in
+    (at-start .pre .0, at-start .pre .2, c .before .loop .inv .0, omega arith)
 
 returns-2 : tie.Need-returns-2 Inv-loop μ-loop
 returns-2 c =
-    let g = c .before .before .before .before .args .g in
-    (c .at-place2 .ensures .0 ∙ sym (c .before .before .loop .inv .2 ∙ looked-last (c .before .before .before .before .args .key) (pairsIn g) (c .before .before .loop .i) (omega (arith, length-pairs g (c .before .before .before .before .pre .0)))), c .at-place2 .ensures .1)
+    let at-loop = c .before .before in
+    let at-start = at-loop .before .before in
+    let g = at-start .args .g in (
+      c .at-place2 .ensures .0
+          ∙ sym (at-loop .loop .inv .2 ∙ looked-last (at-start .args .key) (pairsIn g) (at-loop .loop .i)
+          (omega (arith, length-pairs g (at-start .pre .0)))),
+      c .at-place2 .ensures .1,
+    )
 
 pub around-in-spec : {M : Type 1} → statement M
 around-in-spec =

@@ -10,7 +10,16 @@ live-of-requires c κs = search needs
 
 around-in-requires : tie.Need-around-in-requires
 around-in-requires c κs =
-    (c .live-of .ensures .good, omega (arith, listed (c .live-of .ensures), c .before .before .pre .2), omega (arith, listed (c .live-of .ensures), live-few (c .before .before .pre .0) (c .before .before .pre .1) (c .before .before .args .w), c .before .before .pre .0 .edition .eight))
+    let at-start = c .before .before in (
+      c .live-of .ensures .good,
+      omega (arith, listed (c .live-of .ensures), at-start .pre .2),
+      omega (
+        arith,
+        listed (c .live-of .ensures),
+        live-few (at-start .pre .0) (at-start .pre .1) (at-start .args .w),
+        at-start .pre .0 .edition .eight,
+      ),
+    )
 
 returns : tie.Need-returns
 returns c = rw (← c .before .live-of .ensures .is) (c .around-in .ensures)

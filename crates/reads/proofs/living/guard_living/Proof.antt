@@ -18,12 +18,14 @@ returns c =
 
 returns-2 : tie.Need-returns-2
 returns-2 c =
-    let a = c .before .before .before .before .args in
+    let at-start = c .before .before .before .before in
+    let a = at-start .args in
     gives-five (a .l .least) (a .s .now) (a .key) (sym (c .before .before .number .ensures) ∙ c .before .if1 .left) (c .if2 .taken)
 
 returns-3 : tie.Need-returns-3
 returns-3 c =
-    let a = c .before .before .before .before .args in
+    let at-start = c .before .before .before .before in
+    let a = at-start .args in
     gives-none (a .l .least) (a .s .now) (a .key) (sym (c .before .before .number .ensures) ∙ c .before .if1 .left) (c .if2 .left)
 
 pub guard-living-spec : {M : Type 1} → statement M

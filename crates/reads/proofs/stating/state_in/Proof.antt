@@ -14,20 +14,25 @@ untold-requires c κs = search needs
 
 returns : tie.Need-returns
 returns c =
-    let h = c .before in
-    let a = h .before .before .before .args in
-    c .untold .ensures ∙ state-refused (a .l .least) (a .s .now) (h .before .number .result) (h .before .number .ensures) (h .if1 .taken)
+    let at-if1 = c .before in
+    let at-number = at-if1 .before in
+    let at-start = at-number .before .before in
+    let a = at-start .args in
+    c .untold .ensures ∙ state-refused (a .l .least) (a .s .now) (at-number .number .result) (at-number .number .ensures)
+    (at-if1 .if1 .taken)
 
 told-requires : tie.Need-told-requires
 told-requires c κs =
-    let h = c .before .before .before in
-    (h .pre, zero-sound (h .args .l .least) (h .args .s .now) (sym (c .before .number .ensures) ∙ c .if1 .left))
+    let at-start = c .before .before .before in
+    (at-start .pre, zero-sound (at-start .args .l .least) (at-start .args .s .now) (sym (c .before .number .ensures) ∙ c .if1 .left))
 
 returns-2 : tie.Need-returns-2
 returns-2 c =
-    let h = c .before in
-    let a = h .before .before .before .args in
-    c .told .ensures ∙ state-done (a .l .least) (a .s .now) (h .before .number .result) (h .before .number .ensures) (h .if1 .left)
+    let at-if1 = c .before in
+    let at-number = at-if1 .before in
+    let at-start = at-number .before .before in
+    let a = at-start .args in
+    c .told .ensures ∙ state-done (a .l .least) (a .s .now) (at-number .number .result) (at-number .number .ensures) (at-if1 .if1 .left)
 
 pub state-in-spec : {M : Type 1} → statement M
 state-in-spec = tie.close (tie.spec number-requires untold-requires returns told-requires returns-2)

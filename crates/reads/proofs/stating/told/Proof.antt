@@ -10,12 +10,17 @@ use Rattle.reads.proofs.stating.told.Statement.{statement}
 use Rattle.reads.proofs.stating.told.Tie as tie
 
 kept : (c : tie.After-shared-slice-known) → ExactBytes (c .before .args .l) (c .before .args .s .now)
-kept c = kept-sound (c .before .pre .0) (c .before .args .s .now) (c .before .pre .1) (λ i. c .shared-slice-known .given i .fits)
+kept c =
+    let at-start = c .before in
+    kept-sound (at-start .pre .0) (at-start .args .s .now) (at-start .pre .1) (λ i. c .shared-slice-known .given i .fits)
 
 header-requires : tie.Need-header-requires
 header-requires c κs =
-    let h = c .before in
-    (h .pre .0, omega (arith, front (h .pre .0) (h .args .s .now) (h .pre .1)), few (h .pre .0) (h .args .s .now) (h .pre .1))
+    let at-start = c .before in (
+      at-start .pre .0,
+      omega (arith, front (at-start .pre .0) (at-start .args .s .now) (at-start .pre .1)),
+      few (at-start .pre .0) (at-start .args .s .now) (at-start .pre .1),
+    )
 
 size-of-requires : tie.Need-size-of-requires
 size-of-requires c κs = kept (c .before)
@@ -31,8 +36,10 @@ edition-of-requires c κs = search needs
 
 returns : tie.Need-returns
 returns c =
-    let h = c .before .before .before .before in
-    told (kept (h .before)) (h .header .result) (h .header .ensures) (c .edition-of .result) (c .edition-of .ensures) (c .before .number .result)
+    let at-header = c .before .before .before .before in
+    let at-shared-slice-known = at-header .before in
+    told (kept at-shared-slice-known) (at-header .header .result) (at-header .header .ensures) (c .edition-of .result)
+    (c .edition-of .ensures) (c .before .number .result)
     (c .before .number .ensures ∙ c .before .before .count-free .ensures)
 
 pub told-spec : {M : Type 1} → statement M

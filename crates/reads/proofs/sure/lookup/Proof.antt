@@ -21,44 +21,64 @@ returns c = search needs
 
 returns-2 : tie.Need-returns-2
 returns-2 c =
-    let h = c .before .before .before in
-    let a = h .args in
-    looks-five (h .pre .0) (a .s .now) (h .pre .1 (not-false (a .sure) (c .before .if1 .left))) (a .key) (a .v) (omega arith)
+    let at-start = c .before .before .before in
+    let a = at-start .args in
+    looks-five (at-start .pre .0) (a .s .now) (at-start .pre .1 (not-false (a .sure) (c .before .if1 .left))) (a .key) (a .v) (omega arith)
 
 header-requires : tie.Need-header-requires
 header-requires c κs =
-    let h = c .before .before .before in
-    let s = h .pre .1 (not-false (h .args .sure) (c .before .if1 .left)) in
-    (h .pre .0, omega (arith, front (h .pre .0) (h .args .s .now) s), few (h .pre .0) (h .args .s .now) s)
+    let at-start = c .before .before .before in
+    let s = at-start .pre .1 (not-false (at-start .args .sure) (c .before .if1 .left)) in (
+      at-start .pre .0,
+      omega (arith, front (at-start .pre .0) (at-start .args .s .now) s),
+      few (at-start .pre .0) (at-start .args .s .now) s,
+    )
 
 unreadable-requires : tie.Need-unreadable-requires
-unreadable-requires c κs = let a = c .before .before .before .before .args in rw (c .header .ensures) (current-lt (a .l .least) (a .s .now))
+unreadable-requires c κs =
+    let at-start = c .before .before .before .before in
+    let a = at-start .args in rw (c .header .ensures) (current-lt (a .l .least) (a .s .now))
 
 -- whether the version can be read, as the header has it
-unread : (c : tie.After-unreadable) → let a = c .before .before .before .before .before .args in unreadable (decode (a .l .least) (a .s .now)) (a .v) ≡ c .unreadable .result
+unread : (c : tie.After-unreadable) →
+    let at-start = c .before .before .before .before .before in
+    let a = at-start .args in unreadable (decode (a .l .least) (a .s .now)) (a .v) ≡ c .unreadable .result
 unread c =
-    let a = c .before .before .before .before .before .args in
+    let at-start = c .before .before .before .before .before in
+    let a = at-start .args in
     let h = c .before .header in
     unread-of (a .l .least) (a .s .now) (h .result) (h .ensures) (a .v) (c .unreadable .result) (c .unreadable .ensures)
 
 returns-3 : tie.Need-returns-3
 returns-3 c =
-    let h = c .before .before .before .before .before .before in
-    let a = h .args in
-    looks-six (h .pre .0) (a .s .now) (h .pre .1 (not-false (a .sure) (c .before .before .before .before .if1 .left))) (a .key) (a .v) (omega arith) (unread (c .before) ∙ c .if3 .taken)
+    let at-if1 = c .before .before .before .before in
+    let at-start = at-if1 .before .before in
+    let a = at-start .args in
+    looks-six (at-start .pre .0) (a .s .now) (at-start .pre .1 (not-false (a .sure) (at-if1 .if1 .left))) (a .key) (a .v) (omega arith)
+    (unread (c .before) ∙ c .if3 .taken)
 
 lookup-requires-2 : tie.Need-lookup-requires-2
 lookup-requires-2 c κs =
-    let h = c .before .before .before .before .before .before in
-    let s = h .pre .1 (not-false (h .args .sure) (c .before .before .before .before .if1 .left)) in
-    (record { edition = h .pre .0; sound = s; version = readable-of (decode (h .args .l .least) (h .args .s .now)) (h .args .v) (unread (c .before) ∙ c .if3 .left) }, omega arith)
+    let at-if1 = c .before .before .before .before in
+    let at-start = at-if1 .before .before in
+    let s = at-start .pre .1 (not-false (at-start .args .sure) (at-if1 .if1 .left)) in (
+      record {
+        edition = at-start .pre .0;
+        sound = s;
+        version = readable-of (decode (at-start .args .l .least) (at-start .args .s .now)) (at-start .args .v)
+            (unread (c .before) ∙ c .if3 .left);
+      },
+      omega arith,
+    )
 
 returns-4 : tie.Need-returns-4
 returns-4 c =
-    let h = c .before .before .before .before .before .before .before in
-    let a = h .args in
-    let s = h .pre .1 (not-false (a .sure) (c .before .before .before .before .before .if1 .left)) in
-    c .lookup2 .ensures ∙ looks (h .pre .0) (a .s .now) s (a .key) (a .v) (omega arith) (unread (c .before .before) ∙ c .before .if3 .left)
+    let at-if1 = c .before .before .before .before .before in
+    let at-start = at-if1 .before .before in
+    let a = at-start .args in
+    let s = at-start .pre .1 (not-false (a .sure) (at-if1 .if1 .left)) in
+    c .lookup2 .ensures ∙ looks (at-start .pre .0) (a .s .now) s (a .key) (a .v) (omega arith)
+    (unread (c .before .before) ∙ c .before .if3 .left)
 
 pub lookup-spec : {M : Type 1} → statement M
 lookup-spec =

@@ -16,23 +16,48 @@ header-requires : tie.Need-header-requires
 header-requires c κs = let k = c .before .pre .0 in (k .edition, omega (arith, front k), short k)
 
 sub-wide : tie.Need-sub-wide
-sub-wide c = let k = c .before .before .before .pre .0 in omega (arith, ap (λ (h : Header). h .roots) (c .before .header .ensures), roots-are k, c .before .before .before .pre .1 .some)
+sub-wide c =
+    let at-start = c .before .before .before in
+    let k = at-start .pre .0 in
+    omega (arith, ap (λ (h : Header). h .roots) (c .before .header .ensures), roots-are k, at-start .pre .1 .some)
 
 wide-requires : tie.Need-wide-requires
 wide-requires c κs = search needs
 
 slot-requires : tie.Need-slot-requires
-slot-requires c κs = let k = c .before .before .before .before .pre .0 in (k .edition, front k, omega (arith, c .wide .ensures, ap (λ (h : Header). h .roots) (c .before .before .header .ensures), roots-are k, c .before .before .before .before .pre .1 .some, k .holds .few), short k)
+slot-requires c κs =
+    let at-start = c .before .before .before .before in
+    let k = at-start .pre .0 in (
+      k .edition,
+      front k,
+      omega (
+        arith,
+        c .wide .ensures,
+        ap (λ (h : Header). h .roots) (c .before .before .header .ensures),
+        roots-are k,
+        at-start .pre .1 .some,
+        k .holds .few,
+      ),
+      short k,
+    )
 
 add-result : tie.Need-add-result
-add-result c = let k = c .before .before .before .before .before .before .pre .0 in omega (arith, ap (λ (h : Header). h .current) (c .before .before .before .before .header .ensures), k .holds .current, next-is k)
+add-result c =
+    let at-header = c .before .before .before .before in
+    let at-start = at-header .before .before in
+    let k = at-start .pre .0 in omega (arith, ap (λ (h : Header). h .current) (at-header .header .ensures), k .holds .current, next-is k)
 
 returns : tie.Need-returns
 returns c =
-    let k = c .before .before .before .before .before .before .before .pre .0 in
-    let r = ap (λ (h : Header). h .roots) (c .before .before .before .before .before .header .ensures) ∙ roots-are k in
-    let v : c .before .before .before .before .before .header .result .current + 1 ≡ next (decode (c .before .before .before .before .before .before .before .args .l .least) (c .before .before .before .before .before .before .before .args .s .now)) = omega (arith, ap (λ (h : Header). h .current) (c .before .before .before .before .before .header .ensures), next-is k) in
-    ap (λ (m : ℕ). eqb (c .before .before .slot .result .version) m) v ∙ rw (c .before .before .slot .ensures, c .before .before .before .wide .ensures, r) (has-slot-is k (c .before .before .before .before .before .before .before .pre .1))
+    let at-slot = c .before .before in
+    let at-header = at-slot .before .before .before in
+    let at-start = at-header .before .before in
+    let k = at-start .pre .0 in
+    let r = ap (λ (h : Header). h .roots) (at-header .header .ensures) ∙ roots-are k in
+    let v : at-header .header .result .current + 1 ≡ next (decode (at-start .args .l .least) (at-start .args .s .now))
+    = omega (arith, ap (λ (h : Header). h .current) (at-header .header .ensures), next-is k) in
+    ap (λ (m : ℕ). eqb (at-slot .slot .result .version) m) v
+    ∙ rw (at-slot .slot .ensures, at-slot .before .wide .ensures, r) (has-slot-is k (at-start .pre .1))
 
 pub has-slot-spec : {M : Type 1} → statement M
 has-slot-spec =

@@ -23,8 +23,10 @@ either-requires c κs = search needs
 
 returns : tie.Need-returns
 returns c =
-    let k = c .before .before .before .before .before .before .pre .0 in
-    let r = ap (λ (h : Header). h .roots) (c .before .before .before .before .header .ensures) ∙ roots-are k in
+    let at-header = c .before .before .before .before in
+    let at-start = at-header .before .before in
+    let k = at-start .pre .0 in
+    let r = ap (λ (h : Header). h .roots) (at-header .header .ensures) ∙ roots-are k in
     c .either .ensures ∙ rw (c .before .before .before .has-slot .ensures, c .before .before .wide .ensures, r, slots-is (k .edition))
 
 pub slot-left-spec : {M : Type 1} → statement M

@@ -12,12 +12,20 @@ has-slot-requires : tie.Need-has-slot-requires
 has-slot-requires c κs = search needs
 
 replace-slot-requires : tie.Need-replace-slot-requires
-replace-slot-requires c κs = (c .before .before .before .before .before .pre .0, c .before .before .before .before .before .pre .1, c .before .before .before .before .before .pre .2, sym (c .before .before .has-slot .ensures) ∙ c .before .if1 .taken)
+replace-slot-requires c κs =
+    let at-start = c .before .before .before .before .before in
+    (at-start .pre .0, at-start .pre .1, at-start .pre .2, sym (c .before .before .has-slot .ensures) ∙ c .before .if1 .taken)
 
 add-slot-requires : tie.Need-add-slot-requires
 add-slot-requires c κs =
-    let e = sym (c .before .before .has-slot .ensures) ∙ c .before .if1 .left in
-    (c .before .before .before .before .before .pre .0, c .before .before .before .before .before .pre .1, c .before .before .before .before .before .pre .2, e, ltb-true (length (slotsOf (c .before .before .before .before .before .args .l) (c .before .before .before .before .before .args .s .now))) (64 * c .before .before .before .before .before .args .l .least) (rw e at (c .before .before .before .before .before .pre .3)))
+    let at-start = c .before .before .before .before .before in
+    let e = sym (c .before .before .has-slot .ensures) ∙ c .before .if1 .left in (
+      at-start .pre .0,
+      at-start .pre .1,
+      at-start .pre .2,
+      e,
+      ltb-true (length (slotsOf (at-start .args .l) (at-start .args .s .now))) (64 * at-start .args .l .least) (rw e at (at-start .pre .3)),
+    )
 
 same-length : tie.Need-same-length
 same-length c = search needs

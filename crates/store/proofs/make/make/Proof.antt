@@ -27,51 +27,131 @@ clear-requires c κs = search needs
 
 put-name-requires : tie.Need-put-name-requires
 put-name-requires c κs =
-    let a = c .before .before .before .before .before .before .before .before .args in
-    (omega (arith, c .before .before .before .clear .kept .0, whole-least (a .l .least) (a .s .now) (c .before .before .before .before .before .before .before .before .pre .2), c .before .before .before .before .before .before .before .before .pre .0 .four), rw (c .before .before .before .clear .ensures) (bytes-zeros (length (a .s .now))))
+    let at-clear = c .before .before .before in
+    let at-start = at-clear .before .before .before .before .before in
+    let a = at-start .args in (
+      omega (arith, at-clear .clear .kept .0, whole-least (a .l .least) (a .s .now) (at-start .pre .2), at-start .pre .0 .four),
+      rw (at-clear .clear .ensures) (bytes-zeros (length (a .s .now))),
+    )
 
 cast-t14 : tie.Need-cast-t14
-cast-t14 c = omega (arith, c .before .before .before .before .before .before .before .before .before .size .ensures, c .before .before .before .before .before .before .before .before .before .before .before .before .pre .2 .most)
+cast-t14 c =
+    let at-size = c .before .before .before .before .before .before .before .before .before in
+    let at-start = at-size .before .before .before in
+    omega (arith, at-size .size .ensures, at-start .pre .2 .most)
 
 put-header-requires : tie.Need-put-header-requires
 put-header-requires c κs =
-    let a = c .before .before .before .before .before .before .before .before .before .before .before .before .args in let d = c .before .before .before .before .before .before .before .before .before .before .before .before .pre .0 in (
+    let at-put-name = c .before .before .before in
+    let at-clear = at-put-name .before .before .before .before in
+    let at-size = at-clear .before .before in
+    let at-start = at-size .before .before .before in
+    let a = at-start .args in let d = at-start .pre .0 in (
       d,
-      record { pages = omega (arith, c .before .before .before .before .before .before .before .before .before .size .ensures, c .before .before .before .before .before .before .before .before .before .before .before .before .pre .2 .most); current = omega arith; roots = omega (arith, root-bits (a .l .least) (d .eight), d .four); oldest = omega (arith, oldest-bits (a .l .least)) },
-      omega (arith, c .before .before .before .put-name .kept .0, c .before .before .before .before .before .before .before .clear .kept .0, whole-least (a .l .least) (a .s .now) (c .before .before .before .before .before .before .before .before .before .before .before .before .pre .2)),
-      omega (arith, c .before .before .before .put-name .kept .0, c .before .before .before .before .before .before .before .clear .kept .0, whole-most (a .l .least) (a .s .now) (c .before .before .before .before .before .before .before .before .before .before .before .before .pre .2), d .eight),
+      record {
+        pages = omega (arith, at-size .size .ensures, at-start .pre .2 .most);
+        current = omega arith;
+        roots = omega (arith, root-bits (a .l .least) (d .eight), d .four);
+        oldest = omega (arith, oldest-bits (a .l .least));
+      },
+      omega (arith, at-put-name .put-name .kept .0, at-clear .clear .kept .0, whole-least (a .l .least) (a .s .now) (at-start .pre .2)),
+      omega (
+        arith,
+        at-put-name .put-name .kept .0,
+        at-clear .clear .kept .0,
+        whole-most (a .l .least) (a .s .now) (at-start .pre .2),
+        d .eight,
+      ),
     )
 
 put-slot-requires : tie.Need-put-slot-requires
 put-slot-requires c κs =
-    let a = c .before .before .before .before .before .before .before .before .before .before .before .before .before .before .before .before .args in let d = c .before .before .before .before .before .before .before .before .before .before .before .before .before .before .before .before .pre .0 in (
+    let at-put-header = c .before .before .before in
+    let at-put-name = at-put-header .before .before .before .before in
+    let at-clear = at-put-name .before .before .before .before in
+    let at-start = at-clear .before .before .before .before .before in
+    let a = at-start .args in let d = at-start .pre .0 in (
       d,
       record { version = omega arith; root = omega arith },
-      omega (arith, c .before .before .before .put-header .kept .0, c .before .before .before .before .before .before .before .put-name .kept .0, c .before .before .before .before .before .before .before .before .before .before .before .clear .kept .0, whole-least (a .l .least) (a .s .now) (c .before .before .before .before .before .before .before .before .before .before .before .before .before .before .before .before .pre .2)),
+      omega (
+        arith,
+        at-put-header .put-header .kept .0,
+        at-put-name .put-name .kept .0,
+        at-clear .clear .kept .0,
+        whole-least (a .l .least) (a .s .now) (at-start .pre .2),
+      ),
       omega (arith, d .four),
-      omega (arith, c .before .before .before .put-header .kept .0, c .before .before .before .before .before .before .before .put-name .kept .0, c .before .before .before .before .before .before .before .before .before .before .before .clear .kept .0, whole-most (a .l .least) (a .s .now) (c .before .before .before .before .before .before .before .before .before .before .before .before .before .before .before .before .pre .2), d .eight),
+      omega (
+        arith,
+        at-put-header .put-header .kept .0,
+        at-put-name .put-name .kept .0,
+        at-clear .clear .kept .0,
+        whole-most (a .l .least) (a .s .now) (at-start .pre .2),
+        d .eight,
+      ),
     )
 
 put-root-requires : tie.Need-put-root-requires
 put-root-requires c κs =
-    let a = c .before .before .before .before .before .before .before .before .before .before .before .before .before .before .before .before .before .before .before .before .args in let d = c .before .before .before .before .before .before .before .before .before .before .before .before .before .before .before .before .before .before .before .before .pre .0 in (
+    let at-put-slot = c .before .before .before in
+    let at-put-header = at-put-slot .before .before .before .before in
+    let at-put-name = at-put-header .before .before .before .before in
+    let at-clear = at-put-name .before .before .before .before in
+    let at-start = at-clear .before .before .before .before .before in
+    let a = at-start .args in let d = at-start .pre .0 in (
       d,
-      omega (arith, c .before .before .before .put-slot .kept .0, c .before .before .before .before .before .before .before .put-header .kept .0, c .before .before .before .before .before .before .before .before .before .before .before .put-name .kept .0, c .before .before .before .before .before .before .before .before .before .before .before .before .before .before .before .clear .kept .0, whole-least (a .l .least) (a .s .now) (c .before .before .before .before .before .before .before .before .before .before .before .before .before .before .before .before .before .before .before .before .pre .2)),
-      omega (arith, c .before .before .before .put-slot .kept .0, c .before .before .before .before .before .before .before .put-header .kept .0, c .before .before .before .before .before .before .before .before .before .before .before .put-name .kept .0, c .before .before .before .before .before .before .before .before .before .before .before .before .before .before .before .clear .kept .0, whole-most (a .l .least) (a .s .now) (c .before .before .before .before .before .before .before .before .before .before .before .before .before .before .before .before .before .before .before .before .pre .2), d .eight),
+      omega (
+        arith,
+        at-put-slot .put-slot .kept .0,
+        at-put-header .put-header .kept .0,
+        at-put-name .put-name .kept .0,
+        at-clear .clear .kept .0,
+        whole-least (a .l .least) (a .s .now) (at-start .pre .2),
+      ),
+      omega (
+        arith,
+        at-put-slot .put-slot .kept .0,
+        at-put-header .put-header .kept .0,
+        at-put-name .put-name .kept .0,
+        at-clear .clear .kept .0,
+        whole-most (a .l .least) (a .s .now) (at-start .pre .2),
+        d .eight,
+      ),
     )
 
 same-length : tie.Need-same-length
-same-length c = omega (arith, c .before .before .put-root .kept .0, c .before .before .before .before .before .before .put-slot .kept .0, c .before .before .before .before .before .before .before .before .before .before .put-header .kept .0, c .before .before .before .before .before .before .before .before .before .before .before .before .before .before .put-name .kept .0, c .before .before .before .before .before .before .before .before .before .before .before .before .before .before .before .before .before .before .clear .kept .0)
+same-length c =
+    let at-put-slot = c .before .before .before .before .before .before in
+    let at-put-header = at-put-slot .before .before .before .before in
+    let at-put-name = at-put-header .before .before .before .before in
+    let at-clear = at-put-name .before .before .before .before in
+    omega (
+      arith,
+      c .before .before .put-root .kept .0,
+      at-put-slot .put-slot .kept .0,
+      at-put-header .put-header .kept .0,
+      at-put-name .put-name .kept .0,
+      at-clear .clear .kept .0,
+    )
 
 returns : tie.Need-returns
 returns c =
-    let a = c .before .before .before .before .before .before .before .before .before .before .before .before .before .before .before .before .before .before .before .before .before .before .before .args in let d = c .before .before .before .before .before .before .before .before .before .before .before .before .before .before .before .before .before .before .before .before .before .before .before .pre .0 in let least = a .l .least in
+    let at-put-slot = c .before .before .before .before .before .before in
+    let at-put-header = at-put-slot .before .before .before .before in
+    let at-put-name = at-put-header .before .before .before .before in
+    let at-clear = at-put-name .before .before .before .before in
+    let at-size = at-clear .before .before in
+    let at-start = at-size .before .before .before in
+    let a = at-start .args in let d = at-start .pre .0 in let least = a .l .least in
     let n : ℕ = sizeOf least (a .s .now) in
     let z : List ℕ = zeros (n * (64 * least)) in
-    let e1 = c .before .before .before .before .before .before .before .before .before .before .before .before .before .before .put-name .ensures ∙ ap (λ (b : List ℕ). lay b 0 (namedBy (a .edition))) (c .before .before .before .before .before .before .before .before .before .before .before .before .before .before .before .before .before .before .clear .ensures ∙ ap zeros (c .before .before .before .before .before .before .before .before .before .before .before .before .before .before .before .before .before .before .before .before .before .before .before .pre .2 .whole)) ∙ ap (λ (e : ℕ). lay z 0 (namedBy e)) (c .before .before .before .before .before .before .before .before .before .before .before .before .before .before .before .before .before .before .before .before .before .before .before .pre .1) in
-    let e2 = c .before .before .before .before .before .before .before .before .before .before .put-header .ensures ∙ ap (λ (b : List ℕ). putHeader least b (freshHeader (c .before .before .before .before .before .before .before .before .before .before .before .before .before .before .before .before .before .before .before .before .size .result))) e1 ∙ ap (λ (k : ℕ). putHeader least (lay z 0 (nameParts least)) (freshHeader k)) (c .before .before .before .before .before .before .before .before .before .before .before .before .before .before .before .before .before .before .before .before .size .ensures) in
-    let e3 = c .before .before .before .before .before .before .put-slot .ensures ∙ ap (λ (b : List ℕ). lay b (512 * least + 32 * 0) (slotParts rootSlot)) e2 in
-    c .before .before .put-root .ensures ∙ ap (λ (b : List ℕ). withPage least b 5 (putHead least (pageOf least b 5) rootHead)) e3 ∙ made least (d .four) (d .eight) n (c .before .before .before .before .before .before .before .before .before .before .before .before .before .before .before .before .before .before .before .before .before .before .before .pre .2 .six) (c .before .before .before .before .before .before .before .before .before .before .before .before .before .before .before .before .before .before .before .before .before .before .before .pre .2 .most)
+    let e1 = at-put-name .put-name .ensures ∙ ap (λ (b : List ℕ). lay b 0 (namedBy (a .edition)))
+    (at-clear .clear .ensures ∙ ap zeros (at-start .pre .2 .whole)) ∙ ap (λ (e : ℕ). lay z 0 (namedBy e)) (at-start .pre .1) in
+    let e2 = at-put-header .put-header .ensures ∙ ap (λ (b : List ℕ). putHeader least b (freshHeader (at-size .size .result))) e1
+    ∙ ap (λ (k : ℕ). putHeader least (lay z 0 (nameParts least)) (freshHeader k)) (at-size .size .ensures) in
+    let e3 = at-put-slot .put-slot .ensures ∙ ap (λ (b : List ℕ). lay b (512 * least + 32 * 0) (slotParts rootSlot)) e2 in
+    c .before .before .put-root .ensures ∙ ap (λ (b : List ℕ). withPage least b 5 (putHead least (pageOf least b 5) rootHead)) e3
+    ∙ made least (d .four) (d .eight) n (at-start .pre .2 .six) (at-start .pre .2 .most)
 
 pub make-spec : {M : Type 1} → statement M
 make-spec =

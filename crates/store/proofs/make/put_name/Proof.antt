@@ -37,7 +37,9 @@ same-length : tie.Need-same-length
 same-length c = simp length-set
 
 returns : tie.Need-returns
-returns c = name-laid (c .before .before .before .before .before .args .s .now) (c .before .before .before .before .before .args .edition) (c .before .before .before .before .before .pre .1) (c .before .before .before .before .before .pre .0) (omega arith)
+returns c =
+    let at-start = c .before .before .before .before .before in
+    name-laid (at-start .args .s .now) (at-start .args .edition) (at-start .pre .1) (at-start .pre .0) (omega arith)
 
 pub put-name-spec : {M : Type 1} → statement M
 put-name-spec =

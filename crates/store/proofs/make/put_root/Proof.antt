@@ -14,7 +14,9 @@ offset-requires : tie.Need-offset-requires
 offset-requires c κs = (c .before .pre .0, omega (arith, c .before .pre .0 .eight))
 
 add-put-head : tie.Need-add-put-head
-add-put-head c = omega (arith, bytes-is (c .before .before .before .pre .0), c .before .offset .ensures, c .before .before .before .pre .0 .eight)
+add-put-head c =
+    let at-start = c .before .before .before in
+    omega (arith, bytes-is (at-start .pre .0), c .before .offset .ensures, at-start .pre .0 .eight)
 
 sub-put-head : tie.Need-sub-put-head
 sub-put-head c = search needs
@@ -27,19 +29,31 @@ part-put-head-end c = omega (arith, bytes-is (c .before .before .before .pre .0)
 
 put-head-requires : tie.Need-put-head-requires
 put-head-requires c κs =
-    let a = c .before .before .before .before .args in let d = c .before .before .before .before .pre .0 in
+    let at-offset = c .before .before in
+    let at-start = at-offset .before .before in
+    let a = at-start .args in let d = at-start .pre .0 in
     let n : length (pageOf (a .l .least) (a .s .now) 5) ≡ 64 * a .l .least = length-page (a .l .least) (a .s .now) 5 (omega arith) in
-    rw (part-page (a .l .least) (a .s .now) 5 (c .before .before .offset .result) (a .l .bytes) (c .before .before .offset .ensures) (bytes-is d))
-    (d, record { level = omega arith; count = omega (arith, count-bits (a .l .least) (d .eight)); start = omega arith; end = omega arith }, omega (arith, d .four), omega (arith, d .eight))
+    rw (part-page (a .l .least) (a .s .now) 5 (at-offset .offset .result) (a .l .bytes) (at-offset .offset .ensures) (bytes-is d)) (
+      d,
+      record { level = omega arith; count = omega (arith, count-bits (a .l .least) (d .eight)); start = omega arith; end = omega arith },
+      omega (arith, d .four),
+      omega (arith, d .eight),
+    )
 
 same-length : tie.Need-same-length
 same-length c = search needs
 
 returns : tie.Need-returns
 returns c =
-    let a = c .before .before .before .before .before .before .before .args in let d = c .before .before .before .before .before .before .before .pre .0 in
-    part-back (a .l .least) (a .s .now) 5 (c .before .before .before .before .before .offset .result) (a .l .bytes) (c .before .before .put-head .last .0) (c .before .before .before .before .before .offset .ensures) (bytes-is d)
-    ∙ ap (withPage (a .l .least) (a .s .now) 5) (rw (part-page (a .l .least) (a .s .now) 5 (c .before .before .before .before .before .offset .result) (a .l .bytes) (c .before .before .before .before .before .offset .ensures) (bytes-is d)) at (c .before .before .put-head .ensures))
+    let at-put-head = c .before .before in
+    let at-offset = at-put-head .before .before .before in
+    let at-start = at-offset .before .before in
+    let a = at-start .args in let d = at-start .pre .0 in
+    part-back (a .l .least) (a .s .now) 5 (at-offset .offset .result) (a .l .bytes) (at-put-head .put-head .last .0)
+    (at-offset .offset .ensures) (bytes-is d)
+    ∙ ap (withPage (a .l .least) (a .s .now) 5)
+    (rw (part-page (a .l .least) (a .s .now) 5 (at-offset .offset .result) (a .l .bytes) (at-offset .offset .ensures) (bytes-is d)) at
+    (at-put-head .put-head .ensures))
 
 pub put-root-spec : {M : Type 1} → statement M
 put-root-spec =

@@ -12,10 +12,16 @@ place-requires : tie.Need-place-requires
 place-requires c κs = search needs
 
 mul-result : tie.Need-mul-result
-mul-result c = let q = place-after (5 * c .before .before .args .l .least + 1) (c .before .before .args .n) 4096 (c .before .before .args .i) (omega (arith, c .before .before .pre .2)) (c .before .before .pre .1) in omega (arith, q, c .before .before .pre .0 .eight, c .place .ensures)
+mul-result c =
+    let at-start = c .before .before in
+    let q = place-after (5 * at-start .args .l .least + 1) (at-start .args .n) 4096 (at-start .args .i) (omega (arith, at-start .pre .2))
+    (at-start .pre .1) in omega (arith, q, at-start .pre .0 .eight, c .place .ensures)
 
 shared-slice-read-result : tie.Need-shared-slice-read-result
-shared-slice-read-result c = let q = place-in (5 * c .before .before .before .args .l .least + 1) (c .before .before .before .args .n) 4096 (c .before .before .before .args .i) (omega (arith, c .before .before .before .pre .2)) (c .before .before .before .pre .1) (c .before .before .before .args .table .now) (c .before .before .before .pre .3) in omega (arith, q, c .before .place .ensures)
+shared-slice-read-result c =
+    let at-start = c .before .before .before in
+    let q = place-in (5 * at-start .args .l .least + 1) (at-start .args .n) 4096 (at-start .args .i) (omega (arith, at-start .pre .2))
+    (at-start .pre .1) (at-start .args .table .now) (at-start .pre .3) in omega (arith, q, c .before .place .ensures)
 
 returns : tie.Need-returns
 returns c = ap (λ (k : ℕ). getD (c .before .before .before .args .table .now) k 0) (c .before .place .ensures)

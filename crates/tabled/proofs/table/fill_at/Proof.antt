@@ -8,15 +8,30 @@ use Rattle.tabled.proofs.table.fill_at.Statement.{statement}
 use Rattle.tabled.proofs.table.fill_at.Tie as tie
 
 page-right-requires : tie.Need-page-right-requires
-page-right-requires c κs = (c .before .before .pre .0, c .before .before .pre .1, omega (arith, c .before .before .pre .3))
+page-right-requires c κs =
+    let at-start = c .before .before in
+    (at-start .pre .0, at-start .pre .1, omega (arith, at-start .pre .3))
 
 returns : tie.Need-returns
 returns c =
-    let a = c .before .before .before .before .args in
-    filled-not (a .l .least) (a .s .now) (a .q .size) (c .before .before .before .before .pre .1 .sized) (a .q .version) (a .q .low) (a .q .high) (a .level) (a .n) (c .before .before .before .before .pre .3) (c .before .before .before .before .pre .5) (sym (c .before .page-right .ensures) ∙ not-true (c .before .page-right .result) (c .if1 .taken)) (a .table .now) (c .before .before .before .before .pre .6)
+    let at-start = c .before .before .before .before in
+    let a = at-start .args in
+    filled-not (a .l .least) (a .s .now) (a .q .size) (at-start .pre .1 .sized) (a .q .version) (a .q .low) (a .q .high) (a .level) (a .n)
+    (at-start .pre .3) (at-start .pre .5) (sym (c .before .page-right .ensures) ∙ not-true (c .before .page-right .result) (c .if1 .taken))
+    (a .table .now) (at-start .pre .6)
 
 fill-page-requires : tie.Need-fill-page-requires
-fill-page-requires c κs = (c .before .before .before .before .before .pre .0, c .before .before .before .before .before .pre .1, c .before .before .before .before .before .pre .2, c .before .before .before .before .before .pre .3, c .before .before .before .before .before .pre .4, sym (c .before .before .page-right .ensures) ∙ not-false (c .before .before .page-right .result) (c .before .if1 .left), c .before .before .before .before .before .pre .6)
+fill-page-requires c κs =
+    let at-page-right = c .before .before in
+    let at-start = at-page-right .before .before .before in (
+      at-start .pre .0,
+      at-start .pre .1,
+      at-start .pre .2,
+      at-start .pre .3,
+      at-start .pre .4,
+      sym (at-page-right .page-right .ensures) ∙ not-false (at-page-right .page-right .result) (c .before .if1 .left),
+      at-start .pre .6,
+    )
 
 same-length : tie.Need-same-length
 same-length c = search needs

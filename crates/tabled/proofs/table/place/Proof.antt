@@ -13,10 +13,16 @@ add-result : tie.Need-add-result
 add-result c = search needs
 
 mul-result-2 : tie.Need-mul-result-2
-mul-result-2 c = let q = place-after (5 * c .before .args .l .least + 1) (c .before .args .n) 4096 (c .before .args .i) (omega (arith, c .before .pre .2)) (c .before .pre .1) in omega (arith, q, c .before .pre .0 .eight)
+mul-result-2 c =
+    let at-start = c .before in
+    let q = place-after (5 * at-start .args .l .least + 1) (at-start .args .n) 4096 (at-start .args .i) (omega (arith, at-start .pre .2))
+    (at-start .pre .1) in omega (arith, q, at-start .pre .0 .eight)
 
 add-result-2 : tie.Need-add-result-2
-add-result-2 c = let q = place-after (5 * c .before .args .l .least + 1) (c .before .args .n) 4096 (c .before .args .i) (omega (arith, c .before .pre .2)) (c .before .pre .1) in omega (arith, q, c .before .pre .0 .eight)
+add-result-2 c =
+    let at-start = c .before in
+    let q = place-after (5 * at-start .args .l .least + 1) (at-start .args .n) 4096 (at-start .args .i) (omega (arith, at-start .pre .2))
+    (at-start .pre .1) in omega (arith, q, at-start .pre .0 .eight)
 
 returns : tie.Need-returns
 returns c = search needs

@@ -1,12 +1,12 @@
--- `changes::page_until` meets its contract: of the entries from i on the same are alive up to q. Assumes nothing.
+-- `holding::page_until` meets its contract: of the entries from i on the same are alive up to q. Assumes nothing.
 use Prim.Native.Nat.{ℕ, _≤_, _+_, _-_}
 use native.Mathlib.Omega.{arith}
 use mathlib.Core.Path.{_≡_, subst}
 use borrow.Author.Needs.{needs}
 use Rattle.life.specs.Still.{Until}
 use Rattle.life.proofs.laws.Still.{aliveFrom, page-none, page-more}
-use Rattle.life.proofs.changes.page_until.Statement.{statement}
-use Rattle.life.proofs.changes.page_until.Tie as tie
+use Rattle.life.proofs.holding.page_until.Statement.{statement}
+use Rattle.life.proofs.holding.page_until.Tie as tie
 
 abbrev Inv-loop : tie.InvT-loop
 Inv-loop page n v r q₀ i₀ q i = (i ≤ n) × Until v r (aliveFrom page n v r i) q

@@ -1,8 +1,8 @@
--- `changes::shown_until` meets its contract. Assumes nothing.
+-- `holding::shown_until` meets its contract. Assumes nothing.
 use mathlib.Core.Path.{sym, _∙_}
 use borrow.Author.Needs.{needs}
-use Rattle.life.proofs.changes.shown_until.Statement.{statement}
-use Rattle.life.proofs.changes.shown_until.Tie as tie
+use Rattle.life.proofs.holding.shown_until.Statement.{statement}
+use Rattle.life.proofs.holding.shown_until.Tie as tie
 
 part-requires : tie.Need-part-requires
 part-requires c κs = search needs

@@ -1,4 +1,4 @@
--- `changes::root_until` meets its contract: by the first i slots one root serves up to q. Assumes nothing.
+-- `holding::root_until` meets its contract: by the first i slots one root serves up to q. Assumes nothing.
 use Prim.Native.Nat.{ℕ, suc, _≤_, _-_, _+_, _*_}
 use native.Mathlib.Omega.{arith}
 use mathlib.Core.List.{List}
@@ -12,8 +12,8 @@ use Rattle.store.proofs.laws.Read.{slots-of}
 use Rattle.store.proofs.laws.Sure.{few, front, roots}
 use Rattle.life.specs.Still.{Until}
 use Rattle.life.proofs.laws.Still.{roots-none, roots-more}
-use Rattle.life.proofs.changes.root_until.Statement.{statement}
-use Rattle.life.proofs.changes.root_until.Tie as tie
+use Rattle.life.proofs.holding.root_until.Statement.{statement}
+use Rattle.life.proofs.holding.root_until.Tie as tie
 
 abbrev Inv-loop : tie.InvT-loop
 Inv-loop s l v r roots q₀ i₀ q i = (i ≤ roots) × Until v r (rootAt (readSlots s (512 * l .least) i)) q

@@ -7,24 +7,26 @@ use mathlib.Core.Option.{Option, none, some}
 use mathlib.Core.Path.{_≡_, refl, ap, _∙_}
 use mathlib.Core.List.{List, [], _∷_}
 use lib.Dec.{T}
 use Rattle.model.specs.Basic.{pick}
 use Rattle.model.specs.declared.Pair.{Pair}
 use Rattle.model.specs.declared.Slot.{Slot}
 use Rattle.model.specs.Page.{Page, Change}
 use Rattle.model.specs.Store.{Store, page, next}
 use Rattle.model.specs.Walk.{Around, rootAt, way, keyLimit}
 use Rattle.model.specs.Climb
 use Rattle.model.specs.Climb.{Rooted, stays, moves, lacks, climb, Result, done, refused, rooted, update}
-use Rattle.model.specs.Plan
-use Rattle.model.specs.Plan.{slotLeft, outlook, plan, outlookOf, numberOf, outlookNumber}
+use Rattle.outlook.specs.Plan
+use Rattle.model.specs.Needs.{slotLeft}
+use Rattle.outlook.specs.Plan.{outlook, plan, outlookOf, numberOf, outlookNumber}
 use Rattle.model.specs.Sound.{sound}
 use Rattle.model.proofs.lists.Members.{holds-true}
 use Rattle.model.proofs.sound.ByRule.{Sound, from-tests, high-used}
 use Rattle.model.proofs.sound.Ready.{level-used, ready}
 use Rattle.model.proofs.older.Undo.{LivePage, Next, WayGood}
-use Rattle.model.proofs.plan.PlanAlike.{alike-refl}
-use Rattle.model.proofs.plan.PlanForesees.{HighNext, Highs, climb-matches}
-use Rattle.model.proofs.plan.PlanSlots.{slot-left}
+use Rattle.outlook.proofs.laws.PlanAlike.{alike-refl}
+use Rattle.model.proofs.needs.FreePages.{HighNext, Highs}
+use Rattle.outlook.proofs.laws.PlanForesees.{climb-matches}
+use Rattle.model.proofs.needs.OpenSlot.{slot-left}
 
 module _ (least : ℕ) (two : 2 ≤ least) (s : Store) (d : Sound least s) where
   -- "root and router page numbers run from 5"

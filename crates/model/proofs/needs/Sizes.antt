@@ -1,4 +1,4 @@
--- How large what the plan handles can be: the way, the wanted list, what is gathered, the change, the counts.
+-- How large what an update handles can be: the way, the wanted list, what is gathered, the change, the counts.
 -- Assumes nothing.
 use Prim.Native.Nat.{ℕ, zero, suc, _+_, _*_, _≤_, _<_}
 use native.Mathlib.Omega.{arith}
@@ -7,7 +7,7 @@ use mathlib.Core.Option.{Option, none, some}
 use mathlib.Core.Path.{_≡_, refl}
 use mathlib.Core.List.{List, [], _∷_, map}
 use lib.Dec.{ltb}
-use lib.ListN.{length, getD, drop, length-append, length-map, length-drop}
+use lib.ListN.{length, drop, length-append, length-map, length-drop}
 use borrow.Author.Tests.{ltb-true}
 use Rattle.model.specs.Basic.{keep, those, has, any}
 use Rattle.model.specs.declared.Pair.{Pair}
@@ -16,10 +16,8 @@ use Rattle.model.specs.Page.{Page, Change, isFree, pairsAt, enterAll, wa
 use Rattle.model.specs.Store.{Store, page, freeFrom, freeOnes}
 use Rattle.model.specs.Walk.{Around, around, rootAt, heightOf, wayDown, way}
 use Rattle.model.specs.Rules
-use Rattle.model.specs.Rules.{Group, Parts, one, two, samePair, exchange}
+use Rattle.model.specs.Rules.{Parts, one, two, samePair, routersTo, exchange}
 use Rattle.model.specs.Needs.{actives, groupAt}
-use Rattle.model.specs.Plan
-use Rattle.model.specs.Plan.{untaken, routersTo, parentChange}
 use Rattle.model.proofs.tree.Edit.{length-enter}
 use Rattle.model.proofs.sound.ByRule.{Sound}
 use Rattle.model.proofs.sound.Ready.{root-used, root-level}
@@ -83,7 +81,7 @@ actives-few w ps rs = omega (arith, few-those (λ (n : ℕ). active w (page ps n
 
 -- the parent's change
 pub routersTo-few : (rs : List Pair) (x : Parts) (n m : ℕ) → length (routersTo rs x n m) ≤ 2
-unfolding Plan.routersTo
+unfolding Rules.routersTo
 routersTo-few rs (one x) n m = omega arith
 routersTo-few rs (two x y) n m = omega arith
 
@@ -94,18 +92,6 @@ exchange-drops olds news = omega (arith, length-map (those (λ (x : Pair). not (
 pub exchange-takes : (olds news : List Pair) → length (exchange olds news .take) ≤ length news
 unfolding Rules.exchange
 exchange-takes olds news = few-those (λ (x : Pair). not (any (samePair x) olds)) news
-
-pub change-drops : (least : ℕ) (g : Group) (ns : List ℕ) → length (parentChange least g ns .drop) ≤ length (g .routers)
-unfolding Plan.parentChange
-change-drops least g ns = exchange-drops (g .routers) _
-
-pub change-takes : (least : ℕ) (g : Group) (ns : List ℕ) → length (parentChange least g ns .take) ≤ 2
-unfolding Plan.parentChange
-change-takes least g ns =
-    let x : Parts = Rules.parts least (g .pairs) in
-    let n : ℕ = getD ns 0 untaken in
-    let m : ℕ = getD ns 1 untaken in
-    omega (arith, exchange-takes (g .routers) (routersTo (g .routers) x n m), routersTo-few (g .routers) x n m)
 
 -- the free pages
 free-few : (k : ℕ) (ps : List Page) → length (freeFrom k ps) ≤ length ps

@@ -10,19 +10,18 @@ use mathlib.Core.List.{List, [], _∷_, _++_, map}
 use lib.Dec.{leb, ltb, eqb}
 use lib.ListN.{length, take, drop, length-map}
 use borrow.Author.Tests.{ne-eqb}
 use Rattle.model.specs.Basic.{keep, those, any, has, pick}
 use Rattle.model.specs.declared.Pair.{Pair}
 use Rattle.model.specs.declared.Entry.{Entry}
 use Rattle.model.specs.Entry.{pair, liveAt, born, before, placed, enter, enterPair, endThose}
 use Rattle.model.specs.Page.{Page, Change, pairsAt, enterAll, bornAll, wanted, changed}
 use Rattle.model.specs.Store.{page}
 use Rattle.model.specs.Walk.{Around}
 use Rattle.model.specs.Rules
-use Rattle.model.specs.Rules.{Group, lowKey, samePair, exchange, roomy}
+use Rattle.model.specs.Rules.{Group, lowKey, samePair, exchange, routersTo, roomy}
 use Rattle.model.specs.Needs.{fills, takesInPlace, groupAt, goes}
-use Rattle.model.specs.Plan
-use Rattle.model.specs.Plan.{routersTo, rootFills}
+use Rattle.outlook.specs.Plan.{rootFills}
 use Rattle.model.proofs.lists.Members.{In}
 
 abbrev pub keysOf : List Pair → List ℕ
 keysOf xs = map (λ (x : Pair). x .key) xs
@@ -221,7 +220,7 @@ module _ (least : ℕ) (us vs : List Pair) (e : keysOf us ≡ keysOf vs) where
       ∙ sym (low-first (drop ((length vs + 1) / 2) vs) ∙ ap firstKey (keys-drop ((length vs + 1) / 2) vs))
 
   pub routers-alike : (rs : List Pair) (n m n′ m′ : ℕ) → Aside rs n n′ → Aside rs m m′ → Twins rs (routersTo rs (Rules.parts least us) n m) (routersTo rs (Rules.parts least vs) n′ m′)
-  unfolding Rules.parts Rules.partsBy Plan.routersTo
+  unfolding Rules.parts Rules.partsBy Rules.routersTo
   routers-alike rs n m n′ m′ a b =
       subst (λ (i : ℕ). Twins rs (routersTo rs (Rules.parts least us) n m) (routersTo rs (Rules.partsBy (leb i (4 * least)) vs) n′ m′)) (same-length us vs e) (at (leb (length us) (4 * least)))
     where

@@ -3,32 +3,26 @@
 -- take, and how many pages are free by then. Which free page is taken makes no difference higher up: what a page does there follows
 -- from its routers' low keys and from how many there are. So a count does, where a map of the free pages would do too, and in a router
 -- to a page yet to be taken stands 0, the number of no router.
--- That the plan foresees what `update` runs into: `plan-foresees` in model/proofs/plan/PlanSound.
+-- That the plan foresees what `update` runs into: `plan-foresees` in proofs/laws/PlanSound.
 -- Assumes nothing.
 use Prim.Native.Nat.{ℕ, _+_, _*_, _-_}
-use mathlib.Core.Bool.{Bool, true, false, _||_}
+use mathlib.Core.Bool.{Bool, true, false}
 use mathlib.Core.List.{List, [], _∷_}
-use lib.Dec.{leb, ltb}
+use lib.Dec.{leb}
 use lib.ListN.{length, getD}
 use Rattle.model.specs.Basic.{pick}
 use Rattle.model.specs.declared.Pair.{Pair}
 use Rattle.model.specs.Entry.{pair}
 use Rattle.model.specs.Page.{Page, Change, wanted}
 use Rattle.model.specs.Store.{Store, page, freeOnes, next}
 use Rattle.model.specs.Walk.{Around, rootAt, way}
-use Rattle.model.specs.Rules.{Group, Parts, one, two, parts, lowKey, exchange, roomy}
+use Rattle.model.specs.Rules.{Group, parts, routersTo, exchange, roomy}
 use Rattle.model.specs.Climb.{Rooted, stays, moves, lacks, Result, done, refused}
-use Rattle.model.specs.Needs.{fills, actives, takesInPlace, groupAt, goes, hasSlot}
+use Rattle.model.specs.Needs.{fills, actives, takesInPlace, groupAt, goes, slotLeft}
 
 -- a page yet to be taken
 abbrev pub untaken : ℕ
 untaken = 0
-
--- "takes one for each page now used": routers to pages n and m, or to n alone.
--- "The first new low key is the lowest old one; the second is the second page's first key."
-unfoldable pub routersTo : List Pair → Parts → ℕ → ℕ → List Pair
-routersTo rs (one x) n m = pair (lowKey rs) n ∷ []
-routersTo rs (two x y) n m = pair (lowKey rs) n ∷ pair (lowKey y) m ∷ []
 
 -- the parent's change: the pages now used are the active ones, left first, then pages yet to be taken
 unfoldable pub parentChange : ℕ → Group → List ℕ → Change
@@ -89,10 +83,6 @@ planOn fails k = lacksPage
 unfoldable pub planUp : ℕ → ℕ → List Page → ℕ → List Around → Change → ℕ → Outlook
 planUp least w ps r [] c left = planRoot least w ps r c left
 planUp least w ps r (a ∷ up) c left = planOn (planWork least w ps a c left) (λ (c′ : Change) (left′ : ℕ). planUp least w ps r up c′ left′)
-
--- "A new root takes the directory slot of the open version, or replaces it there."
-abbrev pub slotLeft : ℕ → Store → Bool
-slotLeft least s = hasSlot s || ltb (length (s .slots)) (64 * least)
 
 -- 12 "the rules need a page and none is free", 13 "the rules need a 257th slot", else 0
 unfoldable pub outlookNumber : Bool → Outlook → ℕ

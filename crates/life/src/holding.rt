@@ -17,12 +17,6 @@ ghost use Rattle.walk.specs.Scan.{Stands, from};
 ghost use Rattle.walk.specs.Sure.{PageStands, Walkable};
 ghost use Rattle.life.specs.Still.{Until, Sooner};
 
-fn wide(x: u32) -> usize
-    ensures { λ r. ⌜ r ≡ x ⌝ }
-{
-    x as usize
-}
-
 // r, or x if it stands between v and r.
 fn sooner(v: u32, r: u32, x: u32) -> u32
     requires { ⌜ v < r ⌝ }
@@ -68,7 +62,7 @@ fn root_until(s: &[u8], l: Limits, v: u32, r: u32) -> u32
     ensures { λ q. ⌜ Until v r (rootAt (decode (l .least) (now (s .entry)) .slots)) q ⌝ }
 {
     let h = store::header(s, l);
-    let roots = wide(h.roots);
+    let roots = model::wide(h.roots);
     let mut q = r;
     let mut i = 0;
     while i < roots {

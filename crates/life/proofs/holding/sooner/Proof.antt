@@ -1,8 +1,8 @@
--- `changes::sooner` meets its contract: each way out by the tests taken. Assumes nothing.
+-- `holding::sooner` meets its contract: each way out by the tests taken. Assumes nothing.
 use mathlib.Core.Logic.{inl, inr}
 use native.Mathlib.Omega.{arith}
-use Rattle.life.proofs.changes.sooner.Statement.{statement}
-use Rattle.life.proofs.changes.sooner.Tie as tie
+use Rattle.life.proofs.holding.sooner.Statement.{statement}
+use Rattle.life.proofs.holding.sooner.Tie as tie
 
 returns : tie.Need-returns
 returns c = record { below = omega arith; above = omega arith; out = inl (c .if1 .taken) }

@@ -3,6 +3,7 @@
 use Prim.Native.Nat.{ℕ, zero, suc, _+_, _*_, _-_, _≤_, _<_}
 use native.Mathlib.Omega.{arith}
 use mathlib.Core.Bool.{Bool, true, false}
+use mathlib.Core.Option.{Option, none, some}
 use mathlib.Core.Path.{_≡_, refl, ap, sym, _∙_, subst}
 use mathlib.Core.Logic.{_⊎_, inl, inr, _≢_}
 use mathlib.Core.List.{List, [], _∷_, _++_}
@@ -14,17 +15,17 @@ use Rattle.model.specs.Basic.{keep, pick}
 use Rattle.model.specs.declared.Pair.{Pair}
 use Rattle.model.specs.Page.{Page, free, isFree, active, filled, goneIf, gone}
 use Rattle.model.specs.Store.{page, freeFrom, freeOnes}
+use Rattle.model.specs.Walk.{Around}
 use Rattle.model.specs.Rules
-use Rattle.model.specs.Rules.{retire, usable, Parts, one, two, Rebuilt, rebuilt, short}
+use Rattle.model.specs.Rules.{retire, usable, Parts, one, two, routersTo, Rebuilt, rebuilt, short}
 use Rattle.model.specs.Needs.{fills, actives}
-use Rattle.model.specs.Plan
-use Rattle.model.specs.Plan.{untaken, routersTo}
 use Rattle.model.specs.Layout.{bit}
 use Rattle.model.proofs.lists.Members.{In, in-append, in-those}
 use Rattle.model.proofs.tree.Shows.{same?, in-list}
 use Rattle.model.proofs.tree.GroupShows.{Apart}
 use Rattle.model.proofs.tree.GroupPages.{values, in-frees}
 use Rattle.model.proofs.tree.Numbers.{frees-all}
+use Rattle.model.proofs.older.Undo.{Next, AroundLives}
 
 abbrev pub frees : List Page → ℕ
 frees ps = length (freeOnes ps)
@@ -207,7 +208,7 @@ fills-size least xs = at (leb (length xs) (4 * least))
 
 -- Of the usable pages ns a group fills the first ones, and the others are free; or there are too few.
 abbrev pub Counted : List Pair → Parts → List ℕ → Rebuilt → Type 0
-Counted rs x ns (rebuilt qs news) = (frees qs + sizeOf x ≡ length ns) × (news ≡ routersTo rs x (getD ns 0 untaken) (getD ns 1 untaken))
+Counted rs x ns (rebuilt qs news) = (frees qs + sizeOf x ≡ length ns) × (news ≡ routersTo rs x (getD ns 0 0) (getD ns 1 0))
 Counted rs x ns short = length ns < sizeOf x
 
 module _ (w l level : ℕ) (ps : List Page) (rs : List Pair) (up : level ≡ suc l) where
@@ -215,7 +216,7 @@ module _ (w l level : ℕ) (ps : List Page) (rs : List Pair) (up : level ≡ suc
   filled-count qs n x five h f = omega (arith, frees-set qs n (filled w level x) five h, ap bit f, ap bit (ne-eqb level 0 (λ (z : level ≡ 0). omega arith)))
 
   counted-by : (x : Parts) (ns : List ℕ) → ((n : ℕ) → In n ns → Usable w l ps rs n) → Apart ns → frees (retire w ps rs) ≡ length ns → Counted rs x ns (Rules.rebuildWith w level ps rs x ns)
-  unfolding Rules.rebuildWith Plan.routersTo
+  unfolding Rules.rebuildWith Rules.routersTo
   counted-by (one x) [] u d e = omega arith
   counted-by (one x) (n ∷ ns) u d e =
       let a = u n (inl refl) in
@@ -237,3 +238,39 @@ module _ (w l level : ℕ) (ps : List Page) (rs : List Pair) (up : level ≡ suc
   unfolding Rules.rebuild
   rebuilt-counts least us g =
       counted-by (Rules.parts least us) (usable w ps rs) (usable-free w l ps g) (usable-apart w l ps g) (retire-count w l ps g ∙ sym (usable-count w l ps rs))
+
+-- ---- the pages that a page on the way gathers
+
+-- "root and router page numbers run from 5"
+abbrev pub HighNext : Option Pair → Type 0
+HighNext none = Unit {0}
+HighNext (some x) = 5 ≤ x .value
+
+pub record High (a : Around) : Type 0 where
+  pub own : 5 ≤ a .own .value
+  pub left : HighNext (a .left)
+  pub right : HighNext (a .right)
+
+abbrev pub Highs : List Around → Type 0
+Highs [] = Unit {0}
+Highs (a ∷ up) = High a × Highs up
+
+module _ (least u : ℕ) where
+  abbrev w : ℕ
+  w = suc u
+
+  module _ (l : ℕ) (ps : List Page) (a : Around) (s : AroundLives least u l ps a) (h : High a) where
+    own-member : GroupMember w l ps (a .own .value)
+    own-member = record { level = s .own .level; five = h .own }
+
+    near-pages : (want : List Pair) (x y : Option Pair) → Next least u l ps (a .own .value) x → Next least u l ps (a .own .value) y → HighNext x → HighNext y
+        → Pages w l ps (Rules.withNeighbour w ps a want x y .routers)
+    unfolding Rules.withNeighbour
+    near-pages want x (some r) p q m n = twin own-member (record { level = q .0 .level; five = n }) (q .1)
+    near-pages want (some r) none p q m n = twin (record { level = p .0 .level; five = m }) own-member (λ (e : a .own .value ≡ r .value). p .1 (sym e))
+    near-pages want none none p q m n = lone own-member
+
+    pub gather-pages : (b : Bool) (want : List Pair) → Pages w l ps (Rules.gatherBy b w ps a want .routers)
+    unfolding Rules.gatherBy
+    gather-pages true want = near-pages want (a .left) (a .right) (s .left) (s .right) (h .left) (h .right)
+    gather-pages false want = lone own-member

@@ -1,4 +1,4 @@
--- `changes::answer_until` meets its contract: up to q every lookup comes to page n. Assumes nothing.
+-- `holding::answer_until` meets its contract: up to q every lookup comes to page n. Assumes nothing.
 use Prim.Native.Nat.{ℕ, suc, _-_}
 use native.Mathlib.Omega.{arith}
 use mathlib.Core.Path.{_≡_, subst}
@@ -8,8 +8,8 @@ use Rattle.store.proofs.laws.Sure.{few}
 use Rattle.walk.proofs.laws.Covers.{covers-starts}
 use Rattle.walk.proofs.laws.Sure.{root-covers, covers-inside}
 use Rattle.life.proofs.laws.Way.{LookupsCome, going-start, going-down, going-end}
-use Rattle.life.proofs.changes.answer_until.Statement.{statement}
-use Rattle.life.proofs.changes.answer_until.Tie as tie
+use Rattle.life.proofs.holding.answer_until.Statement.{statement}
+use Rattle.life.proofs.holding.answer_until.Tie as tie
 
 abbrev Inv-loop : tie.InvT-loop
 Inv-loop s l key v r q₀ n₀ up₀ q n up = LookupsCome (l .least) (decode (l .least) s) key v r q up n

@@ -29,8 +29,7 @@ use Rattle.model.proofs.sound.ByRule.{Sound, GoodEntry, entry-of, used-
 use Rattle.model.proofs.sound.Ready.{level-used, last-is}
 use Rattle.model.proofs.tree.GroupPages.{values, in-frees}
 use Rattle.model.proofs.older.Undo.{AroundLives}
-use Rattle.model.proofs.plan.PlanForesees.{High, gather-pages}
-use Rattle.model.proofs.plan.PlanCount.{Pages, member-at, usable-free, retire-free, length-retire, sizeOf}
+use Rattle.model.proofs.needs.FreePages.{Pages, member-at, usable-free, retire-free, length-retire, sizeOf, High, gather-pages}
 
 -- ---- decision 19
 

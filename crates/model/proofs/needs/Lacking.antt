@@ -32,8 +32,8 @@ use Rattle.model.specs.Needs.{Short, takesInPlace, groupAt, goes, rootGr
 use Rattle.model.proofs.lists.Members.{holds-true, true-holds, not-both, bool-cases}
 use Rattle.model.proofs.sound.ByRule.{from-tests}
 use Rattle.model.proofs.sound.Judging.{accepted}
-use Rattle.model.proofs.plan.PlanCount.{usable-count, sizeOf, fills-size}
-use Rattle.model.proofs.plan.PlanSlots.{slot-left}
+use Rattle.model.proofs.needs.FreePages.{usable-count, sizeOf, fills-size}
+use Rattle.model.proofs.needs.OpenSlot.{slot-left}
 
 -- outcomes differ
 stays-lacks : {qs : List Page} → stays qs ≡ lacks → ⊥

@@ -11,24 +11,24 @@ use mathlib.Core.List.{List, [], _∷_, _++_}
 use lib.Dec.{leb, ltb, eqb}
 use lib.ListN.{length, getD}
 use borrow.Author.Tests.{le-leb, lt-leb, ne-eqb}
 use Rattle.model.specs.Basic.{keep, pick}
 use Rattle.model.specs.declared.Pair.{Pair}
 use Rattle.model.specs.Entry.{pair}
 use Rattle.model.specs.Page.{Page, Change, pairsAt, wanted, active}
 use Rattle.model.specs.Store.{page, freeOnes}
 use Rattle.model.specs.Walk.{Around}
 use Rattle.model.specs.Rules
 use Rattle.model.specs.Climb
-use Rattle.model.specs.Rules.{Group, Rebuilt, rebuilt, short, usable, exchange, roomy, Worked, settled, upward, lacking, work}
+use Rattle.model.specs.Rules.{Group, Rebuilt, rebuilt, short, usable, routersTo, exchange, roomy, Worked, settled, upward, lacking, work}
 use Rattle.model.specs.Climb.{goOn, workRoot, climb}
 use Rattle.model.specs.Needs.{fills, actives, takesInPlace}
-use Rattle.model.specs.Plan
-use Rattle.model.specs.Plan.{untaken, routersTo, Planned, settles, rises, fails, planGroup, planWork, Outlook, rootFills, planRoot, planOn, planUp, outlookOf}
+use Rattle.outlook.specs.Plan
+use Rattle.outlook.specs.Plan.{untaken, Planned, settles, rises, fails, planGroup, planWork, Outlook, rootFills, planRoot, planOn, planUp, outlookOf}
 use Rattle.model.proofs.lists.Members.{In, map-in}
 use Rattle.model.proofs.tree.GroupPages.{in-frees}
 use Rattle.model.proofs.older.Undo.{TamePage, UndoFine, LivePage, Next, AroundLives, WayGood, WorkedFine, work-fine, keep-way}
-use Rattle.model.proofs.plan.PlanCount.{frees, GroupMember, Pages, lone, twin, member-at, usable-count, sizeOf, fills-size, Counted, rebuilt-counts}
-use Rattle.model.proofs.plan.PlanAlike.{keysOf, KeysAlike, wanted-alike, roomy-alike, place-alike, goes-alike, Gathered, group-alike, Outside, Aside, exchange-alike, fills-alike, rootFills-alike, routers-alike}
+use Rattle.model.proofs.needs.FreePages.{frees, Pages, lone, member-at, usable-count, sizeOf, fills-size, Counted, rebuilt-counts, High, Highs, gather-pages}
+use Rattle.outlook.proofs.laws.PlanAlike.{keysOf, KeysAlike, wanted-alike, roomy-alike, place-alike, goes-alike, Gathered, group-alike, Outside, Aside, exchange-alike, fills-alike, rootFills-alike, routers-alike}
 
 -- ---- one group
 
@@ -88,45 +88,16 @@ regroup-matches w l least level ps g h up p e =
 
 -- ---- one level
 
--- "root and router page numbers run from 5"
-abbrev pub HighNext : Option Pair → Type 0
-HighNext none = Unit {0}
-HighNext (some x) = 5 ≤ x .value
-
-pub record High (a : Around) : Type 0 where
-  pub own : 5 ≤ a .own .value
-  pub left : HighNext (a .left)
-  pub right : HighNext (a .right)
-
-abbrev pub Highs : List Around → Type 0
-Highs [] = Unit {0}
-Highs (a ∷ up) = High a × Highs up
-
 module _ (least u : ℕ) where
   abbrev w : ℕ
   w = suc u
 
   module _ (l : ℕ) (ps : List Page) (a : Around) (s : AroundLives least u l ps a) (h : High a) where
-    own-member : GroupMember w l ps (a .own .value)
-    own-member = record { level = s .own .level; five = h .own }
-
-    near-pages : (want : List Pair) (x y : Option Pair) → Next least u l ps (a .own .value) x → Next least u l ps (a .own .value) y → HighNext x → HighNext y
-        → Pages w l ps (Rules.withNeighbour w ps a want x y .routers)
-    unfolding Rules.withNeighbour
-    near-pages want x (some r) p q m n = twin own-member (record { level = q .0 .level; five = n }) (q .1)
-    near-pages want (some r) none p q m n = twin (record { level = p .0 .level; five = m }) own-member (λ (e : a .own .value ≡ r .value). p .1 (sym e))
-    near-pages want none none p q m n = lone own-member
-
-    pub gather-pages : (b : Bool) (want : List Pair) → Pages w l ps (Rules.gatherBy b w ps a want .routers)
-    unfolding Rules.gatherBy
-    gather-pages true want = near-pages want (a .left) (a .right) (s .left) (s .right) (h .left) (h .right)
-    gather-pages false want = lone own-member
-
     module _ {c d : Change} (e : KeysAlike c d) where
       level-by : (b : Bool) → Matches (Rules.workBy least b w ps a c (page ps (a .own .value))) (Plan.planBy least b w ps a d (frees ps))
       unfolding Rules.workBy Plan.planBy
       level-by true = in-place
-      level-by false = regroup-matches w l least (page ps (a .own .value) .level) ps _ _ (s .own .level) (gather-pages _ _) (group-alike e least w ps a)
+      level-by false = regroup-matches w l least (page ps (a .own .value) .level) ps _ _ (s .own .level) (gather-pages least u l ps a s h _ _) (group-alike e least w ps a)
 
       pub level-matches : Matches (work least w ps a c) (planWork least w ps a d (frees ps))
       unfolding Rules.work Plan.planWork
@@ -225,7 +196,7 @@ module _ (least u : ℕ) where
 
     new-by : (b : Bool) (want : List Pair) (x : Rebuilt) → Counted rs (Rules.partsBy b want) (usable w ps rs) x
         → outlookOf (Climb.newRoot w (here .level) x) ≡ Plan.rootBy false false (leb (pick b 1 3) have)
-    unfolding Climb.newRoot Rules.partsBy Plan.rootBy Plan.routersTo
+    unfolding Climb.newRoot Rules.partsBy Plan.rootBy Rules.routersTo
     new-by true want short n = rw (lt-leb 1 have (omega (arith, usable-count w l ps rs)))
     new-by true want (rebuilt qs news) (n, e) = rw (e, le-leb 1 have (omega (arith, usable-count w l ps rs)))
     new-by false want short n = rw (lt-leb 3 have (omega (arith, usable-count w l ps rs)))

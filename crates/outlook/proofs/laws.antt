@@ -1,0 +1,4 @@
+pub mod PlanAlike
+pub mod PlanForesees
+pub mod PlanSizes
+pub mod PlanSound
