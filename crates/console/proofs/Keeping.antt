@@ -12,7 +12,8 @@ use Rattle.model.specs.Layout.{sizeOf, encode, decode}
 use Rattle.model.specs.Judged.{judged, isSound, lengthOk}
 use Rattle.model.specs.Climb.{Result}
 use Rattle.model.specs.Calls.{insert, delete, begin, commit, abandon}
-use Rattle.model.specs.Lent.{Outcome, leaving, left, judgedFirst, lent, openLent, insertLent, deleteLent, commitLent, abandonLent, freshLent}
+use Rattle.model.specs.Lent.{Outcome, leaving, left, judgedFirst, lent, openLent, insertLent, deleteLent, commitLent, abandonLent}
+use Rattle.model.specs.Lent.{freshLent}
 use Rattle.store.proofs.laws.Answers.{length-rest, done-store}
 use Rattle.lines.specs.declared.Answer.{Answer}
 use Rattle.lines.specs.declared.Answer.the-variants.{Done, Refused}
@@ -30,7 +31,8 @@ pub back : (q z : List ℕ) (pages : ℕ) → pages * 256 ≡ length q → store
 back q z pages e = take-at q z (pages * 256) (sym e)
 
 -- a call that changes the store
-pub updated : (o : Outcome) (n pages : ℕ) (q z : List ℕ) (a : Answer) → leaving n q ≡ o → a ≡ answered n → pages * 256 ≡ length q → pages ≤ 256
+pub updated : (o : Outcome) (n pages : ℕ) (q z : List ℕ) (a : Answer) → leaving n q ≡ o → a ≡ answered n → pages * 256 ≡ length q
+    → pages ≤ 256
     → (0 < pages → isSound 4 (o .store) ≡ true) → Single (outcome o) (q ++ z) (record { pages = pages; answer = a; count = 0 })
 updated o n pages q z a e f g h stays =
     subst
@@ -55,7 +57,8 @@ unfolding lent
 none-lent f = ap (λ (n : ℕ). judgedFirst n (λ (m : ℕ). leaving m []) (left 4 [] (f (decode 4 [])))) judged-none
 
 module _ (bytes : List ℕ) (pages : ℕ) (z : pages ≡ 0) where
-  none-kept : (f : Store → Result) → Single (outcome (lent 4 f (storeIn bytes pages))) bytes (record { pages = pages; answer = Refused 1; count = 0 })
+  none-kept : (f : Store → Result) → Single (outcome (lent 4 f (storeIn bytes pages))) bytes
+      (record { pages = pages; answer = Refused 1; count = 0 })
   none-kept f =
       subst
       (λ (p : ℕ). Single (outcome (lent 4 f (storeIn bytes p))) bytes (record { pages = p; answer = Refused 1; count = 0 }))
@@ -77,11 +80,13 @@ module _ (bytes : List ℕ) (pages : ℕ) (z : pages ≡ 0) where
   unfolding abandonLent
   abandon-none = none-kept abandon
 
-  pub insert-none : (k x : ℕ) → Single (outcome (insertLent 4 (storeIn bytes pages) k x)) bytes (record { pages = pages; answer = Refused 1; count = 0 })
+  pub insert-none : (k x : ℕ) → Single (outcome (insertLent 4 (storeIn bytes pages) k x)) bytes
+      (record { pages = pages; answer = Refused 1; count = 0 })
   unfolding insertLent
   insert-none k x = none-kept (λ (s : Store). insert 4 s k x)
 
-  pub delete-none : (k : ℕ) → Single (outcome (deleteLent 4 (storeIn bytes pages) k)) bytes (record { pages = pages; answer = Refused 1; count = 0 })
+  pub delete-none : (k : ℕ) → Single (outcome (deleteLent 4 (storeIn bytes pages) k)) bytes
+      (record { pages = pages; answer = Refused 1; count = 0 })
   unfolding deleteLent
   delete-none k = none-kept (λ (s : Store). delete 4 s k)
 

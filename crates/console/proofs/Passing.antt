@@ -23,8 +23,10 @@ pub record PieceGoing (h₀ : Held) (b piece bytes : List ℕ) (h : Held) (p at 
   pub pages : p ≤ 256
   pub sure : Sure bytes p
 
-pub set-out : (h : Held) (bytes : List ℕ) (pages : ℕ) (piece : List ℕ) → h .len ≤ 81 → pages ≤ 256 → Sure bytes pages → PieceGoing h (storeIn bytes pages) piece bytes h pages 0
-set-out h bytes pages piece room few s = record { store = refl; read = refl; within = omega arith; room = room; few = omega arith; pages = few; sure = s }
+pub set-out : (h : Held) (bytes : List ℕ) (pages : ℕ) (piece : List ℕ) → h .len ≤ 81 → pages ≤ 256 → Sure bytes pages
+    → PieceGoing h (storeIn bytes pages) piece bytes h pages 0
+set-out h bytes pages piece room few s =
+    record { store = refl; read = refl; within = omega arith; room = room; few = omega arith; pages = few; sure = s }
 
 pub part-most : (n : ℕ) (l : List ℕ) → length (take n l) ≤ length l
 part-most n l = rw length-take (min-le-right n (length l))
@@ -34,14 +36,17 @@ module _ (piece : List ℕ) (at : ℕ) where
   length-part h = length-take-le (length piece - at) (drop at piece) (omega (arith, length-drop at piece))
 
   pub part-moves : {h : Held} {b bytes out : List ℕ} {f : Filled} → PieceUpto h b (take (length piece - at) (drop at piece)) bytes out f
-      → (0 < length (take (length piece - at) (drop at piece)) → 0 < f .used) → at < length piece → (0 < f .used) × (at + f .used ≤ length piece)
+      → (0 < length (take (length piece - at) (drop at piece)) → 0 < f .used) → at < length piece
+      → (0 < f .used) × (at + f .used ≤ length piece)
   part-moves u moves l = (moves (omega (arith, length-part (omega arith))), omega (arith, u .within, length-part (omega arith)))
 
 -- what `fill` is lent is all that is left
-pub filled-part : {h : Held} {b bytes out : List ℕ} {f : Filled} (piece : List ℕ) (at : ℕ) → PieceUpto h b (take (length piece - at) (drop at piece)) bytes out f
+pub filled-part : {h : Held} {b bytes out : List ℕ} {f : Filled} (piece : List ℕ) (at : ℕ)
+    → PieceUpto h b (take (length piece - at) (drop at piece)) bytes out f
     → PieceUpto h b (drop at piece) bytes out f
 filled-part {h} {b} {bytes} {out} {f} piece at u =
-    subst (λ (c : List ℕ). PieceUpto h b c bytes out f) (take-all (length piece - at) (drop at piece) (omega (arith, length-drop at piece))) u
+    subst (λ (c : List ℕ). PieceUpto h b c bytes out f)
+    (take-all (length piece - at) (drop at piece) (omega (arith, length-drop at piece))) u
 
 pub go-on : {h₀ h : Held} {b piece bytes bytes' out : List ℕ} {pages at : ℕ} {f : Filled} → PieceGoing h₀ b piece bytes h pages at
     → PieceUpto h (storeIn bytes pages) (drop at piece) bytes' out f → PieceGoing h₀ b piece bytes' (f .held) (f .pages) (at + f .used)
@@ -57,7 +62,8 @@ go-on {h₀} {h} {b} {piece} {bytes} {bytes'} {out} {pages} {at} {f} g u =
       sure = u .sure;
     }
 
-pub arrive : {h₀ h : Held} {b piece bytes : List ℕ} {pages at : ℕ} (went : Bool) → PieceGoing h₀ b piece bytes h pages at → length piece ≤ at
+pub arrive : {h₀ h : Held} {b piece bytes : List ℕ} {pages at : ℕ} (went : Bool) → PieceGoing h₀ b piece bytes h pages at
+    → length piece ≤ at
     → Passed h₀ b piece bytes (record { held = h; pages = pages; went = went })
 unfolding after told readOn
 arrive {h₀} {h} {b} {piece} {bytes} {pages} {at} went g l =

@@ -53,7 +53,9 @@ module _ (least : ℕ) (b : List ℕ) (lo hi v : ℕ) where
 
   alike : (ns ms : List ℕ) → length ns ≡ length ms → ranged (rangeLent least b lo hi v ns) ≡ ranged (rangeLent least b lo hi v ms)
   unfolding rangeLent
-  alike ns ms e = let r = rangeNear least b lo hi v (length ms) in rw e (alike-by (r .number) (r .count) (r .written) ns ms (λ z. roomy (length ms) z .0))
+  alike ns ms e =
+      let r = rangeNear least b lo hi v (length ms) in
+      rw e (alike-by (r .number) (r .count) (r .written) ns ms (λ z. roomy (length ms) z .0))
 
   fits : (ns : List ℕ) (l : Listed) → l ≡ rangeLent least b lo hi v ns → l .number ≡ 0 → 2 * l .count ≤ length ns
   unfolding rangeLent
@@ -66,7 +68,9 @@ none-lent lo hi v ns = refl
 
 none-said : (lo hi v : ℕ) → said 4 [] (Range lo hi v) .answers ≡ Refused 1 ∷ []
 unfolding said
-none-said lo hi v = let l = rangeLent 4 [] lo hi v (replicate 10040 0) in ap (λ (n : ℕ). Session.rangedBy n (l .count) (l .list)) (none-lent lo hi v (replicate 10040 0))
+none-said lo hi v =
+    let l = rangeLent 4 [] lo hi v (replicate 10040 0) in
+    ap (λ (n : ℕ). Session.rangedBy n (l .count) (l .list)) (none-lent lo hi v (replicate 10040 0))
 
 none-kept : (lo hi v : ℕ) → [] ≡ said 4 [] (Range lo hi v) .store
 unfolding said
@@ -78,7 +82,13 @@ range-none bytes list pages lo hi v z =
     subst
     (λ (p : ℕ). Replies (said 4 (storeIn bytes p) (Range lo hi v)) bytes list (record { pages = p; answer = Refused 1; count = 0 }))
     (sym z)
-    (record { store = none-kept lo hi v; answers = none-said lo hi v; listed = omega arith; pages = omega arith; sure = λ t. absurd (omega arith) })
+    (record {
+      store = none-kept lo hi v;
+      answers = none-said lo hi v;
+      listed = omega arith;
+      pages = omega arith;
+      sure = λ t. absurd (omega arith);
+    })
 
 -- what the call gave, and the list after it
 module _ (bytes : List ℕ) (pages lo hi v : ℕ) (ns list : List ℕ) (r : Counted) (size : length ns ≡ 10040) (few : pages ≤ 256)
@@ -101,11 +111,14 @@ module _ (bytes : List ℕ) (pages lo hi v : ℕ) (ns list : List ℕ) (r : Coun
   refused-by (suc n) z = refl
 
   pub range-refused : Sure bytes pages → (r .number ≡ 0 → ⊥)
-      → Replies (said 4 (storeIn bytes pages) (Range lo hi v)) bytes list (record { pages = pages; answer = Refused (r .number); count = 0 })
-  range-refused s z = record { store = store; answers = sym answers ∙ refused-by (r .number) z; listed = omega arith; pages = few; sure = s }
+      → Replies (said 4 (storeIn bytes pages) (Range lo hi v)) bytes list
+      (record { pages = pages; answer = Refused (r .number); count = 0 })
+  range-refused s z =
+      record { store = store; answers = sym answers ∙ refused-by (r .number) z; listed = omega arith; pages = few; sure = s }
 
   pub range-done : Sure bytes pages → r .number ≡ 0
-      → Replies (said 4 (storeIn bytes pages) (Range lo hi v)) bytes list (record { pages = pages; answer = Count (r .count); count = r .count })
+      → Replies (said 4 (storeIn bytes pages) (Range lo hi v)) bytes list
+      (record { pages = pages; answer = Count (r .count); count = r .count })
   range-done s z = record {
     store = store;
     answers = sym answers ∙ ap (λ (n : ℕ). Session.rangedBy n (r .count) list) z;

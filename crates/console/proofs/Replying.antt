@@ -44,10 +44,12 @@ module _ (b : List ℕ) where
   said-abandon = refl
 
 -- a command that has one answer
-pub replied : (b : List ℕ) {s : Said} {bytes : List ℕ} {c d : Command} {r : Reply} (list : List ℕ) → c ≡ d → said 4 b d ≡ s → Single s bytes r → Replies (said 4 b c) bytes list r
+pub replied : (b : List ℕ) {s : Said} {bytes : List ℕ} {c d : Command} {r : Reply} (list : List ℕ) → c ≡ d → said 4 b d ≡ s
+    → Single s bytes r → Replies (said 4 b c) bytes list r
 replied b {s} {bytes} {c} {d} {r} list e f k = subst (λ (x : Said). Replies x bytes list r) (sym (ap (said 4 b) e ∙ f)) (alone list k)
 
-pub got : (bytes : List ℕ) (pages k v : ℕ) (a : Answer) (r : Reply) → pages ≤ 256 → Sure bytes pages → a ≡ looked (lookupLent 4 (storeIn bytes pages) k v)
+pub got : (bytes : List ℕ) (pages k v : ℕ) (a : Answer) (r : Reply) → pages ≤ 256 → Sure bytes pages
+    → a ≡ looked (lookupLent 4 (storeIn bytes pages) k v)
     → r ≡ record { pages = pages; answer = a; count = 0 } → Single (said 4 (storeIn bytes pages) (Get k v)) bytes r
 unfolding said
 got bytes pages k v a r h s e f =
@@ -56,7 +58,8 @@ got bytes pages k v a r h s e f =
     (sym f)
     (record { store = refl; answers = ap (λ (x : Answer). x ∷ []) (sym e); alone = refl; pages = h; sure = s })
 
-pub not-a-command : (bytes : List ℕ) (pages : ℕ) (r : Reply) → pages ≤ 256 → Sure bytes pages → r ≡ record { pages = pages; answer = BadLine; count = 0 }
+pub not-a-command : (bytes : List ℕ) (pages : ℕ) (r : Reply) → pages ≤ 256 → Sure bytes pages
+    → r ≡ record { pages = pages; answer = BadLine; count = 0 }
     → Single (said 4 (storeIn bytes pages) Bad) bytes r
 unfolding said
 not-a-command bytes pages r h s f =
@@ -68,7 +71,8 @@ not-a-command bytes pages r h s f =
 -- ---- a reply as text
 
 pub obeyed : {s : Said} {bytes list d d' : List ℕ} {at e : ℕ} {r : Reply} → Replies s bytes list r
-    → Put d at (flatMap textOf (r .answer ∷ settings (take (2 * r .count) list))) d' e → e ≤ at + 110462 → Obeys s bytes d at d' (record { pages = r .pages; at = e })
+    → Put d at (flatMap textOf (r .answer ∷ settings (take (2 * r .count) list))) d' e → e ≤ at + 110462
+    → Obeys s bytes d at d' (record { pages = r .pages; at = e })
 obeyed {s} {bytes} {list} {d} {d'} {at} {e} {r} k p h = record {
   store = k .store;
   put = subst (λ (x : List Answer). Put d at (flatMap textOf x) d' e) (sym (k .answers)) p;

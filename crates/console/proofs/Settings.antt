@@ -37,7 +37,8 @@ one-more (suc i) (k ∷ v ∷ l) h =
     ap (λ (x : List ℕ). textOf (Setting k v) ++ x) (one-more i l (omega arith))
     ∙ sym (append-assoc (textOf (Setting k v)) (text l (twice i)) (textOf (Setting (getD l (twice i) 0) (getD l (suc (twice i)) 0))))
 
-shown-more : (l : List ℕ) (i : ℕ) → 2 * i + 1 < length l → shown l (i + 1) ≡ shown l i ++ textOf (Setting (getD l (2 * i) 0) (getD l (2 * i + 1) 0))
+shown-more : (l : List ℕ) (i : ℕ) → 2 * i + 1 < length l
+    → shown l (i + 1) ≡ shown l i ++ textOf (Setting (getD l (2 * i) 0) (getD l (2 * i + 1) 0))
 shown-more l i h =
     let even : 2 * i ≡ twice i = sym (twice-is i) in
     let odd : 2 * i + 1 ≡ suc (twice i) = omega arith in
@@ -48,5 +49,6 @@ pub put-none : (d : List ℕ) (at : ℕ) → Put d at [] d at
 put-none d at = record { out = sym (rw (append-nil, add-zero) (take-append-drop at d)); behind = sym (add-zero at) }
 
 pub put-more : {d d₁ d₂ : List ℕ} {at e f : ℕ} (l : List ℕ) (i : ℕ) → 2 * i + 1 < length l → Put d at (shown l i) d₁ e
-    → Put d₁ e (textOf (Setting (getD l (2 * i) 0) (getD l (2 * i + 1) 0))) d₂ f → at + length (shown l i) ≤ length d → Put d at (shown l (i + 1)) d₂ f
+    → Put d₁ e (textOf (Setting (getD l (2 * i) 0) (getD l (2 * i + 1) 0))) d₂ f → at + length (shown l i) ≤ length d
+    → Put d at (shown l (i + 1)) d₂ f
 put-more l i h p q room = rw (shown-more l i h) (then-put p q room)

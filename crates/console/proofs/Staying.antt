@@ -55,5 +55,6 @@ module _ (b : List ℕ) (h : isSound 4 b ≡ true) where
   delete-stays k = stays (deletes k) refl refl
 
 -- a program that has a store is sure of it
-pub surely : (l : Limits) (bytes : List ℕ) (pages : ℕ) → l .least ≡ 4 → Sure bytes pages → ltb 0 pages ≡ true → isSound (l .least) (storeIn bytes pages) ≡ true
+pub surely : (l : Limits) (bytes : List ℕ) (pages : ℕ) → l .least ≡ 4 → Sure bytes pages → ltb 0 pages ≡ true
+    → isSound (l .least) (storeIn bytes pages) ≡ true
 surely l bytes pages four s t = rw four (s (ltb-true 0 pages t))

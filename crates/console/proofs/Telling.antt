@@ -19,7 +19,8 @@ use Rattle.console.specs.declared.Obeyed.{Obeyed}
 use Rattle.console.specs.declared.Filled.{Filled}
 use Rattle.console.specs.Obeys.{storeIn, Sure, heardSaid, Obeys, PieceUpto, LastWritten}
 
-pub writes-heard : (b : List ℕ) (h : Heard) (ls : List Line) → writes 4 b (heardLines h ++ ls) ≡ flatMap textOf (heardSaid b h .answers) ++ writes 4 (heardSaid b h .store) ls
+pub writes-heard : (b : List ℕ) (h : Heard) (ls : List Line)
+    → writes 4 b (heardLines h ++ ls) ≡ flatMap textOf (heardSaid b h .answers) ++ writes 4 (heardSaid b h .store) ls
 unfolding writes
 writes-heard b (Whole l) ls = refl
 writes-heard b Nothing ls = refl
@@ -52,16 +53,19 @@ from-here h bytes pages piece out room few s = record {
 }
 
 -- what `hear` is lent is all that is left
-pub from-part : {h : Held} {t : Taken} (piece : List ℕ) (used : ℕ) → Hears h (take (length piece - used) (drop used piece)) t → Hears h (drop used piece) t
+pub from-part : {h : Held} {t : Taken} (piece : List ℕ) (used : ℕ) → Hears h (take (length piece - used) (drop used piece)) t
+    → Hears h (drop used piece) t
 from-part {h} {t} piece used k =
     subst (λ (c : List ℕ). Hears h c t) (take-all (length piece - used) (drop used piece) (omega (arith, length-drop used piece))) k
 
-pub moves-on : {h : Held} {t : Taken} (piece : List ℕ) (used : ℕ) → Hears h (drop used piece) t → used < length piece → (0 < t .used) × (used + t .used ≤ length piece)
+pub moves-on : {h : Held} {t : Taken} (piece : List ℕ) (used : ℕ) → Hears h (drop used piece) t → used < length piece
+    → (0 < t .used) × (used + t .used ≤ length piece)
 moves-on piece used k l = (k .moves (omega (arith, length-drop used piece)), omega (arith, k .within, length-drop used piece))
 
 -- ---- one line more
 
-module _ {h₀ : Held} {b piece bytes out : List ℕ} {f : Filled} (u : PieceUpto h₀ b piece bytes out f) {t : Taken} (k : Hears (f .held) (drop (f .used) piece) t)
+module _ {h₀ : Held} {b piece bytes out : List ℕ} {f : Filled} (u : PieceUpto h₀ b piece bytes out f) {t : Taken}
+    (k : Hears (f .held) (drop (f .used) piece) t)
     {bytes' out' : List ℕ} {o : Obeyed} (a : Obeys (heardSaid (storeIn bytes (f .pages)) (t .heard)) bytes' out (f .len) out' o) where
   abbrev rest : List ℕ
   rest = drop (f .used + t .used) piece
@@ -94,7 +98,8 @@ module _ {h₀ : Held} {b piece bytes out : List ℕ} {f : Filled} (u : PieceUpt
       ∙ after-heard (storeIn bytes (f .pages)) (t .heard) left
       ∙ ap (λ (x : List ℕ). after 4 x left) (sym (a .store))
 
-  pub one-more : o .at ≤ length out' → PieceUpto h₀ b piece bytes' out' (record { held = t .held; pages = o .pages; used = f .used + t .used; len = o .at })
+  pub one-more : o .at ≤ length out' → PieceUpto h₀ b piece bytes' out'
+      (record { held = t .held; pages = o .pages; used = f .used + t .used; len = o .at })
   one-more len = record {
     written = written;
     store = store;
@@ -113,7 +118,8 @@ nothing : (t c : List ℕ) → t ++ writes 4 c [] ≡ t
 unfolding writes
 nothing t c = append-nil t
 
-pub ended : {h : Held} {b bytes d d' : List ℕ} {o : Obeyed} (x : Heard) → x ≡ lastOf (reading h) → Obeys (heardSaid b x) bytes d 0 d' o → o .at ≤ length d' → LastWritten h b d' (o .at)
+pub ended : {h : Held} {b bytes d d' : List ℕ} {o : Obeyed} (x : Heard) → x ≡ lastOf (reading h) → Obeys (heardSaid b x) bytes d 0 d' o
+    → o .at ≤ length d' → LastWritten h b d' (o .at)
 ended {h} {b} {bytes} {d} {d'} {o} x e a len = record {
   written =
       ap (λ (y : Heard). writes 4 b (heardLines y)) (sym e)

@@ -60,7 +60,8 @@ heardSaid b Nothing = record { store = b; answers = [] }
 -- Of a piece of the input: what is to be written for its lines, the store after them and the line that is being read then are what
 -- stands in the buffer, and what is left for the bytes not used.
 pub record PieceUpto (h : Held) (b piece bytes out : List ℕ) (r : Filled) : Type 0 where
-  pub written : writes 4 b (told (reading h) piece) ≡ take (r .len) out ++ writes 4 (storeIn bytes (r .pages)) (told (reading (r .held)) (drop (r .used) piece))
+  pub written : writes 4 b (told (reading h) piece)
+      ≡ take (r .len) out ++ writes 4 (storeIn bytes (r .pages)) (told (reading (r .held)) (drop (r .used) piece))
   pub store : after 4 b (told (reading h) piece) ≡ after 4 (storeIn bytes (r .pages)) (told (reading (r .held)) (drop (r .used) piece))
   pub read : readOn (reading h) piece ≡ readOn (reading (r .held)) (drop (r .used) piece)
   pub within : r .used ≤ length piece

@@ -29,4 +29,5 @@ pub record Skipped (k : Limits) (a : List ℕ) (l : Limits) (b b′ : List ℕ) 
   pub low : v ≤ w
   pub high : w ≤ decode (k .least) a .current
   pub now-at : Replaying k a l b′ w
-  pub same : replay (l .least) (decode (k .least) a) v (decode (k .least) a .current - v) (decode (l .least) b) ≡ replay (l .least) (decode (k .least) a) w (decode (k .least) a .current - w) (decode (l .least) b′)
+  pub same : replay (l .least) (decode (k .least) a) v (decode (k .least) a .current - v) (decode (l .least) b)
+      ≡ replay (l .least) (decode (k .least) a) w (decode (k .least) a .current - w) (decode (l .least) b′)

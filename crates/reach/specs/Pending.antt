@@ -23,7 +23,8 @@ firstKey [] d = d
 firstKey (x ∷ xs) d = x .key
 
 unfoldable pub openOk : ℕ → ℕ → Bool → ℕ → ℕ → List Pair → Bool
-openOk least rule root up low xs = pick (eqb rule 4) (eqb up 0 || startsAt low xs) (not (eqb rule 5) || leb (fewest least root up) (length xs))
+openOk least rule root up low xs =
+    pick (eqb rule 4) (eqb up 0 || startsAt low xs) (not (eqb rule 5) || leb (fewest least root up) (length xs))
 
 unfoldable pub stepOk : ℕ → ℕ → ℕ → ℕ → ℕ → Bool
 stepOk rule low high next key = not (eqb rule 4) || (within low high key && ltb key next)
@@ -70,4 +71,5 @@ isNumber n x = eqb n (x .number)
 -- at each version from a up to, not including, b
 pub record Tells (least : ℕ) (s : List ℕ) (r up a b rule : ℕ) (w : Walked) : Type 0 where
   pub verdict : w .broken ≡ pick (all (passes least rule) (wholeIn least s up a b r)) 0 rule
-  pub marked : all (passes least rule) (wholeIn least s up a b r) ≡ true → (m : ℕ) → getD (w .marks) m false ≡ any (isNumber m) (wholeIn least s up a b r)
+  pub marked : all (passes least rule) (wholeIn least s up a b r) ≡ true → (m : ℕ)
+      → getD (w .marks) m false ≡ any (isNumber m) (wholeIn least s up a b r)

@@ -49,6 +49,8 @@ module _ (l : Limits) (b : List ℕ) (w : ℕ) where
     pub low : w < 2 ^ 20
     pub size-is : size ≡ length (pagesOf l b)
     pub version : w ≡ next (decode (l .least) b)
-    pub level : (d : changes.Change) (qs : List Page) → climbUp (l .least) w (upsOf (way .list) (way .n)) (changeOf c) (pagesOf l b) ≡ upward d qs → page qs (way .root) .level < 15
+    pub level : (d : changes.Change) (qs : List Page)
+        → climbUp (l .least) w (upsOf (way .list) (way .n)) (changeOf c) (pagesOf l b) ≡ upward d qs → page qs (way .root) .level < 15
     pub slots : Slotted l b
-    pub planned : Done (l .least) (rooted (l .least) (decode (l .least) b) (climb (l .least) w (way .root) (upsOf (way .list) (way .n)) (changeOf c) (pagesOf l b)))
+    pub planned : Done (l .least)
+        (rooted (l .least) (decode (l .least) b) (climb (l .least) w (way .root) (upsOf (way .list) (way .n)) (changeOf c) (pagesOf l b)))

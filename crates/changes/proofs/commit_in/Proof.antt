@@ -5,7 +5,9 @@ use Rattle.changes.proofs.commit_in.Statement.{statement}
 use Rattle.changes.proofs.commit_in.Tie as tie
 
 commit-requires : tie.Need-commit-requires
-commit-requires c κs = (c .before .before .pre, not-sure (c .before .before .args .l) (c .before .before .args .s .now))
+commit-requires c κs =
+    let at-start = c .before .before in
+    (at-start .pre, not-sure (at-start .args .l) (at-start .args .s .now))
 
 same-length : tie.Need-same-length
 same-length c = search needs

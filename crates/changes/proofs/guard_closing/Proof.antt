@@ -21,22 +21,31 @@ returns c =
 
 header-requires : tie.Need-header-requires
 header-requires c κs =
-    let a = c .before .before .before .args in
+    let at-start = c .before .before .before in
+    let a = at-start .args in
     let e = c .before .judge .ensures in
     let h = zero-sound (a .l .least) (a .s .now) (sym e ∙ c .if1 .left) in
-    (c .before .before .before .pre .0, omega (arith, front (c .before .before .before .pre .0) (a .s .now) h), few (c .before .before .before .pre .0) (a .s .now) h)
+    (at-start .pre .0, omega (arith, front (at-start .pre .0) (a .s .now) h), few (at-start .pre .0) (a .s .now) h)
 
 returns-2 : tie.Need-returns-2
 returns-2 c =
-    let a = c .before .before .before .before .before .before .args in
-    let e = c .before .before .before .before .judge .ensures in
-    gives-seven (a .l .least) (a .s .now) (sym e ∙ c .before .before .before .if1 .left) (c .before .before .header .result) (c .before .before .header .ensures) (not-true (c .before .before .header .result .opened) (c .if2 .taken))
+    let at-header = c .before .before in
+    let at-judge = at-header .before .before in
+    let at-start = at-judge .before .before in
+    let a = at-start .args in
+    let e = at-judge .judge .ensures in
+    gives-seven (a .l .least) (a .s .now) (sym e ∙ at-header .before .if1 .left) (at-header .header .result) (at-header .header .ensures)
+    (not-true (at-header .header .result .opened) (c .if2 .taken))
 
 returns-3 : tie.Need-returns-3
 returns-3 c =
-    let a = c .before .before .before .before .before .before .args in
-    let e = c .before .before .before .before .judge .ensures in
-    gives-close (a .l .least) (a .s .now) (sym e ∙ c .before .before .before .if1 .left) (c .before .before .header .result) (c .before .before .header .ensures) (not-false (c .before .before .header .result .opened) (c .if2 .left))
+    let at-header = c .before .before in
+    let at-judge = at-header .before .before in
+    let at-start = at-judge .before .before in
+    let a = at-start .args in
+    let e = at-judge .judge .ensures in
+    gives-close (a .l .least) (a .s .now) (sym e ∙ at-header .before .if1 .left) (at-header .header .result) (at-header .header .ensures)
+    (not-false (at-header .header .result .opened) (c .if2 .left))
 
 pub guard-closing-spec : {M : Type 1} → statement M
 guard-closing-spec =

@@ -22,26 +22,35 @@ returns c =
 
 header-requires : tie.Need-header-requires
 header-requires c κs =
-    let a = c .before .before .before .args in
+    let at-start = c .before .before .before in
+    let a = at-start .args in
     let h = guard-sound (a .l .least) (a .s .now) closing (sym (c .before .guard-closing .ensures) ∙ c .if1 .left) in
-    (c .before .before .before .pre .0, omega (arith, front (c .before .before .before .pre .0) (a .s .now) h), few (c .before .before .before .pre .0) (a .s .now) h)
+    (at-start .pre .0, omega (arith, front (at-start .pre .0) (a .s .now) h), few (at-start .pre .0) (a .s .now) h)
 
 unchanged-requires : tie.Need-unchanged-requires
 unchanged-requires c κs =
-    let a = c .before .before .before .before .args in
-    opens (c .before .before .before .before .pre .0) (a .s .now) (sym (c .before .before .guard-closing .ensures) ∙ c .before .if1 .left) (c .header .result) (c .header .ensures)
+    let at-start = c .before .before .before .before in
+    let a = at-start .args in
+    opens (at-start .pre .0) (a .s .now) (sym (c .before .before .guard-closing .ensures) ∙ c .before .if1 .left) (c .header .result)
+    (c .header .ensures)
 
 returns-2 : tie.Need-returns-2
 returns-2 c =
-    let a = c .before .before .before .before .before .before .args in
-    let z = sym (c .before .before .before .before .guard-closing .ensures) ∙ c .before .before .before .if1 .left in
-    sym (ap (λ (x : Bool). pick x 15 0) (c .if2 .taken)) ∙ gives-test (a .l .least) (a .s .now) z (c .before .unchanged .result) (c .before .unchanged .ensures)
+    let at-guard-closing = c .before .before .before .before in
+    let at-start = at-guard-closing .before .before in
+    let a = at-start .args in
+    let z = sym (at-guard-closing .guard-closing .ensures) ∙ c .before .before .before .if1 .left in
+    sym (ap (λ (x : Bool). pick x 15 0) (c .if2 .taken))
+    ∙ gives-test (a .l .least) (a .s .now) z (c .before .unchanged .result) (c .before .unchanged .ensures)
 
 returns-3 : tie.Need-returns-3
 returns-3 c =
-    let a = c .before .before .before .before .before .before .args in
-    let z = sym (c .before .before .before .before .guard-closing .ensures) ∙ c .before .before .before .if1 .left in
-    sym (ap (λ (x : Bool). pick x 15 0) (c .if2 .left)) ∙ gives-test (a .l .least) (a .s .now) z (c .before .unchanged .result) (c .before .unchanged .ensures)
+    let at-guard-closing = c .before .before .before .before in
+    let at-start = at-guard-closing .before .before in
+    let a = at-start .args in
+    let z = sym (at-guard-closing .guard-closing .ensures) ∙ c .before .before .before .if1 .left in
+    sym (ap (λ (x : Bool). pick x 15 0) (c .if2 .left))
+    ∙ gives-test (a .l .least) (a .s .now) z (c .before .unchanged .result) (c .before .unchanged .ensures)
 
 pub guard-committing-spec : {M : Type 1} → statement M
 guard-committing-spec =

@@ -6,7 +6,9 @@ use Rattle.changes.proofs.judge.Statement.{statement}
 use Rattle.changes.proofs.judge.Tie as tie
 
 returns : tie.Need-returns
-returns c = let a = c .before .before .args in sym (sound-zero (a .l .least) (a .s .now) (c .before .before .pre .1 (c .if1 .taken)))
+returns c =
+    let at-start = c .before .before in
+    let a = at-start .args in sym (sound-zero (a .l .least) (a .s .now) (at-start .pre .1 (c .if1 .taken)))
 
 number-requires : tie.Need-number-requires
 number-requires c κs = search needs

@@ -26,7 +26,8 @@ module _ (least : ℕ) (b : List ℕ) where
   first-closing zero true y z = absurd (z refl)
   first-closing zero false y z = refl
 
-  then-test : (m : ℕ) (x y : Bool) → judgedFirst m (λ n. n) (firstOf (rule 7 (not x) ∷ [])) ≡ 0 → pick y 15 0 ≡ judgedFirst m (λ n. n) (firstOf (rule 7 (not x) ∷ rule 15 y ∷ []))
+  then-test : (m : ℕ) (x y : Bool) → judgedFirst m (λ n. n) (firstOf (rule 7 (not x) ∷ [])) ≡ 0
+      → pick y 15 0 ≡ judgedFirst m (λ n. n) (firstOf (rule 7 (not x) ∷ rule 15 y ∷ []))
   then-test (suc m) x y z = absurd (omega arith)
   then-test zero false y z = absurd (omega arith)
   then-test zero true true z = refl
@@ -36,12 +37,15 @@ module _ (least : ℕ) (b : List ℕ) where
   unfolding guarded
   gives-closing z = first-closing (judged least b .number) (decode least b .opened) (unchanged (decode least b)) z
 
-  pub gives-test : guarded least b closing ≡ 0 → (same : Bool) → same ≡ unchanged (decode least b) → pick same 15 0 ≡ guarded least b committing
+  pub gives-test : guarded least b closing ≡ 0 → (same : Bool) → same ≡ unchanged (decode least b)
+      → pick same 15 0 ≡ guarded least b committing
   unfolding guarded
-  gives-test z same e = ap (λ (x : Bool). pick x 15 0) e ∙ then-test (judged least b .number) (decode least b .opened) (unchanged (decode least b)) z
+  gives-test z same e =
+      ap (λ (x : Bool). pick x 15 0) e ∙ then-test (judged least b .number) (decode least b .opened) (unchanged (decode least b)) z
 
 -- what the test asks
-pub opens : {l : Limits} → Edition l → (b : List ℕ) → guarded (l .least) b closing ≡ 0 → (h : Header) → h ≡ readHeader (l .least) b → Opened l b (h .current)
+pub opens : {l : Limits} → Edition l → (b : List ℕ) → guarded (l .least) b closing ≡ 0 → (h : Header) → h ≡ readHeader (l .least) b
+    → Opened l b (h .current)
 opens {l} d b z h e = record {
   edition = d;
   sound = guard-sound (l .least) b closing z;

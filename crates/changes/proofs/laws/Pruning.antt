@@ -38,15 +38,19 @@ module _ (least : ℕ) (b : List ℕ) (v : ℕ) where
     unfolding pruneLent
     prune-guard =
         ap (λ (x : Bool). pick x (leaving 3 b) (lent least (λ (s : Store). prune least s v) b)) (lt-leb least 4 h)
-        ∙ lent-guard least b (pruning v) (λ (s : Store). prune least s v) (λ (s : Store). done (pruned s v)) (omega arith, (omega arith, tt)) so
+        ∙ lent-guard least b (pruning v) (λ (s : Store). prune least s v) (λ (s : Store). done (pruned s v))
+        (omega arith, (omega arith, tt)) so
 
     -- by the number that the guard gave
     module _ (n : ℕ) (e : n ≡ guarded least b (pruning v)) where
       pub prune-refused : (n ≡ 0 → ⊥) → leaving n b ≡ pruneLent least b v
-      prune-refused z = refused-so least b (pruneLent least b v) (pruning v) (leaving 0 (encode least (pruned (decode least b) v))) prune-guard n e z
+      prune-refused z =
+          refused-so least b (pruneLent least b v) (pruning v) (leaving 0 (encode least (pruned (decode least b) v))) prune-guard n e z
 
       pub prune-done : n ≡ 0 → (b′ : List ℕ) → b′ ≡ encode least (pruned (decode least b) v) → leaving 0 b′ ≡ pruneLent least b v
-      prune-done z b′ f = ap (leaving 0) f ∙ done-so least b (pruneLent least b v) (pruning v) (leaving 0 (encode least (pruned (decode least b) v))) prune-guard n e z
+      prune-done z b′ f =
+          ap (leaving 0) f ∙ done-so least b (pruneLent least b v) (pruning v)
+          (leaving 0 (encode least (pruned (decode least b) v))) prune-guard n e z
 
   -- what the guard gives
   module _ (j : judged least b .number ≡ 0) (h : Header) (e : h ≡ readHeader least b) where
@@ -69,4 +73,6 @@ module _ (least : ℕ) (b : List ℕ) (v : ℕ) where
 
   pub upto-current : guarded least b (pruning v) ≡ 0 → v ≤ decode least b .current
   upto-current z =
-      kept-of (decode least b) v (none-holds (beyond (decode least b .current) (decode least b .oldest) v) (decode least b .opened) (guard-chain least b (pruning v) z)) .upto
+      kept-of (decode least b) v
+      (none-holds (beyond (decode least b .current) (decode least b .oldest) v) (decode least b .opened)
+      (guard-chain least b (pruning v) z)) .upto

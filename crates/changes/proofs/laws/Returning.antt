@@ -29,7 +29,9 @@ two x y = firstOf (rule 6 x ∷ rule 7 (not y) ∷ [])
 module _ (least : ℕ) (b : List ℕ) (v : ℕ) where
   -- what both passes come to
   abbrev came : Came
-  came = orAbandoned (carried least (differ (settings (decode least b) (next (decode least b))) (settings (decode least b) v)) (decode least b))
+  came =
+      orAbandoned (carried least (differ (settings (decode least b) (next (decode least b))) (settings (decode least b) v))
+      (decode least b))
 
   return-guard : Goes least b (returnLent least b v) (returning v) (leftBy least b came)
   unfolding returnLent returned
@@ -40,11 +42,15 @@ module _ (least : ℕ) (b : List ℕ) (v : ℕ) where
     return-refused z = refused-so least b (returnLent least b v) (returning v) (leftBy least b came) return-guard n e z
 
     pub return-done : n ≡ 0 → (w : ℕ) → w ≡ next (decode least b) → (r : ℕ) (b′ : List ℕ)
-        → r ≡ leftBy least b (orAbandoned (carried least (differ (settings (decode least b) w) (settings (decode least b) v)) (decode least b))) .number
-        → b′ ≡ leftBy least b (orAbandoned (carried least (differ (settings (decode least b) w) (settings (decode least b) v)) (decode least b))) .store → leaving r b′ ≡ returnLent least b v
+        → r ≡ leftBy least b
+        (orAbandoned (carried least (differ (settings (decode least b) w) (settings (decode least b) v)) (decode least b))) .number
+        → b′ ≡ leftBy least b
+        (orAbandoned (carried least (differ (settings (decode least b) w) (settings (decode least b) v)) (decode least b))) .store
+        → leaving r b′ ≡ returnLent least b v
     return-done z w q r b′ x y =
         ap₂ leaving x y
-        ∙ ap (λ (u : ℕ). leftBy least b (orAbandoned (carried least (differ (settings (decode least b) u) (settings (decode least b) v)) (decode least b)))) q
+        ∙ ap (λ (u : ℕ). leftBy least b
+        (orAbandoned (carried least (differ (settings (decode least b) u) (settings (decode least b) v)) (decode least b)))) q
         ∙ done-so least b (returnLent least b v) (returning v) (leftBy least b came) return-guard n e z
 
   -- what the guard gives
@@ -67,9 +73,11 @@ none-holds true y e = absurd (omega arith)
 none-holds false false e = absurd (omega arith)
 none-holds false true e = (refl, refl)
 
-pub goes-back : {l : Limits} → Edition l → (b : List ℕ) (v : ℕ) → guarded (l .least) b (returning v) ≡ 0 → (h : Header) → h ≡ readHeader (l .least) b → Going l b v (h .current + 1)
+pub goes-back : {l : Limits} → Edition l → (b : List ℕ) (v : ℕ) → guarded (l .least) b (returning v) ≡ 0 → (h : Header)
+    → h ≡ readHeader (l .least) b → Going l b v (h .current + 1)
 goes-back {l} d b v z h e =
-    let (p, q) = none-holds (beyond (decode (l .least) b .current) (decode (l .least) b .oldest) v) (decode (l .least) b .opened) (guard-chain (l .least) b (returning v) z) in
+    let (p, q) = none-holds (beyond (decode (l .least) b .current) (decode (l .least) b .oldest) v) (decode (l .least) b .opened)
+    (guard-chain (l .least) b (returning v) z) in
     record {
       edition = d;
       sound = guard-sound (l .least) b (returning v) z;

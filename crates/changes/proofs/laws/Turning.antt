@@ -40,7 +40,8 @@ module _ (least : ℕ) (b : List ℕ) where
   abandon-guard = lent-guard least b closing abandon (λ (s : Store). done (abandoned s)) (omega arith, tt) refl
 
   -- by the number that the guard gave
-  module _ (call : Outcome) (rules : Store → List Rule) (out : Outcome) (g : Goes call rules out) (n : ℕ) (e : n ≡ guarded least b rules) where
+  module _ (call : Outcome) (rules : Store → List Rule) (out : Outcome) (g : Goes call rules out) (n : ℕ)
+      (e : n ≡ guarded least b rules) where
     by-number : judgedFirst n (λ m. leaving m b) out ≡ call
     by-number = rw e (sym g)
 
@@ -54,20 +55,25 @@ module _ (least : ℕ) (b : List ℕ) where
     pub open-refused : n ≡ guarded least b opening → (n ≡ 0 → ⊥) → leaving n b ≡ openLent least b
     open-refused e z = refused-so (openLent least b) opening (leaves (begun (decode least b))) open-guard n e z
 
-    pub open-done : n ≡ guarded least b opening → n ≡ 0 → (b′ : List ℕ) → b′ ≡ encode least (begun (decode least b)) → leaving 0 b′ ≡ openLent least b
+    pub open-done : n ≡ guarded least b opening → n ≡ 0 → (b′ : List ℕ) → b′ ≡ encode least (begun (decode least b))
+        → leaving 0 b′ ≡ openLent least b
     open-done e z b′ f = ap (leaving 0) f ∙ done-so (openLent least b) opening (leaves (begun (decode least b))) open-guard n e z
 
     pub commit-refused : n ≡ guarded least b committing → (n ≡ 0 → ⊥) → leaving n b ≡ commitLent least b
     commit-refused e z = refused-so (commitLent least b) committing (leaves (committed (decode least b))) commit-guard n e z
 
-    pub commit-done : n ≡ guarded least b committing → n ≡ 0 → (b′ : List ℕ) → b′ ≡ encode least (committed (decode least b)) → leaving 0 b′ ≡ commitLent least b
-    commit-done e z b′ f = ap (leaving 0) f ∙ done-so (commitLent least b) committing (leaves (committed (decode least b))) commit-guard n e z
+    pub commit-done : n ≡ guarded least b committing → n ≡ 0 → (b′ : List ℕ) → b′ ≡ encode least (committed (decode least b))
+        → leaving 0 b′ ≡ commitLent least b
+    commit-done e z b′ f =
+        ap (leaving 0) f ∙ done-so (commitLent least b) committing (leaves (committed (decode least b))) commit-guard n e z
 
     pub abandon-refused : n ≡ guarded least b closing → (n ≡ 0 → ⊥) → leaving n b ≡ abandonLent least b
     abandon-refused e z = refused-so (abandonLent least b) closing (leaves (abandoned (decode least b))) abandon-guard n e z
 
-    pub abandon-done : n ≡ guarded least b closing → n ≡ 0 → (b′ : List ℕ) → b′ ≡ encode least (abandoned (decode least b)) → leaving 0 b′ ≡ abandonLent least b
-    abandon-done e z b′ f = ap (leaving 0) f ∙ done-so (abandonLent least b) closing (leaves (abandoned (decode least b))) abandon-guard n e z
+    pub abandon-done : n ≡ guarded least b closing → n ≡ 0 → (b′ : List ℕ) → b′ ≡ encode least (abandoned (decode least b))
+        → leaving 0 b′ ≡ abandonLent least b
+    abandon-done e z b′ f =
+        ap (leaving 0) f ∙ done-so (abandonLent least b) closing (leaves (abandoned (decode least b))) abandon-guard n e z
 
   -- ---- what the guards give
 

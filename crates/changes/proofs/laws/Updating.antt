@@ -33,7 +33,8 @@ limit-low true = omega arith
 limit-low false = omega arith
 
 -- the two chains differ in their first test and in their last
-updating-is : (b : Bool) (k : ℕ) (s : Store) → rule 5 (leb (limitOf b) k) ∷ rule 7 (not (s .opened)) ∷ speaks b (isSome (lookup s k (next s))) ∷ [] ≡ updating b k s
+updating-is : (b : Bool) (k : ℕ) (s : Store) → rule 5 (leb (limitOf b) k) ∷ rule 7 (not (s .opened)) ∷ speaks b
+    (isSome (lookup s k (next s))) ∷ [] ≡ updating b k s
 updating-is true k s = refl
 updating-is false k s = refl
 
@@ -46,12 +47,15 @@ module _ (least : ℕ) (b : List ℕ) where
   insert-guard : (k x : ℕ) → Goes least b (insertLent least b k x) (updating true k) (left least b (rawInsert least (decode least b) k x))
   unfolding insertLent insert
   insert-guard k x =
-      lent-guard least b (updating true k) (λ (s : Store). insert least s k x) (λ (s : Store). rawInsert least s k x) (omega arith, (omega arith, (omega arith, tt))) refl
+      lent-guard least b (updating true k) (λ (s : Store). insert least s k x) (λ (s : Store). rawInsert least s k x)
+      (omega arith, (omega arith, (omega arith, tt))) refl
 
-  delete-guard : (k : ℕ) → Goes least b (deleteLent least b k) (updating false k) (left least b (update least (decode least b) k (deleting k)))
+  delete-guard : (k : ℕ) → Goes least b (deleteLent least b k) (updating false k)
+      (left least b (update least (decode least b) k (deleting k)))
   unfolding deleteLent delete
   delete-guard k =
-      lent-guard least b (updating false k) (λ (s : Store). delete least s k) (λ (s : Store). update least s k (deleting k)) (omega arith, (omega arith, (omega arith, tt))) refl
+      lent-guard least b (updating false k) (λ (s : Store). delete least s k) (λ (s : Store). update least s k (deleting k))
+      (omega arith, (omega arith, (omega arith, tt))) refl
 
   -- by the number that the guard gave
   module _ (k x n : ℕ) (e : n ≡ guarded least b (updating true k)) where
@@ -60,7 +64,9 @@ module _ (least : ℕ) (b : List ℕ) where
 
     pub insert-done : n ≡ 0 → (r : ℕ) (b′ : List ℕ) → r ≡ left least b (rawInsert least (decode least b) k x) .number
         → b′ ≡ left least b (rawInsert least (decode least b) k x) .store → leaving r b′ ≡ insertLent least b k x
-    insert-done z r b′ g h = ap₂ leaving g h ∙ done-so least b (insertLent least b k x) (updating true k) (left least b (rawInsert least (decode least b) k x)) (insert-guard k x) n e z
+    insert-done z r b′ g h =
+        ap₂ leaving g h ∙ done-so least b (insertLent least b k x) (updating true k) (left least b (rawInsert least (decode least b) k x))
+        (insert-guard k x) n e z
 
   module _ (k n : ℕ) (e : n ≡ guarded least b (updating false k)) where
     pub delete-refused : (n ≡ 0 → ⊥) → leaving n b ≡ deleteLent least b k
@@ -69,7 +75,8 @@ module _ (least : ℕ) (b : List ℕ) where
     pub delete-done : n ≡ 0 → (r : ℕ) (b′ : List ℕ) → r ≡ left least b (update least (decode least b) k (deleting k)) .number
         → b′ ≡ left least b (update least (decode least b) k (deleting k)) .store → leaving r b′ ≡ deleteLent least b k
     delete-done z r b′ g h =
-        ap₂ leaving g h ∙ done-so least b (deleteLent least b k) (updating false k) (left least b (update least (decode least b) k (deleting k))) (delete-guard k) n e z
+        ap₂ leaving g h ∙ done-so least b (deleteLent least b k) (updating false k)
+        (left least b (update least (decode least b) k (deleting k))) (delete-guard k) n e z
 
   -- ---- what the guard gives
 
@@ -87,24 +94,28 @@ module _ (least : ℕ) (b : List ℕ) where
       pub gives-unopened : h .opened ≡ false → 7 ≡ guarded least b (updating insert k)
       gives-unopened f = chain false true (lt-leb (limitOf insert) k low) (ap not (flag least b j h e false f))
 
-      pub gives-rest : h .opened ≡ true → (alive : Bool) → alive ≡ isSome (lookup (decode least b) k (h .current + 1)) → against insert alive ≡ guarded least b (updating insert k)
+      pub gives-rest : h .opened ≡ true → (alive : Bool) → alive ≡ isSome (lookup (decode least b) k (h .current + 1))
+          → against insert alive ≡ guarded least b (updating insert k)
       unfolding against
       gives-rest f alive g =
           let w : h .current + 1 ≡ next (decode least b) = omega (arith, version least b j h e) in
           rw (g, w) (chain false false (lt-leb (limitOf insert) k low) (ap not (flag least b j h e true f)))
 
 -- what the walk for it asks
-pub open-readable : {l : Limits} → Edition l → (b : List ℕ) (j : judged (l .least) b .number ≡ 0) (h : Header) → h ≡ readHeader (l .least) b → h .opened ≡ true
+pub open-readable : {l : Limits} → Edition l → (b : List ℕ) (j : judged (l .least) b .number ≡ 0) (h : Header) → h ≡ readHeader (l .least) b
+    → h .opened ≡ true
     → (h .current + 1 < 2 ^ 20) × Walkable l b (h .current + 1)
 open-readable {l} d b j h e f =
     let q : last (decode (l .least) b) ≡ h .current + 1
-    = ap (λ (x : Bool). lastOf x (decode (l .least) b .current)) (flag (l .least) b j h e true f) ∙ omega (arith, version (l .least) b j h e) in
+    = ap (λ (x : Bool). lastOf x (decode (l .least) b .current)) (flag (l .least) b j h e true f)
+    ∙ omega (arith, version (l .least) b j h e) in
     let z : isSound (l .least) b ≡ true = zero-sound (l .least) b j in
     let o = old-last (l .least) (decode (l .least) b) (sure d b z .old-low) in
     (omega (arith, sure d b z .last-low), record { edition = d; sound = z; version = record { from = omega arith; upto = omega arith } })
 
 -- what it finds
-pub open-at : {l : Limits} (b : List ℕ) (j : judged (l .least) b .number ≡ 0) (h : Header) → h ≡ readHeader (l .least) b → (k w n : ℕ) → w ≡ h .current + 1 → Leaf l b w k n → At l b k w n
+pub open-at : {l : Limits} (b : List ℕ) (j : judged (l .least) b .number ≡ 0) (h : Header) → h ≡ readHeader (l .least) b → (k w n : ℕ)
+    → w ≡ h .current + 1 → Leaf l b w k n → At l b k w n
 open-at {l} b j h e k w n f g =
     let q : h .current + 1 ≡ next (decode (l .least) b) = omega (arith, version (l .least) b j h e) in
     record { version = f ∙ q; leaf = g }
@@ -131,16 +142,29 @@ module _ {l : Limits} (d : Edition l) (b : List ℕ) (k : ℕ) where
 
   pub passed : (insert : Bool) → guarded (l .least) b (updating insert k) ≡ 0 → GuardPassed insert (decode (l .least) b) k
   passed insert z =
-      let (low, (o, a)) = none-holds insert (leb (limitOf insert) k) (s .opened) (isSome (lookup s k (next s))) (ap firstOf (updating-is insert k s) ∙ guard-chain (l .least) b (updating insert k) z) in
+      let (low, (o, a)) = none-holds insert (leb (limitOf insert) k) (s .opened) (isSome (lookup s k (next s)))
+      (ap firstOf (updating-is insert k s) ∙ guard-chain (l .least) b (updating insert k) z) in
       record { key = leb-false (limitOf insert) k low; opened = o; speaks-not = a }
 
   -- the core may go
   pub enters : guarded (l .least) b (updating true k) ≡ 0 → Enters l b k
   enters z =
       let p = passed true z in
-      record { edition = d; sound = guard-sound (l .least) b (updating true k) z; opened = p .opened; key = omega (arith, p .key); absent = p .speaks-not }
+      record {
+        edition = d;
+        sound = guard-sound (l .least) b (updating true k) z;
+        opened = p .opened;
+        key = omega (arith, p .key);
+        absent = p .speaks-not;
+      }
 
   pub ends : guarded (l .least) b (updating false k) ≡ 0 → Ends l b k
   ends z =
       let p = passed false z in
-      record { edition = d; sound = guard-sound (l .least) b (updating false k) z; opened = p .opened; key = p .key; present = not-false (isSome (lookup s k (next s))) (p .speaks-not) }
+      record {
+        edition = d;
+        sound = guard-sound (l .least) b (updating false k) z;
+        opened = p .opened;
+        key = p .key;
+        present = not-false (isSome (lookup s k (next s))) (p .speaks-not);
+      }

@@ -18,7 +18,12 @@ slice-aggregate-serve-4 : tie.Need-slice-aggregate-serve-4
 slice-aggregate-serve-4 c = search needs
 
 serve-requires : tie.Need-serve-requires
-serve-requires c κs = (length-replicate {A = ℕ} 65536 0, length-replicate {A = ℕ} 10040 0, length-replicate {A = ℕ} 65536 0, length-replicate {A = ℕ} 262144 0)
+serve-requires c κs = (
+  length-replicate {A = ℕ} 65536 0,
+  length-replicate {A = ℕ} 10040 0,
+  length-replicate {A = ℕ} 65536 0,
+  length-replicate {A = ℕ} 262144 0,
+)
 
 returns : tie.Need-returns
 returns c = search needs

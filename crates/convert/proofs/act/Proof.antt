@@ -14,7 +14,11 @@ same-length : tie.Need-same-length
 same-length c = search needs
 
 returns : tie.Need-returns
-returns c = let a = c .before .before .before .before .before .before .args in went-as (decode (a .l .least) (a .t .now)) (a .d) (a .insert) _ (c .before .before .before .before .if1 .taken) (c .before .before .set-one .ensures)
+returns c =
+    let at-if1 = c .before .before .before .before in
+    let at-start = at-if1 .before .before in
+    let a = at-start .args in went-as (decode (a .l .least) (a .t .now)) (a .d) (a .insert) _ (at-if1 .if1 .taken)
+    (c .before .before .set-one .ensures)
 
 end-one-requires : tie.Need-end-one-requires
 end-one-requires c κs =
@@ -25,7 +29,11 @@ same-length-2 : tie.Need-same-length-2
 same-length-2 c = search needs
 
 returns-2 : tie.Need-returns-2
-returns-2 c = let a = c .before .before .before .before .before .before .args in went-as (decode (a .l .least) (a .t .now)) (a .d) (a .insert) _ (c .before .before .before .before .if1 .left) (c .before .before .end-one .ensures)
+returns-2 c =
+    let at-if1 = c .before .before .before .before in
+    let at-start = at-if1 .before .before in
+    let a = at-start .args in went-as (decode (a .l .least) (a .t .now)) (a .d) (a .insert) _ (at-if1 .if1 .left)
+    (c .before .before .end-one .ensures)
 
 pub act-spec : {M : Type 1} → statement M
 act-spec =

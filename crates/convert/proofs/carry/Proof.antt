@@ -14,13 +14,16 @@ same-length c = search needs
 
 returns : tie.Need-returns
 returns c =
-    let p = c .before .before .before .before .before .before .before .pre in
+    let at-start = c .before .before .before .before .before .before .before in
+    let p = at-start .pre in
     first-stops (p .0) (p .1) (p .2) (p .3) _ _ (c .before .before .before .pass .ensures) (c .if1 .taken)
 
 pass-requires-2 : tie.Need-pass-requires-2
 pass-requires-2 c κs =
-    let p = c .before .before .before .before .before .before .before .before .pre in
-    let q = c .before .before .before .before .pass .ensures in
+    let at-pass = c .before .before .before .before in
+    let at-start = at-pass .before .before .before .before in
+    let p = at-start .pre in
+    let q = at-pass .pass .ensures in
     (p .0, p .1, q .ready, sets-due (p .0) (p .1) (p .2) (p .3) _ _ q (c .before .if1 .left))
 
 same-length-2 : tie.Need-same-length-2
@@ -28,8 +31,11 @@ same-length-2 c = search needs
 
 returns-2 : tie.Need-returns-2
 returns-2 c =
-    let p = c .before .before .before .before .before .before .before .before .before .before .before .pre in
-    second-so (p .0) (p .1) (p .2) (p .3) _ _ (c .before .before .before .before .before .before .before .pass .ensures) (c .before .before .before .before .if1 .left) _ _ (c .before .before .pass2 .ensures)
+    let at-if1 = c .before .before .before .before in
+    let at-pass = at-if1 .before .before .before in
+    let at-start = at-pass .before .before .before .before in
+    let p = at-start .pre in
+    second-so (p .0) (p .1) (p .2) (p .3) _ _ (at-pass .pass .ensures) (at-if1 .if1 .left) _ _ (c .before .before .pass2 .ensures)
 
 pub carry-spec : {M : Type 1} → statement M
 carry-spec = tie.close (tie.spec pass-requires same-length returns pass-requires-2 same-length-2 returns-2)

@@ -32,7 +32,8 @@ use Rattle.convert.specs.Due.{Steps, Due}
 
 -- ---- the first of them, and the rest
 
-split : (insert : Bool) (us : List Pair) (cs ds : List Delta) (vs : List Pair) → Steps insert us (cs ++ ds) vs → (m : List Pair) × Steps insert us cs m × Steps insert m ds vs
+split : (insert : Bool) (us : List Pair) (cs ds : List Delta) (vs : List Pair) → Steps insert us (cs ++ ds) vs
+    → (m : List Pair) × Steps insert us cs m × Steps insert m ds vs
 split true us [] ds vs e = (us, refl, e)
 split false us [] ds vs e = (us, refl, e)
 split true us (c ∷ cs) ds vs (p, q, r) = let (m, x, y) = split true _ cs ds vs r in (m, (p, q, x), y)
@@ -56,26 +57,32 @@ module _ {l : Limits} {b : List ℕ} (g : UpdateOpen l b) where
   abbrev t : Store
   t = decode (l .least) b
 
-  pub due-runs : (insert : Bool) (ds : List Delta) (p : Due insert (shown l b) ds) → Runs (l .least) (decode (l .least) b) (p .after) (passed insert (l .least) ds (decode (l .least) b))
+  pub due-runs : (insert : Bool) (ds : List Delta) (p : Due insert (shown l b) ds)
+      → Runs (l .least) (decode (l .least) b) (p .after) (passed insert (l .least) ds (decode (l .least) b))
   due-runs true ds p = sets-run (l .least) (g .edition .four) (those comes ds) t (ready-sound g) (g .opened) (p .after) (p .due)
   due-runs false ds p = ends-run (l .least) (g .edition .four) (those goes ds) t (ready-sound g) (g .opened) (p .after) (p .due)
 
-  pub due-done : (insert : Bool) (ds : List Delta) (p : Due insert (shown l b) ds) (b′ : List ℕ) → passed insert (l .least) ds (decode (l .least) b) ≡ reached (decode (l .least) b′) → shown l b′ ≡ p .after
+  pub due-done : (insert : Bool) (ds : List Delta) (p : Due insert (shown l b) ds) (b′ : List ℕ)
+      → passed insert (l .least) ds (decode (l .least) b) ≡ reached (decode (l .least) b′) → shown l b′ ≡ p .after
   due-done insert ds p b′ e = subst (Runs (l .least) t (p .after)) e (due-runs insert ds p) .openly
 
-  pub due-on : (insert : Bool) (cs ds : List Delta) → Due insert (shown l b) (cs ++ ds) → (b′ : List ℕ) → passed insert (l .least) cs (decode (l .least) b) ≡ reached (decode (l .least) b′)
+  pub due-on : (insert : Bool) (cs ds : List Delta) → Due insert (shown l b) (cs ++ ds) → (b′ : List ℕ)
+      → passed insert (l .least) cs (decode (l .least) b) ≡ reached (decode (l .least) b′)
       → Due insert (shown l b′) ds
   unfolding due-first parts
   due-on insert cs ds p b′ e =
-      subst (λ (us : List Pair). Due insert us ds) (sym (due-done insert cs (due-first insert (shown l b) cs ds p) b′ e)) (due-rest insert (shown l b) cs ds p)
+      subst (λ (us : List Pair). Due insert us ds) (sym (due-done insert cs (due-first insert (shown l b) cs ds p) b′ e))
+      (due-rest insert (shown l b) cs ds p)
 
   -- ---- one of them
 
   not-told : (d : Delta) (f : Delta → Bool) → d .kind ≡ 3 → those f (told d) ≡ []
   not-told d f e = rw (eq-eqb (d .kind) 3 e)
 
-  none-asked : (d : Delta) (insert : Bool) → those (wants insert) (told d) ≡ [] → Went l b 0 (passed insert (l .least) (told d) (decode (l .least) b))
-  none-asked d insert z = subst (λ (ds : List Delta). Went l b 0 (through (step insert (l .least)) ds t)) (sym z) (went-none g (step insert (l .least)))
+  none-asked : (d : Delta) (insert : Bool) → those (wants insert) (told d) ≡ []
+      → Went l b 0 (passed insert (l .least) (told d) (decode (l .least) b))
+  none-asked d insert z =
+      subst (λ (ds : List Delta). Went l b 0 (through (step insert (l .least)) ds t)) (sym z) (went-none g (step insert (l .least)))
 
   module _ (d : Delta) where
     pub end-added : d .kind ≡ 0 → Went l b 0 (passed false (l .least) (told d) (decode (l .least) b))
@@ -110,13 +117,16 @@ module _ {l : Limits} {b : List ℕ} (g : UpdateOpen l b) where
         present = present (l .least) (g .edition .four) t (ready-sound g) (g .opened) (d .key) end-low (end-due .1);
       }
 
-      pub end-went : (r : ℕ) (b′ : List ℕ) → r ≡ left (l .least) b (update (l .least) (decode (l .least) b) (d .key) (deleting (d .key))) .number
-          → b′ ≡ left (l .least) b (update (l .least) (decode (l .least) b) (d .key) (deleting (d .key))) .store → Went l b′ r (passed false (l .least) (told d) (decode (l .least) b))
+      pub end-went : (r : ℕ) (b′ : List ℕ) → r ≡ left (l .least) b
+          (update (l .least) (decode (l .least) b) (d .key) (deleting (d .key))) .number
+          → b′ ≡ left (l .least) b (update (l .least) (decode (l .least) b) (d .key) (deleting (d .key))) .store
+          → Went l b′ r (passed false (l .least) (told d) (decode (l .least) b))
       end-went r b′ x y =
           let is = delete-is (l .least) (g .edition .four) t (ready-sound g) (g .opened) (d .key) end-low (end-due .1) in
           subst (λ (ds : List Delta). Went l b′ r (through (endOne (l .least)) ds t)) (sym one-end)
           (went-by g (endOne (l .least)) d (ended d (shown l b)) (update (l .least) t (d .key) (deleting (d .key))) is
-          (subst (StepsOf (l .least) t (ended d (shown l b))) is (end-step (l .least) (g .edition .four) t (ready-sound g) (g .opened) d (end-due .0) (end-due .1))) r b′ x y)
+          (subst (StepsOf (l .least) t (ended d (shown l b))) is
+          (end-step (l .least) (g .edition .four) t (ready-sound g) (g .opened) d (end-due .0) (end-due .1))) r b′ x y)
 
     -- an insert, bench keys too
     module _ (p : Due true (shown l b) (told d)) (m : d .kind ≡ 1 → ⊥) (n : d .kind ≡ 3 → ⊥) where
@@ -139,9 +149,11 @@ module _ {l : Limits} {b : List ℕ} (g : UpdateOpen l b) where
       }
 
       pub set-went : (r : ℕ) (b′ : List ℕ) → r ≡ left (l .least) b (rawInsert (l .least) (decode (l .least) b) (d .key) (d .new)) .number
-          → b′ ≡ left (l .least) b (rawInsert (l .least) (decode (l .least) b) (d .key) (d .new)) .store → Went l b′ r (passed true (l .least) (told d) (decode (l .least) b))
+          → b′ ≡ left (l .least) b (rawInsert (l .least) (decode (l .least) b) (d .key) (d .new)) .store
+          → Went l b′ r (passed true (l .least) (told d) (decode (l .least) b))
       set-went r b′ x y =
           let is = set-is (l .least) (g .edition .four) t (ready-sound g) (g .opened) d set-low (set-due .1) in
           subst (λ (ds : List Delta). Went l b′ r (through (setOne (l .least)) ds t)) (sym one-set)
           (went-by g (setOne (l .least)) d _ (rawInsert (l .least) t (d .key) (d .new)) is
-          (subst (StepsOf (l .least) t _) is (set-step (l .least) (g .edition .four) t (ready-sound g) (g .opened) d (set-due .0) (set-due .1))) r b′ x y)
+          (subst (StepsOf (l .least) t _) is
+          (set-step (l .least) (g .edition .four) t (ready-sound g) (g .opened) d (set-due .0) (set-due .1))) r b′ x y)

@@ -28,18 +28,22 @@ use Rattle.convert.specs.Due.{Due}
 use Rattle.convert.proofs.laws.Due.{due-first, due-done, due-on}
 
 -- a pass asks first what the cursors say, then the rest
-passed-first : (insert : Bool) (least : ℕ) (cs ds : List Delta) (t : Store) → passed insert least (cs ++ ds) t ≡ andOn (passed insert least ds) (passed insert least cs t)
+passed-first : (insert : Bool) (least : ℕ) (cs ds : List Delta) (t : Store)
+    → passed insert least (cs ++ ds) t ≡ andOn (passed insert least ds) (passed insert least cs t)
 passed-first insert least cs ds t =
-    ap (λ (es : List Delta). through (step insert least) es t) (those-append (wants insert) cs ds) ∙ through-append (step insert least) (those (wants insert) cs) (those (wants insert) ds) t
+    ap (λ (es : List Delta). through (step insert least) es t) (those-append (wants insert) cs ds)
+    ∙ through-append (step insert least) (those (wants insert) cs) (those (wants insert) ds) t
 
 module _ {k : Limits} {a : List ℕ} {u v : ℕ} (x : Walkable k a u) (y : Walkable k a v) (l : Limits) (b : List ℕ) (insert : Bool) where
-  pub pass-start : passed insert (l .least) (between k a u v) (decode (l .least) b) ≡ passed insert (l .least) (leftOf k a u v 0) (decode (l .least) b)
+  pub pass-start : passed insert (l .least) (between k a u v) (decode (l .least) b)
+      ≡ passed insert (l .least) (leftOf k a u v 0) (decode (l .least) b)
   pass-start = ap (λ (ds : List Delta). passed insert (l .least) ds (decode (l .least) b)) (sym (from-start x y))
 
   pub due-start : Due insert (shown l b) (between k a u v) → Due insert (shown l b) (leftOf k a u v 0)
   due-start p = subst (Due insert (shown l b)) (sym (from-start x y)) p
 
-  pub pass-end : (key : ℕ) → keyLimit ≤ key → passed insert (l .least) (leftOf k a u v key) (decode (l .least) b) ≡ reached (decode (l .least) b)
+  pub pass-end : (key : ℕ) → keyLimit ≤ key → passed insert (l .least) (leftOf k a u v key) (decode (l .least) b)
+      ≡ reached (decode (l .least) b)
   unfolding through
   pass-end key h = ap (λ (ds : List Delta). passed insert (l .least) ds (decode (l .least) b)) (from-end x y key h)
 
@@ -61,18 +65,21 @@ module _ {k : Limits} {a : List ℕ} {u v : ℕ} (x : Walkable k a u) (y : Walka
           ∙ passed-first insert (l .least) (told d) (leftOf k a u v (d .key + 1)) (decode (l .least) b)
 
       module _ (b′ : List ℕ) (r : ℕ) (t : Went l b′ r (passed insert (l .least) (told d) (decode (l .least) b))) where
-        pub pass-goes : r ≡ 0 → passed insert (l .least) (leftOf k a u v key) (decode (l .least) b) ≡ passed insert (l .least) (leftOf k a u v (d .key + 1)) (decode (l .least) b′)
+        pub pass-goes : r ≡ 0 → passed insert (l .least) (leftOf k a u v key) (decode (l .least) b)
+            ≡ passed insert (l .least) (leftOf k a u v (d .key + 1)) (decode (l .least) b′)
         pass-goes z = asked-first ∙ ap (andOn (passed insert (l .least) (leftOf k a u v (d .key + 1)))) (t .goes z)
 
         pub pass-due : r ≡ 0 → Due insert (shown l b′) (leftOf k a u v (d .key + 1))
         pass-due z = due-on g insert (told d) (leftOf k a u v (d .key + 1)) whole b′ (t .goes z)
 
-        pub pass-stops : (r ≡ 0 → ⊥) → passed insert (l .least) (leftOf k a u v key) (decode (l .least) b) ≡ stopped r (decode (l .least) b′)
+        pub pass-stops : (r ≡ 0 → ⊥) → passed insert (l .least) (leftOf k a u v key) (decode (l .least) b)
+            ≡ stopped r (decode (l .least) b′)
         pass-stops z = asked-first ∙ ap (andOn (passed insert (l .least) (leftOf k a u v (d .key + 1)))) (t .stops z)
 
 -- ---- both passes, where the target shows what the source shows at u
 
-module _ {k : Limits} {a : List ℕ} {u v : ℕ} (x : Walkable k a u) (y : Walkable k a v) {l : Limits} {b : List ℕ} (g : UpdateOpen l b) (e : shown l b ≡ settings (decode (k .least) a) u) where
+module _ {k : Limits} {a : List ℕ} {u v : ℕ} (x : Walkable k a u) (y : Walkable k a v) {l : Limits} {b : List ℕ} (g : UpdateOpen l b)
+    (e : shown l b ≡ settings (decode (k .least) a) u) where
   abbrev s : Store
   s = decode (k .least) a
 
@@ -81,28 +88,34 @@ module _ {k : Limits} {a : List ℕ} {u v : ℕ} (x : Walkable k a u) (y : Walka
 
   way : Way small (settings (decode (k .least) a) u) (settings (decode (k .least) a) v) (between k a u v)
   way =
-      the-way small (settings s u) (settings s v) (settings-small (k .least) (omega (arith, x .edition .four)) s (sure (x .edition) a (x .sound)) u (x .version))
-      (settings-small (k .least) (omega (arith, x .edition .four)) s (sure (y .edition) a (y .sound)) v (y .version)) (reads-rising x) (reads-rising y)
+      the-way small (settings s u) (settings s v)
+      (settings-small (k .least) (omega (arith, x .edition .four)) s (sure (x .edition) a (x .sound)) u (x .version))
+      (settings-small (k .least) (omega (arith, x .edition .four)) s (sure (y .edition) a (y .sound)) v (y .version)) (reads-rising x)
+      (reads-rising y)
 
   pub ends-due : Due false (shown l b) (between k a u v)
-  ends-due = record { after = way .mid; due = subst (λ (us : List Pair). Ends small us (those (wants false) ds) (way .mid)) (sym e) (way .ends) }
+  ends-due =
+      record { after = way .mid; due = subst (λ (us : List Pair). Ends small us (those (wants false) ds) (way .mid)) (sym e) (way .ends) }
 
   module _ (b₁ : List ℕ) (n : ℕ) (p : Went l b₁ n (passed false (l .least) (between k a u v) (decode (l .least) b))) where
     pub sets-due : n ≡ 0 → Due true (shown l b₁) (between k a u v)
     unfolding ends-due way
     sets-due z = record {
       after = settings s v;
-      due = subst (λ (us : List Pair). Sets small us (those (wants true) ds) (settings s v)) (sym (due-done g false ds ends-due b₁ (p .goes z))) (way .sets);
+      due = subst (λ (us : List Pair). Sets small us (those (wants true) ds) (settings s v))
+          (sym (due-done g false ds ends-due b₁ (p .goes z))) (way .sets);
     }
 
     pub first-stops : (n ≡ 0 → ⊥) → Went l b₁ n (carried (l .least) (between k a u v) (decode (l .least) b))
     unfolding carried
     first-stops z = record { ready = p .ready; goes = λ w. absurd (z w); stops = λ w. ap (andOn (passed true (l .least) ds)) (p .stops z) }
 
-    pub second-so : n ≡ 0 → (b₂ : List ℕ) (m : ℕ) → Went l b₂ m (passed true (l .least) (between k a u v) (decode (l .least) b₁)) → Went l b₂ m (carried (l .least) (between k a u v) (decode (l .least) b))
+    pub second-so : n ≡ 0 → (b₂ : List ℕ) (m : ℕ) → Went l b₂ m (passed true (l .least) (between k a u v) (decode (l .least) b₁))
+        → Went l b₂ m (carried (l .least) (between k a u v) (decode (l .least) b))
     unfolding carried
     second-so z b₂ m q =
-        let is : andOn (passed true (l .least) ds) (passed false (l .least) ds (decode (l .least) b)) ≡ passed true (l .least) ds (decode (l .least) b₁) = ap (andOn (passed true (l .least) ds)) (p .goes z) in
+        let is : andOn (passed true (l .least) ds) (passed false (l .least) ds (decode (l .least) b))
+        ≡ passed true (l .least) ds (decode (l .least) b₁) = ap (andOn (passed true (l .least) ds)) (p .goes z) in
         record { ready = q .ready; goes = λ w. is ∙ q .goes w; stops = λ w. is ∙ q .stops w }
 
 -- ---- by the pass
@@ -110,5 +123,6 @@ module _ {k : Limits} {a : List ℕ} {u v : ℕ} (x : Walkable k a u) (y : Walka
 pub asks-as : {us : List Pair} {ds : List Delta} (x y : Bool) → x ≡ y → Due x us ds → Due y us ds
 asks-as x y e p = rw (sym e) p
 
-pub went-as : {l : Limits} {b : List ℕ} {r : ℕ} (t : Store) (d : Delta) (x y : Bool) → x ≡ y → Went l b r (passed y (l .least) (told d) t) → Went l b r (passed x (l .least) (told d) t)
+pub went-as : {l : Limits} {b : List ℕ} {r : ℕ} (t : Store) (d : Delta) (x y : Bool) → x ≡ y → Went l b r (passed y (l .least) (told d) t)
+    → Went l b r (passed x (l .least) (told d) t)
 went-as t d x y e p = rw e p

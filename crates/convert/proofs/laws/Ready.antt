@@ -31,7 +31,9 @@ ready-sound {l} {b} g = sure (g .edition) b (g .sound)
 module _ {l : Limits} (d : Edition l) (t : Store) (s : Sound (l .least) t) (b : List ℕ) (e : b ≡ encode (l .least) t) where
   pub is-sound : isSound (l .least) b ≡ true
   unfolding isSound
-  is-sound = eq-eqb (judged (l .least) b .number) 0 (ap (λ (x : List ℕ). judged (l .least) x .number) e ∙ encoded-accepted (l .least) (d .four) (d .eight) t s)
+  is-sound =
+      eq-eqb (judged (l .least) b .number) 0
+      (ap (λ (x : List ℕ). judged (l .least) x .number) e ∙ encoded-accepted (l .least) (d .four) (d .eight) t s)
 
   pub is-held : decode (l .least) b ≡ t
   is-held = ap (decode (l .least)) e ∙ encoded-held (l .least) (d .four) (d .eight) t s
@@ -48,7 +50,8 @@ module _ {l : Limits} {b : List ℕ} (g : UpdateOpen l b) (one : Store → Delta
 
   -- by the number that its change gave
   pub went-by : (d : Delta) (us : List Pair) (u : Result) → one (decode (l .least) b) d ≡ u → Steps (l .least) (decode (l .least) b) us u
-      → (r : ℕ) (b′ : List ℕ) → r ≡ left (l .least) b u .number → b′ ≡ left (l .least) b u .store → Went l b′ r (through one (d ∷ []) (decode (l .least) b))
+      → (r : ℕ) (b′ : List ℕ) → r ≡ left (l .least) b u .number → b′ ≡ left (l .least) b u .store
+      → Went l b′ r (through one (d ∷ []) (decode (l .least) b))
   unfolding through
   went-by d us (done t) is p r b′ e f = record {
     ready = is-ready (g .edition) t (p .is-sound) b′ f (p .opened);
@@ -58,7 +61,8 @@ module _ {l : Limits} {b : List ℕ} (g : UpdateOpen l b) (one : Store → Delta
   went-by d us (refused n) is p r b′ e f = record {
     ready = subst (UpdateOpen l) (sym f) g;
     goes = λ z. absurd (none (lacking-is n p) (sym e ∙ z));
-    stops = λ z. ap (orStopped (through one []) (decode (l .least) b)) is ∙ ap (λ (m : ℕ). stopped m (decode (l .least) b)) (sym e) ∙ ap (λ (x : List ℕ). stopped r (decode (l .least) x)) (sym f);
+    stops = λ z. ap (orStopped (through one []) (decode (l .least) b)) is ∙ ap (λ (m : ℕ). stopped m (decode (l .least) b)) (sym e)
+        ∙ ap (λ (x : List ℕ). stopped r (decode (l .least) x)) (sym f);
   }
     where
       none : (n ≡ 12) ⊎ (n ≡ 13) → n ≡ 0 → ⊥

@@ -15,7 +15,8 @@ use Rattle.model.specs.Return.{reached, stopped, andOn, carried}
 use Rattle.model.specs.Convert.{replayed, replay}
 use Rattle.model.proofs.sound.ByRule.{Sound}
 use Rattle.model.proofs.turning.Returned.{Stepped, Runs}
-use Rattle.model.proofs.turning.Converted.{begun, current-last, Upto, Replays, begun-sound, begun-shows, runs, one-more, replayed-is, replayed-so}
+use Rattle.model.proofs.turning.Converted.{begun, current-last, Upto, Replays, begun-sound, begun-shows, runs, one-more, replayed-is}
+use Rattle.model.proofs.turning.Converted.{replayed-so}
 use Rattle.store.proofs.laws.Sure.{sure, front, few}
 use Rattle.walk.specs.Sure.{Walkable}
 use Rattle.differ.specs.Listing.{between}
@@ -35,10 +36,20 @@ module _ {k : Limits} {a : List ℕ} {l : Limits} {b : List ℕ} {v : ℕ} (p : 
 
   module _ (h : v < decode (k .least) a .current) where
     pub old-read : Walkable k a v
-    old-read = record { edition = p .from; sound = p .source; version = record { from = omega (arith, p .whole); upto = omega (arith, h, current-last s) } }
+    old-read =
+        record {
+          edition = p .from;
+          sound = p .source;
+          version = record { from = omega (arith, p .whole); upto = omega (arith, h, current-last s) };
+        }
 
     pub new-read : Walkable k a (v + 1)
-    new-read = record { edition = p .from; sound = p .source; version = record { from = omega (arith, p .whole); upto = omega (arith, h, current-last s) } }
+    new-read =
+        record {
+          edition = p .from;
+          sound = p .source;
+          version = record { from = omega (arith, p .whole); upto = omega (arith, h, current-last s) };
+        }
 
     -- ---- the update begun
 
@@ -53,17 +64,21 @@ module _ {k : Limits} {a : List ℕ} {l : Limits} {b : List ℕ} {v : ℕ} (p : 
       open-ready = is-ready (p .into) (begun t) open-sound b₁ e refl
 
       pub open-shows : shown l b₁ ≡ settings (decode (k .least) a) v
-      open-shows = ap (λ (x : Store). settings x (next x)) open-held ∙ begun-shows (k .least) (p .from .four) s source-sound (p .whole) (l .least) (p .into .four) v h t (p .upto)
+      open-shows =
+          ap (λ (x : Store). settings x (next x)) open-held
+          ∙ begun-shows (k .least) (p .from .four) s source-sound (p .whole) (l .least) (p .into .four) v h t (p .upto)
 
       -- ---- its steps
 
       module _ (b₂ : List ℕ) (n : ℕ) (w : Went l b₂ n (carried (l .least) (between k a v (v + 1)) (decode (l .least) b₁))) where
-        same : carried (l .least) (between k a v (v + 1)) (decode (l .least) b₁) ≡ carried (l .least) (differ (settings s v) (settings s (suc v))) (begun t)
+        same : carried (l .least) (between k a v (v + 1)) (decode (l .least) b₁)
+            ≡ carried (l .least) (differ (settings s v) (settings s (suc v))) (begun t)
         same =
             ap (λ (x : Store). carried (l .least) (between k a v (v + 1)) x) open-held
             ∙ ap (λ (m : ℕ). carried (l .least) (differ (settings s v) (settings s m)) (begun t)) (let z : v + 1 ≡ suc v = omega arith in z)
 
-        is : replayed (l .least) (differ (settings s v) (settings s (suc v))) t ≡ andOn (λ (x : Store). reached (committed x)) (carried (l .least) (differ (settings s v) (settings s (suc v))) (begun t))
+        is : replayed (l .least) (differ (settings s v) (settings s (suc v))) t
+            ≡ andOn (λ (x : Store). reached (committed x)) (carried (l .least) (differ (settings s v) (settings s (suc v))) (begun t))
         is = replayed-is (k .least) (p .from .four) s source-sound (p .whole) (l .least) (p .into .four) v h t (p .upto)
 
         pub version-stops : (n ≡ 0 → ⊥) → Replayed l b₂ n (replayed (l .least) (between k a v (suc v)) (decode (l .least) b))
@@ -85,7 +100,9 @@ module _ {k : Limits} {a : List ℕ} {l : Limits} {b : List ℕ} {v : ℕ} (p : 
               (runs (k .least) (p .from .four) s source-sound (p .whole) (l .least) (p .into .four) v h t (p .upto))
 
           more : Upto (l .least) (decode (k .least) a) (suc v) (committed (decode (l .least) b₂))
-          more = one-more (k .least) (p .from .four) s source-sound (p .whole) (l .least) (p .into .four) v h t (p .upto) (decode (l .least) b₂) stepped
+          more =
+              one-more (k .least) (p .from .four) s source-sound (p .whole) (l .least) (p .into .four) v h t (p .upto)
+              (decode (l .least) b₂) stepped
 
           held : decode (l .least) b₃ ≡ committed (decode (l .least) b₂)
           held = is-held (p .into) (committed (decode (l .least) b₂)) (more .is-sound) b₃ f
@@ -109,9 +126,11 @@ module _ {k : Limits} {a : List ℕ} {l : Limits} {b : List ℕ} {v : ℕ} (p : 
       one-up : suc v ≡ v + 1
       one-up = omega arith
 
-      pub on-stops : (r ≡ 0 → ⊥) → replay (l .least) (decode (k .least) a) v (decode (k .least) a .current - v) (decode (l .least) b) ≡ stopped r (decode (l .least) b′)
+      pub on-stops : (r ≡ 0 → ⊥) → replay (l .least) (decode (k .least) a) v (decode (k .least) a .current - v) (decode (l .least) b)
+          ≡ stopped r (decode (l .least) b′)
       unfolding replay
-      on-stops z = ap (λ (m : ℕ). replay (l .least) s v m t) one-less ∙ ap (andOn (replay (l .least) s (suc v) (s .current - (v + 1)))) (q .stops z)
+      on-stops z =
+          ap (λ (m : ℕ). replay (l .least) s v m t) one-less ∙ ap (andOn (replay (l .least) s (suc v) (s .current - (v + 1)))) (q .stops z)
 
       pub on-goes : r ≡ 0 → replay (l .least) (decode (k .least) a) v (decode (k .least) a .current - v) (decode (l .least) b)
           ≡ replay (l .least) (decode (k .least) a) (v + 1) (decode (k .least) a .current - (v + 1)) (decode (l .least) b′)
@@ -129,7 +148,8 @@ module _ {k : Limits} {a : List ℕ} {l : Limits} {b : List ℕ} {v : ℕ} (p : 
         target = q .sound;
         upto =
             subst (λ (w : ℕ). Upto (l .least) s w (decode (l .least) b′)) one-up
-            (subst (Replays (l .least) s (suc v)) (q .goes z) (replayed-so (k .least) (p .from .four) s source-sound (p .whole) (l .least) (p .into .four) v h t (p .upto)));
+            (subst (Replays (l .least) s (suc v)) (q .goes z)
+            (replayed-so (k .least) (p .from .four) s source-sound (p .whole) (l .least) (p .into .four) v h t (p .upto)));
       }
 
   -- ---- from the first to the last
@@ -138,7 +158,8 @@ module _ {k : Limits} {a : List ℕ} {l : Limits} {b : List ℕ} {v : ℕ} (p : 
       ≡ replay (l .least) (decode (k .least) a) 0 (decode (k .least) a .current - 0) (decode (l .least) b)
   on-start = ap (λ (m : ℕ). replay (l .least) s 0 m t) (let e : s .current ≡ s .current - 0 = omega arith in e)
 
-  pub on-end : decode (k .least) a .current ≤ v → replay (l .least) (decode (k .least) a) v (decode (k .least) a .current - v) (decode (l .least) b) ≡ reached (decode (l .least) b)
+  pub on-end : decode (k .least) a .current ≤ v → replay (l .least) (decode (k .least) a) v (decode (k .least) a .current - v)
+      (decode (l .least) b) ≡ reached (decode (l .least) b)
   unfolding replay
   on-end h = ap (λ (m : ℕ). replay (l .least) s v m t) (let e : s .current - v ≡ 0 = omega (arith, h) in e)
 

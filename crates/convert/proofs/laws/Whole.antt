@@ -67,11 +67,13 @@ module _ (a b : List ℕ) (h : isSound 4 a ≡ true) (w : lengthOk 8 b ≡ true)
   -- edition 1 has kept every version
   kept-all : decode (k .least) a .oldest ≡ 0
   kept-all =
-      let z : decode 4 a .oldest ≤ 0 = subst (λ (n : ℕ). decode n a .oldest ≤ pick (leb n 4) 0 (decode n a .current)) k4 (source .old-low) in
+      let z : decode 4 a .oldest ≤ 0 = subst (λ (n : ℕ). decode n a .oldest ≤ pick (leb n 4) 0 (decode n a .current)) k4
+      (source .old-low) in
       ap (λ (n : ℕ). decode n a .oldest) k4 ∙ omega (arith, z)
 
   start : Upto (l .least) (decode (k .least) a) 0 (fresh (sizeOf 8 b))
-  start = fresh-upto (k .least) (one .four) (decode (k .least) a) source kept-all (l .least) (two .four) (sizeOf 8 b) (long .six) (long .most)
+  start =
+      fresh-upto (k .least) (one .four) (decode (k .least) a) source kept-all (l .least) (two .four) (sizeOf 8 b) (long .six) (long .most)
 
   module _ (b₁ : List ℕ) (e : b₁ ≡ encode 8 (fresh (sizeOf 8 b))) where
     e′ : b₁ ≡ encode (l .least) (fresh (sizeOf 8 b))
@@ -90,19 +92,23 @@ module _ (a b : List ℕ) (h : isSound 4 a ≡ true) (w : lengthOk 8 b ≡ true)
       upto = subst (Upto (l .least) (decode (k .least) a) 0) (sym held) start;
     }
 
-    module _ (b₂ : List ℕ) (n : ℕ) (q : Replayed l b₂ n (replay (l .least) (decode (k .least) a) 0 (decode (k .least) a .current) (decode (l .least) b₁))) where
-      ran : replay 8 (decode 4 a) 0 (decode 4 a .current) (fresh (sizeOf 8 b)) ≡ replay (l .least) (decode (k .least) a) 0 (decode (k .least) a .current) (decode (l .least) b₁)
+    module _ (b₂ : List ℕ) (n : ℕ)
+        (q : Replayed l b₂ n (replay (l .least) (decode (k .least) a) 0 (decode (k .least) a .current) (decode (l .least) b₁))) where
+      ran : replay 8 (decode 4 a) 0 (decode 4 a .current) (fresh (sizeOf 8 b))
+          ≡ replay (l .least) (decode (k .least) a) 0 (decode (k .least) a .current) (decode (l .least) b₁)
       ran = rw (held, k4, l8)
 
       pub all-done : n ≡ 0 → Bytes b₂ → leaving 0 b₂ ≡ convertedTo a b
       unfolding converted
       all-done z bytes =
-          rw (ran ∙ q .goes z) (ap (leaving 0) (sym (same-bytes two b₂ (q .sound) bytes) ∙ ap (λ (m : ℕ). encode m (decode (l .least) b₂)) l8))
+          rw (ran ∙ q .goes z)
+          (ap (leaving 0) (sym (same-bytes two b₂ (q .sound) bytes) ∙ ap (λ (m : ℕ). encode m (decode (l .least) b₂)) l8))
 
       lacks : (n ≡ 0 → ⊥) → lacking n ≡ true
       lacks z =
           subst (Replays (l .least) (decode (k .least) a) _) (q .stops z)
-          (replay-so (k .least) (one .four) (decode (k .least) a) source kept-all (l .least) (two .four) (decode (k .least) a .current) 0 (decode (l .least) b₁) (omega arith)
+          (replay-so (k .least) (one .four) (decode (k .least) a) source kept-all (l .least) (two .four) (decode (k .least) a .current) 0
+          (decode (l .least) b₁) (omega arith)
           (subst (Upto (l .least) (decode (k .least) a) 0) (sym held) start))
 
       pub one-stops : (n ≡ 0 → ⊥) → (b₃ : List ℕ) → b₃ ≡ encode 8 (fresh (sizeOf 8 b)) → leaving n b₃ ≡ convertedTo a b

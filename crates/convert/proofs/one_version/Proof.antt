@@ -10,12 +10,14 @@ begin-requires c κs = search needs
 
 add-carry : tie.Need-add-carry
 add-carry c =
-    let p = c .before .before .before .before .before .before .before .pre in
+    let at-start = c .before .before .before .before .before .before .before in
+    let p = at-start .pre in
     omega (arith, version-low (p .0) (p .1))
 
 carry-requires : tie.Need-carry-requires
 carry-requires c κs =
-    let p = c .before .before .before .before .before .before .before .pre in
+    let at-start = c .before .before .before .before .before .before .before in
+    let p = at-start .pre in
     let e = c .before .before .before .begin .ensures in
     (old-read (p .0) (p .1), new-read (p .0) (p .1), open-ready (p .0) (p .1) _ e, open-shows (p .0) (p .1) _ e)
 
@@ -24,8 +26,10 @@ same-length c = search needs
 
 returns : tie.Need-returns
 returns c =
-    let p = c .before .before .before .before .before .before .before .before .before .before .before .pre in
-    version-stops (p .0) (p .1) _ (c .before .before .before .before .before .before .before .begin .ensures) _ _ (c .before .before .before .carry .ensures) (c .if1 .taken)
+    let at-begin = c .before .before .before .before .before .before .before in
+    let at-start = at-begin .before .before .before .before in
+    let p = at-start .pre in
+    version-stops (p .0) (p .1) _ (at-begin .begin .ensures) _ _ (c .before .before .before .carry .ensures) (c .if1 .taken)
 
 commit-requires : tie.Need-commit-requires
 commit-requires c κs = search needs
@@ -35,8 +39,13 @@ same-length-2 c = search needs
 
 returns-2 : tie.Need-returns-2
 returns-2 c =
-    let p = c .before .before .before .before .before .before .before .before .before .before .before .before .before .before .before .pre in
-    version-goes (p .0) (p .1) _ (c .before .before .before .before .before .before .before .before .before .before .before .begin .ensures) _ _ (c .before .before .before .before .before .before .before .carry .ensures) (c .before .before .before .before .if1 .left) _ (c .before .before .commit .ensures)
+    let at-if1 = c .before .before .before .before in
+    let at-carry = at-if1 .before .before .before in
+    let at-begin = at-carry .before .before .before .before in
+    let at-start = at-begin .before .before .before .before in
+    let p = at-start .pre in
+    version-goes (p .0) (p .1) _ (at-begin .begin .ensures) _ _ (at-carry .carry .ensures) (at-if1 .if1 .left) _
+    (c .before .before .commit .ensures)
 
 pub one-version-spec : {M : Type 1} → statement M
 one-version-spec =

@@ -20,7 +20,8 @@ use Rattle.convert.proofs.pass.Tie as tie
 abbrev Inv-loop : tie.InvT-loop
 Inv-loop s k t₀ l u v insert key₀ high₀ t key high =
     (key ≤ keyLimit + 1) × UpdateOpen l t × Due insert (shown l t) (leftOf k s u v key)
-    × (passed insert (l .least) (between k s u v) (decode (l .least) t₀) ≡ passed insert (l .least) (leftOf k s u v key) (decode (l .least) t))
+    × (passed insert (l .least) (between k s u v) (decode (l .least) t₀)
+    ≡ passed insert (l .least) (leftOf k s u v key) (decode (l .least) t))
     × (length t ≡ length t₀)
 
 abbrev μ-loop : tie.MeasureT-loop
@@ -28,27 +29,37 @@ abbrev μ-loop : tie.MeasureT-loop
 
 loop-holds : tie.Need-loop-holds Inv-loop μ-loop
 loop-holds c =
-    let a = c .before .before .args in
-    let p = c .before .before .pre in
-    (omega arith, p .2, due-start (p .0) (p .1) (a .l) (a .t .now) (a .insert) (p .3), pass-start (p .0) (p .1) (a .l) (a .t .now) (a .insert), refl)
+    let at-start = c .before .before in
+    let a = at-start .args in
+    let p = at-start .pre in (
+      omega arith,
+      p .2,
+      due-start (p .0) (p .1) (a .l) (a .t .now) (a .insert) (p .3),
+      pass-start (p .0) (p .1) (a .l) (a .t .now) (a .insert),
+      refl,
+    )
 
 onward-requires : tie.Need-onward-requires Inv-loop μ-loop
 onward-requires c κs =
-    let p = c .before .before .before .before .pre in
+    let at-start = c .before .before .before .before in
+    let p = at-start .pre in
     (p .0, p .1, omega (arith, c .loop-test .taken))
 
 next-requires : tie.Need-next-requires Inv-loop μ-loop
 next-requires c κs =
-    let p = c .before .before .before .before .before .pre in
+    let at-start = c .before .before .before .before .before in
+    let p = at-start .pre in
     (p .0, p .1)
 
 act-requires : tie.Need-act-requires Inv-loop μ-loop
 act-requires c κs =
-    let i = c .before .before .before .before .loop in
+    let at-loop = c .before .before .before .before in
+    let at-start = at-loop .before .before .before in
+    let i = at-loop .loop in
     let o = c .before .before .onward in
     let d = c .before .next in
-    let a = c .before .before .before .before .before .before .before .args in
-    let p = c .before .before .before .before .before .before .before .pre in
+    let a = at-start .args in
+    let p = at-start .pre in
     let e = o .ensures .1 in
     let q = subst (Due (a .insert) (shown (a .l) (i .t))) e (i .inv .2) in
     (i .inv .1, asks (p .0) (p .1) (a .l) (i .t) (a .insert) (i .inv .1) (o .result .key) (o .ensures .0 .high) (d .result) (d .ensures) q)
@@ -58,11 +69,15 @@ same-length c = search needs
 
 returns : tie.Need-returns Inv-loop μ-loop
 returns c =
-    let i = c .before .before .before .before .before .before .before .before .loop in
-    let o = c .before .before .before .before .before .before .onward in
-    let d = c .before .before .before .before .before .next in
-    let a = c .before .before .before .before .before .before .before .before .before .before .before .args in
-    let p = c .before .before .before .before .before .before .before .before .before .before .before .pre in
+    let at-next = c .before .before .before .before .before in
+    let at-onward = at-next .before in
+    let at-loop = at-onward .before .before in
+    let at-start = at-loop .before .before .before in
+    let i = at-loop .loop in
+    let o = at-onward .onward in
+    let d = at-next .next in
+    let a = at-start .args in
+    let p = at-start .pre in
     let e = o .ensures .1 in
     let q = subst (Due (a .insert) (shown (a .l) (i .t))) e (i .inv .2) in
     let t = c .before .before .before .act .ensures in
@@ -70,43 +85,57 @@ returns c =
       ready = t .ready;
       goes = λ z. absurd (c .if1 .taken z);
       stops = λ z. i .inv .3 ∙ ap (λ (ds : List Delta). passed (a .insert) (a .l .least) ds (decode (a .l .least) (i .t))) e
-          ∙ pass-stops (p .0) (p .1) (a .l) (i .t) (a .insert) (i .inv .1) (o .result .key) (o .ensures .0 .high) (d .result) (d .ensures) q _ _ t z;
+          ∙ pass-stops (p .0) (p .1) (a .l) (i .t) (a .insert) (i .inv .1) (o .result .key) (o .ensures .0 .high) (d .result)
+          (d .ensures) q _ _ t z;
     }
 
 -- the key that is found next
 next-on : (c : tie.After-next Inv-loop μ-loop) → Onward (c .before .onward .result .key) (c .next .result .key)
 next-on c =
-    let a = c .before .before .before .before .before .before .args in
-    let p = c .before .before .before .before .before .before .pre in
+    let at-start = c .before .before .before .before .before .before in
+    let a = at-start .args in
+    let p = at-start .pre in
     let i = c .before .before .before .loop in
     let o = c .before .onward in
     pass-on (p .0) (p .1) (a .l) (i .t) (a .insert) (i .inv .1) (o .result .key) (o .ensures .0 .high) (c .next .result) (c .next .ensures)
 
 add-key : tie.Need-add-key Inv-loop μ-loop
-add-key c = omega (arith, next-on (c .before .before .before .before .before .before) .high)
+add-key c =
+    let at-next = c .before .before .before .before .before .before in
+    omega (arith, next-on at-next .high)
 
 loop-less : tie.Need-loop-less Inv-loop μ-loop
 loop-less c =
-    let n = next-on (c .before .before .before .before .before .before) in
-    omega (arith, n .low, n .high, c .before .before .before .before .before .before .before .onward .ensures .0 .low, c .before .before .before .before .before .before .before .before .loop-test .taken)
+    let at-next = c .before .before .before .before .before .before in
+    let at-onward = at-next .before in
+    let at-test = at-onward .before in
+    let n = next-on at-next in
+    omega (arith, n .low, n .high, at-onward .onward .ensures .0 .low, at-test .loop-test .taken)
 
 loop-again : tie.Need-loop-again Inv-loop μ-loop
 loop-again c =
-    let i = c .before .before .before .before .before .before .before .before .before .loop in
-    let o = c .before .before .before .before .before .before .before .onward in
-    let d = c .before .before .before .before .before .before .next in
-    let a = c .before .before .before .before .before .before .before .before .before .before .before .before .args in
-    let p = c .before .before .before .before .before .before .before .before .before .before .before .before .pre in
+    let at-act = c .before .before .before .before in
+    let at-next = at-act .before .before in
+    let at-onward = at-next .before in
+    let at-loop = at-onward .before .before in
+    let at-start = at-loop .before .before .before in
+    let i = at-loop .loop in
+    let o = at-onward .onward in
+    let d = at-next .next in
+    let a = at-start .args in
+    let p = at-start .pre in
     let e = o .ensures .1 in
     let q = subst (Due (a .insert) (shown (a .l) (i .t))) e (i .inv .2) in
-    let t = c .before .before .before .before .act .ensures in
+    let t = at-act .act .ensures in
     let z = c .before .if1 .left in (
-      omega (arith, next-on (c .before .before .before .before .before .before) .high),
+      omega (arith, next-on at-next .high),
       t .ready,
-      pass-due (p .0) (p .1) (a .l) (i .t) (a .insert) (i .inv .1) (o .result .key) (o .ensures .0 .high) (d .result) (d .ensures) q _ _ t z,
+      pass-due (p .0) (p .1) (a .l) (i .t) (a .insert) (i .inv .1) (o .result .key) (o .ensures .0 .high) (d .result)
+          (d .ensures) q _ _ t z,
       i .inv .3 ∙ ap (λ (ds : List Delta). passed (a .insert) (a .l .least) ds (decode (a .l .least) (i .t))) e
-          ∙ pass-goes (p .0) (p .1) (a .l) (i .t) (a .insert) (i .inv .1) (o .result .key) (o .ensures .0 .high) (d .result) (d .ensures) q _ _ t z,
-      c .before .before .before .before .act .kept .0 ∙ i .inv .4,
+          ∙ pass-goes (p .0) (p .1) (a .l) (i .t) (a .insert) (i .inv .1) (o .result .key) (o .ensures .0 .high) (d .result)
+          (d .ensures) q _ _ t z,
+      at-act .act .kept .0 ∙ i .inv .4,
     )
 
 same-length-2 : tie.Need-same-length-2 Inv-loop μ-loop
@@ -114,9 +143,10 @@ same-length-2 c = search needs
 
 returns-2 : tie.Need-returns-2 Inv-loop μ-loop
 returns-2 c =
+    let at-start = c .before .before .before .before in
     let i = c .before .loop in
-    let a = c .before .before .before .before .args in
-    let p = c .before .before .before .before .pre in
+    let a = at-start .args in
+    let p = at-start .pre in
     record {
       ready = i .inv .1;
       goes = λ z. i .inv .3 ∙ pass-end (p .0) (p .1) (a .l) (i .t) (a .insert) (i .key) (c .loop-test .left);

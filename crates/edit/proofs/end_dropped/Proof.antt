@@ -9,8 +9,10 @@ use Rattle.edit.proofs.end_dropped.Tie as tie
 
 returns : tie.Need-returns
 returns c =
-    let s = c .before .before .before in let a = s .args in
-    sym (ap (encodePage (a .l .least)) (first-none (a .w) (a .c) (decodePage (a .l .least) (a .page .now)) (c .if1 .taken)) ∙ s .pre .1 .same)
+    let at-start = c .before .before .before in
+    let a = at-start .args in
+    sym (ap (encodePage (a .l .least)) (first-none (a .w) (a .c) (decodePage (a .l .least) (a .page .now)) (c .if1 .taken))
+    ∙ at-start .pre .1 .same)
 
 sift-requires : tie.Need-sift-requires
 sift-requires c κs = search needs

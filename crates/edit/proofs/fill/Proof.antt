@@ -28,8 +28,14 @@ clear-requires c κs = search needs
 
 loop-holds : tie.Need-loop-holds Inv-loop μ-loop
 loop-holds c =
-    let a = c .before .before .before .before .before .args in let d = c .before .before .before .before .before .pre .0 in
-    (omega arith, omega (arith, c .before .before .clear .kept .0, c .before .before .before .before .before .pre .1), c .before .before .clear .ensures ∙ ap zeros (c .before .before .before .before .before .pre .1) ∙ filling-start (a .l .least) (d .four) (d .eight) (a .w) (drop (a .from) (a .t5)))
+    let at-clear = c .before .before in
+    let at-start = at-clear .before .before .before in
+    let a = at-start .args in let d = at-start .pre .0 in (
+      omega arith,
+      omega (arith, at-clear .clear .kept .0, at-start .pre .1),
+      at-clear .clear .ensures ∙ ap zeros (at-start .pre .1)
+          ∙ filling-start (a .l .least) (d .four) (d .eight) (a .w) (drop (a .from) (a .t5)),
+    )
 
 add-x : tie.Need-add-x Inv-loop μ-loop
 add-x c = search needs
@@ -42,8 +48,14 @@ array-copy-out-x c = search needs
 
 put-entry-requires : tie.Need-put-entry-requires Inv-loop μ-loop
 put-entry-requires c κs =
-    let f : Fitting (getD (c .before .before .before .before .before .before .before .before .before .args .t5) (c .before .before .before .before .before .before .before .before .before .args .from + c .before .before .before .loop .k) nil) = c .before .before .before .before .before .before .before .before .before .pre .6 (c .before .before .before .before .before .before .before .before .before .args .from + c .before .before .before .loop .k) in
-    (omega (arith, c .before .before .before .before .before .before .before .before .before .pre .0 .four, c .before .before .before .before .before .before .before .before .before .pre .4), omega (arith, c .before .before .before .before .before .before .before .before .before .pre .0 .eight), record { key = f .key; start = c .before .before .before .before .before .before .before .before .before .pre .3; end = omega arith; value = f .value })
+    let at-loop = c .before .before .before in
+    let at-start = at-loop .before .before .before .before .before .before in
+    let f : Fitting (getD (at-start .args .t5) (at-start .args .from + at-loop .loop .k) nil)
+    = at-start .pre .6 (at-start .args .from + at-loop .loop .k) in (
+      omega (arith, at-start .pre .0 .four, at-start .pre .4),
+      omega (arith, at-start .pre .0 .eight),
+      record { key = f .key; start = at-start .pre .3; end = omega arith; value = f .value },
+    )
 
 add-k : tie.Need-add-k Inv-loop μ-loop
 add-k c = search needs
@@ -53,44 +65,73 @@ loop-less c = omega arith
 
 loop-again : tie.Need-loop-again Inv-loop μ-loop
 loop-again c =
-    let a = c .before .before .before .before .before .before .before .before .before .before .before .before .args in let d = c .before .before .before .before .before .before .before .before .before .before .before .before .pre .0 in let l = c .before .before .before .before .before .before .loop in
-    let len : length (a .t5) ≡ 56 = c .before .before .before .before .before .before .before .before .before .before .before .before .good .1 .1 .1 .1 .0 .1 .0 .1 in
-    let f : Fitting (getD (a .t5) (a .from + l .k) nil) = c .before .before .before .before .before .before .before .before .before .before .before .before .pre .6 (a .from + l .k) in (
+    let at-put-entry = c .before .before in
+    let at-loop = at-put-entry .before .before .before .before in
+    let at-start = at-loop .before .before .before .before .before .before in
+    let a = at-start .args in let d = at-start .pre .0 in let l = at-loop .loop in
+    let len : length (a .t5) ≡ 56 = at-start .good .1 .1 .1 .1 .0 .1 .0 .1 in
+    let f : Fitting (getD (a .t5) (a .from + l .k) nil) = at-start .pre .6 (a .from + l .k) in (
       omega arith,
-      omega (arith, c .before .before .put-entry .kept .0),
-      c .before .before .put-entry .ensures ∙ rw (l .inv .2)
-          (filling-step (a .l .least) (d .four) (d .eight) (a .w) (drop (a .from) (a .t5)) (c .before .before .before .before .before .before .before .before .before .before .before .before .pre .3) (l .k) (getD (a .t5) (a .from + l .k) nil) (omega (arith, c .before .before .before .before .before .before .before .before .before .before .before .before .pre .5, length-drop (a .from) (a .t5))) (omega (arith, c .before .before .before .before .before .before .before .before .before .before .before .before .pre .4))
+      omega (arith, at-put-entry .put-entry .kept .0),
+      at-put-entry .put-entry .ensures ∙ rw (l .inv .2)
+          (filling-step (a .l .least) (d .four) (d .eight) (a .w) (drop (a .from) (a .t5)) (at-start .pre .3) (l .k)
+          (getD (a .t5) (a .from + l .k) nil) (omega (arith, at-start .pre .5, length-drop (a .from) (a .t5)))
+          (omega (arith, at-start .pre .4))
           (getD-drop (a .from) (a .t5) (l .k) nil) f),
     )
 
 put-head-requires : tie.Need-put-head-requires Inv-loop μ-loop
 put-head-requires c κs =
-    let a = c .before .before .before .before .before .before .before .before .args in let d = c .before .before .before .before .before .before .before .before .pre .0 in
-    (d, record { level = c .before .before .before .before .before .before .before .before .pre .2; count = omega (arith, c .before .before .before .before .before .before .before .before .pre .4, count-bits (a .l .least) (d .eight)); start = c .before .before .before .before .before .before .before .before .pre .3; end = omega arith }, omega (arith, d .four), omega (arith, d .eight))
+    let at-start = c .before .before .before .before .before .before .before .before in
+    let a = at-start .args in let d = at-start .pre .0 in (
+      d,
+      record {
+        level = at-start .pre .2;
+        count = omega (arith, at-start .pre .4, count-bits (a .l .least) (d .eight));
+        start = at-start .pre .3;
+        end = omega arith;
+      },
+      omega (arith, d .four),
+      omega (arith, d .eight),
+    )
 
 put-live-requires : tie.Need-put-live-requires Inv-loop μ-loop
 put-live-requires c κs =
-    let e = c .before .before .before .before .before .before .before .before .before .before .before .before in
-    let d = e .pre .0 in
-    (d, omega (arith, e .pre .4, d .eight), omega (arith, c .before .before .before .put-head .kept .0, c .before .before .before .before .before .before .loop .inv .1, d .four), omega (arith, c .before .before .before .put-head .kept .0, c .before .before .before .before .before .before .loop .inv .1, d .eight))
+    let at-put-head = c .before .before .before in
+    let at-loop = at-put-head .before .before .before in
+    let at-start = at-loop .before .before .before .before .before .before in
+    let d = at-start .pre .0 in (
+      d,
+      omega (arith, at-start .pre .4, d .eight),
+      omega (arith, at-put-head .put-head .kept .0, at-loop .loop .inv .1, d .four),
+      omega (arith, at-put-head .put-head .kept .0, at-loop .loop .inv .1, d .eight),
+    )
 
 same-length : tie.Need-same-length Inv-loop μ-loop
-same-length c = omega (arith, c .before .before .put-live .kept .0, c .before .before .before .before .before .before .put-head .kept .0, c .before .before .before .before .before .before .before .before .before .loop .inv .1, c .before .before .before .before .before .before .before .before .before .before .before .before .before .before .before .pre .1)
+same-length c =
+    let at-put-head = c .before .before .before .before .before .before in
+    let at-loop = at-put-head .before .before .before in
+    let at-start = at-loop .before .before .before .before .before .before in
+    omega (arith, c .before .before .put-live .kept .0, at-put-head .put-head .kept .0, at-loop .loop .inv .1, at-start .pre .1)
 
 returns : tie.Need-returns Inv-loop μ-loop
 returns c =
-    let s = c .before .before .before .before .before .before .before .before .before .before .before .before .before .before .before in
-    let a = s .args in let d = s .pre .0 in let l = c .before .before .before .before .before .before .before .before .before .loop in
+    let at-put-head = c .before .before .before .before .before .before in
+    let at-loop = at-put-head .before .before .before in
+    let at-start = at-loop .before .before .before .before .before .before in
+    let a = at-start .args in let d = at-start .pre .0 in let l = at-loop .loop in
     let least = a .l .least in
     let ps : List Pair = drop (a .from) (a .t5) in
-    let len : length (a .t5) ≡ 56 = s .good .1 .1 .1 .1 .0 .1 .0 .1 in
+    let len : length (a .t5) ≡ 56 = at-start .good .1 .1 .1 .1 .0 .1 .0 .1 in
     let e : l .k ≡ a .n = omega arith in
-    let many : a .n ≤ length ps = omega (arith, s .pre .5, length-drop (a .from) (a .t5)) in
+    let many : a .n ≤ length ps = omega (arith, at-start .pre .5, length-drop (a .from) (a .t5)) in
     c .before .before .put-live .ensures
     ∙ ap (λ (q : List ℕ). putLive least q (liveShown least (a .n)))
-    (c .before .before .before .before .before .before .put-head .ensures ∙ ap (λ (q : List ℕ). putHead least q (fillHead (a .level) (a .w) (a .n))) (l .inv .2 ∙ ap (filling least (a .w) ps) e)
-    ∙ filling-end least (d .four) (d .eight) (a .w) ps (s .pre .3) (a .level) (a .n) (s .pre .2) many (s .pre .4))
-    ∙ filling-live least (d .four) (d .eight) (a .w) ps (s .pre .3) (a .level) (a .n) (liveOf least (zeros (64 * least))) many (s .pre .4)
+    (at-put-head .put-head .ensures ∙ ap (λ (q : List ℕ). putHead least q (fillHead (a .level) (a .w) (a .n)))
+    (l .inv .2 ∙ ap (filling least (a .w) ps) e)
+    ∙ filling-end least (d .four) (d .eight) (a .w) ps (at-start .pre .3) (a .level) (a .n) (at-start .pre .2) many (at-start .pre .4))
+    ∙ filling-live least (d .four) (d .eight) (a .w) ps (at-start .pre .3) (a .level) (a .n) (liveOf least (zeros (64 * least))) many
+    (at-start .pre .4)
 
 pub fill-spec : {M : Type 1} → statement M
 fill-spec =

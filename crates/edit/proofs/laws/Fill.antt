@@ -82,9 +82,11 @@ module _ (least : ℕ) (four : 4 ≤ least) (eight : least ≤ 8) where
         (record { level = hl; count = omega (arith, count-bits least eight); start = small; end = omega arith }) (sym b)
 
     -- and all of them live
-    pub filling-live : (level n m : ℕ) → n ≤ length l → n ≤ 5 * least → putLive least (encodeWith least (filled w level (take n l)) m) (liveShown least n) ≡ encodePage least (filled w level (take n l))
+    pub filling-live : (level n m : ℕ) → n ≤ length l → n ≤ 5 * least
+        → putLive least (encodeWith least (filled w level (take n l)) m) (liveShown least n) ≡ encodePage least (filled w level (take n l))
     unfolding liveIn
     filling-live level n m h h2 =
         let q : Page = filled w level (take n l) in
-        let e : liveIn least (q .entries) ≡ liveShown least n = ap (liveShown least) (ap length (born-live w (take n l)) ∙ born-length n h) in
+        let e : liveIn least (q .entries) ≡ liveShown least n
+        = ap (liveShown least) (ap length (born-live w (take n l)) ∙ born-length n h) in
         ap (putLive least (encodeWith least q m)) (sym e) ∙ live-right least q m eight (omega (arith, born-length n h))

@@ -35,17 +35,22 @@ valid-back least w p hw v = by (active w p)
     by true = valid-free least
     by false = rw (← restored-is w p) (valid-sifted least Back w p hw v)
 
-pub valid-changed : (least w : ℕ) (c : Change) (p : Page) → w < 2 ^ 20 → c .take1 .key < 2 ^ 24 → c .take2 .key < 2 ^ 24 → c .take1 .value < 2 ^ 32 → c .take2 .value < 2 ^ 32
+pub valid-changed : (least w : ℕ) (c : Change) (p : Page) → w < 2 ^ 20 → c .take1 .key < 2 ^ 24 → c .take2 .key < 2 ^ 24
+    → c .take1 .value < 2 ^ 32 → c .take2 .value < 2 ^ 32
     → length (changed w (changeOf c) p .entries) ≤ 5 * least → Valid least p → Valid least (changed w (changeOf c) p)
 unfolding third
 valid-changed least w c p hw h1 h2 x1 x2 room v =
-    rw (← third-is w c p) (valid-if least (leb 2 (c .takes)) w (c .take2) (second w c p) hw h2 x2 (second-room least w c p v hw h1 x1 room) (second-valid least w c p v hw h1 x1 room))
+    rw (← third-is w c p)
+    (valid-if least (leb 2 (c .takes)) w (c .take2) (second w c p) hw h2 x2 (second-room least w c p v hw h1 x1 room)
+    (second-valid least w c p v hw h1 x1 room))
 
 sized-born : (w : ℕ) (l : List Pair) → w < 2 ^ 20 → ((k : ℕ) → Fitting (getD l k nil)) → AllSized (map (born w) l)
 sized-born w [] hw h = λ k. sized-unused
 sized-born w (x ∷ l) hw h =
-    sized-cons (born w x) (map (born w) l) (record { key = h 0 .key; start = hw; end = omega arith; value = h 0 .value }) (sized-born w l hw (λ k. h (suc k)))
+    sized-cons (born w x) (map (born w) l) (record { key = h 0 .key; start = hw; end = omega arith; value = h 0 .value })
+    (sized-born w l hw (λ k. h (suc k)))
 
-pub valid-filled : (least w level : ℕ) (l : List Pair) → w < 2 ^ 20 → level < 16 → length l ≤ 5 * least → ((k : ℕ) → Fitting (getD l k nil)) → Valid least (filled w level l)
+pub valid-filled : (least w level : ℕ) (l : List Pair) → w < 2 ^ 20 → level < 16 → length l ≤ 5 * least → ((k : ℕ) → Fitting (getD l k nil))
+    → Valid least (filled w level l)
 valid-filled least w level l hw hl room h =
     record { level = hl; start = hw; end = omega arith; room = omega (arith, length-map (born w) l); sized = sized-born w l hw h }

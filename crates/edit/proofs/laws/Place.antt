@@ -46,7 +46,8 @@ pub place-here : (p : List ℕ) (k s i n : ℕ) → i < n → beforeOf k s (read
 unfolding placeOf
 place-here p k s i n h e = rw (entries-step p i n h, e)
 
-pub place-later : (p : List ℕ) (k s i n : ℕ) → i < n → beforeOf k s (readEntry p (128 + 96 * i)) ≡ false → placeOf k s (rest p i n) ≡ suc (placeOf k s (rest p (i + 1) n))
+pub place-later : (p : List ℕ) (k s i n : ℕ) → i < n → beforeOf k s (readEntry p (128 + 96 * i)) ≡ false
+    → placeOf k s (rest p i n) ≡ suc (placeOf k s (rest p (i + 1) n))
 unfolding placeOf
 place-later p k s i n h e = rw (entries-step p i n h, e)
 

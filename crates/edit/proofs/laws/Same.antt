@@ -43,11 +43,13 @@ among-is k (suc (suc n)) a b = rw (le-leb 1 (suc (suc n)) (omega arith), le-leb 
     two false true = refl
     two false false = refl
 
-pub ends : (n a b w : ℕ) (es : List Entry) → sifted (End n a b) w es ≡ endThose (λ (e : Entry). liveAt w e && has (e .key) (firstOf n a b)) w es
+pub ends : (n a b w : ℕ) (es : List Entry) → sifted (End n a b) w es
+    ≡ endThose (λ (e : Entry). liveAt w e && has (e .key) (firstOf n a b)) w es
 unfolding sifted fateOf
 ends n a b w [] = refl
 ends n a b w (e ∷ es) =
-    rw (ends n a b w es, among-is (e .key) n a b) (end-one (liveAt w e && has (e .key) (firstOf n a b)) w e (endThose (λ (e : Entry). liveAt w e && has (e .key) (firstOf n a b)) w es))
+    rw (ends n a b w es, among-is (e .key) n a b)
+    (end-one (liveAt w e && has (e .key) (firstOf n a b)) w e (endThose (λ (e : Entry). liveAt w e && has (e .key) (firstOf n a b)) w es))
 
 -- no key, no end
 pub none-end : (a b w : ℕ) (es : List Entry) → sifted (End 0 a b) w es ≡ es
@@ -68,7 +70,8 @@ backs w (e ∷ es) = rw (backs w es, revive (eqb (e .end) w)) (go (not (eqb (e .
     revive true = refl
     revive false = refl
 
-    go : (a : Bool) → keep a (revived w e) [] ++ restoredEntries w es ≡ map (revived w) (keep a e (those (λ (e : Entry). not (eqb (e .start) w)) es))
+    go : (a : Bool) → keep a (revived w e) [] ++ restoredEntries w es
+        ≡ map (revived w) (keep a e (those (λ (e : Entry). not (eqb (e .start) w)) es))
     go true = refl
     go false = refl
 

@@ -36,7 +36,8 @@ sized-placed : (b : Bool) (e x : Entry) (xs ys : List Entry) → FieldsFit e →
 sized-placed true e x xs ys z h g = sized-cons e (x ∷ xs) z h
 sized-placed false e x xs ys z h g = sized-cons x ys (h 0) g
 
-length-placed : (b : Bool) (e x : Entry) (xs ys : List Entry) → length ys ≡ suc (length xs) → length (placed b e x xs ys) ≡ suc (suc (length xs))
+length-placed : (b : Bool) (e x : Entry) (xs ys : List Entry) → length ys ≡ suc (length xs)
+    → length (placed b e x xs ys) ≡ suc (suc (length xs))
 length-placed true e x xs ys h = refl
 length-placed false e x xs ys h = ap suc h
 
@@ -44,7 +45,8 @@ sized-sifted : (r : Rule) (w : ℕ) (es : List Entry) → w < 2 ^ 20 → AllSize
 unfolding sifted
 sized-sifted r w [] hw h = λ k. sized-unused
 sized-sifted r w (e ∷ es) hw h =
-    sized-left (fateOf r w e .kept) (fateOf r w e .entry) (sifted r w es) (fate-sized r w e (h 0) hw) (sized-sifted r w es hw (λ k. h (suc k)))
+    sized-left (fateOf r w e .kept) (fateOf r w e .entry) (sifted r w es) (fate-sized r w e (h 0) hw)
+    (sized-sifted r w es hw (λ k. h (suc k)))
 
 sized-enter : (e : Entry) (es : List Entry) → FieldsFit e → AllSized es → AllSized (enter e es)
 sized-enter e [] z h = sized-cons e [] z h
@@ -65,7 +67,8 @@ valid-sifted least r w p hw v =
       sized = sized-sifted r w (p .entries) hw (v .sized);
     }
 
-pub valid-entered : (least w : ℕ) (x : Pair) (p : Page) → w < 2 ^ 20 → x .key < 2 ^ 24 → x .value < 2 ^ 32 → length (p .entries) < 5 * least → Valid least p → Valid least (entered w x p)
+pub valid-entered : (least w : ℕ) (x : Pair) (p : Page) → w < 2 ^ 20 → x .key < 2 ^ 24 → x .value < 2 ^ 32 → length (p .entries) < 5 * least
+    → Valid least p → Valid least (entered w x p)
 unfolding entered
 valid-entered least w x p hw hk hx room v =
     record {

@@ -12,7 +12,8 @@ use Rattle.gather.proofs.after.Statement.{statement}
 use Rattle.gather.proofs.after.Tie as tie
 
 abbrev Inv-loop : tie.InvT-loop
-Inv-loop page w c count n₀ i₀ n i = (i ≤ count) × (n ≤ i) × (staying w (changeOf c) (rest page 0 count) ≡ n + staying w (changeOf c) (rest page i count))
+Inv-loop page w c count n₀ i₀ n i =
+    (i ≤ count) × (n ≤ i) × (staying w (changeOf c) (rest page 0 count) ≡ n + staying w (changeOf c) (rest page i count))
 
 abbrev μ-loop : tie.MeasureT-loop
 μ-loop page w c count n₀ i₀ n i = count - i
@@ -21,8 +22,12 @@ head-of-requires : tie.Need-head-of-requires Inv-loop μ-loop
 head-of-requires c κs = search needs
 
 -- the entries that are read stand in the page
-count-is : (c : tie.After-head-of Inv-loop μ-loop) → c .head-of .result .count ≡ countOf (c .before .before .args .l .least) (c .before .before .args .page .now)
-count-is c = ap (λ h. h .count) (c .head-of .ensures) ∙ sym (count-of (c .before .before .args .l .least) (c .before .before .args .page .now))
+count-is : (c : tie.After-head-of Inv-loop μ-loop) →
+    let at-start = c .before .before in
+    c .head-of .result .count ≡ countOf (at-start .args .l .least) (at-start .args .page .now)
+count-is c =
+    let at-start = c .before .before in
+    ap (λ h. h .count) (c .head-of .ensures) ∙ sym (count-of (at-start .args .l .least) (at-start .args .page .now))
 
 loop-holds : tie.Need-loop-holds Inv-loop μ-loop
 loop-holds c = (omega arith, omega arith, omega arith)
@@ -46,7 +51,9 @@ one-requires : tie.Need-one-requires Inv-loop μ-loop
 one-requires c κs = search needs
 
 add-n : tie.Need-add-n Inv-loop μ-loop
-add-n c = omega (arith, c .one .ensures .1, count-is (c .before .before .before .before .before .before .before .before .before))
+add-n c =
+    let at-head-of = c .before .before .before .before .before .before .before .before .before in
+    omega (arith, c .one .ensures .1, count-is at-head-of)
 
 add-i : tie.Need-add-i Inv-loop μ-loop
 add-i c = search needs
@@ -56,17 +63,24 @@ loop-less c = search needs
 
 loop-again : tie.Need-loop-again Inv-loop μ-loop
 loop-again c =
-    let b : List ℕ = c .before .before .before .before .before .before .before .before .before .before .before .args .page .now in
-    let d = changeOf (c .before .before .before .before .before .before .before .before .before .before .before .args .c) in
-    let n = c .before .before .before .before .before .before .before .before .before .head-of .result .count in
-    let i = c .before .before .before .before .before .before .before .before .loop .i in
-    let e : Entry = c .before .before .before .before .before .before .entry-at .result in
-    let s : rest b i n ≡ e ∷ rest b (i + 1) n = rest-step b i n (omega arith) ∙ rw (c .before .before .before .before .before .before .entry-at .ensures) in
-    let t : c .one .result ≡ one (stays (c .before .before .before .before .before .before .before .before .before .before .before .args .w) d e)
-    = c .one .ensures .0 ∙ rw (c .before .both2 .ensures, c .before .before .before .both .ensures, c .before .before .before .before .before .live .ensures, c .before .before .before .before .dropped .ensures) in (
+    let at-dropped = c .before .before .before .before in
+    let at-live = at-dropped .before in
+    let at-entry-at = at-live .before in
+    let at-loop = at-entry-at .before .before in
+    let at-head-of = at-loop .before in
+    let at-start = at-head-of .before .before in
+    let b : List ℕ = at-start .args .page .now in
+    let d = changeOf (at-start .args .c) in
+    let n = at-head-of .head-of .result .count in
+    let i = at-loop .loop .i in
+    let e : Entry = at-entry-at .entry-at .result in
+    let s : rest b i n ≡ e ∷ rest b (i + 1) n = rest-step b i n (omega arith) ∙ rw (at-entry-at .entry-at .ensures) in
+    let t : c .one .result ≡ one (stays (at-start .args .w) d e)
+    = c .one .ensures .0
+    ∙ rw (c .before .both2 .ensures, c .before .before .before .both .ensures, at-live .live .ensures, at-dropped .dropped .ensures) in (
       omega arith,
       omega (arith, c .one .ensures .1),
-      omega (arith, c .before .before .before .before .before .before .before .before .loop .inv .2, ap (staying (c .before .before .before .before .before .before .before .before .before .before .before .args .w) d) s, staying-step (c .before .before .before .before .before .before .before .before .before .before .before .args .w) d e (rest b (i + 1) n)),
+      omega (arith, at-loop .loop .inv .2, ap (staying (at-start .args .w) d) s, staying-step (at-start .args .w) d e (rest b (i + 1) n)),
     )
 
 cast-result : tie.Need-cast-result Inv-loop μ-loop
@@ -77,13 +91,23 @@ add-result c = omega (arith, count-is (c .before .before .before))
 
 returns : tie.Need-returns Inv-loop μ-loop
 returns c =
-    let b : List ℕ = c .before .before .before .before .before .args .page .now in
-    let d = changeOf (c .before .before .before .before .before .args .c) in
-    let n = c .before .before .before .head-of .result .count in
-    let p = decodePage (c .before .before .before .before .before .args .l .least) b in
-    let z : rest b (c .before .before .loop .i) n ≡ [] = rest-none b (c .before .before .loop .i) n (omega arith) in
-    let a : p .entries ≡ rest b 0 n = rest-all b (c .before .before .before .before .before .args .l .least) n (ap (λ h. h .count) (c .before .before .before .head-of .ensures)) in
-    omega (arith, c .before .before .loop .inv .2, ap (staying (c .before .before .before .before .before .args .w) d) z, staying-none (c .before .before .before .before .before .args .w) d, ap (staying (c .before .before .before .before .before .args .w) d) a, after-is (c .before .before .before .before .before .args .w) (c .before .before .before .before .before .args .c) p (c .before .before .before .before .before .pre .1))
+    let at-loop = c .before .before in
+    let at-head-of = at-loop .before in
+    let at-start = at-head-of .before .before in
+    let b : List ℕ = at-start .args .page .now in
+    let d = changeOf (at-start .args .c) in
+    let n = at-head-of .head-of .result .count in
+    let p = decodePage (at-start .args .l .least) b in
+    let z : rest b (at-loop .loop .i) n ≡ [] = rest-none b (at-loop .loop .i) n (omega arith) in
+    let a : p .entries ≡ rest b 0 n = rest-all b (at-start .args .l .least) n (ap (λ h. h .count) (at-head-of .head-of .ensures)) in
+    omega (
+      arith,
+      at-loop .loop .inv .2,
+      ap (staying (at-start .args .w) d) z,
+      staying-none (at-start .args .w) d,
+      ap (staying (at-start .args .w) d) a,
+      after-is (at-start .args .w) (at-start .args .c) p (at-start .pre .1),
+    )
 
 pub after-spec : {M : Type 1} → statement M
 after-spec =

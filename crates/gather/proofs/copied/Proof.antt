@@ -12,15 +12,18 @@ use Rattle.gather.proofs.copied.Statement.{statement}
 use Rattle.gather.proofs.copied.Tie as tie
 
 abbrev Inv-loop : tie.InvT-loop
-Inv-loop from to l r₀ i₀ r i = (from ≤ i) × (i ≤ to) × Good r × (r .n ≡ r₀ .n + (i - from)) × (pairsIn r ≡ pairsIn r₀ ++ take (i - from) (drop from l))
+Inv-loop from to l r₀ i₀ r i =
+    (from ≤ i) × (i ≤ to) × Good r × (r .n ≡ r₀ .n + (i - from)) × (pairsIn r ≡ pairsIn r₀ ++ take (i - from) (drop from l))
 
 abbrev μ-loop : tie.MeasureT-loop
 μ-loop from to l r₀ i₀ r i = to - i
 
 loop-holds : tie.Need-loop-holds Inv-loop μ-loop
 loop-holds c =
-    let z : take (c .before .args .from - c .before .args .from) (drop (c .before .args .from) (c .before .args .b .list)) ≡ [] = part-none (c .before .args .b .list) (c .before .args .from) in
-    (omega arith, omega arith, c .before .pre .0, omega arith, rw z (sym (append-nil (pairsIn (c .before .args .g)))))
+    let at-start = c .before in
+    let z : take (at-start .args .from - at-start .args .from) (drop (at-start .args .from) (at-start .args .b .list)) ≡ []
+    = part-none (at-start .args .b .list) (at-start .args .from) in
+    (omega arith, omega arith, at-start .pre .0, omega arith, rw z (sym (append-nil (pairsIn (at-start .args .g)))))
 
 mul-pushed : tie.Need-mul-pushed Inv-loop μ-loop
 mul-pushed c = search needs
@@ -29,7 +32,10 @@ array-copy-out-pushed : tie.Need-array-copy-out-pushed Inv-loop μ-loop
 array-copy-out-pushed c = search needs
 
 pushed-requires : tie.Need-pushed-requires Inv-loop μ-loop
-pushed-requires c κs = (c .before .before .loop .inv .2, omega (arith, c .before .before .loop .inv .3), c .before .before .before .before .pre .1 .fits (c .before .before .loop .i))
+pushed-requires c κs =
+    let at-loop = c .before .before in
+    let at-start = at-loop .before .before in
+    (at-loop .loop .inv .2, omega (arith, at-loop .loop .inv .3), at-start .pre .1 .fits (at-loop .loop .i))
 
 add-i : tie.Need-add-i Inv-loop μ-loop
 add-i c = search needs
@@ -39,23 +45,35 @@ loop-less c = search needs
 
 loop-again : tie.Need-loop-again Inv-loop μ-loop
 loop-again c =
-    let b : List Pair = c .before .before .before .before .before .args .b .list in
-    let from = c .before .before .before .before .before .args .from in
-    let i = c .before .before .before .loop .i in
+    let at-loop = c .before .before .before in
+    let at-start = at-loop .before .before in
+    let b : List Pair = at-start .args .b .list in
+    let from = at-start .args .from in
+    let i = at-loop .loop .i in
     let z = c .pushed .ensures in (
       omega arith,
       omega arith,
       z .good,
-      omega (arith, listed z, simp length-append at (listed z), length-pairs (c .before .before .before .loop .r) (c .before .before .before .loop .inv .2), c .before .before .before .loop .inv .3),
-      z .is ∙ rw (c .before .before .before .loop .inv .4, part-more b from i (omega arith) (omega (arith, c .before .before .before .before .before .pre .1 .size, c .before .before .before .before .before .pre .1 .room))) (append-assoc (pairsIn (c .before .before .before .before .before .args .g)) (take (i - from) (drop from b)) (getD b i nil ∷ [])),
+      omega (
+        arith,
+        listed z,
+        simp length-append at (listed z),
+        length-pairs (at-loop .loop .r) (at-loop .loop .inv .2),
+        at-loop .loop .inv .3,
+      ),
+      z .is ∙ rw (at-loop .loop .inv .4, part-more b from i (omega arith) (omega (arith, at-start .pre .1 .size, at-start .pre .1 .room)))
+          (append-assoc (pairsIn (at-start .args .g)) (take (i - from) (drop from b)) (getD b i nil ∷ [])),
     )
 
 returns : tie.Need-returns Inv-loop μ-loop
 returns c =
-    let e : c .before .loop .i ≡ c .before .before .before .args .to = omega arith in
+    let at-loop = c .before in
+    let at-start = at-loop .before .before in
+    let e : at-loop .loop .i ≡ at-start .args .to = omega arith in
     record {
-      good = c .before .loop .inv .2;
-      is = rw (part-pairs (c .before .before .before .args .b) (c .before .before .before .args .from) (c .before .before .before .args .to) (omega arith) (omega arith)) (rw e at (c .before .loop .inv .4));
+      good = at-loop .loop .inv .2;
+      is = rw (part-pairs (at-start .args .b) (at-start .args .from) (at-start .args .to) (omega arith) (omega arith))
+          (rw e at (at-loop .loop .inv .4));
     }
 
 pub copied-spec : {M : Type 1} → statement M

@@ -16,7 +16,11 @@ either-requires c κs = search needs
 
 returns : tie.Need-returns
 unfolding changeOf
-returns c = c .either .ensures ∙ rw (c .before .before .before .before .both .ensures, c .before .both2 .ensures) (among-is (c .before .before .before .before .before .before .before .args .k) (c .before .before .before .before .before .before .before .args .c .drops) (c .before .before .before .before .before .before .before .args .c .drop1) (c .before .before .before .before .before .before .before .args .c .drop2))
+returns c =
+    let at-both = c .before .before .before .before in
+    let at-start = at-both .before .before .before in
+    c .either .ensures ∙ rw (at-both .both .ensures, c .before .both2 .ensures)
+    (among-is (at-start .args .k) (at-start .args .c .drops) (at-start .args .c .drop1) (at-start .args .c .drop2))
 
 pub dropped-spec : {M : Type 1} → statement M
 dropped-spec = tie.close (tie.spec both-requires both-requires-2 either-requires returns)

@@ -13,10 +13,16 @@ copied-requires c κs = search needs
 
 returns : tie.Need-returns
 returns c =
-    let e : c .before .args .b .n - 0 ≡ c .before .args .b .n = omega arith in
+    let at-start = c .before in
+    let e : at-start .args .b .n - 0 ≡ at-start .args .b .n = omega arith in
     record {
       good = c .copied .ensures .good;
-      is = c .copied .ensures .is ∙ rw (e, take-all (c .before .args .b .n) (pairsIn (c .before .args .b)) (omega (arith, length-pairs (c .before .args .b) (c .before .pre .1))));
+      is = c .copied .ensures .is
+          ∙ rw (
+            e,
+            take-all (at-start .args .b .n) (pairsIn (at-start .args .b))
+                (omega (arith, length-pairs (at-start .args .b) (at-start .pre .1))),
+          );
     }
 
 pub joined-spec : {M : Type 1} → statement M

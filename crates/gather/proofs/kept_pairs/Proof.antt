@@ -19,7 +19,9 @@ use Rattle.gather.proofs.kept_pairs.Statement.{statement}
 use Rattle.gather.proofs.kept_pairs.Tie as tie
 
 abbrev Inv-loop : tie.InvT-loop
-Inv-loop page w c count g₀ i₀ g i = (i ≤ count) × Good g × (g .n ≤ i) × (keptPairs w (changeOf c) (rest page 0 count) ≡ pairsIn g ++ keptPairs w (changeOf c) (rest page i count))
+Inv-loop page w c count g₀ i₀ g i =
+    (i ≤ count) × Good g × (g .n ≤ i)
+    × (keptPairs w (changeOf c) (rest page 0 count) ≡ pairsIn g ++ keptPairs w (changeOf c) (rest page i count))
 
 abbrev μ-loop : tie.MeasureT-loop
 μ-loop page w c count g₀ i₀ g i = count - i
@@ -31,8 +33,12 @@ none-requires : tie.Need-none-requires Inv-loop μ-loop
 none-requires c κs = search needs
 
 -- the entries that are read stand in the page
-count-is : (c : tie.After-head-of Inv-loop μ-loop) → c .head-of .result .count ≡ countOf (c .before .before .args .l .least) (c .before .before .args .page .now)
-count-is c = ap (λ h. h .count) (c .head-of .ensures) ∙ sym (count-of (c .before .before .args .l .least) (c .before .before .args .page .now))
+count-is : (c : tie.After-head-of Inv-loop μ-loop) →
+    let at-start = c .before .before in
+    c .head-of .result .count ≡ countOf (at-start .args .l .least) (at-start .args .page .now)
+count-is c =
+    let at-start = c .before .before in
+    ap (λ h. h .count) (c .head-of .ensures) ∙ sym (count-of (at-start .args .l .least) (at-start .args .page .now))
 
 loop-holds : tie.Need-loop-holds Inv-loop μ-loop
 loop-holds c = (omega arith, c .none .ensures .good, omega (arith, listed (c .none .ensures)), rw (c .none .ensures .is))
@@ -51,9 +57,12 @@ both-requires c κs = search needs
 
 pushed-if-requires : tie.Need-pushed-if-requires Inv-loop μ-loop
 pushed-if-requires c κs =
+    let at-loop = c .before .before .before .before .before in
+    let at-head-of = at-loop .before .before in
+    let at-start = at-head-of .before .before in
     let e = c .before .before .before .entry-at .ensures in
-    let z = read-sized (c .before .before .before .before .before .before .before .before .before .args .page .now) (128 + 96 * c .before .before .before .before .before .loop .i) in
-    (c .before .before .before .before .before .loop .inv .1, omega (arith, count-is (c .before .before .before .before .before .before .before)), record { key = rw e (z .key); value = rw e (z .value) })
+    let z = read-sized (at-start .args .page .now) (128 + 96 * at-loop .loop .i) in
+    (at-loop .loop .inv .1, omega (arith, count-is at-head-of), record { key = rw e (z .key); value = rw e (z .value) })
 
 add-i : tie.Need-add-i Inv-loop μ-loop
 add-i c = search needs
@@ -63,28 +72,46 @@ loop-less c = search needs
 
 loop-again : tie.Need-loop-again Inv-loop μ-loop
 loop-again c =
-    let b : List ℕ = c .before .before .before .before .before .before .before .before .before .before .args .page .now in
-    let n = c .before .before .before .before .before .before .before .before .head-of .result .count in
-    let i = c .before .before .before .before .before .before .loop .i in
-    let e : Entry = c .before .before .before .before .entry-at .result in
-    let s : rest b i n ≡ e ∷ rest b (i + 1) n = rest-step b i n (omega arith) ∙ rw (c .before .before .before .before .entry-at .ensures) in
-    let t : c .before .both .result ≡ (liveAt (c .before .before .before .before .before .before .before .before .before .before .args .w) e && not (has (e .key) (changeOf (c .before .before .before .before .before .before .before .before .before .before .args .c) .drop)))
-    = c .before .both .ensures ∙ rw (c .before .before .before .live .ensures, c .before .before .dropped .ensures) in (
+    let at-both = c .before in
+    let at-entry-at = at-both .before .before .before in
+    let at-loop = at-entry-at .before .before in
+    let at-head-of = at-loop .before .before in
+    let at-start = at-head-of .before .before in
+    let b : List ℕ = at-start .args .page .now in
+    let n = at-head-of .head-of .result .count in
+    let i = at-loop .loop .i in
+    let e : Entry = at-entry-at .entry-at .result in
+    let s : rest b i n ≡ e ∷ rest b (i + 1) n = rest-step b i n (omega arith) ∙ rw (at-entry-at .entry-at .ensures) in
+    let t : at-both .both .result ≡ (liveAt (at-start .args .w) e && not (has (e .key) (changeOf (at-start .args .c) .drop)))
+    = at-both .both .ensures ∙ rw (at-both .before .before .live .ensures, at-both .before .dropped .ensures) in (
       omega arith,
       c .pushed-if .ensures .good,
-      omega (arith, one-more (c .before .before .before .before .before .before .loop .g) _ (c .before .both .result) (record { key = c .before .before .before .before .entry-at .result .key; value = c .before .before .before .before .entry-at .result .value }) (c .before .before .before .before .before .before .loop .inv .1) (c .pushed-if .ensures)),
-      c .before .before .before .before .before .before .loop .inv .3 ∙ ap (λ (es : List Entry). pairsIn (c .before .before .before .before .before .before .loop .g) ++ keptPairs (c .before .before .before .before .before .before .before .before .before .before .args .w) (changeOf (c .before .before .before .before .before .before .before .before .before .before .args .c)) es) s ∙ kept-step (c .before .before .before .before .before .before .before .before .before .before .args .w) (changeOf (c .before .before .before .before .before .before .before .before .before .before .args .c)) e (rest b (i + 1) n) (pairsIn (c .before .before .before .before .before .before .loop .g)) (c .before .both .result) t
-          ∙ ap (λ (xs : List Pair). xs ++ keptPairs (c .before .before .before .before .before .before .before .before .before .before .args .w) (changeOf (c .before .before .before .before .before .before .before .before .before .before .args .c)) (rest b (i + 1) n)) (sym (c .pushed-if .ensures .is)),
+      omega (
+        arith,
+        one-more (at-loop .loop .g) _ (at-both .both .result)
+            (record { key = at-entry-at .entry-at .result .key; value = at-entry-at .entry-at .result .value }) (at-loop .loop .inv .1)
+            (c .pushed-if .ensures),
+      ),
+      at-loop .loop .inv .3
+          ∙ ap (λ (es : List Entry). pairsIn (at-loop .loop .g) ++ keptPairs (at-start .args .w) (changeOf (at-start .args .c)) es) s
+          ∙ kept-step (at-start .args .w) (changeOf (at-start .args .c)) e (rest b (i + 1) n) (pairsIn (at-loop .loop .g))
+          (at-both .both .result) t
+          ∙ ap (λ (xs : List Pair). xs ++ keptPairs (at-start .args .w) (changeOf (at-start .args .c)) (rest b (i + 1) n))
+          (sym (c .pushed-if .ensures .is)),
     )
 
 returns : tie.Need-returns Inv-loop μ-loop
 returns c =
-    let b : List ℕ = c .before .before .before .before .before .args .page .now in
-    let n = c .before .before .before .head-of .result .count in
-    let z : rest b (c .before .loop .i) n ≡ [] = rest-none b (c .before .loop .i) n (omega arith) in
+    let at-loop = c .before in
+    let at-head-of = at-loop .before .before in
+    let at-start = at-head-of .before .before in
+    let b : List ℕ = at-start .args .page .now in
+    let n = at-head-of .head-of .result .count in
+    let z : rest b (at-loop .loop .i) n ≡ [] = rest-none b (at-loop .loop .i) n (omega arith) in
     record {
-      good = c .before .loop .inv .1;
-      is = sym (rw (rest-all b (c .before .before .before .before .before .args .l .least) n (ap (λ h. h .count) (c .before .before .before .head-of .ensures))) (c .before .loop .inv .3 ∙ rw z (append-nil (pairsIn (c .before .loop .g)))));
+      good = at-loop .loop .inv .1;
+      is = sym (rw (rest-all b (at-start .args .l .least) n (ap (λ h. h .count) (at-head-of .head-of .ensures)))
+          (at-loop .loop .inv .3 ∙ rw z (append-nil (pairsIn (at-loop .loop .g)))));
     }
 
 pub kept-pairs-spec : {M : Type 1} → statement M

@@ -43,7 +43,8 @@ lists-none = record { good = record { size = length-replicate 56 nil; room = ome
 
 equal : (m n : ℕ) → (m ≡ n) ⊎ (m ≢ n)
 equal m n =
-    ⊎-elim (λ l. inr (λ (e : m ≡ n). omega arith)) (λ g. ⊎-elim (λ l. inr (λ (e : m ≡ n). omega arith)) (λ l. inl (omega arith)) (less n m)) (less m n)
+    ⊎-elim (λ l. inr (λ (e : m ≡ n). omega arith)) (λ g. ⊎-elim (λ l. inr (λ (e : m ≡ n). omega arith)) (λ l. inl (omega arith)) (less n m))
+    (less m n)
 
 module _ (g : Gather) (x : Pair) (z : Good g) (h : g .n < 56) (f : Fitting x) where
   hit : (k : ℕ) → k ≡ g .n → getD (set (g .list) (g .n) x) k nil ≡ x
@@ -51,7 +52,8 @@ module _ (g : Gather) (x : Pair) (z : Good g) (h : g .n < 56) (f : Fitting x) wh
 
   pushed-fits : (k : ℕ) → Fitting (getD (set (g .list) (g .n) x) k nil)
   pushed-fits k =
-      ⊎-elim (λ (e : k ≡ g .n). rw (hit k e) f) (λ (ne : k ≢ g .n). rw (getD-set-other (g .list) (g .n) k x nil ne) (z .fits k)) (equal k (g .n))
+      ⊎-elim (λ (e : k ≡ g .n). rw (hit k e) f) (λ (ne : k ≢ g .n). rw (getD-set-other (g .list) (g .n) k x nil ne) (z .fits k))
+      (equal k (g .n))
 
   pub lists-pushed : Lists (record { list = set (g .list) (g .n) x; n = g .n + 1 }) (pairsIn g ++ (x ∷ []))
   unfolding pairsIn
@@ -79,7 +81,8 @@ one-more g r b x z w = omega (arith, listed w, length-append (pairsIn g) (keep b
 pub part-none : (l : List Pair) (a : ℕ) → take (a - a) (drop a l) ≡ []
 part-none l a = let e : a - a ≡ 0 = omega arith in rw e
 
-pub part-more : (l : List Pair) (a i : ℕ) → a ≤ i → i < length l → take (i + 1 - a) (drop a l) ≡ take (i - a) (drop a l) ++ (getD l i nil ∷ [])
+pub part-more : (l : List Pair) (a i : ℕ) → a ≤ i → i < length l
+    → take (i + 1 - a) (drop a l) ≡ take (i - a) (drop a l) ++ (getD l i nil ∷ [])
 part-more l a i h h2 =
     let e : i + 1 - a ≡ suc (i - a) = omega arith in
     let f : a + (i - a) ≡ i = omega arith in
@@ -91,15 +94,24 @@ part-of-take [] zero (suc a) b h h2 = refl
 part-of-take [] (suc n) (suc a) b h h2 = refl
 part-of-take (x ∷ l) zero (suc a) b h h2 = absurd (omega arith)
 part-of-take (x ∷ l) (suc n) (suc a) zero h h2 = absurd (omega arith)
-part-of-take (x ∷ l) (suc n) (suc a) (suc b) h h2 = let e : suc b - suc a ≡ b - a = omega arith in rw e (part-of-take l n a b (omega arith) (omega arith))
+part-of-take (x ∷ l) (suc n) (suc a) (suc b) h h2 =
+    let e : suc b - suc a ≡ b - a = omega arith in rw e (part-of-take l n a b (omega arith) (omega arith))
 
 pub part-pairs : (g : Gather) (a b : ℕ) → a ≤ b → b ≤ g .n → take (b - a) (drop a (pairsIn g)) ≡ take (b - a) (drop a (g .list))
 unfolding pairsIn
 part-pairs g a b h h2 = part-of-take (g .list) (g .n) a b h h2
 
 -- and how many there are then
-pub copied-count : (g b r : Gather) (a n : ℕ) → Good g → Good b → a + n ≤ b .n → Lists r (pairsIn g ++ take n (drop a (pairsIn b))) → r .n ≡ g .n + n
+pub copied-count : (g b r : Gather) (a n : ℕ) → Good g → Good b → a + n ≤ b .n → Lists r (pairsIn g ++ take n (drop a (pairsIn b)))
+    → r .n ≡ g .n + n
 copied-count g b r a n z w h q =
     let x : List Pair = drop a (pairsIn b) in
     let lx : length x ≡ length (pairsIn b) - a = length-drop a (pairsIn b) in
-    omega (arith, listed q, length-append (pairsIn g) (take n x), length-pairs g z, length-pairs b w, length-take-le n x (omega (arith, length-pairs b w)))
+    omega (
+      arith,
+      listed q,
+      length-append (pairsIn g) (take n x),
+      length-pairs g z,
+      length-pairs b w,
+      length-take-le n x (omega (arith, length-pairs b w)),
+    )

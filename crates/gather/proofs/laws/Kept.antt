@@ -41,12 +41,14 @@ module _ (p : List ℕ) where
   unfolding rest
   rest-none i n h = entries-end p (128 + 96 * i) i n h
 
-pub kept-step : (w : ℕ) (c : Change) (e : Entry) (es : List Entry) (g : List Pair) (b : Bool) → b ≡ (liveAt w e && not (has (e .key) (c .drop)))
+pub kept-step : (w : ℕ) (c : Change) (e : Entry) (es : List Entry) (g : List Pair) (b : Bool)
+    → b ≡ (liveAt w e && not (has (e .key) (c .drop)))
     → g ++ keptPairs w c (e ∷ es) ≡ (g ++ keep b (pairOf e) []) ++ keptPairs w c es
 kept-step w c e es g b h = rw h (by (liveAt w e) (not (has (e .key) (c .drop))) refl)
   where
     by : (x y : Bool) → not (has (e .key) (c .drop)) ≡ y
-        → g ++ those (λ (x : Pair). not (has (x .key) (c .drop))) (map pairOf (keep x e (those (liveAt w) es))) ≡ (g ++ keep (x && y) (pairOf e) []) ++ keptPairs w c es
+        → g ++ those (λ (x : Pair). not (has (x .key) (c .drop))) (map pairOf (keep x e (those (liveAt w) es)))
+        ≡ (g ++ keep (x && y) (pairOf e) []) ++ keptPairs w c es
     by true true q = rw (q, append-assoc g (pairOf e ∷ []) (keptPairs w c es))
     by true false q = rw (q, append-nil g)
     by false y q = rw (append-nil g)
@@ -55,7 +57,8 @@ pub kept-few : (w : ℕ) (c : Change) (p : Page) → length (keptPairs w c (p .e
 kept-few w c p = omega (arith, wanted-few w (record { drop = c .drop; take = [] }) p)
 
 -- no more than the page has room for
-pub kept-room : (l : Limits) (b : List ℕ) (w : ℕ) (c : Change) → Counted l b → length (keptPairs w c (decodePage (l .least) b .entries)) ≤ 40
+pub kept-room : (l : Limits) (b : List ℕ) (w : ℕ) (c : Change) → Counted l b
+    → length (keptPairs w c (decodePage (l .least) b .entries)) ≤ 40
 kept-room l b w c k =
     let n : length (decodePage (l .least) b .entries) ≡ countOf (l .least) b
     = ap length (entries-of (l .least) b) ∙ length-entries b 128 (readHead (l .least) b .count) ∙ sym (count-of (l .least) b) in
@@ -82,7 +85,8 @@ module _ (w : ℕ) (c : code.Change) (p : Page) where
   unfolding changeOf
   wanted-one e = rw e
 
-  pub wanted-two : c .takes ≡ 2 → enterPair (c .take2) (enterPair (c .take1) (keptPairs w (changeOf c) (p .entries))) ≡ wanted w (changeOf c) p
+  pub wanted-two : c .takes ≡ 2 → enterPair (c .take2) (enterPair (c .take1) (keptPairs w (changeOf c) (p .entries)))
+      ≡ wanted w (changeOf c) p
   unfolding changeOf
   wanted-two e = rw e
 
@@ -113,7 +117,8 @@ staying-few w c (e ∷ es) = by (stays w c e) (staying-few w c es)
     by true h = omega arith
     by false h = omega arith
 
-ended : (w : ℕ) (c : Change) (es : List Entry) → length (endThose (λ (e : Entry). liveAt w e && has (e .key) (c .drop)) w es) ≡ staying w c es
+ended : (w : ℕ) (c : Change) (es : List Entry) → length (endThose (λ (e : Entry). liveAt w e && has (e .key) (c .drop)) w es)
+    ≡ staying w c es
 unfolding staying
 ended w c [] = refl
 ended w c (e ∷ es) = by (liveAt w e && has (e .key) (c .drop)) (eqb (e .start) w) (ended w c es)
@@ -141,7 +146,8 @@ unfolding changeOf
 takes-few c f = omega (arith, firsts (c .takes) (c .take1) (c .take2) (f .takes), f .takes)
 
 -- "at most 20 entries, dead ones counted"
-pub after-is : (w : ℕ) (c : code.Change) (p : Page) → Fits c → staying w (changeOf c) (p .entries) + c .takes ≡ length (changed w (changeOf c) p .entries)
+pub after-is : (w : ℕ) (c : code.Change) (p : Page) → Fits c
+    → staying w (changeOf c) (p .entries) + c .takes ≡ length (changed w (changeOf c) p .entries)
 unfolding changeOf
 after-is w c p f =
     let d : Change = record { drop = firstOf (c .drops) (c .drop1) (c .drop2); take = firstPairs (c .takes) (c .take1) (c .take2) } in

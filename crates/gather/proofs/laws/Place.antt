@@ -24,7 +24,8 @@ place-low k (x ∷ xs) = by (ltb k (x .key)) (place-low k xs)
     by false h = omega arith
 
 -- looked for from the front
-pub place-step : (k : ℕ) (l : List Pair) (i : ℕ) (b : Bool) → i < length l → ltb k (getD l i nil .key) ≡ b → placeIn k (drop i l) ≡ pick b 0 (suc (placeIn k (drop (i + 1) l)))
+pub place-step : (k : ℕ) (l : List Pair) (i : ℕ) (b : Bool) → i < length l → ltb k (getD l i nil .key) ≡ b
+    → placeIn k (drop i l) ≡ pick b 0 (suc (placeIn k (drop (i + 1) l)))
 unfolding placeIn
 place-step k l i b h e = rw (drop-cons l i nil h, e, add-one)
 
@@ -42,7 +43,8 @@ enter-split x [] = refl
 enter-split x (y ∷ l) = by (ltb (x .key) (y .key)) (enter-split x l)
   where
     by : (b : Bool) → take (placeIn (x .key) l) l ++ (x ∷ drop (placeIn (x .key) l) l) ≡ enterPair x l
-        → take (pick b 0 (suc (placeIn (x .key) l))) (y ∷ l) ++ (x ∷ drop (pick b 0 (suc (placeIn (x .key) l))) (y ∷ l)) ≡ placed b x y l (enterPair x l)
+        → take (pick b 0 (suc (placeIn (x .key) l))) (y ∷ l) ++ (x ∷ drop (pick b 0 (suc (placeIn (x .key) l))) (y ∷ l))
+        ≡ placed b x y l (enterPair x l)
     by true h = refl
     by false h = ap (λ (z : List Pair). y ∷ z) h
 
@@ -50,4 +52,5 @@ pub enter-is : (x : Pair) (l : List Pair) (p n : ℕ) → p ≡ placeIn (x .key)
     → (([] ++ take (p - 0) (drop 0 l)) ++ (x ∷ [])) ++ take (n - p) (drop p l) ≡ enterPair x l
 enter-is x l p n e f =
     let z : p - 0 ≡ p = omega arith in
-    rw (z, append-assoc (take p l) (x ∷ []) (take (n - p) (drop p l)), take-all (n - p) (drop p l) (omega (arith, length-drop p l)), e) (enter-split x l)
+    rw (z, append-assoc (take p l) (x ∷ []) (take (n - p) (drop p l)), take-all (n - p) (drop p l) (omega (arith, length-drop p l)), e)
+    (enter-split x l)

@@ -35,7 +35,8 @@ module _ (w : ℕ) (c : code.Change) (p : Page) where
       by : (n : ℕ) → c .takes ≡ n → n ≤ 2 → length (wanted w (changeOf c) p) ≡ n + length kept
       by zero e h = ap length (sym (wanted-none w c p e)) ∙ omega arith
       by (suc zero) e h = ap length (sym (wanted-one w c p e)) ∙ enter-few (c .take1) kept ∙ omega arith
-      by (suc (suc zero)) e h = ap length (sym (wanted-two w c p e)) ∙ enter-few (c .take2) (enterPair (c .take1) kept) ∙ ap suc (enter-few (c .take1) kept) ∙ omega arith
+      by (suc (suc zero)) e h = ap length (sym (wanted-two w c p e)) ∙ enter-few (c .take2) (enterPair (c .take1) kept)
+          ∙ ap suc (enter-few (c .take1) kept) ∙ omega arith
       by (suc (suc (suc n))) e h = absurd (omega arith)
 
   -- no more entries than there are and come in

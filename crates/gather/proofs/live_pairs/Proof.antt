@@ -12,10 +12,13 @@ kept-pairs-requires c κs = search needs
 
 returns : tie.Need-returns
 unfolding changeOf
-returns c = record {
-  good = c .kept-pairs .ensures .good;
-  is = c .kept-pairs .ensures .is ∙ kept-live (c .before .before .args .w) (decodePage (c .before .before .args .l .least) (c .before .before .args .page .now)) (record { drop = []; take = [] }) refl;
-}
+returns c =
+    let at-start = c .before .before in
+    record {
+      good = c .kept-pairs .ensures .good;
+      is = c .kept-pairs .ensures .is ∙ kept-live (at-start .args .w) (decodePage (at-start .args .l .least) (at-start .args .page .now))
+          (record { drop = []; take = [] }) refl;
+    }
 
 pub live-pairs-spec : {M : Type 1} → statement M
 live-pairs-spec = tie.close (tie.spec kept-pairs-requires returns)

@@ -34,11 +34,19 @@ array-copy-out-x c = search needs
 returns : tie.Need-returns Inv-loop μ-loop
 unfolding pairsIn
 returns c =
-    let g = c .before .before .before .before .before .before .args .g in
+    let at-loop = c .before .before .before .before in
+    let at-start = at-loop .before .before in
+    let g = at-start .args .g in
     let t : List Pair = take (g .n) (g .list) in
-    let n : length t ≡ g .n = length-pairs g (c .before .before .before .before .before .before .pre) in
-    let x : getD t (c .before .before .before .before .loop .i) nil ≡ getD (g .list) (c .before .before .before .before .loop .i) nil = getD-take (g .n) (g .list) (c .before .before .before .before .loop .i) nil (omega arith) in
-    omega (arith, c .before .before .before .before .loop .inv .1, place-step (c .before .before .before .before .before .before .args .k) t (c .before .before .before .before .loop .i) true (omega arith) (rw x (lt-ltb _ _ (c .if1 .taken))))
+    let n : length t ≡ g .n = length-pairs g (at-start .pre) in
+    let x : getD t (at-loop .loop .i) nil ≡ getD (g .list) (at-loop .loop .i) nil
+    = getD-take (g .n) (g .list) (at-loop .loop .i) nil (omega arith) in
+    omega (
+      arith,
+      at-loop .loop .inv .1,
+      place-step (at-start .args .k) t (at-loop .loop .i) true (omega arith)
+          (rw x (lt-ltb _ _ (c .if1 .taken))),
+    )
 
 add-i : tie.Need-add-i Inv-loop μ-loop
 add-i c = search needs
@@ -49,19 +57,30 @@ loop-less c = search needs
 loop-again : tie.Need-loop-again Inv-loop μ-loop
 unfolding pairsIn
 loop-again c =
-    let g = c .before .before .before .before .before .before .args .g in
+    let at-loop = c .before .before .before .before in
+    let at-start = at-loop .before .before in
+    let g = at-start .args .g in
     let t : List Pair = take (g .n) (g .list) in
-    let n : length t ≡ g .n = length-pairs g (c .before .before .before .before .before .before .pre) in
-    let x : getD t (c .before .before .before .before .loop .i) nil ≡ getD (g .list) (c .before .before .before .before .loop .i) nil = getD-take (g .n) (g .list) (c .before .before .before .before .loop .i) nil (omega arith) in
-    (omega arith, omega (arith, c .before .before .before .before .loop .inv .1, place-step (c .before .before .before .before .before .before .args .k) t (c .before .before .before .before .loop .i) false (omega arith) (rw x (le-ltb _ _ (c .if1 .left)))))
+    let n : length t ≡ g .n = length-pairs g (at-start .pre) in
+    let x : getD t (at-loop .loop .i) nil ≡ getD (g .list) (at-loop .loop .i) nil
+    = getD-take (g .n) (g .list) (at-loop .loop .i) nil (omega arith) in (
+      omega arith,
+      omega (
+        arith,
+        at-loop .loop .inv .1,
+        place-step (at-start .args .k) t (at-loop .loop .i) false (omega arith)
+            (rw x (le-ltb _ _ (c .if1 .left))),
+      ),
+    )
 
 returns-2 : tie.Need-returns-2 Inv-loop μ-loop
 unfolding pairsIn
 returns-2 c =
-    let g = c .before .before .before .args .g in
+    let at-start = c .before .before .before in
+    let g = at-start .args .g in
     let t : List Pair = take (g .n) (g .list) in
-    let n : length t ≡ g .n = length-pairs g (c .before .before .before .pre) in
-    omega (arith, c .before .loop .inv .1, place-past (c .before .before .before .args .k) t (c .before .loop .i) (omega arith))
+    let n : length t ≡ g .n = length-pairs g (at-start .pre) in
+    omega (arith, c .before .loop .inv .1, place-past (at-start .args .k) t (c .before .loop .i) (omega arith))
 
 pub place-in-spec : {M : Type 1} → statement M
 place-in-spec =

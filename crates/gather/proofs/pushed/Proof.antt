@@ -13,7 +13,9 @@ add-t5 : tie.Need-add-t5
 add-t5 c = search needs
 
 returns : tie.Need-returns
-returns c = lists-pushed (c .before .args .g) (c .before .args .x) (c .before .pre .0) (c .before .pre .1) (c .before .pre .2)
+returns c =
+    let at-start = c .before in
+    lists-pushed (at-start .args .g) (at-start .args .x) (at-start .pre .0) (at-start .pre .1) (at-start .pre .2)
 
 pub pushed-spec : {M : Type 1} → statement M
 pushed-spec = tie.close (tie.spec mul-l array-set-from-l add-t5 returns)

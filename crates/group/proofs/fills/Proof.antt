@@ -6,10 +6,14 @@ use Rattle.group.proofs.fills.Statement.{statement}
 use Rattle.group.proofs.fills.Tie as tie
 
 returns : tie.Need-returns
-returns c = rw (le-leb (c .before .before .args .n) (4 * c .before .before .args .l .least) (omega (arith, full-is (c .before .before .pre))))
+returns c =
+    let at-start = c .before .before in
+    rw (le-leb (at-start .args .n) (4 * at-start .args .l .least) (omega (arith, full-is (at-start .pre))))
 
 returns-2 : tie.Need-returns-2
-returns-2 c = rw (lt-leb (c .before .before .args .n) (4 * c .before .before .args .l .least) (omega (arith, full-is (c .before .before .pre))))
+returns-2 c =
+    let at-start = c .before .before in
+    rw (lt-leb (at-start .args .n) (4 * at-start .args .l .least) (omega (arith, full-is (at-start .pre))))
 
 pub fills-spec : {M : Type 1} → statement M
 fills-spec = tie.close (tie.spec returns returns-2)

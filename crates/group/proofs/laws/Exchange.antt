@@ -35,16 +35,19 @@ low-drop (x ∷ l) (suc k) = low-drop l k
 module _ (least : ℕ) (rs : Routers) (g : Gather) (z : Good g) (n m : ℕ) where
   pub to-one : g .n ≤ 4 * least → pair (rs .first .key) n ∷ [] ≡ routersTo (routersOf rs) (parts least (pairsIn g)) n m
   unfolding routersOf routersTo parts partsBy
-  to-one h = sym (rw (le-leb (length (pairsIn g)) (4 * least) (omega (arith, length-pairs g z)), low-first (rs .two) (rs .first) (rs .second)))
+  to-one h =
+      sym (rw (le-leb (length (pairsIn g)) (4 * least) (omega (arith, length-pairs g z)), low-first (rs .two) (rs .first) (rs .second)))
 
   -- "more fill two, the lower taking the odd one"
-  pub to-two : 0 < least → 4 * least < g .n → pair (rs .first .key) n ∷ pair (getD (g .list) ((g .n + 1) / 2) nil .key) m ∷ [] ≡ routersTo (routersOf rs) (parts least (pairsIn g)) n m
+  pub to-two : 0 < least → 4 * least < g .n → pair (rs .first .key) n ∷ pair (getD (g .list) ((g .n + 1) / 2) nil .key) m ∷ []
+      ≡ routersTo (routersOf rs) (parts least (pairsIn g)) n m
   unfolding routersOf routersTo parts partsBy
   to-two some h =
       let k : ℕ = (g .n + 1) / 2 in
       let lt : (g .n + 1) / 2 < g .n = omega arith in
       let c : length (pairsIn g) ≡ g .n = length-pairs g z in
-      let e : lowKey (drop ((length (pairsIn g) + 1) / 2) (pairsIn g)) ≡ getD (g .list) ((g .n + 1) / 2) nil .key = rw c (low-drop (pairsIn g) k ∙ ap (λ (x : Pair). x .key) (pair-at g k lt)) in
+      let e : lowKey (drop ((length (pairsIn g) + 1) / 2) (pairsIn g)) ≡ getD (g .list) ((g .n + 1) / 2) nil .key
+      = rw c (low-drop (pairsIn g) k ∙ ap (λ (x : Pair). x .key) (pair-at g k lt)) in
       sym (rw (lt-leb (length (pairsIn g)) (4 * least) (omega arith), low-first (rs .two) (rs .first) (rs .second), e))
 
 -- ---- what is exchanged
@@ -67,19 +70,24 @@ keys-kept true false x y = refl
 keys-kept false true x y = refl
 keys-kept false false x y = refl
 
-drops-are : (two : Bool) (f : Pair → Bool) (x y : Pair) → firstOf (one (f x) + one (two && f y)) (pick (f x) (x .key) (y .key)) (y .key) ≡ map (λ (z : Pair). z .key) (those f (oneOrTwo two x y))
+drops-are : (two : Bool) (f : Pair → Bool) (x y : Pair)
+    → firstOf (one (f x) + one (two && f y)) (pick (f x) (x .key) (y .key)) (y .key)
+    ≡ map (λ (z : Pair). z .key) (those f (oneOrTwo two x y))
 drops-are true f x y = picked (f x) (f y) (x .key) (y .key) ∙ sym (keys-kept (f x) (f y) x y)
 drops-are false f x y = picked (f x) false (x .key) (y .key) ∙ sym (keys-kept (f x) false x y)
 
-takes-are : (two : Bool) (f : Pair → Bool) (x y : Pair) → firstPairs (one (f x) + one (two && f y)) (pick (f x) x y) y ≡ those f (oneOrTwo two x y)
+takes-are : (two : Bool) (f : Pair → Bool) (x y : Pair)
+    → firstPairs (one (f x) + one (two && f y)) (pick (f x) x y) y ≡ those f (oneOrTwo two x y)
 takes-are true f x y = picked-pairs (f x) (f y) x y
 takes-are false f x y = picked-pairs (f x) false x y
 
-drops : (rs : Routers) (f : Pair → Bool) → firstOf (one (f (rs .first)) + one (rs .two && f (rs .second))) (pick (f (rs .first)) (rs .first .key) (rs .second .key)) (rs .second .key) ≡ map (λ (z : Pair). z .key) (those f (routersOf rs))
+drops : (rs : Routers) (f : Pair → Bool) → firstOf (one (f (rs .first)) + one (rs .two && f (rs .second)))
+    (pick (f (rs .first)) (rs .first .key) (rs .second .key)) (rs .second .key) ≡ map (λ (z : Pair). z .key) (those f (routersOf rs))
 unfolding routersOf
 drops rs f = drops-are (rs .two) f (rs .first) (rs .second)
 
-takes : (rs : Routers) (f : Pair → Bool) → firstPairs (one (f (rs .first)) + one (rs .two && f (rs .second))) (pick (f (rs .first)) (rs .first) (rs .second)) (rs .second) ≡ those f (routersOf rs)
+takes : (rs : Routers) (f : Pair → Bool) → firstPairs (one (f (rs .first)) + one (rs .two && f (rs .second)))
+    (pick (f (rs .first)) (rs .first) (rs .second)) (rs .second) ≡ those f (routersOf rs)
 unfolding routersOf
 takes rs f = takes-are (rs .two) f (rs .first) (rs .second)
 
@@ -115,7 +123,8 @@ pub among-two : (x : Pair) (rs : Routers) → not (samePair x (rs .first) || (rs
 unfolding routersOf
 among-two x rs = by (rs .two) (samePair x (rs .first)) (samePair x (rs .second)) refl refl
   where
-    by : (t a b : Bool) → samePair x (rs .first) ≡ a → samePair x (rs .second) ≡ b → not (a || (t && b)) ≡ not (any (samePair x) (oneOrTwo t (rs .first) (rs .second)))
+    by : (t a b : Bool) → samePair x (rs .first) ≡ a → samePair x (rs .second) ≡ b
+        → not (a || (t && b)) ≡ not (any (samePair x) (oneOrTwo t (rs .first) (rs .second)))
     by true true b e f = sym (rw e)
     by true false true e f = sym (rw (e, f))
     by true false false e f = sym (rw (e, f))

@@ -23,20 +23,24 @@ module _ (least w : ℕ) (ps : List Page) (a : Around) (want : Gather) (z : Good
   under = ltb (length (pairsIn want)) (2 * least)
 
   pub gather-right : want .n < 2 * least → a .rightmost ≡ false
-      → record { routers = a .own ∷ a .right ∷ []; pairs = pairsIn want ++ pairsAt w (page ps (a .right .value)) } ≡ gatherBy (ltb (length (pairsIn want)) (2 * least)) w ps (aroundOf a) (pairsIn want)
+      → record { routers = a .own ∷ a .right ∷ []; pairs = pairsIn want ++ pairsAt w (page ps (a .right .value)) }
+      ≡ gatherBy (ltb (length (pairsIn want)) (2 * least)) w ps (aroundOf a) (pairsIn want)
   unfolding gatherBy withNeighbour aroundOf
   gather-right h e = sym (rw (lt-ltb (length (pairsIn want)) (2 * least) (omega (arith, length-pairs want z)), e))
 
   pub gather-left : want .n < 2 * least → a .rightmost ≡ true → a .leftmost ≡ false
-      → record { routers = a .left ∷ a .own ∷ []; pairs = pairsAt w (page ps (a .left .value)) ++ pairsIn want } ≡ gatherBy (ltb (length (pairsIn want)) (2 * least)) w ps (aroundOf a) (pairsIn want)
+      → record { routers = a .left ∷ a .own ∷ []; pairs = pairsAt w (page ps (a .left .value)) ++ pairsIn want }
+      ≡ gatherBy (ltb (length (pairsIn want)) (2 * least)) w ps (aroundOf a) (pairsIn want)
   unfolding gatherBy withNeighbour aroundOf
   gather-left h e f = sym (rw (lt-ltb (length (pairsIn want)) (2 * least) (omega (arith, length-pairs want z)), e, f))
 
   pub gather-none : want .n < 2 * least → a .rightmost ≡ true → a .leftmost ≡ true
-      → record { routers = a .own ∷ []; pairs = pairsIn want } ≡ gatherBy (ltb (length (pairsIn want)) (2 * least)) w ps (aroundOf a) (pairsIn want)
+      → record { routers = a .own ∷ []; pairs = pairsIn want }
+      ≡ gatherBy (ltb (length (pairsIn want)) (2 * least)) w ps (aroundOf a) (pairsIn want)
   unfolding gatherBy withNeighbour aroundOf
   gather-none h e f = sym (rw (lt-ltb (length (pairsIn want)) (2 * least) (omega (arith, length-pairs want z)), e, f))
 
-  pub gather-alone : 2 * least ≤ want .n → record { routers = a .own ∷ []; pairs = pairsIn want } ≡ gatherBy (ltb (length (pairsIn want)) (2 * least)) w ps (aroundOf a) (pairsIn want)
+  pub gather-alone : 2 * least ≤ want .n → record { routers = a .own ∷ []; pairs = pairsIn want }
+      ≡ gatherBy (ltb (length (pairsIn want)) (2 * least)) w ps (aroundOf a) (pairsIn want)
   unfolding gatherBy aroundOf
   gather-alone h = sym (rw (le-ltb (length (pairsIn want)) (2 * least) (omega (arith, length-pairs want z))))

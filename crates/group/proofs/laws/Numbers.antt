@@ -83,11 +83,13 @@ two-twice (x ∷ []) (y ∷ y′ ∷ ys) h = refl
 two-twice (x ∷ x′ ∷ xs) ys h = refl
 
 module _ (w : ℕ) (ps : List Page) (rs : Routers) where
-  pub actives-are : keep (active w (page ps (rs .first .value))) (rs .first .value) (keep (rs .two && active w (page ps (rs .second .value))) (rs .second .value) []) ≡ actives w ps (routersOf rs)
+  pub actives-are : keep (active w (page ps (rs .first .value))) (rs .first .value)
+      (keep (rs .two && active w (page ps (rs .second .value))) (rs .second .value) []) ≡ actives w ps (routersOf rs)
   unfolding routersOf
   actives-are = by (rs .two)
     where
-      by : (t : Bool) → keep (active w (page ps (rs .first .value))) (rs .first .value) (keep (t && active w (page ps (rs .second .value))) (rs .second .value) [])
+      by : (t : Bool) → keep (active w (page ps (rs .first .value))) (rs .first .value)
+          (keep (t && active w (page ps (rs .second .value))) (rs .second .value) [])
           ≡ actives w ps (oneOrTwo t (rs .first) (rs .second))
       by true = refl
       by false = refl
@@ -129,7 +131,10 @@ module _ (l : Limits) (b : List ℕ) (w : ℕ) (rs : Routers) (r : Routed l b rs
 
   pub active-in : (n : ℕ) → In n (actives w (pagesOf l b) (routersOf rs)) → Inside l b n
   unfolding routersOf
-  active-in n j = router-in (rs .two) n (in-those (λ (m : ℕ). active w (page (pagesOf l b) m)) n (map (λ (x : Pair). x .value) (oneOrTwo (rs .two) (rs .first) (rs .second))) j .1)
+  active-in n j =
+      router-in (rs .two) n
+      (in-those (λ (m : ℕ). active w (page (pagesOf l b) m)) n
+      (map (λ (x : Pair). x .value) (oneOrTwo (rs .two) (rs .first) (rs .second))) j .1)
 
   pub usable-in : (n : ℕ) → In n (usable w (pagesOf l b) (routersOf rs)) → Inside l b n
   unfolding usable
@@ -154,7 +159,9 @@ module _ (u : Numbers) (xs : List ℕ) (z : Numbered u (take 2 xs)) where
   second-in h = rw (z .second) (in-take (getD (take 2 xs) 1 0) xs (in-getD 0 (take 2 xs) 1 (omega (arith, z .count))))
 
 -- a page's number is small
-pub numbers-small : (l : Limits) (b : List ℕ) → ExactBytes l b → (u : Numbers) (ns : List ℕ) → Numbered u ns → ((n : ℕ) → In n ns → Inside l b n) → (u .first < 2 ^ 32) × (u .second < 2 ^ 32)
+pub numbers-small : (l : Limits) (b : List ℕ) → ExactBytes l b → (u : Numbers) (ns : List ℕ) → Numbered u ns
+    → ((n : ℕ) → In n ns → Inside l b n) → (u .first < 2 ^ 32) × (u .second < 2 ^ 32)
 numbers-small l b k u [] z i = (omega (arith, z .first), omega (arith, z .second))
 numbers-small l b k u (x ∷ []) z i = (omega (arith, z .first, i x (inl refl) .high, k .most), omega (arith, z .second))
-numbers-small l b k u (x ∷ y ∷ ns) z i = (omega (arith, z .first, i x (inl refl) .high, k .most), omega (arith, z .second, i y (inr (inl refl)) .high, k .most))
+numbers-small l b k u (x ∷ y ∷ ns) z i =
+    (omega (arith, z .first, i x (inl refl) .high, k .most), omega (arith, z .second, i y (inr (inl refl)) .high, k .most))

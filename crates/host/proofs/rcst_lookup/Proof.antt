@@ -20,8 +20,10 @@ number-of-requires c κs = search needs
 
 returns : tie.Need-returns
 returns c =
-    let e = c .before .before .before .lookup .ensures in
-    (c .number-of .ensures ∙ ap lookedNumber e, (c .before .before .found-of .ensures ∙ ap (λ (r : Looked). bit (lookedFound r)) e, c .before .value-of .ensures ∙ ap lookedValue e))
+    let e = c .before .before .before .lookup .ensures in (
+      c .number-of .ensures ∙ ap lookedNumber e,
+      (c .before .before .found-of .ensures ∙ ap (λ (r : Looked). bit (lookedFound r)) e, c .before .value-of .ensures ∙ ap lookedValue e),
+    )
 
 pub rcst-lookup-spec : {M : Type 1} → statement M
 rcst-lookup-spec =

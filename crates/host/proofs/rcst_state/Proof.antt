@@ -16,9 +16,13 @@ flag-requires c κs = search needs
 
 returns : tie.Need-returns
 returns c =
-    let t = c .before .before .state .result in
-    let e = c .before .before .state .ensures in
-    (ap (λ (x : State). x .number) e, ap (λ (n : ℕ). t .pages ∷ t .current ∷ n ∷ t .roots ∷ t .edition ∷ t .free ∷ t .oldest ∷ []) (c .before .flag .ensures) ∙ ap stateNumbers e)
+    let at-state = c .before .before in
+    let t = at-state .state .result in
+    let e = at-state .state .ensures in (
+      ap (λ (x : State). x .number) e,
+      ap (λ (n : ℕ). t .pages ∷ t .current ∷ n ∷ t .roots ∷ t .edition ∷ t .free ∷ t .oldest ∷ [])
+          (c .before .flag .ensures) ∙ ap stateNumbers e,
+    )
 
 pub rcst-state-spec : {M : Type 1} → statement M
 rcst-state-spec = tie.close (tie.spec state-requires flag-requires returns)

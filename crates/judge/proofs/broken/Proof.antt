@@ -20,18 +20,22 @@ none c = sym (c .before .lower .ensures) ∙ c .if1 .left
 
 eighth-rule-requires : tie.Need-eighth-rule-requires
 eighth-rule-requires c κs =
-    let e = c .before .before .before in
-    (e .pre .0, e .pre .1, unbroken (e .args .l .least) (e .args .s .now) (none (c)) .0)
+    let at-start = c .before .before .before in
+    (at-start .pre .0, at-start .pre .1, unbroken (at-start .args .l .least) (at-start .args .s .now) (none (c)) .0)
 
 returns-2 : tie.Need-returns-2
 returns-2 c =
-    let a = c .before .before .before .before .before .args in
-    sym (broken-eight (a .l .least) (a .s .now) (none (c .before .before)) (sym (c .before .eighth-rule .ensures) ∙ not-true (c .before .eighth-rule .result) (c .if2 .taken)))
+    let at-start = c .before .before .before .before .before in
+    let a = at-start .args in
+    sym (broken-eight (a .l .least) (a .s .now) (none (c .before .before))
+    (sym (c .before .eighth-rule .ensures) ∙ not-true (c .before .eighth-rule .result) (c .if2 .taken)))
 
 returns-3 : tie.Need-returns-3
 returns-3 c =
-    let a = c .before .before .before .before .before .args in
-    sym (broken-none (a .l .least) (a .s .now) (none (c .before .before)) (sym (c .before .eighth-rule .ensures) ∙ not-false (c .before .eighth-rule .result) (c .if2 .left)))
+    let at-start = c .before .before .before .before .before in
+    let a = at-start .args in
+    sym (broken-none (a .l .least) (a .s .now) (none (c .before .before))
+    (sym (c .before .eighth-rule .ensures) ∙ not-false (c .before .eighth-rule .result) (c .if2 .left)))
 
 pub broken-spec : {M : Type 1} → statement M
 broken-spec = tie.close (tie.spec lower-requires returns eighth-rule-requires returns-2 returns-3)

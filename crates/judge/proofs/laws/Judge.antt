@@ -20,7 +20,8 @@ module _ (least : ℕ) (s : List ℕ) (n : ℕ) (q : n ≡ refusedBy (lengthOk l
   unfolding judged
   judged-refused u = at (lengthOk least s) (magicOk s) (editionOk least s) q
     where
-      at : (x y z : Bool) → n ≡ refusedBy x y z → pick x (pick y (pick z (ruled (brokenIn least s)) (verdict 3 0)) (verdict 2 0)) (verdict 1 0) ≡ verdict n 0
+      at : (x y z : Bool) → n ≡ refusedBy x y z → pick x (pick y (pick z (ruled (brokenIn least s)) (verdict 3 0)) (verdict 2 0))
+          (verdict 1 0) ≡ verdict n 0
       at false y z e = rw e
       at true false z e = rw e
       at true true false e = rw e

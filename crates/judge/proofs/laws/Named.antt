@@ -1,4 +1,5 @@
--- Rules 4 to 7 as `check` names them: where `quick` says that 4 to 6 hold, rule 7 is left, else they are named by the notes, by the reach walk at
+-- Rules 4 to 7 as `check` names them: where `quick` says that 4 to 6 hold, rule 7 is left, else they are named by the notes, by the reach
+-- walk at
 -- the last version, by the sums and the slots. Assumes nothing.
 use Prim.Native.Nat.{ℕ, _≤_}
 use native.Mathlib.Omega.{arith}
@@ -24,7 +25,8 @@ use Rattle.reach.proofs.laws.Rules.{six-missed}
 
 -- ---- rule 7, once all lower ones hold
 
-seven-named : (least : ℕ) (b : List ℕ) → clean least b ≡ true → rule2 (decode least b) ≡ true → rule3 (decode least b) ≡ true → rule4 (decode least b) ≡ true → rule5 least (decode least b) ≡ true
+seven-named : (least : ℕ) (b : List ℕ) → clean least b ≡ true → rule2 (decode least b) ≡ true → rule3 (decode least b) ≡ true
+    → rule4 (decode least b) ≡ true → rule5 least (decode least b) ≡ true
     → rule6 (decode least b) ≡ true → pick (rule7 (decode least b)) 0 7 ≡ lowerIn least b
 seven-named least b r1 r2 r3 r4 r5 r6 = at (rule7 (decode least b)) refl
   where
@@ -34,7 +36,8 @@ seven-named least b r1 r2 r3 r4 r5 r6 = at (rule7 (decode least b)) refl
 
 -- ---- none
 
-pub named-sound : (least : ℕ) (b : List ℕ) → 2 ≤ least → clean least b ≡ true → rule2 (decode least b) ≡ true → rule3 (decode least b) ≡ true → quick least (decode least b) ≡ true
+pub named-sound : (least : ℕ) (b : List ℕ) → 2 ≤ least → clean least b ≡ true → rule2 (decode least b) ≡ true
+    → rule3 (decode least b) ≡ true → quick least (decode least b) ≡ true
     → (r : ℕ) → r ≡ pick (rule7 (decode least b)) 0 7 → r ≡ lowerIn least b
 named-sound least b two r1 r2 r3 h r q =
     let s = decode least b in
@@ -44,7 +47,8 @@ named-sound least b two r1 r2 r3 h r q =
 
 -- ---- rules 4 and 5
 
-module _ (least : ℕ) (b : List ℕ) (r1 : clean least b ≡ true) (r2 : rule2 (decode least b) ≡ true) (r3 : rule3 (decode least b) ≡ true) (r : ℕ) (e : r ≡ told (rule4 (decode least b)) (rule5 least (decode least b))) where
+module _ (least : ℕ) (b : List ℕ) (r1 : clean least b ≡ true) (r2 : rule2 (decode least b) ≡ true) (r3 : rule3 (decode least b) ≡ true)
+    (r : ℕ) (e : r ≡ told (rule4 (decode least b)) (rule5 least (decode least b))) where
   pub named-some : (r ≡ 0 → ⊥) → r ≡ lowerIn least b
   named-some n = at (rule4 (decode least b)) refl (rule5 least (decode least b)) refl e
     where
@@ -56,7 +60,8 @@ module _ (least : ℕ) (b : List ℕ) (r1 : clean least b ≡ true) (r2 : rule2 
   pub named-none : r ≡ 0 → (rule4 (decode least b) ≡ true) × (rule5 least (decode least b) ≡ true)
   named-none z = at (rule4 (decode least b)) refl (rule5 least (decode least b)) refl e
     where
-      at : (x : Bool) → rule4 (decode least b) ≡ x → (y : Bool) → rule5 least (decode least b) ≡ y → r ≡ told x y → (rule4 (decode least b) ≡ true) × (rule5 least (decode least b) ≡ true)
+      at : (x : Bool) → rule4 (decode least b) ≡ x → (y : Bool) → rule5 least (decode least b) ≡ y → r ≡ told x y
+          → (rule4 (decode least b) ≡ true) × (rule5 least (decode least b) ≡ true)
       at false p y q g = absurd (omega arith)
       at true p false q g = absurd (omega arith)
       at true p true q g = (p, q)
@@ -64,10 +69,14 @@ module _ (least : ℕ) (b : List ℕ) (r1 : clean least b ≡ true) (r2 : rule2 
   -- ---- rule 6
 
   module _ (z : r ≡ 0) where
-    pub six-last : (h : Header) (v : ℕ) → h ≡ readHeader least b → v ≡ lastOf (h .opened) (h .current) → h .oldest ≤ v → versionOk least 6 b v ≡ false → 6 ≡ lowerIn least b
-    six-last h v q k low f = let (r4, r5) = named-none z in sym (lower-six least b r1 r2 r3 r4 r5 (six-missed least b h q v low (omega (arith, k)) f))
+    pub six-last : (h : Header) (v : ℕ) → h ≡ readHeader least b → v ≡ lastOf (h .opened) (h .current) → h .oldest ≤ v
+        → versionOk least 6 b v ≡ false → 6 ≡ lowerIn least b
+    six-last h v q k low f =
+        let (r4, r5) = named-none z in sym (lower-six least b r1 r2 r3 r4 r5 (six-missed least b h q v low (omega (arith, k)) f))
 
-    module _ (two : 2 ≤ least) (d : Bool) (q : d ≡ (spansMet (decode least b) 5 (drop 5 (decode least b .pages)) && slotsFine least (decode least b .oldest) (decode least b .pages) (decode least b .slots))) where
+    module _ (two : 2 ≤ least) (d : Bool)
+        (q : d ≡ (spansMet (decode least b) 5 (drop 5 (decode least b .pages))
+        && slotsFine least (decode least b .oldest) (decode least b .pages) (decode least b .slots))) where
       sixth : rule6 (decode least b) ≡ d
       sixth = let (r4, r5) = named-none z in six-by least two (decode least b) (clean-first least b r1) r2 r3 r4 r5 ∙ sym q
 

@@ -22,104 +22,184 @@ first-rule-requires : tie.Need-first-rule-requires
 first-rule-requires c κs = (c .before .pre .0, c .before .pre .1)
 
 returns : tie.Need-returns
-returns c = let a = c .before .before .before .args in sym (lower-one (a .l .least) (a .s .now) (sym (c .before .first-rule .ensures) ∙ not-true (c .before .first-rule .result) (c .if1 .taken)))
+returns c =
+    let a = c .before .before .before .args in sym
+    (lower-one (a .l .least) (a .s .now) (sym (c .before .first-rule .ensures) ∙ not-true (c .before .first-rule .result) (c .if1 .taken)))
 
 header-requires : tie.Need-header-requires
-header-requires c κs = (c .before .before .before .pre .0, omega (arith, c .before .before .before .pre .1 .front), omega (arith, c .before .before .before .pre .1 .long))
+header-requires c κs =
+    let at-start = c .before .before .before in
+    (at-start .pre .0, omega (arith, at-start .pre .1 .front), omega (arith, at-start .pre .1 .long))
 
 -- the rules that hold so far, and what they give
 one : (c : tie.Else1) → let a = c .before .before .before .args in clean (a .l .least) (a .s .now) ≡ true
 one c = sym (c .before .first-rule .ensures) ∙ not-false (c .before .first-rule .result) (c .if1 .left)
 
-is-held : (c : tie.After-header) → let a = c .before .before .before .before .args in Held (a .l .least) (a .s .now) (c .header .result)
-is-held c = let e = c .before .before .before .before in held (e .args .l .least) (e .args .s .now) (e .args .size) (c .header .result) (e .pre .1) (c .header .ensures) (one (c .before))
+is-held : (c : tie.After-header) →
+    let at-start = c .before .before .before .before in
+    let a = at-start .args in Held (a .l .least) (a .s .now) (c .header .result)
+is-held c =
+    let at-start = c .before .before .before .before in
+    held (at-start .args .l .least) (at-start .args .s .now) (at-start .args .size) (c .header .result) (at-start .pre .1)
+    (c .header .ensures) (one (c .before))
 
-two : (c : tie.Else2) → let a = c .before .before .before .before .before .before .args in rule2 (decode (a .l .least) (a .s .now)) ≡ true
+two : (c : tie.Else2) →
+    let at-start = c .before .before .before .before .before .before in
+    let a = at-start .args in rule2 (decode (a .l .least) (a .s .now)) ≡ true
 two c = sym (c .before .second-rule .ensures) ∙ not-false (c .before .second-rule .result) (c .if2 .left)
 
-three : (c : tie.Else3) → let a = c .before .before .before .before .before .before .before .before .args in rule3 (decode (a .l .least) (a .s .now)) ≡ true
+three : (c : tie.Else3) →
+    let at-start = c .before .before .before .before .before .before .before .before in
+    let a = at-start .args in rule3 (decode (a .l .least) (a .s .now)) ≡ true
 three c = sym (c .before .third-rule .ensures) ∙ not-false (c .before .third-rule .result) (c .if3 .left)
 
-is-ready : (c : tie.Else3) → let a = c .before .before .before .before .before .before .before .before .args in Ready (a .l .least) (a .s .now) (c .before .before .before .before .header .result)
+is-ready : (c : tie.Else3) →
+    let at-header = c .before .before .before .before in
+    let at-start = at-header .before .before .before .before in
+    let a = at-start .args in Ready (a .l .least) (a .s .now) (at-header .header .result)
 is-ready c =
-    let h = c .before .before .before .before in let a = h .before .before .before .before .args in
-    ready (a .l .least) (a .s .now) (h .header .result) (is-held h) (two (c .before .before)) (three c)
+    let at-header = c .before .before .before .before in
+    let at-start = at-header .before .before .before .before in
+    let a = at-start .args in
+    ready (a .l .least) (a .s .now) (at-header .header .result) (is-held at-header) (two (c .before .before)) (three c)
 
 second-rule-requires : tie.Need-second-rule-requires
-second-rule-requires c κs = (c .before .before .before .before .pre .0, is-held ((c)))
+second-rule-requires c κs =
+    let at-start = c .before .before .before .before in
+    (at-start .pre .0, is-held ((c)))
 
 returns-2 : tie.Need-returns-2
-returns-2 c = let a = c .before .before .before .before .before .before .args in sym (lower-two (a .l .least) (a .s .now) (one ((c .before .before .before))) (sym (c .before .second-rule .ensures) ∙ not-true (c .before .second-rule .result) (c .if2 .taken)))
+returns-2 c =
+    let at-start = c .before .before .before .before .before .before in
+    let a = at-start .args in
+    sym (lower-two (a .l .least) (a .s .now) (one ((c .before .before .before)))
+    (sym (c .before .second-rule .ensures) ∙ not-true (c .before .second-rule .result) (c .if2 .taken)))
 
 third-rule-requires : tie.Need-third-rule-requires
-third-rule-requires c κs = (c .before .before .before .before .before .before .pre .0, is-held ((c .before .before)))
+third-rule-requires c κs =
+    let at-start = c .before .before .before .before .before .before in
+    (at-start .pre .0, is-held ((c .before .before)))
 
 returns-3 : tie.Need-returns-3
-returns-3 c = let a = c .before .before .before .before .before .before .before .before .args in sym (lower-three (a .l .least) (a .s .now) (one ((c .before .before .before .before .before))) (two ((c .before .before))) (sym (c .before .third-rule .ensures) ∙ not-true (c .before .third-rule .result) (c .if3 .taken)))
+returns-3 c =
+    let at-if1 = c .before .before .before .before .before in
+    let at-start = at-if1 .before .before .before in
+    let a = at-start .args in
+    sym (lower-three (a .l .least) (a .s .now) (one at-if1) (two ((c .before .before)))
+    (sym (c .before .third-rule .ensures) ∙ not-true (c .before .third-rule .result) (c .if3 .taken)))
 
 led-requires : tie.Need-led-requires
 led-requires c κs =
-    let e = c .before .before .before .before .before .before .before .before in
-    let a = e .args in
-    (e .pre .0, good (a .l .least) (a .s .now) (a .size) (e .pre .1) (one (c .before .before .before .before .before)) (three c), good-slots (a .l .least) (a .s .now) (a .size) (e .pre .1) (one (c .before .before .before .before .before)))
+    let at-if1 = c .before .before .before .before .before in
+    let at-start = at-if1 .before .before .before in
+    let a = at-start .args in (
+      at-start .pre .0,
+      good (a .l .least) (a .s .now) (a .size) (at-start .pre .1) (one at-if1) (three c),
+      good-slots (a .l .least) (a .s .now) (a .size) (at-start .pre .1) (one at-if1),
+    )
 
 surely-requires : tie.Need-surely-requires
 surely-requires c κs =
-    let e = c .before .before .before .before .before .before .before .before .before in
-    let a = e .args in
-    (e .pre .0, good (a .l .least) (a .s .now) (a .size) (e .pre .1) (one (c .before .before .before .before .before .before)) (three (c .before)), good-slots (a .l .least) (a .s .now) (a .size) (e .pre .1) (one (c .before .before .before .before .before .before)), c .led .ensures)
+    let at-if1 = c .before .before .before .before .before .before in
+    let at-start = at-if1 .before .before .before in
+    let a = at-start .args in (
+      at-start .pre .0,
+      good (a .l .least) (a .s .now) (a .size) (at-start .pre .1) (one at-if1) (three (c .before)),
+      good-slots (a .l .least) (a .s .now) (a .size) (at-start .pre .1) (one at-if1),
+      c .led .ensures,
+    )
 
 seventh-requires : tie.Need-seventh-requires
-seventh-requires c κs = let at = c .before .before .before in (at .before .before .before .before .before .before .before .before .pre .0, is-held (at .before .before .before .before))
+seventh-requires c κs =
+    let at-header = c .before .before .before .before .before .before .before in
+    let at-start = at-header .before .before .before .before in
+    (at-start .pre .0, is-held at-header)
 
 returns-4 : tie.Need-returns-4
 returns-4 c =
-    let at = c .before .before .before .before in
-    let e = at .before .before .before .before .before .before .before .before in
-    named-sound (e .args .l .least) (e .args .s .now) (omega (arith, e .pre .0 .four)) (one (at .before .before .before .before .before)) (two (at .before .before)) (three at) (c .before .before .surely .ensures (c .before .if4 .taken)) (c .seventh .result) (c .seventh .ensures)
+    let at-if3 = c .before .before .before .before in
+    let at-if2 = at-if3 .before .before in
+    let at-if1 = at-if2 .before .before .before in
+    let at-start = at-if1 .before .before .before in
+    named-sound (at-start .args .l .least) (at-start .args .s .now) (omega (arith, at-start .pre .0 .four)) (one at-if1) (two at-if2)
+    (three at-if3) (c .before .before .surely .ensures (c .before .if4 .taken)) (c .seventh .result) (c .seventh .ensures)
 
 broken-requires : tie.Need-broken-requires
-broken-requires c κs = (c .before .before .before .before .before .before .before .before .before .before .before .pre .0, is-ready (c .before .before .before))
+broken-requires c κs =
+    let at-start = c .before .before .before .before .before .before .before .before .before .before .before in
+    (at-start .pre .0, is-ready (c .before .before .before))
 
 returns-5 : tie.Need-returns-5
 returns-5 c =
-    let at = c .before .before .before .before .before in
-    let a = c .before .before .before .before .before .before .before .before .before .before .before .before .before .args in
-    named-some (a .l .least) (a .s .now) (one (at .before .before .before .before .before)) (two (at .before .before)) (three at) (c .before .broken .result) (c .before .broken .ensures) (c .if5 .taken)
+    let at-if3 = c .before .before .before .before .before in
+    let at-if2 = at-if3 .before .before in
+    let at-if1 = at-if2 .before .before .before in
+    let at-start = at-if1 .before .before .before in
+    let a = at-start .args in
+    named-some (a .l .least) (a .s .now) (one at-if1) (two at-if2) (three at-if3) (c .before .broken .result) (c .before .broken .ensures)
+    (c .if5 .taken)
 
 last-requires : tie.Need-last-requires
-last-requires c κs = rw (c .before .before .before .before .before .before .before .before .before .header .ensures) (current-lt (c .before .before .before .before .before .before .before .before .before .before .before .before .before .args .l .least) (c .before .before .before .before .before .before .before .before .before .before .before .before .before .args .s .now))
+last-requires c κs =
+    let at-header = c .before .before .before .before .before .before .before .before .before in
+    let at-start = at-header .before .before .before .before in
+    rw (at-header .header .ensures) (current-lt (at-start .args .l .least) (at-start .args .s .now))
 
 version-ok-requires : tie.Need-version-ok-requires
-version-ok-requires c κs = let y = is-ready (c .before .before .before .before .before .before) in (c .before .before .before .before .before .before .before .before .before .before .before .before .before .before .pre .0, y, omega (arith, c .last .ensures, y .last), omega (arith, c .last .ensures, y .old))
+version-ok-requires c κs =
+    let at-if3 = c .before .before .before .before .before .before in
+    let at-start = at-if3 .before .before .before .before .before .before .before .before in
+    let y = is-ready at-if3 in (at-start .pre .0, y, omega (arith, c .last .ensures, y .last), omega (arith, c .last .ensures, y .old))
 
 returns-6 : tie.Need-returns-6
 returns-6 c =
-    let at = c .before .before .before .before .before .before .before .before in
-    let a = c .before .before .before .before .before .before .before .before .before .before .before .before .before .before .before .before .args in
-    six-last (a .l .least) (a .s .now) (one (at .before .before .before .before .before)) (two (at .before .before)) (three at) (c .before .before .before .before .broken .result) (c .before .before .before .before .broken .ensures) (c .before .before .before .if5 .left) (c .before .before .before .before .before .before .before .before .before .before .before .before .header .result) (c .before .before .last .result) (c .before .before .before .before .before .before .before .before .before .before .before .before .header .ensures) (c .before .before .last .ensures) (omega (arith, is-ready at .old, c .before .before .last .ensures)) (sym (c .before .version-ok .ensures) ∙ not-true (c .before .version-ok .result) (c .if6 .taken))
+    let at-last = c .before .before in
+    let at-broken = at-last .before .before in
+    let at-if3 = at-broken .before .before .before .before in
+    let at-if2 = at-if3 .before .before in
+    let at-header = at-if2 .before .before in
+    let at-if1 = at-header .before in
+    let at-start = at-if1 .before .before .before in
+    let a = at-start .args in
+    six-last (a .l .least) (a .s .now) (one at-if1) (two at-if2) (three at-if3) (at-broken .broken .result) (at-broken .broken .ensures)
+    (at-last .before .if5 .left) (at-header .header .result) (at-last .last .result) (at-header .header .ensures) (at-last .last .ensures)
+    (omega (arith, is-ready at-if3 .old, at-last .last .ensures))
+    (sym (c .before .version-ok .ensures) ∙ not-true (c .before .version-ok .result) (c .if6 .taken))
 
 returns-7 : tie.Need-returns-7
 returns-7 c =
-    let at = c .before .before .before .before .before .before .before .before .before in
-    let e = c .before .before .before .before .before .before .before .before .before .before .before .before .before .before .before .before .before in
-    let a = e .args in
-    six-led (a .l .least) (a .s .now) (one (at .before .before .before .before .before)) (two (at .before .before)) (three at) (c .before .before .before .before .before .broken .result) (c .before .before .before .before .before .broken .ensures) (c .before .before .before .before .if5 .left) (omega (arith, e .pre .0 .four)) (c .before .before .before .before .before .before .before .before .led .result) (c .before .before .before .before .before .before .before .before .led .ensures) (not-true (c .before .before .before .before .before .before .before .before .led .result) (c .if7 .taken))
+    let at-if5 = c .before .before .before .before in
+    let at-broken = at-if5 .before in
+    let at-led = at-broken .before .before .before in
+    let at-if3 = at-led .before in
+    let at-if2 = at-if3 .before .before in
+    let at-if1 = at-if2 .before .before .before in
+    let at-start = at-if1 .before .before .before in
+    let a = at-start .args in
+    six-led (a .l .least) (a .s .now) (one at-if1) (two at-if2) (three at-if3) (at-broken .broken .result) (at-broken .broken .ensures)
+    (at-if5 .if5 .left) (omega (arith, at-start .pre .0 .four)) (at-led .led .result) (at-led .led .ensures)
+    (not-true (at-led .led .result) (c .if7 .taken))
 
 seventh-requires-2 : tie.Need-seventh-requires-2
 seventh-requires-2 c κs =
-    let at = c .before .before .before .before .before .before .before .before .before in
-    (at .before .before .before .before .before .before .before .before .pre .0, is-held (at .before .before .before .before))
+    let at-header = c .before .before .before .before .before .before .before .before .before .before .before .before .before in
+    let at-start = at-header .before .before .before .before in
+    (at-start .pre .0, is-held at-header)
 
 returns-8 : tie.Need-returns-8
 returns-8 c =
-    let at-if = c .before in
-    let at-led = at-if .before .before .before .before .before .before .before .before in
-    let at = at-led .before in
-    let e = at .before .before .before .before .before .before .before .before in
-    let a = e .args in
-    let at-broken = at-if .before .before .before .before .before in
-    six-none (a .l .least) (a .s .now) (one (at .before .before .before .before .before)) (two (at .before .before)) (three at) (at-broken .broken .result) (at-broken .broken .ensures) (at-if .before .before .before .before .if5 .left) (omega (arith, e .pre .0 .four)) (at-led .led .result) (at-led .led .ensures) (not-false (at-led .led .result) (at-if .if7 .left)) (c .seventh2 .result) (c .seventh2 .ensures)
+    let at-if7 = c .before in
+    let at-if5 = at-if7 .before .before .before .before in
+    let at-broken = at-if5 .before in
+    let at-led = at-broken .before .before .before in
+    let at-if3 = at-led .before in
+    let at-if2 = at-if3 .before .before in
+    let at-if1 = at-if2 .before .before .before in
+    let at-start = at-if1 .before .before .before in
+    let a = at-start .args in
+    six-none (a .l .least) (a .s .now) (one at-if1) (two at-if2) (three at-if3) (at-broken .broken .result) (at-broken .broken .ensures)
+    (at-if5 .if5 .left) (omega (arith, at-start .pre .0 .four)) (at-led .led .result) (at-led .led .ensures)
+    (not-false (at-led .led .result) (at-if7 .if7 .left)) (c .seventh2 .result) (c .seventh2 .ensures)
 
 pub lower-spec : {M : Type 1} → statement M
 lower-spec =

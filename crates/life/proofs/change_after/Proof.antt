@@ -27,44 +27,67 @@ loop-holds : tie.Need-loop-holds Inv-loop μ-loop
 loop-holds c = let u = c .answer-until .ensures in record { above = u .above; below = omega (arith, u .below); same = u .still }
 
 lookup-requires : tie.Need-lookup-requires Inv-loop μ-loop
-lookup-requires c κs = let p = c .before .before .before .before .pre in (reads-at (p .0) (c .before .loop .u) (omega (arith, p .2, c .before .loop .inv .above)) (c .loop-test .taken), p .1)
+lookup-requires c κs =
+    let at-start = c .before .before .before .before in
+    let p = at-start .pre in
+    (reads-at (p .0) (c .before .loop .u) (omega (arith, p .2, c .before .loop .inv .above)) (c .loop-test .taken), p .1)
 
 same-requires : tie.Need-same-requires Inv-loop μ-loop
 same-requires c κs = search needs
 
 returns : tie.Need-returns Inv-loop μ-loop
 returns c =
-    let a = c .before .before .before .before .before .before .before .args in
-    let k = c .before .before .before .before .loop in
+    let at-loop = c .before .before .before .before in
+    let at-start = at-loop .before .before .before in
+    let a = at-start .args in
+    let k = at-loop .loop in
     let f = lookup (decode (a .l .least) (a .s .now)) (a .key) in
     lasts-other (a .c) f (a .v) (k .u) (k .inv)
-    (same-false (f (a .v)) (f (k .u)) (ap₂ sameAs (sym (c .before .before .before .before .before .before .before .pre .4)) (sym (c .before .before .lookup .ensures)) ∙ sym (c .before .same .ensures) ∙ not-true (c .before .same .result) (c .if1 .taken)))
+    (same-false (f (a .v)) (f (k .u))
+    (ap₂ sameAs (sym (at-start .pre .4)) (sym (c .before .before .lookup .ensures)) ∙ sym (c .before .same .ensures)
+    ∙ not-true (c .before .same .result) (c .if1 .taken)))
 
 add-answer-until-2 : tie.Need-add-answer-until-2 Inv-loop μ-loop
-add-answer-until-2 c = omega (arith, low (c .before .before .before .before .before .before .before .pre .0))
+add-answer-until-2 c =
+    let at-start = c .before .before .before .before .before .before .before in
+    omega (arith, low (at-start .pre .0))
 
 answer-until-requires-2 : tie.Need-answer-until-requires-2 Inv-loop μ-loop
 answer-until-requires-2 c κs =
-    let p = c .before .before .before .before .before .before .before .pre in
-    let k = c .before .before .before .before .loop in
-    (reads-at (p .0) (k .u) (omega (arith, p .2, k .inv .above)) (c .before .before .before .loop-test .taken), p .1, omega (arith, c .before .before .before .loop-test .taken))
+    let at-test = c .before .before .before in
+    let at-loop = at-test .before in
+    let at-start = at-loop .before .before .before in
+    let p = at-start .pre in
+    let k = at-loop .loop in (
+      reads-at (p .0) (k .u) (omega (arith, p .2, k .inv .above)) (at-test .loop-test .taken),
+      p .1,
+      omega (arith, at-test .loop-test .taken),
+    )
 
 loop-less : tie.Need-loop-less Inv-loop μ-loop
-loop-less c = omega (arith, c .answer-until2 .ensures .above, c .before .before .before .before .loop-test .taken)
+loop-less c =
+    let at-test = c .before .before .before .before in
+    omega (arith, c .answer-until2 .ensures .above, at-test .loop-test .taken)
 
 loop-again : tie.Need-loop-again Inv-loop μ-loop
 loop-again c =
-    let a = c .before .before .before .before .before .before .before .before .args in
-    let k = c .before .before .before .before .before .loop in
+    let at-same = c .before .before in
+    let at-loop = at-same .before .before .before in
+    let at-start = at-loop .before .before .before in
+    let a = at-start .args in
+    let k = at-loop .loop in
     let f = lookup (decode (a .l .least) (a .s .now)) (a .key) in
     let u = c .answer-until2 .ensures in
     lasts-on (a .c) f (a .v) (k .u) (c .answer-until2 .result) (k .inv)
-    (same-true (f (a .v)) (f (k .u)) (ap₂ sameAs (sym (c .before .before .before .before .before .before .before .before .pre .4)) (sym (c .before .before .before .lookup .ensures)) ∙ sym (c .before .before .same .ensures) ∙ not-false (c .before .before .same .result) (c .before .if1 .left)))
+    (same-true (f (a .v)) (f (k .u))
+    (ap₂ sameAs (sym (at-start .pre .4)) (sym (at-same .before .lookup .ensures)) ∙ sym (at-same .same .ensures)
+    ∙ not-false (at-same .same .result) (c .before .if1 .left)))
     (u .above) (omega (arith, u .below)) (u .still)
 
 returns-2 : tie.Need-returns-2 Inv-loop μ-loop
 returns-2 c =
-    let a = c .before .before .before .before .args in
+    let at-start = c .before .before .before .before in
+    let a = at-start .args in
     let k = c .before .loop in
     lasts-end (a .c) (lookup (decode (a .l .least) (a .s .now)) (a .key)) (a .v) (k .u) (k .inv) (omega (arith, c .loop-test .left))
 

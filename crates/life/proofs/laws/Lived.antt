@@ -48,7 +48,8 @@ shown-told c v r (some x) = refl
 
 module _ {l : Limits} {b : List ℕ} {c : ℕ} (r : Walkable l b c) where
   pub reads-at : (v : ℕ) → decode (l .least) b .oldest ≤ v → v ≤ c → Walkable l b v
-  reads-at v from h = record { edition = r .edition; sound = r .sound; version = record { from = from; upto = omega (arith, r .version .upto) } }
+  reads-at v from h =
+      record { edition = r .edition; sound = r .sound; version = record { from = from; upto = omega (arith, r .version .upto) } }
 
   pub low : c ≤ 1048574
   low = omega (arith, r .version .upto, sure (r .edition) b (r .sound) .last-low)
@@ -56,7 +57,17 @@ module _ {l : Limits} {b : List ℕ} {c : ℕ} (r : Walkable l b c) where
 -- the current version
 module _ {l : Limits} (d : Edition l) (b : List ℕ) (h : isSound (l .least) b ≡ true) where
   pub reads-current : Walkable l b (readHeader (l .least) b .current)
-  reads-current = record { edition = d; sound = h; version = omega (arith, current-of (l .least) b, old-current (l .least) (decode (l .least) b) (sure d b h .old-low), at (decode (l .least) b .opened) (decode (l .least) b .current)) }
+  reads-current =
+      record {
+        edition = d;
+        sound = h;
+        version = omega (
+          arith,
+          current-of (l .least) b,
+          old-current (l .least) (decode (l .least) b) (sure d b h .old-low),
+          at (decode (l .least) b .opened) (decode (l .least) b .current),
+        );
+      }
     where
       at : (o : Bool) (n : ℕ) → n ≤ lastOf o n
       at true n = omega arith
@@ -64,7 +75,8 @@ module _ {l : Limits} (d : Edition l) (b : List ℕ) (h : isSound (l .least) b �
 
   -- from the oldest version up to the current one
   pub old-upto : readHeader (l .least) b .oldest ≤ readHeader (l .least) b .current
-  old-upto = omega (arith, current-of (l .least) b, oldest-of (l .least) b, old-current (l .least) (decode (l .least) b) (sure d b h .old-low))
+  old-upto =
+      omega (arith, current-of (l .least) b, oldest-of (l .least) b, old-current (l .least) (decode (l .least) b) (sure d b h .old-low))
 
   pub few-stretches : (old : ℕ) (f : ℕ → Option ℕ) → length (lifeOf old (readHeader (l .least) b .current) f) ≤ 2 ^ 40
   few-stretches old f = omega (arith, life-length (readHeader (l .least) b .current) f old, low reads-current)
@@ -92,6 +104,7 @@ module _ (c : ℕ) (f : ℕ → Option ℕ) (v : ℕ) where
   lasts-end u l h = record { above = l .above; below = l .below; same = l .same; other = λ z. absurd (omega arith) }
 
 -- what is told of the versions from v up to r, and the rest behind it
-module _ (c : ℕ) (f : ℕ → Option ℕ) (v r e : ℕ) (answer : Looked) (l : Lasts c f v r) (a : answer ≡ lookedAt (f v)) (s : e ≡ pick (ltb c r) alive r) where
+module _ (c : ℕ) (f : ℕ → Option ℕ) (v r e : ℕ) (answer : Looked) (l : Lasts c f v r) (a : answer ≡ lookedAt (f v))
+    (s : e ≡ pick (ltb c r) alive r) where
   pub rest-told : rest c f v ≡ shown v e answer ++ rest c f r
   rest-told = rest-step c f v r l ∙ ap (λ (xs : List Stretch). xs ++ rest c f r) (sym (ap₂ (shown v) s a ∙ shown-told c v r (f v)))

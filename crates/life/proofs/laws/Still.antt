@@ -31,7 +31,13 @@ module _ (p : List ℕ) (n v r : ℕ) where
   aliveFrom i w = live w (from p i n)
 
   pub page-none : v < r → Until v r (aliveFrom n) r
-  page-none h = record { below = omega arith; above = h; still = λ w a b. ap (live w) (from-end p n n (omega arith)) ∙ sym (ap (live v) (from-end p n n (omega arith))) }
+  page-none h =
+      record {
+        below = omega arith;
+        above = h;
+        still = λ w a b. ap (live w) (from-end p n n (omega arith))
+            ∙ sym (ap (live v) (from-end p n n (omega arith)));
+      }
 
   live-cons : (w : ℕ) (e : Entry) (es : List Entry) → live w (e ∷ es) ≡ keep (liveAt w e) (pairOf e) (live w es)
   live-cons w e es = at (liveAt w e) refl
@@ -40,14 +46,16 @@ module _ (p : List ℕ) (n v r : ℕ) where
       at true h = rw h
       at false h = rw h
 
-  pub page-more : (i q q1 q2 : ℕ) → i < n → Until v r (aliveFrom (i + 1)) q → Sooner v q (entry p i .start) q1 → Sooner v q1 (entry p i .end) q2 → Until v r (aliveFrom i) q2
+  pub page-more : (i q q1 q2 : ℕ) → i < n → Until v r (aliveFrom (i + 1)) q → Sooner v q (entry p i .start) q1
+      → Sooner v q1 (entry p i .end) q2 → Until v r (aliveFrom i) q2
   page-more i q q1 q2 l u a b = record {
     below = omega (arith, u .below, a .below, b .below);
     above = b .above;
     still = λ w low high.
         let e = entry p i in
         let es = from p (i + 1) n in
-        let t : liveAt v e ≡ liveAt w e = within-still v w q2 low high (e .start) (e .end) (out-less v q1 q2 (e .start) (b .below) (a .out)) (b .out) in
+        let t : liveAt v e ≡ liveAt w e = within-still v w q2 low high (e .start) (e .end) (out-less v q1 q2 (e .start) (b .below) (a .out))
+        (b .out) in
         ap (live w) (from-step p n i l) ∙ live-cons w e es
         ∙ ap₂ (λ (x : Bool) (xs : List Pair). keep x (pairOf e) xs) (sym t) (u .still w low (omega (arith, a .below, b .below)))
         ∙ sym (ap (live v) (from-step p n i l) ∙ live-cons v e es);
@@ -59,9 +67,13 @@ module _ (b : List ℕ) (o v r : ℕ) where
   pub roots-none : v < r → Until v r (rootAt (readSlots b o 0)) r
   roots-none h = record { below = omega arith; above = h; still = λ w low high. root-none b o w ∙ sym (root-none b o v) }
 
-  pub roots-more : (i q q1 : ℕ) → Until v r (rootAt (readSlots b o i)) q → Sooner v q (readSlot b (o + 32 * i) .version) q1 → Until v r (rootAt (readSlots b o (suc i))) q1
-  roots-more i q q1 u a = record { below = omega (arith, u .below, a .below); above = a .above; still = λ w low high. at w low high (a .out) }
+  pub roots-more : (i q q1 : ℕ) → Until v r (rootAt (readSlots b o i)) q → Sooner v q (readSlot b (o + 32 * i) .version) q1
+      → Until v r (rootAt (readSlots b o (suc i))) q1
+  roots-more i q q1 u a =
+      record { below = omega (arith, u .below, a .below); above = a .above; still = λ w low high. at w low high (a .out) }
     where
-      at : (w : ℕ) → v ≤ w → w < q1 → Out v q1 (readSlot b (o + 32 * i) .version) → rootAt (readSlots b o (suc i)) w ≡ rootAt (readSlots b o (suc i)) v
+      at : (w : ℕ) → v ≤ w → w < q1 → Out v q1 (readSlot b (o + 32 * i) .version)
+          → rootAt (readSlots b o (suc i)) w ≡ rootAt (readSlots b o (suc i)) v
       at w low high (inl h) = root-here b o w i (omega arith) ∙ sym (root-here b o v i h)
-      at w low high (inr h) = root-before b o w i (omega arith) ∙ u .still w low (omega (arith, a .below)) ∙ sym (root-before b o v i (omega (arith, a .above)))
+      at w low high (inr h) =
+          root-before b o w i (omega arith) ∙ u .still w low (omega (arith, a .below)) ∙ sym (root-before b o v i (omega (arith, a .above)))

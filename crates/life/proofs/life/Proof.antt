@@ -19,50 +19,84 @@ use Rattle.life.proofs.life.Tie as tie
 
 header-requires : tie.Need-header-requires
 header-requires c κs =
-    let p = c .before .before .pre in
-    let a = c .before .before .args in
+    let at-start = c .before .before in
+    let p = at-start .pre in
+    let a = at-start .args in
     (p .0, omega (arith, front (p .0) (a .s .now) (p .1)), few (p .0) (a .s .now) (p .1))
 
 tell-all-requires : tie.Need-tell-all-requires
 tell-all-requires c κs =
-    let p = c .before .before .before .before .pre in
-    let a = c .before .before .before .before .args in
-    rw (c .before .header .ensures) (reads-current (p .0) (a .s .now) (p .1), p .2, none-room stretches (few-stretches (p .0) (a .s .now) (p .1) _ _), omega (arith, oldest-of (a .l .least) (a .s .now)), old-upto (p .0) (a .s .now) (p .1))
+    let at-start = c .before .before .before .before in
+    let p = at-start .pre in
+    let a = at-start .args in
+    rw (c .before .header .ensures) (
+      reads-current (p .0) (a .s .now) (p .1),
+      p .2,
+      none-room stretches (few-stretches (p .0) (a .s .now) (p .1) _ _),
+      omega (arith, oldest-of (a .l .least) (a .s .now)),
+      old-upto (p .0) (a .s .now) (p .1),
+    )
 
 mul-if1 : tie.Need-mul-if1
 mul-if1 c =
-    let p = c .before .before .before .before .before .before .before .pre in
-    let a = c .before .before .before .before .before .before .before .args in
-    let g = rw (c .before .before .before .before .header .ensures) at (c .before .before .tell-all .ensures) in
-    omega (arith, counted stretches g, few-stretches (p .0) (a .s .now) (p .1) (readHeader (a .l .least) (a .s .now) .oldest) (lookup (decode (a .l .least) (a .s .now)) (a .key)))
+    let at-header = c .before .before .before .before in
+    let at-start = at-header .before .before .before in
+    let p = at-start .pre in
+    let a = at-start .args in
+    let g = rw (at-header .header .ensures) at (c .before .before .tell-all .ensures) in
+    omega (
+      arith,
+      counted stretches g,
+      few-stretches (p .0) (a .s .now) (p .1) (readHeader (a .l .least) (a .s .now) .oldest)
+          (lookup (decode (a .l .least) (a .s .now)) (a .key)),
+    )
 
 same-length : tie.Need-same-length
 same-length c = search needs
 
 returns : tie.Need-returns
 returns c =
-    let a = c .before .before .before .before .before .before .before .before .args in
-    let g = rw (c .before .before .before .before .before .header .ensures) at (c .before .before .before .tell-all .ensures) in
+    let at-header = c .before .before .before .before .before in
+    let at-start = at-header .before .before .before in
+    let a = at-start .args in
+    let g = rw (at-header .header .ensures) at (c .before .before .before .tell-all .ensures) in
     told-short stretches g (c .if1 .taken)
-    ∙ ap₂ (λ (m n : ℕ). listed (a .list .now) (toldBy stretchNumbers 3 0 (length (a .list .now)) (lifeOf m n (lookup (decode (a .l .least) (a .s .now)) (a .key))))) (sym (oldest-of (a .l .least) (a .s .now))) (sym (current-of (a .l .least) (a .s .now)))
+    ∙ ap₂ (λ (m n : ℕ). listed (a .list .now)
+    (toldBy stretchNumbers 3 0 (length (a .list .now)) (lifeOf m n (lookup (decode (a .l .least) (a .s .now)) (a .key)))))
+    (sym (oldest-of (a .l .least) (a .s .now))) (sym (current-of (a .l .least) (a .s .now)))
 
 tell-all-requires-2 : tie.Need-tell-all-requires-2
 tell-all-requires-2 c κs =
-    let p = c .before .before .before .before .before .before .before .before .before .pre in
-    let a = c .before .before .before .before .before .before .before .before .before .args in
-    let g = rw (c .before .before .before .before .before .before .header .ensures) at (c .before .before .before .before .tell-all .ensures) in
-    rw (c .before .before .before .before .before .before .header .ensures) (reads-current (p .0) (a .s .now) (p .1), p .2, second-space stretches g (c .before .if1 .left) (few-stretches (p .0) (a .s .now) (p .1) _ _), omega (arith, oldest-of (a .l .least) (a .s .now)), old-upto (p .0) (a .s .now) (p .1))
+    let at-tell-all = c .before .before .before .before in
+    let at-header = at-tell-all .before .before in
+    let at-start = at-header .before .before .before in
+    let p = at-start .pre in
+    let a = at-start .args in
+    let g = rw (at-header .header .ensures) at (at-tell-all .tell-all .ensures) in
+    rw (at-header .header .ensures) (
+      reads-current (p .0) (a .s .now) (p .1),
+      p .2,
+      second-space stretches g (c .before .if1 .left) (few-stretches (p .0) (a .s .now) (p .1) _ _),
+      omega (arith, oldest-of (a .l .least) (a .s .now)),
+      old-upto (p .0) (a .s .now) (p .1),
+    )
 
 same-length-2 : tie.Need-same-length-2
 same-length-2 c = search needs
 
 returns-2 : tie.Need-returns-2
 returns-2 c =
-    let a = c .before .before .before .before .before .before .before .before .before .before .before .before .args in
-    let h = c .before .before .before .before .before .before .before .before .before .header .ensures in
-    let g = rw h at (c .before .before .before .before .before .before .before .tell-all .ensures) in
-    told-all stretches g (c .before .before .before .before .if1 .left) (rw h at (c .before .before .tell-all2 .ensures))
-    ∙ ap₂ (λ (m n : ℕ). listed (a .list .now) (toldBy stretchNumbers 3 0 (length (a .list .now)) (lifeOf m n (lookup (decode (a .l .least) (a .s .now)) (a .key))))) (sym (oldest-of (a .l .least) (a .s .now))) (sym (current-of (a .l .least) (a .s .now)))
+    let at-if1 = c .before .before .before .before in
+    let at-tell-all = at-if1 .before .before .before in
+    let at-header = at-tell-all .before .before in
+    let at-start = at-header .before .before .before in
+    let a = at-start .args in
+    let h = at-header .header .ensures in
+    let g = rw h at (at-tell-all .tell-all .ensures) in
+    told-all stretches g (at-if1 .if1 .left) (rw h at (c .before .before .tell-all2 .ensures))
+    ∙ ap₂ (λ (m n : ℕ). listed (a .list .now)
+    (toldBy stretchNumbers 3 0 (length (a .list .now)) (lifeOf m n (lookup (decode (a .l .least) (a .s .now)) (a .key)))))
+    (sym (oldest-of (a .l .least) (a .s .now))) (sym (current-of (a .l .least) (a .s .now)))
 
 pub life-spec : {M : Type 1} → statement M
 life-spec =

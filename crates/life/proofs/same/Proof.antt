@@ -22,7 +22,9 @@ enum-told-2 : tie.Need-enum-told-2
 enum-told-2 c = search needs
 
 returns : tie.Need-returns
-returns c = c .is-value .ensures ∙ sym (ap (λ (x : Looked). sameAs x (c .before .before .before .before .args .b)) (c .before .before .a .given .1))
+returns c =
+    let at-start = c .before .before .before .before in
+    c .is-value .ensures ∙ sym (ap (λ (x : Looked). sameAs x (at-start .args .b)) (c .before .before .a .given .1))
 
 returns-2 : tie.Need-returns-2
 returns-2 c = search needs

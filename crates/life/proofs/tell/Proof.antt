@@ -13,11 +13,15 @@ enum-known-answer c = search needs
 
 put-requires : tie.Need-put-requires
 put-requires c κs =
-    let a = c .before .before .before .before .before .args in
-    subst (Space stretches (a .write) (a .list .now) (a .k)) (ap (shown (a .v) (a .e)) (c .before .before .answer .given .1)) (c .before .before .before .before .before .pre)
+    let at-start = c .before .before .before .before .before in
+    let a = at-start .args in
+    subst (Space stretches (a .write) (a .list .now) (a .k)) (ap (shown (a .v) (a .e)) (c .before .before .answer .given .1))
+    (at-start .pre)
 
 add-result : tie.Need-add-result
-add-result c = omega (arith, c .before .before .before .before .before .before .before .before .pre .few)
+add-result c =
+    let at-start = c .before .before .before .before .before .before .before .before in
+    omega (arith, at-start .pre .few)
 
 enum-told : tie.Need-enum-told
 enum-told c = search needs
@@ -30,8 +34,10 @@ same-length c = search needs
 
 returns : tie.Need-returns
 returns c =
-    let a = c .before .before .before .before .before .before .before .before .args in
-    let e = ap (shown (a .v) (a .e)) (c .before .before .before .before .before .answer .given .1) in
+    let at-answer = c .before .before .before .before .before in
+    let at-start = at-answer .before .before .before in
+    let a = at-start .args in
+    let e = ap (shown (a .v) (a .e)) (at-answer .answer .given .1) in
     rw e (record { count = refl; list = c .before .before .put .ensures })
 
 returns-2 : tie.Need-returns-2

@@ -17,7 +17,8 @@ returns c = search needs
 
 look-on-requires : tie.Need-look-on-requires
 look-on-requires c κs =
-    let a = c .before .before .before .before .args in
+    let at-start = c .before .before .before .before in
+    let a = at-start .args in
     let d = edition-of 4 (c .before .before .edition-one .ensures) (omega arith) (omega arith) in
     reads d (a .s .now) _ (a .version) (sym (c .before .guard-reading .ensures) ∙ c .if1 .left)
 

@@ -19,11 +19,13 @@ use Rattle.near.specs.Early.{guarded, badRange}
 use Rattle.near.proofs.laws.Early.{chain-on, numbers}
 use Rattle.near.specs.Crossed.{answered, crossed}
 
-pub answered-wrong : (ns : List ℕ) (right : Bool) (xs : List Pair) → right ≡ false → record { number = 4; count = 0; list = ns } ≡ answered ns right xs
+pub answered-wrong : (ns : List ℕ) (right : Bool) (xs : List Pair) → right ≡ false
+    → record { number = 4; count = 0; list = ns } ≡ answered ns right xs
 unfolding answered rangedBy
 answered-wrong ns right xs e = sym (rw e)
 
-pub answered-right : (ns : List ℕ) (right : Bool) (xs : List Pair) → right ≡ true → listed ns (rangedBy 0 (length ns) xs) ≡ answered ns right xs
+pub answered-right : (ns : List ℕ) (right : Bool) (xs : List Pair) → right ≡ true
+    → listed ns (rangedBy 0 (length ns) xs) ≡ answered ns right xs
 unfolding answered
 answered-right ns right xs e = sym (rw e)
 
@@ -41,23 +43,28 @@ module _ (least : ℕ) (b : List ℕ) (lo hi v : ℕ) (ns : List ℕ) where
   pub cross-free : page ps root .level ≡ 0 → kept 4 ≡ crossed least b lo hi v ns
   unfolding crossed
   cross-free e =
-      answered-wrong ns (not (eqb (page ps root .level) 0) && rangeRight least b v (pred (page ps root .level)) hi lo root) (rangeOf (decode least b) lo hi v)
+      answered-wrong ns (not (eqb (page ps root .level) 0) && rangeRight least b v (pred (page ps root .level)) hi lo root)
+      (rangeOf (decode least b) lo hi v)
       (ap (λ (x : ℕ). not (eqb x 0) && rangeRight least b v (pred x) hi lo root) e)
 
-  at-level : (up : ℕ) → page ps root .level ≡ suc up → crossed least b lo hi v ns ≡ answered ns (rangeRight least b v up hi lo root) (rangeBelow up ps v lo hi lo root)
+  at-level : (up : ℕ) → page ps root .level ≡ suc up
+      → crossed least b lo hi v ns ≡ answered ns (rangeRight least b v up hi lo root) (rangeBelow up ps v lo hi lo root)
   unfolding crossed
   at-level up e =
       ap (λ (x : ℕ). answered ns (not (eqb x 0) && rangeRight least b v (pred x) hi lo root) (rangeBelow (pred x) ps v lo hi lo root)) e
-      ∙ ap (λ (t : Bool). answered ns (not t && rangeRight least b v up hi lo root) (rangeBelow up ps v lo hi lo root)) (ne-eqb (suc up) 0 (λ q. omega arith))
+      ∙ ap (λ (t : Bool). answered ns (not t && rangeRight least b v up hi lo root) (rangeBelow up ps v lo hi lo root))
+      (ne-eqb (suc up) 0 (λ q. omega arith))
 
-  pub cross-at : (up : ℕ) → page ps root .level ≡ suc up → rangeRight least b v up hi lo root ≡ true → crossed least b lo hi v ns ≡ listed ns (rangedBy 0 (length ns) (rangeBelow up ps v lo hi lo root))
+  pub cross-at : (up : ℕ) → page ps root .level ≡ suc up → rangeRight least b v up hi lo root ≡ true
+      → crossed least b lo hi v ns ≡ listed ns (rangedBy 0 (length ns) (rangeBelow up ps v lo hi lo root))
   cross-at up e f = at-level up e ∙ sym (answered-right ns (rangeRight least b v up hi lo root) (rangeBelow up ps v lo hi lo root) f)
 
   pub cross-not : (up : ℕ) → page ps root .level ≡ suc up → rangeRight least b v up hi lo root ≡ false → kept 4 ≡ crossed least b lo hi v ns
   cross-not up e f = answered-wrong ns (rangeRight least b v up hi lo root) (rangeBelow up ps v lo hi lo root) f ∙ sym (at-level up e)
 
   -- by the walk from the root
-  pub cross-by : (level : ℕ) → 0 < level → page ps root .level ≡ level → answered ns (rangeRight least b v (pred level) hi lo root) (rangeBelow (pred level) ps v lo hi lo root) ≡ crossed least b lo hi v ns
+  pub cross-by : (level : ℕ) → 0 < level → page ps root .level ≡ level
+      → answered ns (rangeRight least b v (pred level) hi lo root) (rangeBelow (pred level) ps v lo hi lo root) ≡ crossed least b lo hi v ns
   cross-by zero h e = absurd (omega arith)
   cross-by (suc up) h e = sym (at-level up e)
 
@@ -69,7 +76,8 @@ module _ (least : ℕ) (b : List ℕ) (lo hi v : ℕ) (ns : List ℕ) where
       let rs : List Rule = early least b (rule 5 (badRange lo hi) ∷ rule 6 (unreadable (decode least b) v) ∷ []) in
       let q : List Rule = rule 4 (not (fromRoot least b v (λ up n. rangeRight least b v up hi lo n))) ∷ [] in
       ap (λ (n : ℕ). listed ns (rangedBy n (length ns) (rangeOf (decode least b) lo hi v)))
-      (chain-on rs q (numbers least b (rule 5 (badRange lo hi) ∷ rule 6 (unreadable (decode least b) v) ∷ []) (omega arith, (omega arith, tt))))
+      (chain-on rs q
+      (numbers least b (rule 5 (badRange lo hi) ∷ rule 6 (unreadable (decode least b) v) ∷ []) (omega arith, (omega arith, tt))))
       ∙ at (firstOf rs) (firstOf q)
     where
       at : (n m : ℕ) → listed ns (rangedBy (judgedFirst n (λ j. j) m) (length ns) (rangeOf (decode least b) lo hi v))

@@ -42,9 +42,12 @@ module _ (least : ℕ) (b : List ℕ) (v k : ℕ) where
   pub walk-start : (up : ℕ) → page ps root .level ≡ suc up → walked least b v k ≡ descended up root
   unfolding walked descended
   walk-start up e =
-      ap (λ (m : ℕ). by (fromRoot least b v (λ up n. downRight least b v up k n)) (find k (pairsAt v (page ps m)))) (way-leaf (decode least b) v k)
-      ∙ ap (λ (x : ℕ). by (not (eqb x 0) && downRight least b v (pred x) k root) (find k (pairsAt v (page ps (leafDown (pred x) ps v k root))))) e
-      ∙ ap (λ (t : Bool). by (not t && downRight least b v up k root) (find k (pairsAt v (page ps (leafDown up ps v k root))))) (ne-eqb (suc up) 0 (λ q. omega arith))
+      ap (λ (m : ℕ). by (fromRoot least b v (λ up n. downRight least b v up k n)) (find k (pairsAt v (page ps m))))
+      (way-leaf (decode least b) v k)
+      ∙ ap (λ (x : ℕ). by (not (eqb x 0) && downRight least b v (pred x) k root)
+      (find k (pairsAt v (page ps (leafDown (pred x) ps v k root))))) e
+      ∙ ap (λ (t : Bool). by (not t && downRight least b v up k root) (find k (pairsAt v (page ps (leafDown up ps v k root)))))
+      (ne-eqb (suc up) 0 (λ q. omega arith))
 
   module _ (n : ℕ) where
     pub down-wrong : (up : ℕ) → pageRight least b (suc up) n ≡ false → Refused 4 ≡ descended up n
@@ -58,7 +61,8 @@ module _ (least : ℕ) (b : List ℕ) (v k : ℕ) where
       unfolding descended downRight
       down-none f = sym (rw (e, f))
 
-      pub down-on : startsBy k (pairsAt v (page ps n)) ≡ true → descended (suc up) n ≡ descended up (around k (pairsAt v (page ps n)) .own .value)
+      pub down-on : startsBy k (pairsAt v (page ps n)) ≡ true
+          → descended (suc up) n ≡ descended up (around k (pairsAt v (page ps n)) .own .value)
       unfolding descended downRight
       down-on f = rw (e, f)
 
@@ -76,7 +80,8 @@ module _ (least : ℕ) (b : List ℕ) (v k : ℕ) where
   level-wrong zero n h e = absurd (omega arith)
   level-wrong (suc up) n h e = down-wrong n up e
 
-  pub level-none : (level n : ℕ) → 1 < level → pageRight least b level n ≡ true → startsBy k (pairsAt v (page ps n)) ≡ false → Refused 4 ≡ descended (pred level) n
+  pub level-none : (level n : ℕ) → 1 < level → pageRight least b level n ≡ true → startsBy k (pairsAt v (page ps n)) ≡ false
+      → Refused 4 ≡ descended (pred level) n
   level-none zero n h e f = absurd (omega arith)
   level-none (suc zero) n h e f = absurd (omega arith)
   level-none (suc (suc up)) n h e f = down-none n up e f
@@ -85,7 +90,9 @@ module _ (least : ℕ) (b : List ℕ) (v k : ℕ) where
       → descended (pred level) n ≡ descended (pred (level - 1)) (around k (pairsAt v (page ps n)) .own .value)
   level-on zero n h e f = absurd (omega arith)
   level-on (suc zero) n h e f = absurd (omega arith)
-  level-on (suc (suc up)) n h e f = down-on n up e f ∙ sym (ap (λ (m : ℕ). descended (pred m) (around k (pairsAt v (page ps n)) .own .value)) (sub-one (suc (suc up))))
+  level-on (suc (suc up)) n h e f = down-on n up e f
+      ∙ sym (ap (λ (m : ℕ). descended (pred m) (around k (pairsAt v (page ps n)) .own .value)) (sub-one (suc (suc up))))
 
-  pub level-leaf : (level n : ℕ) → level ≡ 1 → pageRight least b 1 n ≡ true → lookedAt (find k (pairsAt v (page ps n))) ≡ descended (pred level) n
+  pub level-leaf : (level n : ℕ) → level ≡ 1 → pageRight least b 1 n ≡ true
+      → lookedAt (find k (pairsAt v (page ps n))) ≡ descended (pred level) n
   level-leaf level n h e = down-leaf n e ∙ sym (ap (λ (m : ℕ). descended (pred m) n) h)

@@ -32,7 +32,8 @@ chain-on [] qs h = refl
 chain-on (x ∷ xs) qs h = at (x .number) (x .holds) (h .0) (chain-on xs qs (h .1))
   where
     at : (m : ℕ) (t : Bool) → 0 < m → firstOf (xs ++ qs) ≡ judgedFirst (firstOf xs) (λ n. n) (firstOf qs)
-        → _≡_ {A = ℕ} (elim t [ true ↦ m | false ↦ firstOf (xs ++ qs) ]) (judgedFirst (elim t [ true ↦ m | false ↦ firstOf xs ]) (λ n. n) (firstOf qs))
+        → _≡_ {A = ℕ} (elim t [ true ↦ m | false ↦ firstOf (xs ++ qs) ])
+        (judgedFirst (elim t [ true ↦ m | false ↦ firstOf xs ]) (λ n. n) (firstOf qs))
     at zero t p ih = absurd (omega arith)
     at (suc m) true p ih = refl
     at (suc m) false p ih = ih
@@ -41,7 +42,8 @@ module _ (least : ℕ) (b : List ℕ) where
   abbrev pub numbers : (rs : List Rule) → Numbered rs → Numbered (early least b rs)
   numbers rs h = (omega arith, (omega arith, (omega arith, (omega arith, h))))
 
-  pub guard-is : (bad : Bool) (v : ℕ) → guarded least b bad v ≡ judgedFirst (fronted least b) (λ n. n) (firstOf (rule 5 bad ∷ rule 6 (unreadable (decode least b) v) ∷ []))
+  pub guard-is : (bad : Bool) (v : ℕ) → guarded least b bad v
+      ≡ judgedFirst (fronted least b) (λ n. n) (firstOf (rule 5 bad ∷ rule 6 (unreadable (decode least b) v) ∷ []))
   unfolding guarded fronted
   guard-is bad v = chain-on (early least b []) (rule 5 bad ∷ rule 6 (unreadable (decode least b) v) ∷ []) (numbers [] tt)
 
@@ -94,15 +96,18 @@ module _ (least : ℕ) (b : List ℕ) where
 
   -- ---- a lookup by its guard
 
-  pub lookup-by : (k v : ℕ) → lookupLent least b k v ≡ judgedFirst (guarded least b (leb keyLimit k) v) (λ n. Refused n) (walked least b v k)
+  pub lookup-by : (k v : ℕ) → lookupLent least b k v
+      ≡ judgedFirst (guarded least b (leb keyLimit k) v) (λ n. Refused n) (walked least b v k)
   unfolding lookupLent lookupNear guarded walked
   lookup-by k v =
       let rs : List Rule = early least b (rule 5 (leb keyLimit k) ∷ rule 6 (unreadable (decode least b) v) ∷ []) in
       let q : List Rule = rule 4 (not (fromRoot least b v (λ up n. downRight least b v up k n))) ∷ [] in
-      ap (λ (n : ℕ). lookedBy n (lookup (decode least b) k v)) (chain-on rs q (numbers (rule 5 (leb keyLimit k) ∷ rule 6 (unreadable (decode least b) v) ∷ []) (omega arith, (omega arith, tt))))
+      ap (λ (n : ℕ). lookedBy n (lookup (decode least b) k v))
+      (chain-on rs q (numbers (rule 5 (leb keyLimit k) ∷ rule 6 (unreadable (decode least b) v) ∷ []) (omega arith, (omega arith, tt))))
       ∙ at (firstOf rs) (firstOf q)
     where
-      at : (n m : ℕ) → lookedBy (judgedFirst n (λ j. j) m) (lookup (decode least b) k v) ≡ judgedFirst n (λ j. Refused j) (lookedBy m (lookup (decode least b) k v))
+      at : (n m : ℕ) → lookedBy (judgedFirst n (λ j. j) m) (lookup (decode least b) k v)
+          ≡ judgedFirst n (λ j. Refused j) (lookedBy m (lookup (decode least b) k v))
       at zero m = refl
       at (suc n) m = refl
 
@@ -150,7 +155,11 @@ module _ {l : Limits} (d : Edition l) (b : List ℕ) where
     pub none-fronted : Fronted (l .least) b
     none-fronted =
         let s = none-sized in
-        record { front = omega (arith, s .front); few = omega (arith, s .long); roots = clean-roots (l .least) b (front-true (l .least) b (both .1)) }
+        record {
+          front = omega (arith, s .front);
+          few = omega (arith, s .long);
+          roots = clean-roots (l .least) b (front-true (l .least) b (both .1));
+        }
 
   pub guard-fronted : (bad : Bool) (v : ℕ) → guarded (l .least) b bad v ≡ 0 → fronted (l .least) b ≡ 0
   guard-fronted bad v e = none-front (l .least) b bad v e

@@ -1,4 +1,5 @@
--- "bytes that differ only off the walk give the same answer": a lookup depends on the header, the slots, and the pages that its own walk reads.
+-- "bytes that differ only off the walk give the same answer": a lookup depends on the header, the slots, and the pages that its own walk
+-- reads.
 -- Assumes nothing.
 use Prim.Native.Nat.{ℕ, zero, suc, _+_, _*_, _-_, _/_, _%_, _≤_, _<_}
 use native.Mathlib.Omega.{arith}
@@ -66,7 +67,14 @@ module _ (least : ℕ) (some : 1 ≤ least) (b c : List ℕ) (s : FrontAlike lea
 
   header-same : readHeader least b ≡ readHeader least c
   unfolding readHeader
-  header-same = rw (field-same 40 13 (omega arith), field-same 53 20 (omega arith), field-same 73 1 (omega arith), field-same 74 (rootBits least) (omega (arith, low-bits)), field-same (74 + rootBits least) (oldestBits least) (omega (arith, low-bits, old-bits)))
+  header-same =
+      rw (
+        field-same 40 13 (omega arith),
+        field-same 53 20 (omega arith),
+        field-same 73 1 (omega arith),
+        field-same 74 (rootBits least) (omega (arith, low-bits)),
+        field-same (74 + rootBits least) (oldestBits least) (omega (arith, low-bits, old-bits)),
+      )
 
   slots-same : (o n : ℕ) → o + 32 * n ≤ 2560 * least → readSlots b o n ≡ readSlots c o n
   unfolding readSlots readSlot
@@ -77,12 +85,19 @@ module _ (least : ℕ) (some : 1 ≤ least) (b c : List ℕ) (s : FrontAlike lea
   unfolding field
   rest-same r =
       let a : ℕ = 512 * least + 32 * r in
-      ⊎-elim (λ l. ap (λ (x : ℕ). eqb x 0) (field-same a (2560 * least - a) (omega arith))) (λ l. let z : 2560 * least - a ≡ 0 = omega arith in rw z) (less a (2560 * least))
+      ⊎-elim (λ l. ap (λ (x : ℕ). eqb x 0) (field-same a (2560 * least - a) (omega arith)))
+      (λ l. let z : 2560 * least - a ≡ 0 = omega arith in rw z) (less a (2560 * least))
 
   clean-same : cleanFront least b ≡ cleanFront least c
   unfolding cleanFront
   clean-same =
-      rw (header-same, s .long, field-same (74 + rootBits least + oldestBits least) (512 * least - (74 + rootBits least + oldestBits least)) (omega (arith, low-bits, old-bits)), rest-same (readHeader least c .roots))
+      rw (
+        header-same,
+        s .long,
+        field-same (74 + rootBits least + oldestBits least) (512 * least - (74 + rootBits least + oldestBits least))
+            (omega (arith, low-bits, old-bits)),
+        rest-same (readHeader least c .roots),
+      )
 
   last-same : last (decode least b) ≡ last (decode least c)
   last-same = last-is least b ∙ ap (λ (h : Header). lastOf (h .opened) (h .current)) header-same ∙ sym (last-is least c)
@@ -130,14 +145,18 @@ module _ (least : ℕ) (some : 1 ≤ least) (b c : List ℕ) (s : FrontAlike lea
 
   pub guard-same : (bad : Bool) (v : ℕ) → guarded least b bad v ≡ guarded least c bad v
   guard-same bad v =
-      guard-is least b bad v ∙ ap (λ (n : ℕ). judgedFirst n (λ j. j) (firstOf (rule 5 bad ∷ rule 6 (unreadable (decode least b) v) ∷ []))) fronted-same
-      ∙ ap₂ (λ (m o : ℕ). judgedFirst (fronted least c) (λ j. j) (firstOf (rule 5 bad ∷ rule 6 (beyond m o v) ∷ []))) last-same old-same ∙ sym (guard-is least c bad v)
+      guard-is least b bad v ∙ ap (λ (n : ℕ). judgedFirst n (λ j. j) (firstOf (rule 5 bad ∷ rule 6 (unreadable (decode least b) v) ∷ [])))
+      fronted-same
+      ∙ ap₂ (λ (m o : ℕ). judgedFirst (fronted least c) (λ j. j) (firstOf (rule 5 bad ∷ rule 6 (beyond m o v) ∷ []))) last-same old-same
+      ∙ sym (guard-is least c bad v)
 
   -- ---- a page with the same bytes
 
   module _ (n : ℕ) (e : pageOf least b n ≡ pageOf least c n) where
     pub page-same : page (decode least b .pages) n ≡ page (decode least c .pages) n
-    page-same = ⊎-elim (λ l. front-free least b n l ∙ sym (front-free least c n l)) (λ l. ⊎-elim (here l) (far l) (less n (sizeOf least c))) (less n 5)
+    page-same =
+        ⊎-elim (λ l. front-free least b n l ∙ sym (front-free least c n l)) (λ l. ⊎-elim (here l) (far l) (less n (sizeOf least c)))
+        (less n 5)
       where
         here : 5 ≤ n → n < sizeOf least c → page (decode least b .pages) n ≡ page (decode least c .pages) n
         here l h =
@@ -146,7 +165,8 @@ module _ (least : ℕ) (some : 1 ≤ least) (b c : List ℕ) (s : FrontAlike lea
 
         far : 5 ≤ n → sizeOf least c ≤ n → page (decode least b .pages) n ≡ page (decode least c .pages) n
         far l h =
-            List·getD-eq-default (decode least b .pages) free (omega (arith, count-same, count-is)) ∙ sym (List·getD-eq-default (decode least c .pages) free (omega (arith, count-is)))
+            List·getD-eq-default (decode least b .pages) free (omega (arith, count-same, count-is))
+            ∙ sym (List·getD-eq-default (decode least c .pages) free (omega (arith, count-is)))
 
     pub right-same : (level : ℕ) → pageRight least b level n ≡ pageRight least c level n
     unfolding pageRight
@@ -158,13 +178,15 @@ module _ (least : ℕ) (some : 1 ≤ least) (b c : List ℕ) (s : FrontAlike lea
     abbrev ps : List Page
     ps = decode least b .pages
 
-    -- each page that the walk from page n on reads has the same bytes in c; behind a page that is not right, or has no router at or below the
+    -- each page that the walk from page n on reads has the same bytes in c; behind a page that is not right, or has no router at or below
+    -- the
     -- key, it reads none
     unfoldable pub SameDown : ℕ → ℕ → Type 0
     SameDown zero n = pageOf least b n ≡ pageOf least c n
     SameDown (suc up) n =
         (pageOf least b n ≡ pageOf least c n)
-        × (pageRight least b (suc (suc up)) n ≡ true → startsBy k (pairsAt v (page ps n)) ≡ true → SameDown up (around k (pairsAt v (page ps n)) .own .value))
+        × (pageRight least b (suc (suc up)) n ≡ true → startsBy k (pairsAt v (page ps n)) ≡ true
+        → SameDown up (around k (pairsAt v (page ps n)) .own .value))
 
     down-same : (up n : ℕ) → SameDown up n → descended least b v k up n ≡ descended least c v k up n
     unfolding SameDown
@@ -175,7 +197,9 @@ module _ (least : ℕ) (some : 1 ≤ least) (b c : List ℕ) (s : FrontAlike lea
             sym (down-leaf least b v k n r) ∙ ap (λ (q : Page). lookedAt (find k (pairsAt v q))) (page-same n e)
             ∙ down-leaf least c v k n (sym (right-same n e 1) ∙ r)
         at (inr r) = sym (down-wrong least b v k n 0 r) ∙ down-wrong least c v k n 0 (sym (right-same n e 1) ∙ r)
-    down-same (suc up) n e = at (bool-cases (pageRight least b (suc (suc up)) n)) (bool-cases (startsBy k (pairsAt v (page ps n)))) (λ r f. down-same up _ (e .1 r f))
+    down-same (suc up) n e =
+        at (bool-cases (pageRight least b (suc (suc up)) n)) (bool-cases (startsBy k (pairsAt v (page ps n))))
+        (λ r f. down-same up _ (e .1 r f))
       where
         pairs : pairsAt v (page ps n) ≡ pairsAt v (page (decode least c .pages) n)
         pairs = ap (pairsAt v) (page-same n (e .0))
@@ -186,10 +210,12 @@ module _ (least : ℕ) (some : 1 ≤ least) (b c : List ℕ) (s : FrontAlike lea
         at : (pageRight least b (suc (suc up)) n ≡ true) ⊎ (pageRight least b (suc (suc up)) n ≡ false)
             → (startsBy k (pairsAt v (page ps n)) ≡ true) ⊎ (startsBy k (pairsAt v (page ps n)) ≡ false)
             → (pageRight least b (suc (suc up)) n ≡ true → startsBy k (pairsAt v (page ps n)) ≡ true
-            → descended least b v k up (around k (pairsAt v (page ps n)) .own .value) ≡ descended least c v k up (around k (pairsAt v (page ps n)) .own .value))
+            → descended least b v k up (around k (pairsAt v (page ps n)) .own .value)
+            ≡ descended least c v k up (around k (pairsAt v (page ps n)) .own .value))
             → descended least b v k (suc up) n ≡ descended least c v k (suc up) n
         at (inr r) f ih = sym (down-wrong least b v k n (suc up) r) ∙ down-wrong least c v k n (suc up) (sym right ∙ r)
-        at (inl r) (inr f) ih = sym (down-none least b v k n up r f) ∙ down-none least c v k n up (sym right ∙ r) (sym (ap (startsBy k) pairs) ∙ f)
+        at (inl r) (inr f) ih =
+            sym (down-none least b v k n up r f) ∙ down-none least c v k n up (sym right ∙ r) (sym (ap (startsBy k) pairs) ∙ f)
         at (inl r) (inl f) ih =
             down-on least b v k n up r f ∙ ih r f ∙ ap (λ (xs : List Pair). descended least c v k up (around k xs .own .value)) pairs
             ∙ sym (down-on least c v k n up (sym right ∙ r) (sym (ap (startsBy k) pairs) ∙ f))
@@ -211,14 +237,17 @@ module _ (least : ℕ) (some : 1 ≤ least) (b c : List ℕ) (s : FrontAlike lea
         at : (m : ℕ) → page ps root .level ≡ m → walked least b v k ≡ walked least c v k
         at zero e = sym (walk-free least b v k e) ∙ walk-free least c v k (sym level ∙ e)
         at (suc up) e =
-            walk-start least b v k up e ∙ down-same up root (w .1 up e) ∙ ap (λ (m : ℕ). descended least c v k up m) q ∙ sym (walk-start least c v k up (sym level ∙ e))
+            walk-start least b v k up e ∙ down-same up root (w .1 up e) ∙ ap (λ (m : ℕ). descended least c v k up m) q
+            ∙ sym (walk-start least c v k up (sym level ∙ e))
 
     pub lookup-off : SameWalk → lookupLent least b k v ≡ lookupLent least c k v
     lookup-off w = lookup-by least b k v ∙ at (guarded least b (leb keyLimit k) v) refl ∙ sym (lookup-by least c k v)
       where
         at : (n : ℕ) → guarded least b (leb keyLimit k) v ≡ n
-            → judgedFirst (guarded least b (leb keyLimit k) v) (λ j. Refused j) (walked least b v k) ≡ judgedFirst (guarded least c (leb keyLimit k) v) (λ j. Refused j) (walked least c v k)
+            → judgedFirst (guarded least b (leb keyLimit k) v) (λ j. Refused j) (walked least b v k)
+            ≡ judgedFirst (guarded least c (leb keyLimit k) v) (λ j. Refused j) (walked least c v k)
         at zero e =
             let z = sym (guard-same (leb keyLimit k) v) ∙ e in
-            rw (e, z) (walk-same (ap (λ (xs : List Slot). rootAt xs v) (directory-same (front-true least c (guard-front-right least c (leb keyLimit k) v z)))) w)
+            rw (e, z) (walk-same
+            (ap (λ (xs : List Slot). rootAt xs v) (directory-same (front-true least c (guard-front-right least c (leb keyLimit k) v z)))) w)
         at (suc n) e = rw (e, sym (guard-same (leb keyLimit k) v) ∙ e)

@@ -45,13 +45,15 @@ module _ (least : ℕ) (some : 1 ≤ least) (b c : List ℕ) (s : FrontAlike lea
   SameAcross zero at n = pageOf least b n ≡ pageOf least c n
   SameAcross (suc up) at n =
       (pageOf least b n ≡ pageOf least c n)
-      × (pageRight least b (suc (suc up)) n ≡ true → startsBy at (pairsAt v (page ps n)) ≡ true → (x : Pair) → In x (followed at hi (pairsAt v (page ps n))) → SameAcross up (x .key) (x .value))
+      × (pageRight least b (suc (suc up)) n ≡ true → startsBy at (pairsAt v (page ps n)) ≡ true → (x : Pair)
+      → In x (followed at hi (pairsAt v (page ps n))) → SameAcross up (x .key) (x .value))
 
   across-right : (up at n : ℕ) → SameAcross up at n → rangeRight least b v up hi at n ≡ rangeRight least c v up hi at n
   unfolding SameAcross rangeRight
   across-right zero at n e = right-same least some b c s n e 1
   across-right (suc up) at n e =
-      by (pageRight least b (suc (suc up)) n) refl (startsBy at (pairsAt v (page ps n))) refl (λ r f x i. across-right up (x .key) (x .value) (e .1 r f x i))
+      by (pageRight least b (suc (suc up)) n) refl (startsBy at (pairsAt v (page ps n))) refl
+      (λ r f x i. across-right up (x .key) (x .value) (e .1 r f x i))
     where
       pairs : pairsAt v (page ps n) ≡ pairsAt v (page qs n)
       pairs = ap (pairsAt v) (page-same least some b c s n (e .0))
@@ -66,22 +68,26 @@ module _ (least : ℕ) (some : 1 ≤ least) (b c : List ℕ) (s : FrontAlike lea
       f2 r = rangeRight least c v up hi (r .key) (r .value)
 
       by : (p : Bool) → pageRight least b (suc (suc up)) n ≡ p → (t : Bool) → startsBy at (pairsAt v (page ps n)) ≡ t
-          → (pageRight least b (suc (suc up)) n ≡ true → startsBy at (pairsAt v (page ps n)) ≡ true → (x : Pair) → In x (followed at hi (pairsAt v (page ps n))) → f1 x ≡ f2 x)
+          → (pageRight least b (suc (suc up)) n ≡ true → startsBy at (pairsAt v (page ps n)) ≡ true → (x : Pair)
+          → In x (followed at hi (pairsAt v (page ps n))) → f1 x ≡ f2 x)
           → (pageRight least b (suc (suc up)) n && (startsBy at (pairsAt v (page ps n)) && all f1 (followed at hi (pairsAt v (page ps n)))))
           ≡ (pageRight least c (suc (suc up)) n && (startsBy at (pairsAt v (page qs n)) && all f2 (followed at hi (pairsAt v (page qs n)))))
       by false p t q ih = rw (← right, p)
       by true p false q ih = rw (← right, p, ← pairs, q)
       by true p true q ih = rw (← right, p, ← pairs, q) (all-same f1 f2 (followed at hi (pairsAt v (page ps n))) (ih p q))
 
-  across-found : (up at n : ℕ) → SameAcross up at n → rangeRight least b v up hi at n ≡ true → rangeBelow up ps v lo hi at n ≡ rangeBelow up qs v lo hi at n
+  across-found : (up at n : ℕ) → SameAcross up at n → rangeRight least b v up hi at n ≡ true
+      → rangeBelow up ps v lo hi at n ≡ rangeBelow up qs v lo hi at n
   unfolding SameAcross
   across-found zero at n e r = ap (λ (q : Page). between lo hi (pairsAt v q)) (page-same least some b c s n e)
   across-found (suc up) at n e r =
       let xs : List Pair = followed at hi (pairsAt v (page ps n)) in
       let t = all-of least b v hi at n up r in
       flat-same (λ (x : Pair). rangeBelow up ps v lo hi (x .key) (x .value)) (λ (x : Pair). rangeBelow up qs v lo hi (x .key) (x .value)) xs
-      (λ x i. across-found up (x .key) (x .value) (e .1 (page-of least b v hi at n (suc up) r) (t .0) x i) (all-in (λ (y : Pair). rangeRight least b v up hi (y .key) (y .value)) x xs (t .1) i))
-      ∙ ap (λ (q : Page). flatMap (λ (x : Pair). rangeBelow up qs v lo hi (x .key) (x .value)) (followed at hi (pairsAt v q))) (page-same least some b c s n (e .0))
+      (λ x i. across-found up (x .key) (x .value) (e .1 (page-of least b v hi at n (suc up) r) (t .0) x i)
+      (all-in (λ (y : Pair). rangeRight least b v up hi (y .key) (y .value)) x xs (t .1) i))
+      ∙ ap (λ (q : Page). flatMap (λ (x : Pair). rangeBelow up qs v lo hi (x .key) (x .value)) (followed at hi (pairsAt v q)))
+      (page-same least some b c s n (e .0))
 
   abbrev root : ℕ
   root = rootAt (decode least b .slots) v
@@ -104,9 +110,12 @@ module _ (least : ℕ) (some : 1 ≤ least) (b c : List ℕ) (s : FrontAlike lea
             r2 : rangeRight least b v up hi lo root ≡ rangeRight least c v up hi lo (rootAt (decode least c .slots) v)
             r2 = across-right up lo root (w .1 up e) ∙ ap (λ (m : ℕ). rangeRight least c v up hi lo m) q
 
-            by : (rangeRight least b v up hi lo root ≡ true) ⊎ (rangeRight least b v up hi lo root ≡ false) → crossed least b lo hi v ns ≡ crossed least c lo hi v ns
+            by : (rangeRight least b v up hi lo root ≡ true) ⊎ (rangeRight least b v up hi lo root ≡ false)
+                → crossed least b lo hi v ns ≡ crossed least c lo hi v ns
             by (inl r) =
-                cross-at least b lo hi v ns up e r ∙ ap (λ (xs : List Pair). listed ns (rangedBy 0 (length ns) xs)) (across-found up lo root (w .1 up e) r ∙ ap (λ (m : ℕ). rangeBelow up qs v lo hi lo m) q)
+                cross-at least b lo hi v ns up e r
+                ∙ ap (λ (xs : List Pair). listed ns (rangedBy 0 (length ns) xs))
+                (across-found up lo root (w .1 up e) r ∙ ap (λ (m : ℕ). rangeBelow up qs v lo hi lo m) q)
                 ∙ sym (cross-at least c lo hi v ns up (sym level ∙ e) (sym r2 ∙ r))
             by (inr r) = sym (cross-not least b lo hi v ns up e r) ∙ cross-not least c lo hi v ns up (sym level ∙ e) (sym r2 ∙ r)
 
@@ -114,8 +123,11 @@ module _ (least : ℕ) (some : 1 ≤ least) (b c : List ℕ) (s : FrontAlike lea
     range-off w = range-by least b lo hi v ns ∙ at (guarded least b (badRange lo hi) v) refl ∙ sym (range-by least c lo hi v ns)
       where
         at : (n : ℕ) → guarded least b (badRange lo hi) v ≡ n
-            → judgedFirst (guarded least b (badRange lo hi) v) (kept least b lo hi v ns) (crossed least b lo hi v ns) ≡ judgedFirst (guarded least c (badRange lo hi) v) (kept least c lo hi v ns) (crossed least c lo hi v ns)
+            → judgedFirst (guarded least b (badRange lo hi) v) (kept least b lo hi v ns) (crossed least b lo hi v ns)
+            ≡ judgedFirst (guarded least c (badRange lo hi) v) (kept least c lo hi v ns) (crossed least c lo hi v ns)
         at zero e =
             let z = sym (guard-same least some b c s (badRange lo hi) v) ∙ e in
-            rw (e, z) (cross-same (ap (λ (xs : List Slot). rootAt xs v) (directory-same least some b c s (front-true least c (guard-front-right least c (badRange lo hi) v z)))) w)
+            rw (e, z) (cross-same
+            (ap (λ (xs : List Slot). rootAt xs v)
+            (directory-same least some b c s (front-true least c (guard-front-right least c (badRange lo hi) v z)))) w)
         at (suc n) e = rw (e, sym (guard-same least some b c s (badRange lo hi) v) ∙ e)

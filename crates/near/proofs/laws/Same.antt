@@ -56,7 +56,8 @@ follow-all f at hi l x (y ∷ ys) h q = by (leb (y .key) at) q (λ r. follow-all
     rest = pair at (x .value) ∷ those (λ (r : Pair). leb (r .key) hi) (y ∷ ys)
 
     by : (c : Bool)
-        → f (pair at ((elim c as (λ z. Around) [ true ↦ aroundFrom at (some x) y ys | false ↦ record { left = l; own = x; right = some y } ]) .own .value)) ≡ true
+        → f (pair at ((elim c as
+        (λ z. Around) [ true ↦ aroundFrom at (some x) y ys | false ↦ record { left = l; own = x; right = some y } ]) .own .value)) ≡ true
         → (f (pair at (aroundFrom at (some x) y ys .own .value)) ≡ true → all f (followFrom at hi y ys) ≡ true)
         → all f (elim c as (λ z. List Pair) [ true ↦ followFrom at hi y ys | false ↦ rest ]) ≡ true
     by true q more = more q
@@ -72,12 +73,23 @@ module _ {l : Limits} (d : Edition l) (b : List ℕ) (h : isSound (l .least) b �
   clean-parts : (cleanFront (l .least) b ≡ true) × (cleanPages (l .least) b 5 (sizeOf (l .least) b - 5) ≡ true)
   unfolding clean
   clean-parts =
-      let x = both-true (cleanFront (l .least) b) (cleanPages (l .least) b 5 (sizeOf (l .least) b - 5) && rule1 (l .least) s) (taken d b h .is-clean) in
+      let x = both-true (cleanFront (l .least) b) (cleanPages (l .least) b 5 (sizeOf (l .least) b - 5) && rule1 (l .least) s)
+      (taken d b h .is-clean) in
       (x .0, both-true (cleanPages (l .least) b 5 (sizeOf (l .least) b - 5)) (rule1 (l .least) s) (x .1) .0)
 
   front-right : frontRight (l .least) b ≡ true
   unfolding frontRight rule2
-  front-right = rw (clean-parts .0, le-leb (last s) 1048574 (good .last-low), le-leb _ _ (good .old-low), good .roots, le-leb _ _ (good .begins), good .rises, good .upto, good .newer)
+  front-right =
+      rw (
+        clean-parts .0,
+        le-leb (last s) 1048574 (good .last-low),
+        le-leb _ _ (good .old-low),
+        good .roots,
+        le-leb _ _ (good .begins),
+        good .rises,
+        good .upto,
+        good .newer,
+      )
 
   -- a used page is right at its own level
   page-right : (n up : ℕ) → page (s .pages) n .level ≡ suc up → pageRight (l .least) b (suc up) n ≡ true
@@ -85,7 +97,8 @@ module _ {l : Limits} (d : Edition l) (b : List ℕ) (h : isSound (l .least) b �
   page-right n up e =
       let g = good .pages n (level-used (page (s .pages) n) up e) in
       let c : cleanPage (l .least) (pageOf (l .least) b n) ≡ true
-      = pages-clean (l .least) b 5 (sizeOf (l .least) b - 5) (clean-parts .1) n (five d b h n up e) (omega (arith, size d b h n up e, whole d b h .six)) in
+      = pages-clean (l .least) b 5 (sizeOf (l .least) b - 5) (clean-parts .1) n (five d b h n up e)
+      (omega (arith, size d b h n up e, whole d b h .six)) in
       rw (c, le-leb _ 7 (g .low), le-leb _ _ (g .few), g .span, g .order, g .entries, eq-eqb _ _ e)
 
   module _ (v : ℕ) where
@@ -93,7 +106,11 @@ module _ {l : Limits} (d : Edition l) (b : List ℕ) (h : isSound (l .least) b �
     unfolding downRight
     down-right zero k n c = page-right n 0 (c .level)
     down-right (suc up) k n c =
-        rw (page-right n (suc up) (c .level), covers-starts (l .least) v (s .pages) up n k c, down-right up k _ (covers-own (l .least) v (s .pages) up n k c))
+        rw (
+          page-right n (suc up) (c .level),
+          covers-starts (l .least) v (s .pages) up n k c,
+          down-right up k _ (covers-own (l .least) v (s .pages) up n k c),
+        )
 
     range-right : (up hi k n : ℕ) → Covers (l .least) v (s .pages) up n k → rangeRight (l .least) b v up hi k n ≡ true
     unfolding rangeRight
@@ -107,7 +124,8 @@ module _ {l : Limits} (d : Edition l) (b : List ℕ) (h : isSound (l .least) b �
         f : Pair → Bool
         f r = rangeRight (l .least) b v up hi (r .key) (r .value)
 
-        followed-right : (xs : List Pair) → xs ≡ shown (l .least) b v n → ((y : Pair) → In y xs → f y ≡ true) → f (pair k (around k xs .own .value)) ≡ true
+        followed-right : (xs : List Pair) → xs ≡ shown (l .least) b v n → ((y : Pair) → In y xs → f y ≡ true)
+            → f (pair k (around k xs .own .value)) ≡ true
             → all f (followed k hi xs) ≡ true
         followed-right [] e p q = refl
         followed-right (x ∷ xs) e p q = follow-all f k hi none x xs (λ y i. p y (inr i)) q
@@ -122,14 +140,21 @@ module _ {l : Limits} (d : Edition l) (b : List ℕ) (h : isSound (l .least) b �
           level-used (page (s .pages) (rootAt (s .slots) v)) (heightOf (s .pages) (rootAt (s .slots) v)) (root-covers readable k q .level)
 
       pub lookup-right : (k : ℕ) → k < keyLimit → fromRoot (l .least) b v (λ up n. downRight (l .least) b v up k n) ≡ true
-      lookup-right k q = rw (root-used k q, down-right (heightOf (s .pages) (rootAt (s .slots) v)) k (rootAt (s .slots) v) (root-covers readable k q))
+      lookup-right k q =
+          rw (root-used k q, down-right (heightOf (s .pages) (rootAt (s .slots) v)) k (rootAt (s .slots) v) (root-covers readable k q))
 
       pub range-all-right : (lo hi : ℕ) → lo < keyLimit → fromRoot (l .least) b v (λ up n. rangeRight (l .least) b v up hi lo n) ≡ true
-      range-all-right lo hi q = rw (root-used lo q, range-right (heightOf (s .pages) (rootAt (s .slots) v)) hi lo (rootAt (s .slots) v) (root-covers readable lo q))
+      range-all-right lo hi q =
+          rw (
+            root-used lo q,
+            range-right (heightOf (s .pages) (rootAt (s .slots) v)) hi lo (rootAt (s .slots) v)
+                (root-covers readable lo q),
+          )
 
 -- ---- the chains: 4 by the walk is never met
 
-chain-same : (p q x : Bool) → (p ≡ false → q ≡ false → x ≡ true) → firstOf (rule 5 p ∷ rule 6 q ∷ rule 4 (not x) ∷ []) ≡ firstOf (rule 5 p ∷ rule 6 q ∷ [])
+chain-same : (p q x : Bool) → (p ≡ false → q ≡ false → x ≡ true)
+    → firstOf (rule 5 p ∷ rule 6 q ∷ rule 4 (not x) ∷ []) ≡ firstOf (rule 5 p ∷ rule 6 q ∷ [])
 chain-same true q x e = refl
 chain-same false true x e = refl
 chain-same false false x e = rw (e refl refl)
@@ -149,17 +174,27 @@ module _ {l : Limits} (d : Edition l) (b : List ℕ) (h : isSound (l .least) b �
   none-early : (rs : List Rule) → firstOf (early (l .least) b rs) ≡ firstOf rs
   none-early rs =
       let t = taken d b h in
-      early-none (lengthOk (l .least) b) (magicOk b) (editionOk (l .least) b) (frontRight (l .least) b) rs (t .length-ok) (t .magic-ok) (t .edition-ok) (front-right d b h)
+      early-none (lengthOk (l .least) b) (magicOk b) (editionOk (l .least) b) (frontRight (l .least) b) rs (t .length-ok) (t .magic-ok)
+      (t .edition-ok) (front-right d b h)
 
   -- "On a sound store the answers stay."
   pub lookup-same : (k v : ℕ) → lookupLent (l .least) b k v ≡ get (decode (l .least) b) k v
   unfolding lookupLent lookupNear get
   lookup-same k v =
       let x = fromRoot (l .least) b v (λ up n. downRight (l .least) b v up k n) in
-      rw (none-early _, chain-same (leb keyLimit k) (unreadable (decode (l .least) b) v) x (λ p q. lookup-right d b h v (readable-of (decode (l .least) b) v q) k (leb-false _ _ p)))
+      rw (
+        none-early _,
+        chain-same (leb keyLimit k) (unreadable (decode (l .least) b) v) x
+            (λ p q. lookup-right d b h v (readable-of (decode (l .least) b) v q) k (leb-false _ _ p)),
+      )
 
-  pub range-same : (lo hi v : ℕ) (ns : List ℕ) → rangeLent (l .least) b lo hi v ns ≡ listed ns (range (decode (l .least) b) lo hi v (length ns))
+  pub range-same : (lo hi v : ℕ) (ns : List ℕ) → rangeLent (l .least) b lo hi v ns
+      ≡ listed ns (range (decode (l .least) b) lo hi v (length ns))
   unfolding rangeLent rangeNear range
   range-same lo hi v ns =
       let x = fromRoot (l .least) b v (λ up n. rangeRight (l .least) b v up hi lo n) in
-      rw (none-early _, chain-same (leb keyLimit lo || leb keyLimit hi || ltb hi lo) (unreadable (decode (l .least) b) v) x (λ p q. range-all-right d b h v (readable-of (decode (l .least) b) v q) lo hi (low-in lo hi p)))
+      rw (
+        none-early _,
+        chain-same (leb keyLimit lo || leb keyLimit hi || ltb hi lo) (unreadable (decode (l .least) b) v) x
+            (λ p q. range-all-right d b h v (readable-of (decode (l .least) b) v q) lo hi (low-in lo hi p)),
+      )

@@ -10,7 +10,8 @@ pub given-up : (left : ℕ) (x : Bool) (r : Within) → r ≡ foundAs false 0 �
 given-up left x r e = let z = ap (λ (w : Within). w .left) e in record { less = omega (arith, z); right = λ lt. absurd (omega (arith, z)) }
 
 pub settled : (left : ℕ) (b x : Bool) → b ≡ x → (r : Within) → r ≡ foundAs b left → NearRight left x r
-settled left b x e r f = let z = ap (λ (w : Within). w .left) f in record { less = omega (arith, z); right = λ lt. ap (λ (w : Within). w .fine) f ∙ e }
+settled left b x e r f =
+    let z = ap (λ (w : Within). w .left) f in record { less = omega (arith, z); right = λ lt. ap (λ (w : Within). w .fine) f ∙ e }
 
 and-true : (b : Bool) → (b && true) ≡ b
 and-true true = refl

@@ -12,24 +12,29 @@ root-at-requires c κs = search needs
 
 height-of-requires : tie.Need-height-of-requires
 height-of-requires c κs =
-    let r = c .before .before .before .pre .0 in
-    let a = c .before .before .before .args in
-    let k = root-covers r (a .low) (c .before .before .before .pre .1) in
+    let at-start = c .before .before .before in
+    let r = at-start .pre .0 in
+    let a = at-start .args in
+    let k = root-covers r (a .low) (at-start .pre .1) in
     rw (c .root-at .ensures) (r .edition, covers-inside r _ _ _ k, few (r .edition) (a .s .now) (r .sound), omega (arith, k .level))
 
 fill-requires : tie.Need-fill-requires
 fill-requires c κs =
-    let h = c .before .before .before .before .before in
-    let a = h .args in
-    (sound-reads (h .pre .0), rw (c .before .height-of .ensures, c .before .before .root-at .ensures) (sound-range (h .pre .0) (a .low) (a .high) (h .pre .1)))
+    let at-start = c .before .before .before .before .before in
+    let a = at-start .args in (
+      sound-reads (at-start .pre .0),
+      rw (c .before .height-of .ensures, c .before .before .root-at .ensures)
+          (sound-range (at-start .pre .0) (a .low) (a .high) (at-start .pre .1)),
+    )
 
 same-length : tie.Need-same-length
 same-length c = search needs
 
 returns : tie.Need-returns
 returns c =
-    let h = c .before .before .before .before in
-    rw (h .height-of .ensures, h .before .root-at .ensures) at (c .before .before .fill .ensures)
+    let at-height-of = c .before .before .before .before in
+    let at-root-at = at-height-of .before in
+    rw (at-height-of .height-of .ensures, at-root-at .root-at .ensures) at (c .before .before .fill .ensures)
 
 pub sound-range-spec : {M : Type 1} → statement M
 sound-range-spec =

@@ -33,18 +33,24 @@ module _ (least up : ℕ) (ps : List Page) (root : ℕ) where
     unfolding bothOn
     both-fails l h = at (keysBy up x) refl
       where
-        at : (b : Bool) → keysBy up x ≡ b → (all (keysOn least up ps root) (count v (c - v)) && all (fullOn least up ps root) (count v (c - v))) ≡ false
+        at : (b : Bool) → keysBy up x ≡ b
+            → (all (keysOn least up ps root) (count v (c - v)) && all (fullOn least up ps root) (count v (c - v))) ≡ false
         at true k =
             ap (λ (b : Bool). all (keysOn least up ps root) (count v (c - v)) && b)
-            (run-fails (fullOn least up ps root) v c l (sym (full-on least up ps root v x e) ∙ ap (λ (b : Bool). b && fullBy least up x) (sym k) ∙ h))
+            (run-fails (fullOn least up ps root) v c l
+            (sym (full-on least up ps root v x e) ∙ ap (λ (b : Bool). b && fullBy least up x) (sym k) ∙ h))
             ∙ and-false (all (keysOn least up ps root) (count v (c - v)))
-        at false k = ap (λ (b : Bool). b && all (fullOn least up ps root) (count v (c - v))) (run-fails (keysOn least up ps root) v c l (sym (keys-on least up ps root v x e) ∙ k))
+        at false k =
+            ap (λ (b : Bool). b && all (fullOn least up ps root) (count v (c - v)))
+            (run-fails (keysOn least up ps root) v c l (sym (keys-on least up ps root v x e) ∙ k))
 
-    pub both-next : (q : ℕ) → v < q → q ≤ c → q ≤ x .until → (keysBy up x && fullBy least up x) ≡ true → bothOn least up ps root v c ≡ bothOn least up ps root q c
+    pub both-next : (q : ℕ) → v < q → q ≤ c → q ≤ x .until → (keysBy up x && fullBy least up x) ≡ true
+        → bothOn least up ps root v c ≡ bothOn least up ps root q c
     unfolding bothOn
     both-next q low high holds h =
         let (k, f) = both-true (keysBy up x) (fullBy least up x) h in
-        ap₂ _&&_ (keys-next least up ps root v q c x e low high holds _ refl k) (full-next least up ps root v q c x e low high holds _ true true refl (sym f))
+        ap₂ _&&_ (keys-next least up ps root v q c x e low high holds _ refl k)
+        (full-next least up ps root v q c x e low high holds _ true true refl (sym f))
 
 -- ---- by the root of each version
 
@@ -52,13 +58,17 @@ module _ (least : ℕ) (s : Store) where
   unfoldable pub bothAt : ℕ → ℕ → Bool
   bothAt v end = all (keysAt least s) (count v (end - v)) && all (fullAt least s) (count v (end - v))
 
-  pub both-slot : (up root v c end : ℕ) → heightOf (s .pages) root ≡ up → ((x : ℕ) → v ≤ x → x < c → root ≡ rootAt (s .slots) x) → v ≤ c → c ≤ end → bothAt v end ≡ (bothOn least up (s .pages) root v c && bothAt c end)
+  pub both-slot : (up root v c end : ℕ) → heightOf (s .pages) root ≡ up → ((x : ℕ) → v ≤ x → x < c → root ≡ rootAt (s .slots) x) → v ≤ c
+      → c ≤ end → bothAt v end ≡ (bothOn least up (s .pages) root v c && bothAt c end)
   unfolding bothOn bothAt
   both-slot up root v c end height roots low high =
       ap₂ _&&_
-      (run-stretch (keysAt least s) v c end low high ∙ ap (λ (b : Bool). b && all (keysAt least s) (count c (end - c))) (keys-stretch least s up root v c height roots low))
-      (run-stretch (fullAt least s) v c end low high ∙ ap (λ (b : Bool). b && all (fullAt least s) (count c (end - c))) (full-stretch least s up root v c height roots low))
-      ∙ pairs (all (keysOn least up (s .pages) root) (count v (c - v))) (all (keysAt least s) (count c (end - c))) (all (fullOn least up (s .pages) root) (count v (c - v))) (all (fullAt least s) (count c (end - c)))
+      (run-stretch (keysAt least s) v c end low high
+      ∙ ap (λ (b : Bool). b && all (keysAt least s) (count c (end - c))) (keys-stretch least s up root v c height roots low))
+      (run-stretch (fullAt least s) v c end low high
+      ∙ ap (λ (b : Bool). b && all (fullAt least s) (count c (end - c))) (full-stretch least s up root v c height roots low))
+      ∙ pairs (all (keysOn least up (s .pages) root) (count v (c - v))) (all (keysAt least s) (count c (end - c)))
+      (all (fullOn least up (s .pages) root) (count v (c - v))) (all (fullAt least s) (count c (end - c)))
     where
       pairs : (a x b y : Bool) → (a && x && (b && y)) ≡ (a && b && (x && y))
       pairs true x true y = refl

@@ -12,7 +12,8 @@ use Rattle.local.proofs.laws.Linked.{child-lower, root-used}
 use Rattle.local.proofs.laws.Second.{some-root, root-first}
 use Rattle.notes.specs.Ready.{Ready}
 
-module _ (least : ℕ) (s : List ℕ) (h : Header) (d : Held least s h) (two : rule2 (decode least s) ≡ true) (three : rule3 (decode least s) ≡ true) where
+module _ (least : ℕ) (s : List ℕ) (h : Header) (d : Held least s h) (two : rule2 (decode least s) ≡ true)
+    (three : rule3 (decode least s) ≡ true) where
   roots-are : h .roots ≡ readHeader least s .roots
   roots-are = ap (λ (x : Header). x .roots) (d .header)
 

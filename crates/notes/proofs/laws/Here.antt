@@ -57,16 +57,20 @@ module _ {l : Limits} (d : Edition l) (s : List ℕ) (g : Linked (l .least) s) (
           let q : m ≡ entryAt (l .least) s n i .value = e ∙ ap (λ (x : List ℕ). readEntry x (128 + 96 * i) .value) (part .0) in
           rw q (g .child n i k u (omega (arith, count-is)))
 
-      pub child-here : (i m : ℕ) → 2 ≤ levelAt (l .least) s n → i < h .count → m ≡ readEntry p (128 + 96 * i) .value → readHeader (l .least) s .oldest < readEntry p (128 + 96 * i) .end
+      pub child-here : (i m : ℕ) → 2 ≤ levelAt (l .least) s n → i < h .count → m ≡ readEntry p (128 + 96 * i) .value
+          → readHeader (l .least) s .oldest < readEntry p (128 + 96 * i) .end
           → IsPage (l .least) s m × (levelAt (l .least) s m + 1 ≡ levelAt (l .least) s n)
       child-here i m u lt e late =
           let q : m ≡ entryAt (l .least) s n i .value = e ∙ ap (λ (x : List ℕ). readEntry x (128 + 96 * i) .value) (part .0) in
           let j : i < countAt (l .least) s n = omega (arith, count-is) in
-          let on : readHeader (l .least) s .oldest < entryAt (l .least) s n i .end = subst (λ (x : List ℕ). readHeader (l .least) s .oldest < readEntry x (128 + 96 * i) .end) (part .0) late in
+          let on : readHeader (l .least) s .oldest < entryAt (l .least) s n i .end
+          = subst (λ (x : List ℕ). readHeader (l .least) s .oldest < readEntry x (128 + 96 * i) .end) (part .0) late in
           (rw q (g .child n i k u j), rw q (g .lower n i k u j on))
 
-      pub leads-here : (i v up : ℕ) (e : Entry) → readHeader (l .least) s .oldest ≤ v → levelAt (l .least) s n ≡ up + 1 → i < h .count → e ≡ readEntry p (128 + 96 * i) → Leads (l .least) s v up e
+      pub leads-here : (i v up : ℕ) (e : Entry) → readHeader (l .least) s .oldest ≤ v → levelAt (l .least) s n ≡ up + 1 → i < h .count
+          → e ≡ readEntry p (128 + 96 * i) → Leads (l .least) s v up e
       leads-here i v up e from lv lt q pos live =
           let late : v < e .end = ltb-true v (e .end) (both-true (leb (e .start) v) (ltb v (e .end)) live .1) in
-          let (a, b) = child-here i (e .value) (omega arith) lt (ap (λ (x : Entry). x .value) q) (subst (λ (x : Entry). readHeader (l .least) s .oldest < x .end) q (omega arith)) in
+          let (a, b) = child-here i (e .value) (omega arith) lt (ap (λ (x : Entry). x .value) q)
+          (subst (λ (x : Entry). readHeader (l .least) s .oldest < x .end) q (omega arith)) in
           (a, omega (arith, b))

@@ -41,18 +41,28 @@ module _ (ns : List ℕ) (n : ℕ) (x : Note) where
 
   pub put-length : length (putNote ns n x) ≡ length ns
   unfolding putNote
-  put-length = length-set s4 (5 * n + 4) _ ∙ length-set s3 (5 * n + 3) _ ∙ length-set s2 (5 * n + 2) _ ∙ length-set s1 (5 * n + 1) _ ∙ length-set ns (5 * n) _
+  put-length =
+      length-set s4 (5 * n + 4) _ ∙ length-set s3 (5 * n + 3) _ ∙ length-set s2 (5 * n + 2) _ ∙ length-set s1 (5 * n + 1) _
+      ∙ length-set ns (5 * n) _
 
   past : (j : ℕ) → (j < 5 * n) ⊎ (5 * n + 5 ≤ j) → getD (putNote ns n x) j 0 ≡ getD ns j 0
   unfolding putNote
   past j o =
-      getD-set-other s4 (5 * n + 4) j _ 0 (λ e. ⊎-elim (λ h. omega arith) (λ h. omega arith) o) ∙ getD-set-other s3 (5 * n + 3) j _ 0 (λ e. ⊎-elim (λ h. omega arith) (λ h. omega arith) o)
-      ∙ getD-set-other s2 (5 * n + 2) j _ 0 (λ e. ⊎-elim (λ h. omega arith) (λ h. omega arith) o) ∙ getD-set-other s1 (5 * n + 1) j _ 0 (λ e. ⊎-elim (λ h. omega arith) (λ h. omega arith) o)
+      getD-set-other s4 (5 * n + 4) j _ 0 (λ e. ⊎-elim (λ h. omega arith) (λ h. omega arith) o)
+      ∙ getD-set-other s3 (5 * n + 3) j _ 0 (λ e. ⊎-elim (λ h. omega arith) (λ h. omega arith) o)
+      ∙ getD-set-other s2 (5 * n + 2) j _ 0 (λ e. ⊎-elim (λ h. omega arith) (λ h. omega arith) o)
+      ∙ getD-set-other s1 (5 * n + 1) j _ 0 (λ e. ⊎-elim (λ h. omega arith) (λ h. omega arith) o)
       ∙ getD-set-other ns (5 * n) j _ 0 (λ e. ⊎-elim (λ h. omega arith) (λ h. omega arith) o)
 
   pub put-other : (m : ℕ) → (m < n) ⊎ (n < m) → noteIn (putNote ns n x) m ≡ noteIn ns m
   put-other m o =
-      rw (past (5 * m) (away (5 * m) (omega arith) (omega arith)), past (5 * m + 1) (away (5 * m + 1) (omega arith) (omega arith)), past (5 * m + 2) (away (5 * m + 2) (omega arith) (omega arith)), past (5 * m + 3) (away (5 * m + 3) (omega arith) (omega arith)), past (5 * m + 4) (away (5 * m + 4) (omega arith) (omega arith)))
+      rw (
+        past (5 * m) (away (5 * m) (omega arith) (omega arith)),
+        past (5 * m + 1) (away (5 * m + 1) (omega arith) (omega arith)),
+        past (5 * m + 2) (away (5 * m + 2) (omega arith) (omega arith)),
+        past (5 * m + 3) (away (5 * m + 3) (omega arith) (omega arith)),
+        past (5 * m + 4) (away (5 * m + 4) (omega arith) (omega arith)),
+      )
     where
       away : (j : ℕ) → 5 * m ≤ j → j < 5 * m + 5 → (j < 5 * n) ⊎ (5 * n + 5 ≤ j)
       away j a b = ⊎-elim (λ h. inl (omega arith)) (λ h. inr (omega arith)) o
@@ -61,13 +71,15 @@ module _ (ns : List ℕ) (n : ℕ) (x : Note) where
     until-in : getD (putNote ns n x) (5 * n) 0 ≡ x .until
     unfolding putNote
     until-in =
-        getD-set-other s4 (5 * n + 4) (5 * n) _ 0 (λ e. omega arith) ∙ getD-set-other s3 (5 * n + 3) (5 * n) _ 0 (λ e. omega arith) ∙ getD-set-other s2 (5 * n + 2) (5 * n) _ 0 (λ e. omega arith)
+        getD-set-other s4 (5 * n + 4) (5 * n) _ 0 (λ e. omega arith) ∙ getD-set-other s3 (5 * n + 3) (5 * n) _ 0 (λ e. omega arith)
+        ∙ getD-set-other s2 (5 * n + 2) (5 * n) _ 0 (λ e. omega arith)
         ∙ getD-set-other s1 (5 * n + 1) (5 * n) _ 0 (λ e. omega arith) ∙ getD-set-same ns (5 * n) _ 0 (omega arith)
 
     live-in : getD (putNote ns n x) (5 * n + 1) 0 ≡ x .live
     unfolding putNote
     live-in =
-        getD-set-other s4 (5 * n + 4) (5 * n + 1) _ 0 (λ e. omega arith) ∙ getD-set-other s3 (5 * n + 3) (5 * n + 1) _ 0 (λ e. omega arith) ∙ getD-set-other s2 (5 * n + 2) (5 * n + 1) _ 0 (λ e. omega arith)
+        getD-set-other s4 (5 * n + 4) (5 * n + 1) _ 0 (λ e. omega arith) ∙ getD-set-other s3 (5 * n + 3) (5 * n + 1) _ 0 (λ e. omega arith)
+        ∙ getD-set-other s2 (5 * n + 2) (5 * n + 1) _ 0 (λ e. omega arith)
         ∙ getD-set-same s1 (5 * n + 1) _ 0 (omega (arith, length-set ns (5 * n) (x .until)))
 
     first-in : getD (putNote ns n x) (5 * n + 2) 0 ≡ x .first
@@ -80,12 +92,21 @@ module _ (ns : List ℕ) (n : ℕ) (x : Note) where
     unfolding putNote
     high-in =
         getD-set-other s4 (5 * n + 4) (5 * n + 3) _ 0 (λ e. omega arith)
-        ∙ getD-set-same s3 (5 * n + 3) _ 0 (omega (arith, length-set s2 (5 * n + 2) (x .first), length-set s1 (5 * n + 1) (x .live), length-set ns (5 * n) (x .until)))
+        ∙ getD-set-same s3 (5 * n + 3) _ 0
+        (omega (arith, length-set s2 (5 * n + 2) (x .first), length-set s1 (5 * n + 1) (x .live), length-set ns (5 * n) (x .until)))
 
     full-in : eqb (getD (putNote ns n x) (5 * n + 4) 0) 1 ≡ x .full
     unfolding putNote
     full-in =
-        ap (λ (k : ℕ). eqb k 1) (getD-set-same s4 (5 * n + 4) _ 0 (omega (arith, length-set s3 (5 * n + 3) (x .high), length-set s2 (5 * n + 2) (x .first), length-set s1 (5 * n + 1) (x .live), length-set ns (5 * n) (x .until))))
+        ap (λ (k : ℕ). eqb k 1)
+        (getD-set-same s4 (5 * n + 4) _ 0
+        (omega (
+          arith,
+          length-set s3 (5 * n + 3) (x .high),
+          length-set s2 (5 * n + 2) (x .first),
+          length-set s1 (5 * n + 1) (x .live),
+          length-set ns (5 * n) (x .until),
+        )))
         ∙ at (x .full)
       where
         at : (b : Bool) → eqb (pick b 1 0) 1 ≡ b
@@ -93,7 +114,9 @@ module _ (ns : List ℕ) (n : ℕ) (x : Note) where
         at false = refl
 
     pub put-same : x .keys ≡ true → noteIn (putNote ns n x) n ≡ x
-    put-same k = rw (until-in, live-in, first-in, high-in, full-in) (ap (λ (b : Bool). record { until = x .until; live = x .live; first = x .first; high = x .high; full = x .full; keys = b }) (sym k))
+    put-same k =
+        rw (until-in, live-in, first-in, high-in, full-in)
+        (ap (λ (b : Bool). record { until = x .until; live = x .live; first = x .first; high = x .high; full = x .full; keys = b }) (sym k))
 
 pub kept-none : (least : ℕ) (ps : List Page) (v : ℕ) → Kept least ps v (replicate 20481 0)
 kept-none least ps v = record {
@@ -109,30 +132,41 @@ kept-later least ps v w ns late k = record {
       e ∙ sym (note-still least (heightOf ps m) ps v w m late (subst (λ (x : Note). w < x .until) e h));
 }
 
-pub kept-put : (least : ℕ) (ps : List Page) (v n : ℕ) (x : Note) (ns : List ℕ) → n < 4096 → x ≡ noteAt least (heightOf ps n) ps v n → x .keys ≡ true → Kept least ps v ns → Kept least ps v (putNote ns n x)
+pub kept-put : (least : ℕ) (ps : List Page) (v n : ℕ) (x : Note) (ns : List ℕ) → n < 4096 → x ≡ noteAt least (heightOf ps n) ps v n
+    → x .keys ≡ true → Kept least ps v ns → Kept least ps v (putNote ns n x)
 kept-put least ps v n x ns low is ok k = record {
   long = put-length ns n x ∙ k .long;
   holds = λ m l h. at m l h (less m n) (less n m);
 }
   where
-    elsewhere : (m : ℕ) → m < 4096 → v < noteIn (putNote ns n x) m .until → (m < n) ⊎ (n < m) → noteIn (putNote ns n x) m ≡ noteAt least (heightOf ps m) ps v m
+    elsewhere : (m : ℕ) → m < 4096 → v < noteIn (putNote ns n x) m .until → (m < n) ⊎ (n < m)
+        → noteIn (putNote ns n x) m ≡ noteAt least (heightOf ps m) ps v m
     elsewhere m l h o = let e = put-other ns n x m o in e ∙ k .holds m l (subst (λ (y : Note). v < y .until) e h)
 
-    at : (m : ℕ) → m < 4096 → v < noteIn (putNote ns n x) m .until → (m < n) ⊎ (n ≤ m) → (n < m) ⊎ (m ≤ n) → noteIn (putNote ns n x) m ≡ noteAt least (heightOf ps m) ps v m
+    at : (m : ℕ) → m < 4096 → v < noteIn (putNote ns n x) m .until → (m < n) ⊎ (n ≤ m) → (n < m) ⊎ (m ≤ n)
+        → noteIn (putNote ns n x) m ≡ noteAt least (heightOf ps m) ps v m
     at m l h (inl a) b = elsewhere m l h (inl a)
     at m l h (inr a) (inl b) = elsewhere m l h (inr b)
     at m l h (inr a) (inr b) =
         let e : n ≡ m = omega arith in
-        subst (λ (j : ℕ). noteIn (putNote ns n x) j ≡ noteAt least (heightOf ps j) ps v j) e (put-same ns n x (omega (arith, k .long)) ok ∙ is)
+        subst (λ (j : ℕ). noteIn (putNote ns n x) j ≡ noteAt least (heightOf ps j) ps v j) e
+        (put-same ns n x (omega (arith, k .long)) ok ∙ is)
 
 -- what stands behind the notes is none of them
-pub kept-away : (least : ℕ) (ps : List Page) (v until w : ℕ) (ns ms : List ℕ) → ms ≡ putAway ns until w → Kept least ps v ns → Kept least ps v ms
+pub kept-away : (least : ℕ) (ps : List Page) (v until w : ℕ) (ns ms : List ℕ) → ms ≡ putAway ns until w → Kept least ps v ns
+    → Kept least ps v ms
 unfolding putAway
 kept-away least ps v until w ns ms q k = subst (Kept least ps v) (sym q) (at (eqb until 0 || leb w until))
   where
     same : (m : ℕ) → m < 4096 → noteIn (set ns 20480 until) m ≡ noteIn ns m
     same m l =
-        rw (getD-set-other ns 20480 (5 * m) until 0 (λ e. omega arith), getD-set-other ns 20480 (5 * m + 1) until 0 (λ e. omega arith), getD-set-other ns 20480 (5 * m + 2) until 0 (λ e. omega arith), getD-set-other ns 20480 (5 * m + 3) until 0 (λ e. omega arith), getD-set-other ns 20480 (5 * m + 4) until 0 (λ e. omega arith))
+        rw (
+          getD-set-other ns 20480 (5 * m) until 0 (λ e. omega arith),
+          getD-set-other ns 20480 (5 * m + 1) until 0 (λ e. omega arith),
+          getD-set-other ns 20480 (5 * m + 2) until 0 (λ e. omega arith),
+          getD-set-other ns 20480 (5 * m + 3) until 0 (λ e. omega arith),
+          getD-set-other ns 20480 (5 * m + 4) until 0 (λ e. omega arith),
+        )
 
     at : (b : Bool) → Kept least ps v (pick b ns (set ns 20480 until))
     at true = k
@@ -151,7 +185,8 @@ unfolding kidsAt
 kids-some least zero ps v m e = absurd (e refl)
 kids-some least (suc up) ps v m e = let q : up ≡ suc up - 1 = omega arith in ap (λ (u : ℕ). noteAt least u ps v m) q
 
-pub note-row : (least up : ℕ) (ps : List Page) (v n : ℕ) → noteAt least up ps v n ≡ row least up v (kidsAt least up ps v) nothing (page ps n .entries)
+pub note-row : (least up : ℕ) (ps : List Page) (v n : ℕ)
+    → noteAt least up ps v n ≡ row least up v (kidsAt least up ps v) nothing (page ps n .entries)
 unfolding noteAt kidsAt
 note-row least zero ps v n = refl
 note-row least (suc up) ps v n = refl
@@ -160,7 +195,8 @@ note-row least (suc up) ps v n = refl
 abbrev pub kidIf : Bool → Note → Note
 kidIf b x = pick b x nothing
 
-pub step-asked : (least up v : ℕ) (x : Note) (e : Entry) (kid : Note) → step least up v x e (kidIf (liveAt v e) kid) ≡ step least up v x e kid
+pub step-asked : (least up v : ℕ) (x : Note) (e : Entry) (kid : Note)
+    → step least up v x e (kidIf (liveAt v e) kid) ≡ step least up v x e kid
 step-asked least up v x e kid = at (leb (e .start) v) (ltb v (e .end))
   where
     at : (a b : Bool) → stepIf a b least up x e (kidIf (a && b) kid) ≡ stepIf a b least up x e kid
@@ -182,7 +218,8 @@ step-live least up v x e kid = at (leb (e .start) v) (ltb v (e .end))
     at true true = by (joins up x e kid)
 
 -- a step that breaks rule 4 leaves nothing else
-pub step-broken : (least up v : ℕ) (x : Note) (e : Entry) (kid : Note) → x .keys ≡ true → step least up v x e kid .keys ≡ false → step least up v x e kid ≡ bad
+pub step-broken : (least up v : ℕ) (x : Note) (e : Entry) (kid : Note) → x .keys ≡ true → step least up v x e kid .keys ≡ false
+    → step least up v x e kid ≡ bad
 step-broken least up v x e kid k h = at (leb (e .start) v) (ltb v (e .end)) h
   where
     wrong : {A : Type 0} → true ≡ false → A
@@ -200,7 +237,9 @@ step-broken least up v x e kid k h = at (leb (e .start) v) (ltb v (e .end)) h
 -- ---- what is left from place i on
 
 module _ (least up v : ℕ) (f : ℕ → Note) (x : Note) (p : List ℕ) (i n : ℕ) where
-  pub row-step : i < n → row least up v f x (readEntries p (128 + 96 * i) (n - i)) ≡ row least up v f (step least up v x (readEntry p (128 + 96 * i)) (f (readEntry p (128 + 96 * i) .value))) (readEntries p (128 + 96 * (i + 1)) (n - (i + 1)))
+  pub row-step : i < n → row least up v f x (readEntries p (128 + 96 * i) (n - i))
+      ≡ row least up v f (step least up v x (readEntry p (128 + 96 * i)) (f (readEntry p (128 + 96 * i) .value)))
+      (readEntries p (128 + 96 * (i + 1)) (n - (i + 1)))
   unfolding row
   row-step l = ap (row least up v f x) (entries-step p i n l)
 
@@ -213,7 +252,8 @@ module _ (least : ℕ) (s : List ℕ) (n : ℕ) (k : IsPage least s n) where
   entries-here = ap (λ (p : Page). p .entries) (page-at least s n (k .0) (k .1)) ∙ entries-of least (pageOf least s n)
 
   pub height-here : (up : ℕ) → levelAt least s n ≡ up + 1 → heightOf (decode least s .pages) n ≡ up
-  height-here up e = rw (page-at least s n (k .0) (k .1), level-of least (pageOf least s n)) (sym (sub-one (levelAt least s n)) ∙ omega arith)
+  height-here up e =
+      rw (page-at least s n (k .0) (k .1), level-of least (pageOf least s n)) (sym (sub-one (levelAt least s n)) ∙ omega arith)
 
 -- ---- the note of the page under an entry
 
@@ -228,40 +268,53 @@ module _ (least up : ℕ) (ps : List Page) (v : ℕ) (e : Entry) where
   pub below-dead : liveAt v e ≡ false → kidIf (liveAt v e) (kidsAt least up ps v (e .value)) ≡ nothing
   below-dead q = ap (λ (b : Bool). kidIf b (kidsAt least up ps v (e .value))) q
 
-  pub below-live : (m : ℕ) → liveAt v e ≡ true → (up ≡ 0 → ⊥) → m ≡ e .value → kidIf (liveAt v e) (kidsAt least up ps v (e .value)) ≡ noteAt least (up - 1) ps v m
-  below-live m q n k = ap (λ (b : Bool). kidIf b (kidsAt least up ps v (e .value))) q ∙ kids-some least up ps v (e .value) n ∙ ap (noteAt least (up - 1) ps v) (sym k)
+  pub below-live : (m : ℕ) → liveAt v e ≡ true → (up ≡ 0 → ⊥) → m ≡ e .value
+      → kidIf (liveAt v e) (kidsAt least up ps v (e .value)) ≡ noteAt least (up - 1) ps v m
+  below-live m q n k =
+      ap (λ (b : Bool). kidIf b (kidsAt least up ps v (e .value))) q ∙ kids-some least up ps v (e .value) n
+      ∙ ap (noteAt least (up - 1) ps v) (sym k)
 
-pub leads-on : (least : ℕ) (s : List ℕ) (v up m : ℕ) (e : Entry) → Leads least s v up e → m ≡ e .value → (up ≡ 0 → ⊥) → liveAt v e ≡ true → IsPage least s m × (levelAt least s m ≡ up - 1 + 1)
+pub leads-on : (least : ℕ) (s : List ℕ) (v up m : ℕ) (e : Entry) → Leads least s v up e → m ≡ e .value → (up ≡ 0 → ⊥) → liveAt v e ≡ true
+    → IsPage least s m × (levelAt least s m ≡ up - 1 + 1)
 leads-on least s v up m e h q n live = let (a, b) = h (omega arith) live in (rw q a, rw q (b ∙ omega arith))
 
 -- ---- what `visit` gives
 
 -- a note that still holds
-pub known-is : (least up : ℕ) (ps : List Page) (v n : ℕ) (ns : List ℕ) (x : Note) → Kept least ps v ns → n < 4096 → heightOf ps n ≡ up → x ≡ noteIn ns n → v < x .until → x ≡ noteAt least up ps v n
+pub known-is : (least up : ℕ) (ps : List Page) (v n : ℕ) (ns : List ℕ) (x : Note) → Kept least ps v ns → n < 4096 → heightOf ps n ≡ up
+    → x ≡ noteIn ns n → v < x .until → x ≡ noteAt least up ps v n
 known-is least up ps v n ns x k low h q l =
     q ∙ k .holds n low (subst (λ (y : Note). v < y .until) q l) ∙ ap (λ (u : ℕ). noteAt least u ps v n) h
 
 -- one more entry
-pub step-kid : (least up v : ℕ) (ps : List Page) (x y kid : Note) (e : Entry) → kid ≡ kidIf (liveAt v e) (kidsAt least up ps v (e .value)) → y ≡ step least up v x e kid → y ≡ step least up v x e (kidsAt least up ps v (e .value))
-step-kid least up v ps x y kid e kids next = next ∙ ap (step least up v x e) kids ∙ step-asked least up v x e (kidsAt least up ps v (e .value))
+pub step-kid : (least up v : ℕ) (ps : List Page) (x y kid : Note) (e : Entry) → kid ≡ kidIf (liveAt v e) (kidsAt least up ps v (e .value))
+    → y ≡ step least up v x e kid → y ≡ step least up v x e (kidsAt least up ps v (e .value))
+step-kid least up v ps x y kid e kids next =
+    next ∙ ap (step least up v x e) kids ∙ step-asked least up v x e (kidsAt least up ps v (e .value))
 
-module _ (least up v : ℕ) (ps : List Page) (x y : Note) (e : Entry) (p : List ℕ) (i n : ℕ) (is : e ≡ readEntry p (128 + 96 * i)) (next : y ≡ step least up v x e (kidsAt least up ps v (e .value))) where
-  pub row-next : i < n → row least up v (kidsAt least up ps v) x (readEntries p (128 + 96 * i) (n - i)) ≡ row least up v (kidsAt least up ps v) y (readEntries p (128 + 96 * (i + 1)) (n - (i + 1)))
+module _ (least up v : ℕ) (ps : List Page) (x y : Note) (e : Entry) (p : List ℕ) (i n : ℕ) (is : e ≡ readEntry p (128 + 96 * i))
+    (next : y ≡ step least up v x e (kidsAt least up ps v (e .value))) where
+  pub row-next : i < n → row least up v (kidsAt least up ps v) x (readEntries p (128 + 96 * i) (n - i))
+      ≡ row least up v (kidsAt least up ps v) y (readEntries p (128 + 96 * (i + 1)) (n - (i + 1)))
   row-next l =
       row-step least up v (kidsAt least up ps v) x p i n l
       ∙ ap (λ (z : Note). row least up v (kidsAt least up ps v) z (readEntries p (128 + 96 * (i + 1)) (n - (i + 1))))
       (ap (λ (d : Entry). step least up v x d (kidsAt least up ps v (d .value))) (sym is) ∙ sym next)
 
   -- rule 4 is broken
-  pub row-stops : i < n → x .keys ≡ true → y .keys ≡ false → row least up v (kidsAt least up ps v) x (readEntries p (128 + 96 * i) (n - i)) ≡ y
+  pub row-stops : i < n → x .keys ≡ true → y .keys ≡ false
+      → row least up v (kidsAt least up ps v) x (readEntries p (128 + 96 * i) (n - i)) ≡ y
   row-stops l k b =
       let q : y ≡ bad = next ∙ step-broken least up v x e (kidsAt least up ps v (e .value)) k (ap (λ (z : Note). z .keys) (sym next) ∙ b) in
       row-next l ∙ ap (λ (z : Note). row least up v (kidsAt least up ps v) z (readEntries p (128 + 96 * (i + 1)) (n - (i + 1)))) q
       ∙ row-bad least up v (kidsAt least up ps v) (readEntries p (128 + 96 * (i + 1)) (n - (i + 1))) ∙ sym q
 
   pub live-next : x .live ≤ i → y .live ≤ i + 1
-  live-next l = let g : y .live ≡ step least up v x e (kidsAt least up ps v (e .value)) .live = ap (λ (z : Note). z .live) next in omega (arith, step-live least up v x e (kidsAt least up ps v (e .value)))
+  live-next l =
+      let g : y .live ≡ step least up v x e (kidsAt least up ps v (e .value)) .live = ap (λ (z : Note). z .live) next in
+      omega (arith, step-live least up v x e (kidsAt least up ps v (e .value)))
 
-pub kept-after : (least up : ℕ) (ps : List Page) (v n : ℕ) (x : Note) (ns ms : List ℕ) → Kept least ps v ns → n < 4096 → heightOf ps n ≡ up → x .keys ≡ true → x ≡ noteAt least up ps v n → ms ≡ putNote ns n x → Kept least ps v ms
+pub kept-after : (least up : ℕ) (ps : List Page) (v n : ℕ) (x : Note) (ns ms : List ℕ) → Kept least ps v ns → n < 4096 → heightOf ps n ≡ up
+    → x .keys ≡ true → x ≡ noteAt least up ps v n → ms ≡ putNote ns n x → Kept least ps v ms
 kept-after least up ps v n x ns ms k low h ok is q =
     subst (Kept least ps v) (sym q) (kept-put least ps v n x ns low (is ∙ ap (λ (u : ℕ). noteAt least u ps v n) (sym h)) ok k)

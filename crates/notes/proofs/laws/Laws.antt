@@ -50,41 +50,50 @@ step-less least up v x e kid = at (leb (e .start) v) (ltb v (e .end))
 pub row-less : (least up v : ℕ) (f : ℕ → Note) (x : Note) (es : List Entry) → row least up v f x es .until ≤ x .until
 unfolding row
 row-less least up v f x [] = omega arith
-row-less least up v f x (e ∷ es) = omega (arith, row-less least up v f (step least up v x e (f (e .value))) es, step-less least up v x e (f (e .value)))
+row-less least up v f x (e ∷ es) =
+    omega (arith, row-less least up v f (step least up v x e (f (e .value))) es, step-less least up v x e (f (e .value)))
 
 -- the notes of the pages below stay as they are until they say
 abbrev pub Stays : ℕ → (ℕ → Note) → (ℕ → Note) → Type 0
 Stays w f g = (m : ℕ) → w < f m .until → g m ≡ f m
 
 module _ (least up v w : ℕ) (late : v ≤ w) where
-  step-still : (x : Note) (e : Entry) (kid other : Note) → (w < kid .until → other ≡ kid) → w < step least up v x e kid .until → step least up w x e other ≡ step least up v x e kid
+  step-still : (x : Note) (e : Entry) (kid other : Note) → (w < kid .until → other ≡ kid) → w < step least up v x e kid .until
+      → step least up w x e other ≡ step least up v x e kid
   step-still x e kid other same h = at (leb (e .start) v) refl (ltb v (e .end)) refl h
     where
       by : (c : Bool) → joins up x e kid ≡ c → w < joinedIf c least up x e kid .until → (w < e .end) × (w < kid .until)
       by true q l = (omega arith, omega arith)
       by false q l = absurd (omega arith)
 
-      at : (a : Bool) → leb (e .start) v ≡ a → (b : Bool) → ltb v (e .end) ≡ b → w < stepIf a b least up x e kid .until → step least up w x e other ≡ stepIf a b least up x e kid
+      at : (a : Bool) → leb (e .start) v ≡ a → (b : Bool) → ltb v (e .end) ≡ b → w < stepIf a b least up x e kid .until
+          → step least up w x e other ≡ stepIf a b least up x e kid
       at false p b q l = rw (lt-leb (e .start) w (omega arith))
-      at true p false q l = rw (le-leb (e .start) w (omega (arith, leb-true (e .start) v p)), le-ltb w (e .end) (omega (arith, ltb-false v (e .end) q)))
+      at true p false q l =
+          rw (le-leb (e .start) w (omega (arith, leb-true (e .start) v p)), le-ltb w (e .end) (omega (arith, ltb-false v (e .end) q)))
       at true p true q l =
           let (y, z) = by (joins up x e kid) refl l in
           rw (le-leb (e .start) w (omega (arith, leb-true (e .start) v p)), lt-ltb w (e .end) y, same z)
 
-  pub row-still : (f g : ℕ → Note) → Stays w f g → (x : Note) (es : List Entry) → w < row least up v f x es .until → row least up w g x es ≡ row least up v f x es
+  pub row-still : (f g : ℕ → Note) → Stays w f g → (x : Note) (es : List Entry) → w < row least up v f x es .until
+      → row least up w g x es ≡ row least up v f x es
   unfolding row
   row-still f g same x [] h = refl
   row-still f g same x (e ∷ es) h =
       let y = step least up v x e (f (e .value)) in
-      ap (λ (z : Note). row least up w g z es) (step-still x e (f (e .value)) (g (e .value)) (same (e .value)) (omega (arith, row-less least up v f y es)))
+      ap (λ (z : Note). row least up w g z es)
+      (step-still x e (f (e .value)) (g (e .value)) (same (e .value)) (omega (arith, row-less least up v f y es)))
       ∙ row-still f g same y es h
 
 -- "What stands at and below n is the same": a note holds until it says.
-pub note-still : (least up : ℕ) (ps : List Page) (v w n : ℕ) → v ≤ w → w < noteAt least up ps v n .until → noteAt least up ps w n ≡ noteAt least up ps v n
+pub note-still : (least up : ℕ) (ps : List Page) (v w n : ℕ) → v ≤ w → w < noteAt least up ps v n .until
+    → noteAt least up ps w n ≡ noteAt least up ps v n
 unfolding noteAt
-note-still least zero ps v w n late h = row-still least zero v w late (λ (m : ℕ). nothing) (λ (m : ℕ). nothing) (λ m l. refl) nothing (page ps n .entries) h
+note-still least zero ps v w n late h =
+    row-still least zero v w late (λ (m : ℕ). nothing) (λ (m : ℕ). nothing) (λ m l. refl) nothing (page ps n .entries) h
 note-still least (suc up) ps v w n late h =
-    row-still least (suc up) v w late (noteAt least up ps v) (noteAt least up ps w) (λ m l. note-still least up ps v w m late l) nothing (page ps n .entries) h
+    row-still least (suc up) v w late (noteAt least up ps v) (noteAt least up ps w) (λ m l. note-still least up ps v w m late l) nothing
+    (page ps n .entries) h
 
 -- ---- rule 4 so far
 
@@ -95,7 +104,8 @@ step-keys : (least up v : ℕ) (x : Note) (e : Entry) (kid : Note) → step leas
 step-keys least up v x e kid h = at (leb (e .start) v) (ltb v (e .end)) h
   where
     by : (c : Bool) → joins up x e kid ≡ c → joinedIf c least up x e kid .keys ≡ true → x .keys ≡ true
-    by true q t = both-true (x .keys) (leb (x .high) (e .key)) (both-true (x .keys && leb (x .high) (e .key)) (fits up (e .key) kid) q .0) .0
+    by true q t =
+        both-true (x .keys) (leb (x .high) (e .key)) (both-true (x .keys && leb (x .high) (e .key)) (fits up (e .key) kid) q .0) .0
     by false q t = wrong t
 
     at : (a b : Bool) → stepIf a b least up x e kid .keys ≡ true → x .keys ≡ true
@@ -106,42 +116,53 @@ step-keys least up v x e kid h = at (leb (e .start) v) (ltb v (e .end)) h
 pub row-keys : (least up v : ℕ) (f : ℕ → Note) (x : Note) (es : List Entry) → row least up v f x es .keys ≡ true → x .keys ≡ true
 unfolding row
 row-keys least up v f x [] h = h
-row-keys least up v f x (e ∷ es) h = step-keys least up v x e (f (e .value)) (row-keys least up v f (step least up v x e (f (e .value))) es h)
+row-keys least up v f x (e ∷ es) h =
+    step-keys least up v x e (f (e .value)) (row-keys least up v f (step least up v x e (f (e .value))) es h)
 
 -- ---- and no note is spent at once
 
 module _ (least up v : ℕ) (f : ℕ → Note) (kids : (m : ℕ) → f m .keys ≡ true → v < f m .until) where
-  kid-later : (k : ℕ) → v < k → (u : ℕ) (e : Entry) → fits u (e .key) (f (e .value)) ≡ true → (u ≡ 0 → v < f (e .value) .until) → v < f (e .value) .until
+  kid-later : (k : ℕ) → v < k → (u : ℕ) (e : Entry) → fits u (e .key) (f (e .value)) ≡ true → (u ≡ 0 → v < f (e .value) .until)
+      → v < f (e .value) .until
   kid-later k l zero e h z = z refl
   kid-later k l (suc u) e h z = kids (e .value) (both-true (f (e .value) .keys) (lowFine u (e .key) (f (e .value))) h .0)
 
-  step-later : (leaf : (m : ℕ) → up ≡ 0 → v < f m .until) → (x : Note) (e : Entry) → v < x .until → step least up v x e (f (e .value)) .keys ≡ true → v < step least up v x e (f (e .value)) .until
+  step-later : (leaf : (m : ℕ) → up ≡ 0 → v < f m .until) → (x : Note) (e : Entry) → v < x .until
+      → step least up v x e (f (e .value)) .keys ≡ true → v < step least up v x e (f (e .value)) .until
   step-later leaf x e l h = at (leb (e .start) v) refl (ltb v (e .end)) refl h
     where
       kid : Note
       kid = f (e .value)
 
-      by : (c : Bool) → joins up x e kid ≡ c → v < e .end → joinedIf c least up x e kid .keys ≡ true → v < joinedIf c least up x e kid .until
-      by true q g t = let m = kid-later (x .until) l up e (both-true (x .keys && leb (x .high) (e .key)) (fits up (e .key) kid) q .1) (leaf (e .value)) in omega arith
+      by : (c : Bool) → joins up x e kid ≡ c → v < e .end → joinedIf c least up x e kid .keys ≡ true
+          → v < joinedIf c least up x e kid .until
+      by true q g t =
+          let m = kid-later (x .until) l up e (both-true (x .keys && leb (x .high) (e .key)) (fits up (e .key) kid) q .1)
+          (leaf (e .value)) in omega arith
       by false q g t = wrong t
 
-      at : (a : Bool) → leb (e .start) v ≡ a → (b : Bool) → ltb v (e .end) ≡ b → stepIf a b least up x e kid .keys ≡ true → v < stepIf a b least up x e kid .until
+      at : (a : Bool) → leb (e .start) v ≡ a → (b : Bool) → ltb v (e .end) ≡ b → stepIf a b least up x e kid .keys ≡ true
+          → v < stepIf a b least up x e kid .until
       at false p b q t = let z = leb-false (e .start) v p in omega arith
       at true p false q t = l
       at true p true q t = by (joins up x e kid) refl (ltb-true v (e .end) q) t
 
-  pub row-later : (leaf : (m : ℕ) → up ≡ 0 → v < f m .until) → (x : Note) (es : List Entry) → v < x .until → row least up v f x es .keys ≡ true → v < row least up v f x es .until
+  pub row-later : (leaf : (m : ℕ) → up ≡ 0 → v < f m .until) → (x : Note) (es : List Entry) → v < x .until
+      → row least up v f x es .keys ≡ true → v < row least up v f x es .until
   unfolding row
   row-later leaf x [] l h = l
   row-later leaf x (e ∷ es) l h =
       let y = step least up v x e (f (e .value)) in
       row-later leaf y es (step-later leaf x e l (row-keys least up v f y es h)) h
 
-pub note-later : (least up : ℕ) (ps : List Page) (v n : ℕ) → v < alive → noteAt least up ps v n .keys ≡ true → v < noteAt least up ps v n .until
+pub note-later : (least up : ℕ) (ps : List Page) (v n : ℕ) → v < alive → noteAt least up ps v n .keys ≡ true
+    → v < noteAt least up ps v n .until
 unfolding noteAt
-note-later least zero ps v n low h = row-later least zero v (λ (m : ℕ). nothing) (λ m q. low) (λ m z. low) nothing (page ps n .entries) low h
+note-later least zero ps v n low h =
+    row-later least zero v (λ (m : ℕ). nothing) (λ m q. low) (λ m z. low) nothing (page ps n .entries) low h
 note-later least (suc up) ps v n low h =
-    row-later least (suc up) v (noteAt least up ps v) (λ m q. note-later least up ps v m low q) (λ m z. absurd (omega arith)) nothing (page ps n .entries) low h
+    row-later least (suc up) v (noteAt least up ps v) (λ m q. note-later least up ps v m low q) (λ m z. absurd (omega arith)) nothing
+    (page ps n .entries) low h
 
 -- ---- the page under an entry, where there is one
 

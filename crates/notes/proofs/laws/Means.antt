@@ -51,7 +51,9 @@ shut false b c d q = refl
 
 module _ (least up v : ℕ) (f : ℕ → Note) where
   abbrev Row : List Entry → Note → ℕ → Type 0
-  Row es x hi = (row least up v f x es .keys && leb (row least up v f x es .high) hi) ≡ (leb (x .high) (firstKey (livesOf v es) hi) && chain up f (livesOf v es) hi)
+  Row es x hi =
+      (row least up v f x es .keys && leb (row least up v f x es .high) hi)
+      ≡ (leb (x .high) (firstKey (livesOf v es) hi) && chain up f (livesOf v es) hi)
 
   pub row-chain : (es : List Entry) (x : Note) (hi : ℕ) → x .keys ≡ true → Row es x hi
   unfolding row chain
@@ -77,18 +79,22 @@ module _ (least up v : ℕ) (f : ℕ → Note) where
           rw (b, c) (ih (joinedIf true least up x e kid) refl)
       by false q ih =
           ap (λ (y : Note). y .keys && leb (y .high) hi) (row-bad least up v f es)
-          ∙ sym (shut (leb (x .high) (e .key)) (fits up (e .key) kid) (leb (max (e .key + 1) (kid .high)) (firstKey xs hi)) (chain up f xs hi) (rw k at q))
+          ∙ sym (shut (leb (x .high) (e .key)) (fits up (e .key) kid) (leb (max (e .key + 1) (kid .high)) (firstKey xs hi))
+          (chain up f xs hi) (rw k at q))
 
       at : (a b : Bool) → ((y : Note) → y .keys ≡ true → Row es y hi)
           → (row least up v f (stepIf a b least up x e kid) es .keys && leb (row least up v f (stepIf a b least up x e kid) es .high) hi)
-          ≡ (leb (x .high) (firstKey (map pairOf (keep (a && b) e (those (liveAt v) es))) hi) && chain up f (map pairOf (keep (a && b) e (those (liveAt v) es))) hi)
+          ≡ (leb (x .high) (firstKey (map pairOf (keep (a && b) e (those (liveAt v) es))) hi)
+          && chain up f (map pairOf (keep (a && b) e (those (liveAt v) es))) hi)
       at false b ih = ih (waits x e) k
       at true false ih = ih x k
       at true true ih = by (joins up x e kid) refl ih
 
   -- how many are alive, and the first key
   abbrev Counts : List Entry → Note → Type 0
-  Counts es x = (row least up v f x es .live ≡ x .live + length (livesOf v es)) × (row least up v f x es .first ≡ pick (eqb (x .live) 0) (firstKey (livesOf v es) (x .first)) (x .first))
+  Counts es x =
+      (row least up v f x es .live ≡ x .live + length (livesOf v es))
+      × (row least up v f x es .first ≡ pick (eqb (x .live) 0) (firstKey (livesOf v es) (x .first)) (x .first))
 
   pub row-counts : (es : List Entry) (x : Note) → row least up v f x es .keys ≡ true → Counts es x
   unfolding row
@@ -105,17 +111,22 @@ module _ (least up v : ℕ) (f : ℕ → Note) where
       xs : List Pair
       xs = livesOf v es
 
-      by : (c : Bool) → row least up v f (joinedIf c least up x e kid) es .keys ≡ true → ((y : Note) → row least up v f y es .keys ≡ true → Counts es y)
-          → (row least up v f (joinedIf c least up x e kid) es .live ≡ x .live + suc (length xs)) × (row least up v f (joinedIf c least up x e kid) es .first ≡ pick (eqb (x .live) 0) (e .key) (x .first))
+      by : (c : Bool) → row least up v f (joinedIf c least up x e kid) es .keys ≡ true
+          → ((y : Note) → row least up v f y es .keys ≡ true → Counts es y)
+          → (row least up v f (joinedIf c least up x e kid) es .live ≡ x .live + suc (length xs))
+          × (row least up v f (joinedIf c least up x e kid) es .first ≡ pick (eqb (x .live) 0) (e .key) (x .first))
       by true q ih =
           let (a, b) = ih (joinedIf true least up x e kid) q in
           let z : eqb (x .live + 1) 0 ≡ false = ne-eqb (x .live + 1) 0 (λ u. omega arith) in
           (a ∙ omega arith, rw z at b)
       by false q ih = wrong (ap (λ (y : Note). y .keys) (sym (row-bad least up v f es)) ∙ q)
 
-      at : (a b : Bool) → row least up v f (stepIf a b least up x e kid) es .keys ≡ true → ((y : Note) → row least up v f y es .keys ≡ true → Counts es y)
-          → (row least up v f (stepIf a b least up x e kid) es .live ≡ x .live + length (map pairOf (keep (a && b) e (those (liveAt v) es))))
-          × (row least up v f (stepIf a b least up x e kid) es .first ≡ pick (eqb (x .live) 0) (firstKey (map pairOf (keep (a && b) e (those (liveAt v) es))) (x .first)) (x .first))
+      at : (a b : Bool) → row least up v f (stepIf a b least up x e kid) es .keys ≡ true
+          → ((y : Note) → row least up v f y es .keys ≡ true → Counts es y)
+          → (row least up v f (stepIf a b least up x e kid) es .live
+          ≡ x .live + length (map pairOf (keep (a && b) e (those (liveAt v) es))))
+          × (row least up v f (stepIf a b least up x e kid) es .first
+          ≡ pick (eqb (x .live) 0) (firstKey (map pairOf (keep (a && b) e (those (liveAt v) es))) (x .first)) (x .first))
       at false b q ih = ih (waits x e) q
       at true false q ih = ih x q
       at true true q ih = by (joins up x e kid) q ih
@@ -128,7 +139,8 @@ module _ (least up v : ℕ) (f : ℕ → Note) where
   and-group true b c = refl
   and-group false b c = refl
 
-  pub row-full : (es : List Entry) (x : Note) → row least up v f x es .keys ≡ true → row least up v f x es .full ≡ (x .full && all fine (livesOf v es))
+  pub row-full : (es : List Entry) (x : Note) → row least up v f x es .keys ≡ true
+      → row least up v f x es .full ≡ (x .full && all fine (livesOf v es))
   unfolding row
   row-full [] x k = one (x .full)
     where
@@ -140,13 +152,16 @@ module _ (least up v : ℕ) (f : ℕ → Note) where
       kid : Note
       kid = f (e .value)
 
-      by : (c : Bool) → row least up v f (joinedIf c least up x e kid) es .keys ≡ true → ((y : Note) → row least up v f y es .keys ≡ true → row least up v f y es .full ≡ (y .full && all fine (livesOf v es)))
+      by : (c : Bool) → row least up v f (joinedIf c least up x e kid) es .keys ≡ true
+          → ((y : Note) → row least up v f y es .keys ≡ true → row least up v f y es .full ≡ (y .full && all fine (livesOf v es)))
           → row least up v f (joinedIf c least up x e kid) es .full ≡ (x .full && (filled least up kid && all fine (livesOf v es)))
       by true q ih = ih (joinedIf true least up x e kid) q ∙ and-group (x .full) (filled least up kid) (all fine (livesOf v es))
       by false q ih = wrong (ap (λ (y : Note). y .keys) (sym (row-bad least up v f es)) ∙ q)
 
-      at : (a b : Bool) → row least up v f (stepIf a b least up x e kid) es .keys ≡ true → ((y : Note) → row least up v f y es .keys ≡ true → row least up v f y es .full ≡ (y .full && all fine (livesOf v es)))
-          → row least up v f (stepIf a b least up x e kid) es .full ≡ (x .full && all fine (map pairOf (keep (a && b) e (those (liveAt v) es))))
+      at : (a b : Bool) → row least up v f (stepIf a b least up x e kid) es .keys ≡ true
+          → ((y : Note) → row least up v f y es .keys ≡ true → row least up v f y es .full ≡ (y .full && all fine (livesOf v es)))
+          → row least up v f (stepIf a b least up x e kid) es .full
+          ≡ (x .full && all fine (map pairOf (keep (a && b) e (those (liveAt v) es))))
       at false b q ih = ih (waits x e) q
       at true false q ih = ih x q
       at true true q ih = by (joins up x e kid) q ih
@@ -160,21 +175,25 @@ climbs-top (x ∷ xs) hi h =
     let (a, b) = both-true (ltb (x .key) (firstKey xs hi)) (climbs xs hi) h in
     omega (arith, ltb-true (x .key) (firstKey xs hi) a, climbs-top xs hi b)
 
-pub climbs-of : (lo hi : ℕ) (xs : List Pair) → all (λ (p : Pair). within lo hi (p .key)) xs ≡ true → rising lower xs ≡ true → climbs xs hi ≡ true
+pub climbs-of : (lo hi : ℕ) (xs : List Pair) → all (λ (p : Pair). within lo hi (p .key)) xs ≡ true → rising lower xs ≡ true
+    → climbs xs hi ≡ true
 unfolding climbs
 climbs-of lo hi [] a b = refl
-climbs-of lo hi (x ∷ []) a b = both-intro _ _ (both-true (leb lo (x .key)) (ltb (x .key) hi) (all-cons (λ (p : Pair). within lo hi (p .key)) x [] a .0) .1) refl
+climbs-of lo hi (x ∷ []) a b =
+    both-intro _ _ (both-true (leb lo (x .key)) (ltb (x .key) hi) (all-cons (λ (p : Pair). within lo hi (p .key)) x [] a .0) .1) refl
 climbs-of lo hi (x ∷ y ∷ zs) a b =
     let (c, d) = both-true (lower x y) (rising lower (y ∷ zs)) b in
     both-intro _ _ c (climbs-of lo hi (y ∷ zs) (all-cons (λ (p : Pair). within lo hi (p .key)) x (y ∷ zs) a .1) d)
 
-pub climbs-within : (lo hi : ℕ) (xs : List Pair) → climbs xs hi ≡ true → lo ≤ firstKey xs lo → all (λ (p : Pair). within lo hi (p .key)) xs ≡ true
+pub climbs-within : (lo hi : ℕ) (xs : List Pair) → climbs xs hi ≡ true → lo ≤ firstKey xs lo
+    → all (λ (p : Pair). within lo hi (p .key)) xs ≡ true
 unfolding climbs
 climbs-within lo hi [] h l = refl
 climbs-within lo hi (x ∷ xs) h l =
     let (a, b) = both-true (ltb (x .key) (firstKey xs hi)) (climbs xs hi) h in
     let m : x .key < firstKey xs hi = ltb-true (x .key) (firstKey xs hi) a in
-    both-intro _ _ (both-intro _ _ (le-leb lo (x .key) l) (lt-ltb (x .key) hi (omega (arith, climbs-top xs hi b)))) (climbs-within lo hi xs b (next xs m))
+    both-intro _ _ (both-intro _ _ (le-leb lo (x .key) l) (lt-ltb (x .key) hi (omega (arith, climbs-top xs hi b))))
+    (climbs-within lo hi xs b (next xs m))
   where
     next : (ys : List Pair) → x .key < firstKey ys hi → lo ≤ firstKey ys lo
     next [] m = omega arith
@@ -198,7 +217,8 @@ all-append g (x ∷ a) b = ap (λ (c : Bool). g x && c) (all-append g a b) ∙ s
     group true q r = refl
     group false q r = refl
 
-pub spread-cons : (F : ℕ → ℕ → ℕ → List Seen) (x : Pair) (xs : List Pair) (high : ℕ) → spread F (x ∷ xs) high ≡ F (x .key) (firstKey xs high) (x .value) ++ spread F xs high
+pub spread-cons : (F : ℕ → ℕ → ℕ → List Seen) (x : Pair) (xs : List Pair) (high : ℕ)
+    → spread F (x ∷ xs) high ≡ F (x .key) (firstKey xs high) (x .value) ++ spread F xs high
 spread-cons F x [] high = sym (append-nil (F (x .key) high (x .value)))
 spread-cons F x (y ∷ ys) high = refl
 
@@ -223,7 +243,10 @@ leb-max a b h = at (ltb a h) refl (leb b h) refl
 pub chain-leaf : (f : ℕ → Note) → ((m : ℕ) → f m .high ≡ 0) → (xs : List Pair) (hi : ℕ) → chain 0 f xs hi ≡ climbs xs hi
 unfolding chain climbs
 chain-leaf f z [] hi = refl
-chain-leaf f z (x ∷ xs) hi = ap₂ _&&_ (leb-max (x .key) (f (x .value) .high) (firstKey xs hi) ∙ ap (λ (b : Bool). ltb (x .key) (firstKey xs hi) && b) (le-leb (f (x .value) .high) (firstKey xs hi) (omega (arith, z (x .value)))) ∙ one (ltb (x .key) (firstKey xs hi))) (chain-leaf f z xs hi)
+chain-leaf f z (x ∷ xs) hi =
+    ap₂ _&&_ (leb-max (x .key) (f (x .value) .high) (firstKey xs hi)
+    ∙ ap (λ (b : Bool). ltb (x .key) (firstKey xs hi) && b) (le-leb (f (x .value) .high) (firstKey xs hi) (omega (arith, z (x .value))))
+    ∙ one (ltb (x .key) (firstKey xs hi))) (chain-leaf f z xs hi)
   where
     one : (b : Bool) → (b && true) ≡ b
     one true = refl
@@ -234,7 +257,8 @@ module _ (ps : List Page) (v : ℕ) where
   abbrev kidsOf : ℕ → ℕ → ℕ → ℕ → List Seen
   kidsOf up lo hi n = seenBelow up ps v false lo hi n
 
-  pub chain-walk : (up : ℕ) (f : ℕ → Note) → ((lo hi n : ℕ) → all keysOk (kidsOf up lo hi n) ≡ (f n .keys && lowFine up lo (f n) && leb (f n .high) hi))
+  pub chain-walk : (up : ℕ) (f : ℕ → Note)
+      → ((lo hi n : ℕ) → all keysOk (kidsOf up lo hi n) ≡ (f n .keys && lowFine up lo (f n) && leb (f n .high) hi))
       → (xs : List Pair) (hi : ℕ) → chain (suc up) f xs hi ≡ (climbs xs hi && all keysOk (spread (kidsOf up) xs hi))
   unfolding chain climbs
   chain-walk up f ih [] hi = refl
@@ -244,7 +268,8 @@ module _ (ps : List Page) (v : ℕ) where
       ap₂ (λ (b c : Bool). k .keys && lowFine up (x .key) k && b && c) (leb-max (x .key) (k .high) h) (chain-walk up f ih xs hi)
       ∙ shuffle (k .keys && lowFine up (x .key) k) (ltb (x .key) h) (leb (k .high) h) (climbs xs hi) (all keysOk (spread (kidsOf up) xs hi))
       ∙ ap (λ (b : Bool). ltb (x .key) h && climbs xs hi && (b && all keysOk (spread (kidsOf up) xs hi))) (sym (ih (x .key) h (x .value)))
-      ∙ ap (λ (b : Bool). ltb (x .key) h && climbs xs hi && b) (sym (all-append keysOk (kidsOf up (x .key) h (x .value)) (spread (kidsOf up) xs hi)))
+      ∙ ap (λ (b : Bool). ltb (x .key) h && climbs xs hi && b)
+      (sym (all-append keysOk (kidsOf up (x .key) h (x .value)) (spread (kidsOf up) xs hi)))
       ∙ ap (λ (s : List Seen). ltb (x .key) h && climbs xs hi && all keysOk s) (sym (spread-cons (kidsOf up) x xs hi))
 
 -- two tests that imply each other are one
@@ -260,7 +285,8 @@ pub record NoteSays (xs : List Pair) (x : Note) : Type 0 where
   pub live : x .live ≡ length xs
   pub first : x .first ≡ firstKey xs 0
 
-low-of : (up lo hi : ℕ) (xs : List Pair) (x : Note) → NoteSays xs x → (eqb up 0 || startsAt lo xs) ≡ true → all (λ (p : Pair). within lo hi (p .key)) xs ≡ true → lowFine up lo x ≡ true
+low-of : (up lo hi : ℕ) (xs : List Pair) (x : Note) → NoteSays xs x → (eqb up 0 || startsAt lo xs) ≡ true
+    → all (λ (p : Pair). within lo hi (p .key)) xs ≡ true → lowFine up lo x ≡ true
 low-of up lo hi [] x d s w = rw (d .live)
 low-of zero lo hi (y ∷ xs) x d s w =
     let z : eqb (x .live) 0 ≡ false = ne-eqb (x .live) 0 (λ e. omega (arith, d .live)) in
@@ -273,7 +299,8 @@ or-true : (b : Bool) → (b || true) ≡ true
 or-true true = refl
 or-true false = refl
 
-starts-of : (up lo : ℕ) (xs : List Pair) (x : Note) → NoteSays xs x → lowFine up lo x ≡ true → ((eqb up 0 || startsAt lo xs) ≡ true) × (lo ≤ firstKey xs lo)
+starts-of : (up lo : ℕ) (xs : List Pair) (x : Note) → NoteSays xs x → lowFine up lo x ≡ true
+    → ((eqb up 0 || startsAt lo xs) ≡ true) × (lo ≤ firstKey xs lo)
 starts-of up lo [] x d h = (or-true (eqb up 0), omega arith)
 starts-of zero lo (y ∷ xs) x d h =
     let z : eqb (x .live) 0 ≡ false = ne-eqb (x .live) 0 (λ e. omega (arith, d .live)) in
@@ -305,7 +332,8 @@ module _ (up lo hi : ℕ) (xs : List Pair) (x : Note) (under : Bool)
       let (k, g) = both-true (x .keys) (lowFine up lo x) kf in
       let (c, u) = both-true (climbs xs hi) under (sym row ∙ both-intro _ _ k l) in
       let (s, m) = starts-of up lo xs x (says k) g in
-      both-intro _ _ (both-intro _ _ (both-intro _ _ s (climbs-within lo hi xs c m)) (in-order-rising lower lower-carries xs ∙ climbs-rising hi xs c)) u
+      both-intro _ _
+      (both-intro _ _ (both-intro _ _ s (climbs-within lo hi xs c m)) (in-order-rising lower lower-carries xs ∙ climbs-rising hi xs c)) u
 
   pub page-means : (own && under) ≡ (x .keys && lowFine up lo x && leb (x .high) hi)
   page-means = same-test (own && under) (x .keys && lowFine up lo x && leb (x .high) hi) there back
@@ -317,10 +345,14 @@ module _ (least : ℕ) (ps : List Page) (v : ℕ) where
   zero-leb n = le-leb 0 n (omega arith)
 
   -- the row of a page, from nothing
-  row-starts : (up : ℕ) (f : ℕ → Note) (es : List Entry) (hi : ℕ) → (row least up v f nothing es .keys && leb (row least up v f nothing es .high) hi) ≡ chain up f (livesOf v es) hi
-  row-starts up f es hi = row-chain least up v f es nothing hi refl ∙ ap (λ (b : Bool). b && chain up f (livesOf v es) hi) (zero-leb (firstKey (livesOf v es) hi))
+  row-starts : (up : ℕ) (f : ℕ → Note) (es : List Entry) (hi : ℕ)
+      → (row least up v f nothing es .keys && leb (row least up v f nothing es .high) hi) ≡ chain up f (livesOf v es) hi
+  row-starts up f es hi =
+      row-chain least up v f es nothing hi refl ∙ ap (λ (b : Bool). b && chain up f (livesOf v es) hi)
+      (zero-leb (firstKey (livesOf v es) hi))
 
-  row-says : (up : ℕ) (f : ℕ → Note) (es : List Entry) → row least up v f nothing es .keys ≡ true → NoteSays (livesOf v es) (row least up v f nothing es)
+  row-says : (up : ℕ) (f : ℕ → Note) (es : List Entry) → row least up v f nothing es .keys ≡ true
+      → NoteSays (livesOf v es) (row least up v f nothing es)
   row-says up f es k = let (a, b) = row-counts least up v f es nothing k in record { live = a ∙ omega arith; first = b }
 
   pub note-says : (up n : ℕ) → noteAt least up ps v n .keys ≡ true → NoteSays (pairsAt v (page ps n)) (noteAt least up ps v n)
@@ -329,11 +361,14 @@ module _ (least : ℕ) (ps : List Page) (v : ℕ) where
   note-says (suc up) n k = row-says (suc up) (noteAt least up ps v) (page ps n .entries) k
 
   -- rule 4
-  pub note-four : (up : ℕ) (b : Bool) (lo hi n : ℕ) → all keysOk (seenBelow up ps v b lo hi n) ≡ (noteAt least up ps v n .keys && lowFine up lo (noteAt least up ps v n) && leb (noteAt least up ps v n .high) hi)
+  pub note-four : (up : ℕ) (b : Bool) (lo hi n : ℕ)
+      → all keysOk (seenBelow up ps v b lo hi n) ≡
+      (noteAt least up ps v n .keys && lowFine up lo (noteAt least up ps v n) && leb (noteAt least up ps v n .high) hi)
   unfolding noteAt
   note-four zero b lo hi n =
       page-means zero lo hi (pairsAt v (page ps n)) (noteAt least zero ps v n) true
-      (row-starts zero (λ (m : ℕ). nothing) (page ps n .entries) hi ∙ chain-leaf (λ (m : ℕ). nothing) (λ m. refl) (pairsAt v (page ps n)) hi ∙ sym (one (climbs (pairsAt v (page ps n)) hi)))
+      (row-starts zero (λ (m : ℕ). nothing) (page ps n .entries) hi ∙ chain-leaf (λ (m : ℕ). nothing) (λ m. refl) (pairsAt v (page ps n)) hi
+      ∙ sym (one (climbs (pairsAt v (page ps n)) hi)))
       (λ k. row-says zero (λ (m : ℕ). nothing) (page ps n .entries) k)
     where
       one : (b : Bool) → (b && true) ≡ b
@@ -341,14 +376,17 @@ module _ (least : ℕ) (ps : List Page) (v : ℕ) where
       one false = refl
   note-four (suc up) b lo hi n =
       page-means (suc up) lo hi (pairsAt v (page ps n)) (noteAt least (suc up) ps v n) (all keysOk (seenUnder (suc up) ps v hi n))
-      (row-starts (suc up) (noteAt least up ps v) (page ps n .entries) hi ∙ chain-walk ps v up (noteAt least up ps v) (λ a c m. note-four up false a c m) (pairsAt v (page ps n)) hi)
+      (row-starts (suc up) (noteAt least up ps v) (page ps n .entries) hi
+      ∙ chain-walk ps v up (noteAt least up ps v) (λ a c m. note-four up false a c m) (pairsAt v (page ps n)) hi)
       (λ k. row-says (suc up) (noteAt least up ps v) (page ps n .entries) k)
 
   -- rule 5 of a page that a router leads to, and below it
-  kid-full : (up lo hi n : ℕ) → noteAt least up ps v n .keys ≡ true → all (enough least) (seenUnder up ps v hi n) ≡ noteAt least up ps v n .full
+  kid-full : (up lo hi n : ℕ) → noteAt least up ps v n .keys ≡ true
+      → all (enough least) (seenUnder up ps v hi n) ≡ noteAt least up ps v n .full
       → all (enough least) (seenBelow up ps v false lo hi n) ≡ filled least (suc up) (noteAt least up ps v n)
   kid-full up lo hi n k ih =
-      ap₂ (λ (a : ℕ) (b : Bool). leb least a && b) (sym (note-says up n k .live)) ih ∙ swap (leb least (noteAt least up ps v n .live)) (noteAt least up ps v n .full)
+      ap₂ (λ (a : ℕ) (b : Bool). leb least a && b) (sym (note-says up n k .live)) ih
+      ∙ swap (leb least (noteAt least up ps v n .live)) (noteAt least up ps v n .full)
     where
       swap : (a b : Bool) → (a && b) ≡ (b && a)
       swap true true = refl
@@ -356,23 +394,29 @@ module _ (least : ℕ) (ps : List Page) (v : ℕ) where
       swap false true = refl
       swap false false = refl
 
-  row-under : (up : ℕ) → ((n h : ℕ) → noteAt least up ps v n .keys ≡ true → noteAt least up ps v n .high ≤ h → all (enough least) (seenUnder up ps v h n) ≡ noteAt least up ps v n .full)
+  row-under : (up : ℕ)
+      → ((n h : ℕ) → noteAt least up ps v n .keys ≡ true → noteAt least up ps v n .high ≤ h
+      → all (enough least) (seenUnder up ps v h n) ≡ noteAt least up ps v n .full)
       → (xs : List Pair) (hi : ℕ) → chain (suc up) (noteAt least up ps v) xs hi ≡ true
-      → all (enough least) (spread (seenBelow up ps v false) xs hi) ≡ all (λ (p : Pair). filled least (suc up) (noteAt least up ps v (p .value))) xs
+      → all (enough least) (spread (seenBelow up ps v false) xs hi)
+      ≡ all (λ (p : Pair). filled least (suc up) (noteAt least up ps v (p .value))) xs
   unfolding chain
   row-under up ih [] hi c = refl
   row-under up ih (x ∷ xs) hi c =
       let k : Note = noteAt least up ps v (x .value) in
       let h : ℕ = firstKey xs hi in
-      let (fl, rest) = both-true (fits (suc up) (x .key) k && leb (max (x .key + 1) (k .high)) h) (chain (suc up) (noteAt least up ps v) xs hi) c in
+      let (fl, rest) = both-true (fits (suc up) (x .key) k && leb (max (x .key + 1) (k .high)) h)
+      (chain (suc up) (noteAt least up ps v) xs hi) c in
       let (ft, l) = both-true (fits (suc up) (x .key) k) (leb (max (x .key + 1) (k .high)) h) fl in
       let (ok, g) = both-true (k .keys) (lowFine up (x .key) k) ft in
       ap (all (enough least)) (spread-cons (seenBelow up ps v false) x xs hi)
       ∙ all-append (enough least) (seenBelow up ps v false (x .key) h (x .value)) (spread (seenBelow up ps v false) xs hi)
-      ∙ ap₂ _&&_ (kid-full up (x .key) h (x .value) ok (ih (x .value) h ok (omega (arith, leb-true (max (x .key + 1) (k .high)) h l)))) (row-under up ih xs hi rest)
+      ∙ ap₂ _&&_ (kid-full up (x .key) h (x .value) ok (ih (x .value) h ok (omega (arith, leb-true (max (x .key + 1) (k .high)) h l))))
+      (row-under up ih xs hi rest)
 
   -- rule 5 below a page of which rule 4 holds
-  pub note-five : (up n hi : ℕ) → noteAt least up ps v n .keys ≡ true → noteAt least up ps v n .high ≤ hi → all (enough least) (seenUnder up ps v hi n) ≡ noteAt least up ps v n .full
+  pub note-five : (up n hi : ℕ) → noteAt least up ps v n .keys ≡ true → noteAt least up ps v n .high ≤ hi
+      → all (enough least) (seenUnder up ps v hi n) ≡ noteAt least up ps v n .full
   unfolding noteAt
   note-five zero n hi k l = sym (row-full least zero v (λ (m : ℕ). nothing) (page ps n .entries) nothing k ∙ every (pairsAt v (page ps n)))
     where

@@ -36,7 +36,8 @@ pub count-ext : (f g : ℕ → Bool) (v k : ℕ) → ((x : ℕ) → v ≤ x → 
 count-ext f g v zero e = refl
 count-ext f g v (suc k) e = ap₂ _&&_ (e v (omega arith) (omega arith)) (count-ext f g (suc v) k (λ x a b. e x (omega arith) (omega arith)))
 
-pub run-stretch : (f : ℕ → Bool) (v q end : ℕ) → v ≤ q → q ≤ end → all f (count v (end - v)) ≡ (all f (count v (q - v)) && all f (count q (end - q)))
+pub run-stretch : (f : ℕ → Bool) (v q end : ℕ) → v ≤ q → q ≤ end
+    → all f (count v (end - v)) ≡ (all f (count v (q - v)) && all f (count q (end - q)))
 run-stretch f v q end low high =
     let a : end - v ≡ (q - v) + (end - q) = omega arith in
     let b : v + (q - v) ≡ q = omega arith in
@@ -55,17 +56,20 @@ alike f b v zero e = ap (λ (c : Bool). c && true) (e v (omega arith) (omega ari
     one : (c : Bool) → (c && true) ≡ c
     one true = refl
     one false = refl
-alike f b v (suc k) e = ap₂ _&&_ (e v (omega arith) (omega arith)) (alike f b (suc v) k (λ x l h. e x (omega arith) (omega arith))) ∙ twice b
+alike f b v (suc k) e =
+    ap₂ _&&_ (e v (omega arith) (omega arith)) (alike f b (suc v) k (λ x l h. e x (omega arith) (omega arith))) ∙ twice b
   where
     twice : (c : Bool) → (c && c) ≡ c
     twice true = refl
     twice false = refl
 
-pub run-alike : (f : ℕ → Bool) (v q end : ℕ) → v < q → q ≤ end → ((x : ℕ) → v ≤ x → x < q → f x ≡ f v) → all f (count v (end - v)) ≡ (f v && all f (count q (end - q)))
+pub run-alike : (f : ℕ → Bool) (v q end : ℕ) → v < q → q ≤ end → ((x : ℕ) → v ≤ x → x < q → f x ≡ f v)
+    → all f (count v (end - v)) ≡ (f v && all f (count q (end - q)))
 run-alike f v q end low high e =
     let a : q - v ≡ suc (q - v - 1) = omega arith in
     run-stretch f v q end (omega arith) high
-    ∙ ap (λ (b : Bool). b && all f (count q (end - q))) (ap (λ (k : ℕ). all f (count v k)) a ∙ alike f (f v) v (q - v - 1) (λ x l h. e x l (omega arith)))
+    ∙ ap (λ (b : Bool). b && all f (count q (end - q)))
+    (ap (λ (k : ℕ). all f (count v k)) a ∙ alike f (f v) v (q - v - 1) (λ x l h. e x l (omega arith)))
 
 -- ---- versions that have one root
 
@@ -91,32 +95,42 @@ module _ (least up : ℕ) (ps : List Page) (root : ℕ) where
         le : (w : ℕ) → w < q → w < x .until
         le w b = omega arith
 
-    pub keys-run : all (keysOn least up ps root) (count v (end - v)) ≡ (keysOn least up ps root v && all (keysOn least up ps root) (count q (end - q)))
+    pub keys-run : all (keysOn least up ps root) (count v (end - v))
+        ≡ (keysOn least up ps root v && all (keysOn least up ps root) (count q (end - q)))
     unfolding keysOn
     keys-run = run-alike (keysOn least up ps root) v q end low high (λ w a b. ap (keysBy up) (still w a b))
 
-    pub full-run : all (fullOn least up ps root) (count v (end - v)) ≡ (fullOn least up ps root v && all (fullOn least up ps root) (count q (end - q)))
+    pub full-run : all (fullOn least up ps root) (count v (end - v))
+        ≡ (fullOn least up ps root v && all (fullOn least up ps root) (count q (end - q)))
     unfolding fullOn
     full-run = run-alike (fullOn least up ps root) v q end low high (λ w a b. ap (fullBy least up) (still w a b))
 
 -- ---- by the root of each version
 
-module _ (least : ℕ) (s : Store) (up root v c : ℕ) (height : heightOf (s .pages) root ≡ up) (roots : (x : ℕ) → v ≤ x → x < c → root ≡ rootAt (s .slots) x) where
+module _ (least : ℕ) (s : Store) (up root v c : ℕ) (height : heightOf (s .pages) root ≡ up)
+    (roots : (x : ℕ) → v ≤ x → x < c → root ≡ rootAt (s .slots) x) where
   at-root : (x : ℕ) → v ≤ x → x < c → rootNote least s x ≡ noteAt least up (s .pages) x root
-  at-root x a b = ap (λ (n : ℕ). noteAt least (heightOf (s .pages) n) (s .pages) x n) (sym (roots x a b)) ∙ ap (λ (u : ℕ). noteAt least u (s .pages) x root) height
+  at-root x a b =
+      ap (λ (n : ℕ). noteAt least (heightOf (s .pages) n) (s .pages) x n) (sym (roots x a b))
+      ∙ ap (λ (u : ℕ). noteAt least u (s .pages) x root) height
 
   at-up : (x : ℕ) → v ≤ x → x < c → heightOf (s .pages) (rootAt (s .slots) x) ≡ up
   at-up x a b = ap (heightOf (s .pages)) (sym (roots x a b)) ∙ height
 
   pub keys-stretch : v ≤ c → all (keysAt least s) (count v (c - v)) ≡ all (keysOn least up (s .pages) root) (count v (c - v))
   unfolding keysAt keysOn
-  keys-stretch l = count-ext (keysAt least s) (keysOn least up (s .pages) root) v (c - v) (λ x a b. ap₂ keysBy (at-up x a (omega arith)) (at-root x a (omega arith)))
+  keys-stretch l =
+      count-ext (keysAt least s) (keysOn least up (s .pages) root) v (c - v)
+      (λ x a b. ap₂ keysBy (at-up x a (omega arith)) (at-root x a (omega arith)))
 
   pub full-stretch : v ≤ c → all (fullAt least s) (count v (c - v)) ≡ all (fullOn least up (s .pages) root) (count v (c - v))
   unfolding fullAt fullOn
-  full-stretch l = count-ext (fullAt least s) (fullOn least up (s .pages) root) v (c - v) (λ x a b. ap₂ (fullBy least) (at-up x a (omega arith)) (at-root x a (omega arith)))
+  full-stretch l =
+      count-ext (fullAt least s) (fullOn least up (s .pages) root) v (c - v)
+      (λ x a b. ap₂ (fullBy least) (at-up x a (omega arith)) (at-root x a (omega arith)))
 
-pub told-rules : (least : ℕ) (s : Store) → told (all (keysAt least s) (versions s)) (all (fullAt least s) (versions s)) ≡ told (rule4 s) (rule5 least s)
+pub told-rules : (least : ℕ) (s : Store) → told (all (keysAt least s) (versions s)) (all (fullAt least s) (versions s))
+    ≡ told (rule4 s) (rule5 least s)
 told-rules least s = at (all (keysAt least s) (versions s)) refl ∙ ap (λ (b : Bool). told b (rule5 least s)) (sym (four-by least s))
   where
     at : (b : Bool) → all (keysAt least s) (versions s) ≡ b → told b (all (fullAt least s) (versions s)) ≡ told b (rule5 least s)

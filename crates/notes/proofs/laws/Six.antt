@@ -1,4 +1,5 @@
--- Once rules 4 and 5 hold, rule 6 is the sums and the slots: so sound or not is told by the notes, with no look at what stands under a router.
+-- Once rules 4 and 5 hold, rule 6 is the sums and the slots: so sound or not is told by the notes, with no look at what stands under a
+-- router.
 -- Assumes nothing.
 use Prim.Native.Nat.{ℕ, pred, _+_, _-_, _≤_, _<_, max}
 use native.Mathlib.Omega.{arith}
@@ -21,7 +22,8 @@ use Rattle.spans.specs.Quick.{kept, apart, childrenFine, slotsFine, fineOver, l
 use Rattle.model.specs.Inner.{Out}
 use Rattle.model.proofs.lists.Lists.{both-true, both-intro}
 use Rattle.model.proofs.lists.Members.{bool-cases, In, all-in, all-by}
-use Rattle.model.proofs.sound.ByRule.{Readable, old-last, Front, front-of, span-of, numbers, livesAt, enough, used-in, high-used, at-reached, version-in, in-version}
+use Rattle.model.proofs.sound.ByRule.{Readable, old-last, Front, front-of, span-of, numbers, livesAt, enough, used-in, high-used}
+use Rattle.model.proofs.sound.ByRule.{at-reached, version-in, in-version}
 use Rattle.model.proofs.sound.Quiet.{QuietPage, Quiet, seen-still}
 use Rattle.model.proofs.tree.Bridge.{passesAt}
 use Rattle.spans.proofs.laws.RulesGive.{entry-at, root}
@@ -72,7 +74,8 @@ module _ (least : ℕ) (two : 2 ≤ least) (s : Store) (r1 : rule1 least s ≡ t
     walks-at v h =
         let i = version-in s v h in
         all-by (passesAt least) (seen s v) (λ x k.
-        both-intro _ _ (all-in keysOk x (seen s v) (all-in (λ (u : ℕ). all keysOk (seen s u)) v (versions s) r4 i) k) (all-in (enough least) x (seen s v) (all-in (λ (u : ℕ). all (enough least) (seen s u)) v (versions s) r5 i) k))
+        both-intro _ _ (all-in keysOk x (seen s v) (all-in (λ (u : ℕ). all keysOk (seen s u)) v (versions s) r4 i) k)
+        (all-in (enough least) x (seen s v) (all-in (λ (u : ℕ). all (enough least) (seen s u)) v (versions s) r5 i) k))
 
     all-walks : (v : ℕ) → s .oldest ≤ v → v < alive → all (passesAt least) (seen s v) ≡ true
     all-walks v from low = at (bool-cases (leb v (last s)))
@@ -80,31 +83,41 @@ module _ (least : ℕ) (two : 2 ≤ least) (s : Store) (r1 : rule1 least s ≡ t
         at : (leb v (last s) ≡ true) ⊎ (leb v (last s) ≡ false) → all (passesAt least) (seen s v) ≡ true
         at (inl e) = walks-at v (record { from = from; upto = leb-true v (last s) e })
         at (inr e) =
-            subst (λ (xs : List Seen). all (passesAt least) xs ≡ true) (seen-still (last s) v alive (omega (arith, leb-false v (last s) e)) low s quiet) (walks-at (last s) (record { from = old-last least s (d .old-low); upto = omega arith }))
+            subst (λ (xs : List Seen). all (passesAt least) xs ≡ true)
+            (seen-still (last s) v alive (omega (arith, leb-false v (last s) e)) low s quiet)
+            (walks-at (last s) (record { from = old-last least s (d .old-low); upto = omega arith }))
 
     module _ (spans : spansMet s 5 (drop 5 ps) ≡ true) (slots : slotsFine least (s .oldest) ps (s .slots) ≡ true) where
-      root-lives : (v : ℕ) → s .oldest ≤ v → v < alive → within (page ps (root least two s d v) .start) (page ps (root least two s d v) .end) v ≡ true
+      root-lives : (v : ℕ) → s .oldest ≤ v → v < alive
+          → within (page ps (root least two s d v) .start) (page ps (root least two s d v) .end) v ≡ true
       root-lives v from low =
           let slot = slot-at least (s .oldest) ps v from low (s .slots) (d .begins) (d .rises) slots in
           let p = page ps (root least two s d v) in
-          let (x, fine) = both-true (leb (p .start) (slot .a) && leb (slot .b) (p .end)) (fineOver (fewest least true (pred (p .level))) 0 (slot .a) (slot .b) p) (slot .fine) in
+          let (x, fine) = both-true (leb (p .start) (slot .a) && leb (slot .b) (p .end))
+          (fineOver (fewest least true (pred (p .level))) 0 (slot .a) (slot .b) p) (slot .fine) in
           let (y, z) = both-true (leb (p .start) (slot .a)) (leb (slot .b) (p .end)) x in
-          both-intro _ _ (le-leb (p .start) v (omega (arith, leb-true (p .start) (slot .a) y, slot .from))) (lt-ltb v (p .end) (omega (arith, leb-true (slot .b) (p .end) z, slot .upto)))
+          both-intro _ _ (le-leb (p .start) v (omega (arith, leb-true (p .start) (slot .a) y, slot .from)))
+          (lt-ltb v (p .end) (omega (arith, leb-true (slot .b) (p .end) z, slot .upto)))
 
       met : (n : ℕ) → isFree (page ps n) ≡ false → ledTo s n ≡ page ps n .end - max (s .oldest) (page ps n .start)
       met n u =
           let five : 5 ≤ n = high-used s n (d .front) u in
           let e = behind n u in
-          ap (ledTo s) (omega arith) ∙ met-at s 5 (drop 5 ps) spans (n - 5) (omega (arith, length-drop 5 ps, used-in ps n u)) (ap isFree e ∙ u) ∙ ap (λ (p : Page). p .end - max (s .oldest) (p .start)) e
+          ap (ledTo s) (omega arith) ∙ met-at s 5 (drop 5 ps) spans (n - 5) (omega (arith, length-drop 5 ps, used-in ps n u))
+          (ap isFree e ∙ u) ∙ ap (λ (p : Page). p .end - max (s .oldest) (p .start)) e
 
       sixth : rule6 s ≡ true
       unfolding rule6
       sixth = all-by (λ (v : ℕ). reachedWell v (numbers s v) 5 (drop 5 ps)) (versions s) (λ v i. at-reached v (numbers s v) 5 (drop 5 ps)
-          (λ n l. ap (livesAt v) (getD-drop 5 ps n free) ∙ reached-as least two s d all-walks root-lives slots met v (5 + n) (in-version s v i .from) (low-version v i)))
+          (λ n l. ap (livesAt v) (getD-drop 5 ps n free)
+          ∙ reached-as least two s d all-walks root-lives slots met v (5 + n) (in-version s v i .from) (low-version v i)))
 
   parts : quick least s ≡ true → (spansMet s 5 (drop 5 ps) && slotsFine least (s .oldest) ps (s .slots)) ≡ true
   unfolding quick
-  parts h = both-true (spansMet s 5 (drop 5 ps) && slotsFine least (s .oldest) ps (s .slots)) (pagesPass (λ (p : Page). inOrder apart (kept (s .oldest) (p .entries)) && childrenFine least (s .oldest) ps (p .level) (kept (s .oldest) (p .entries))) s) h .0
+  parts h =
+      both-true (spansMet s 5 (drop 5 ps) && slotsFine least (s .oldest) ps (s .slots))
+      (pagesPass (λ (p : Page). inOrder apart (kept (s .oldest) (p .entries))
+      && childrenFine least (s .oldest) ps (p .level) (kept (s .oldest) (p .entries))) s) h .0
 
   -- rule 6, once rules 4 and 5 hold
   pub six-by : rule4 s ≡ true → rule5 least s ≡ true → rule6 s ≡ (spansMet s 5 (drop 5 ps) && slotsFine least (s .oldest) ps (s .slots))
@@ -118,12 +131,16 @@ module _ (least : ℕ) (two : 2 ≤ least) (s : Store) (r1 : rule1 least s ≡ t
 
   -- the quick tests, where the notes stand in for the pages'
   pub quick-by : quick least s ≡ (spansMet s 5 (drop 5 ps) && slotsFine least (s .oldest) ps (s .slots) && (rule4 s && rule5 least s))
-  quick-by = same-test (quick least s) (spansMet s 5 (drop 5 ps) && slotsFine least (s .oldest) ps (s .slots) && (rule4 s && rule5 least s)) there back
+  quick-by =
+      same-test (quick least s) (spansMet s 5 (drop 5 ps) && slotsFine least (s .oldest) ps (s .slots) && (rule4 s && rule5 least s)) there
+      back
     where
-      there : quick least s ≡ true → (spansMet s 5 (drop 5 ps) && slotsFine least (s .oldest) ps (s .slots) && (rule4 s && rule5 least s)) ≡ true
+      there : quick least s ≡ true → (spansMet s 5 (drop 5 ps) && slotsFine least (s .oldest) ps (s .slots) && (rule4 s && rule5 least s))
+          ≡ true
       there h = both-intro _ _ (parts h) (both-true (rule4 s && rule5 least s) (rule6 s) (sym (quick-rules least two s r1 r2 r3) ∙ h) .0)
 
-      back : (spansMet s 5 (drop 5 ps) && slotsFine least (s .oldest) ps (s .slots) && (rule4 s && rule5 least s)) ≡ true → quick least s ≡ true
+      back : (spansMet s 5 (drop 5 ps) && slotsFine least (s .oldest) ps (s .slots) && (rule4 s && rule5 least s)) ≡ true
+          → quick least s ≡ true
       back h =
           let (a, b) = both-true (spansMet s 5 (drop 5 ps) && slotsFine least (s .oldest) ps (s .slots)) (rule4 s && rule5 least s) h in
           let (x, y) = both-true (rule4 s) (rule5 least s) b in

@@ -44,7 +44,8 @@ module _ (least : ℕ) (s : Store) where
       let x : Note = rootNote least s v in
       let (kf, l) = both-true (x .keys && lowFine (upOf v) 0 x) (leb (x .high) keyLimit) h in
       let (k, f) = both-true (x .keys) (lowFine (upOf v) 0 x) kf in
-      let g : all (enough least) (seenUnder (upOf v) (s .pages) v keyLimit (rootOf v)) ≡ x .full = note-five least (s .pages) v (upOf v) (rootOf v) keyLimit k (leb-true (x .high) keyLimit l) in
+      let g : all (enough least) (seenUnder (upOf v) (s .pages) v keyLimit (rootOf v)) ≡ x .full
+      = note-five least (s .pages) v (upOf v) (rootOf v) keyLimit k (leb-true (x .high) keyLimit l) in
       let n : length (pairsAt v (page (s .pages) (rootOf v))) ≡ x .live = sym (note-says least (s .pages) v (upOf v) (rootOf v) k .live) in
       ap (λ (b : Bool). leb (fewest least true (upOf v)) (length (pairsAt v (page (s .pages) (rootOf v)))) && b) g
       ∙ ap (λ (m : ℕ). leb (fewest least true (upOf v)) m && x .full) n ∙ swap (leb (fewest least true (upOf v)) (x .live)) (x .full)
@@ -76,7 +77,9 @@ module _ (least : ℕ) (s : Store) where
 
   module _ (v w : ℕ) (late : v ≤ w) (root : rootOf w ≡ rootOf v) (holds : w < rootNote least s v .until) where
     note-same : rootNote least s w ≡ rootNote least s v
-    note-same = ap (λ (n : ℕ). noteAt least (heightOf (s .pages) n) (s .pages) w n) root ∙ note-still least (upOf v) (s .pages) v w (rootOf v) late holds
+    note-same =
+        ap (λ (n : ℕ). noteAt least (heightOf (s .pages) n) (s .pages) w n) root
+        ∙ note-still least (upOf v) (s .pages) v w (rootOf v) late holds
 
     up-same : upOf w ≡ upOf v
     up-same = ap (heightOf (s .pages)) root

@@ -17,9 +17,13 @@ head-of-requires c κs = search needs
 
 returns : tie.Need-returns
 returns c =
-    let k = c .before .before .before .before .pre .0 in
-    let e : c .before .head-of .result .start ≡ page (pagesOf (c .before .before .before .before .args .l) (c .before .before .before .before .args .s .now)) (c .before .before .before .before .args .n) .start
-    = ap (λ h. h .start) (c .before .head-of .ensures) ∙ rw (c .before .before .part .ensures .0) (sym (start-of (c .before .before .before .before .args .l .least) (pageOf (c .before .before .before .before .args .l .least) (c .before .before .before .before .args .s .now) (c .before .before .before .before .args .n)))) ∙ ap (λ (p : Page). p .start) (shown k (c .before .before .before .before .pre .1)) in
+    let at-start = c .before .before .before .before in
+    let k = at-start .pre .0 in
+    let e : c .before .head-of .result .start ≡ page (pagesOf (at-start .args .l) (at-start .args .s .now)) (at-start .args .n) .start
+    = ap (λ h. h .start) (c .before .head-of .ensures)
+    ∙ rw (c .before .before .part .ensures .0)
+    (sym (start-of (at-start .args .l .least) (pageOf (at-start .args .l .least) (at-start .args .s .now) (at-start .args .n))))
+    ∙ ap (λ (p : Page). p .start) (shown k (at-start .pre .1)) in
     rw e
 
 pub is-active-spec : {M : Type 1} → statement M

@@ -31,7 +31,9 @@ stays k = record { is = sym (k .same); holds = k .holds; long = refl }
 
 module _ {l : Limits} {b b′ : List ℕ} {ps : List Page} (k : ExactBytes l b) (d : Becomes l b b′ ps) where
   pub shows : decode (l .least) b′ ≡ withPages (decode (l .least) b) ps
-  shows = ap (decode (l .least)) (d .is) ∙ decode-encoded (l .least) (k .edition .four) (k .edition .eight) (withPages (decode (l .least) b) ps) (d .holds)
+  shows =
+      ap (decode (l .least)) (d .is) ∙ decode-encoded (l .least) (k .edition .four) (k .edition .eight) (withPages (decode (l .least) b) ps)
+      (d .holds)
 
   pub pages-are : pagesOf l b′ ≡ ps
   pages-are = ap (λ (s : Store). s .pages) shows
@@ -56,7 +58,8 @@ module _ {l : Limits} {b b′ : List ℕ} {ps : List Page} (k : ExactBytes l b) 
 
 equal : (m n : ℕ) → (m ≡ n) ⊎ (m ≢ n)
 equal m n =
-    ⊎-elim (λ l. inr (λ (e : m ≡ n). omega arith)) (λ g. ⊎-elim (λ l. inr (λ (e : m ≡ n). omega arith)) (λ l. inl (omega arith)) (less n m)) (less m n)
+    ⊎-elim (λ l. inr (λ (e : m ≡ n). omega arith)) (λ g. ⊎-elim (λ l. inr (λ (e : m ≡ n). omega arith)) (λ l. inl (omega arith)) (less n m))
+    (less m n)
 
 take-set : (ps : List Page) (m n : ℕ) (q : Page) → m ≤ n → take m (set ps n q) ≡ take m ps
 take-set ps zero n q h = refl
@@ -72,7 +75,8 @@ module _ {l : Limits} {b : List ℕ} (k : ExactBytes l b) {n : ℕ} (i : Inside 
   hit m e = ap (λ (j : ℕ). page (set ps n q) j) e ∙ getD-set-same ps n q free (i .high)
 
   all-valid : AllValid (l .least) (set (pagesOf l b) n q)
-  all-valid m = ⊎-elim (λ (e : m ≡ n). rw (hit m e) v) (λ (ne : m ≢ n). rw (getD-set-other ps n m q free ne) (k .holds .pages m)) (equal m n)
+  all-valid m =
+      ⊎-elim (λ (e : m ≡ n). rw (hit m e) v) (λ (ne : m ≢ n). rw (getD-set-other ps n m q free ne) (k .holds .pages m)) (equal m n)
 
   pub put : Becomes l b (withPage (l .least) b n (encodePage (l .least) q)) (set (pagesOf l b) n q)
   put = record {

@@ -15,8 +15,11 @@ head-of-requires c κs = search needs
 
 returns : tie.Need-returns
 returns c =
-    let k = c .before .before .before .pre .0 in
-    ap (λ h. h .level) (c .head-of .ensures) ∙ rw (c .before .part .ensures .0) (sym (level-of (c .before .before .before .args .l .least) (pageOf (c .before .before .before .args .l .least) (c .before .before .before .args .s .now) (c .before .before .before .args .n)))) ∙ ap (λ (p : Page). p .level) (shown k (c .before .before .before .pre .1))
+    let at-start = c .before .before .before in
+    let k = at-start .pre .0 in
+    ap (λ h. h .level) (c .head-of .ensures) ∙ rw (c .before .part .ensures .0)
+    (sym (level-of (at-start .args .l .least) (pageOf (at-start .args .l .least) (at-start .args .s .now) (at-start .args .n))))
+    ∙ ap (λ (p : Page). p .level) (shown k (at-start .pre .1))
 
 pub level-of-spec : {M : Type 1} → statement M
 level-of-spec = tie.close (tie.spec part-requires head-of-requires returns)

@@ -18,7 +18,8 @@ pub record NoneNeeded (v : ℕ) (xs : List Slot) (k : ℕ) : Type 0 where
 pub past-start : (v : ℕ) (xs : List Slot) → 0 < length xs → NoneNeeded v xs 0
 past-start v xs h = record { inside = h; is = refl }
 
-one-past : (v : ℕ) (xs : List Slot) (k : ℕ) → suc k < length xs → getD xs (suc k) noSlot .version ≤ v → needed v (drop k xs) ≡ needed v (drop (suc k) xs)
+one-past : (v : ℕ) (xs : List Slot) (k : ℕ) → suc k < length xs → getD xs (suc k) noSlot .version ≤ v
+    → needed v (drop k xs) ≡ needed v (drop (suc k) xs)
 one-past v [] k h le = absurd (omega arith)
 one-past v (x ∷ []) k h le = absurd (omega arith)
 one-past v (x ∷ y ∷ xs) zero h le = rw (le-leb (y .version) v le) refl

@@ -97,11 +97,14 @@ module _ (k : ℕ) (xs : List Slot) (low : k ≤ length xs) where
   stage-end i h = mix-all i (shifted k xs) xs same h
 
 -- in the directory the unused ones are not seen
-pub shifted-directory : (least k : ℕ) (xs : List Slot) → k ≤ length xs → length xs ≤ 64 * least → directory least (shifted k xs) ≡ directory least (drop k xs)
+pub shifted-directory : (least k : ℕ) (xs : List Slot) → k ≤ length xs → length xs ≤ 64 * least
+    → directory least (shifted k xs) ≡ directory least (drop k xs)
 unfolding directory shifted
 shifted-directory least k xs low few =
-    let n : length (drop k xs ++ replicate k noSlot) ≡ length xs = length-append (drop k xs) (replicate k noSlot) ∙ omega (arith, low, length-drop k xs, length-replicate k noSlot) in
+    let n : length (drop k xs ++ replicate k noSlot) ≡ length xs = length-append (drop k xs) (replicate k noSlot)
+    ∙ omega (arith, low, length-drop k xs, length-replicate k noSlot) in
     let m : k + (64 * least - length xs) ≡ 64 * least - length (drop k xs) = omega (arith, low, few, length-drop k xs) in
     ap (λ (j : ℕ). (drop k xs ++ replicate k noSlot) ++ replicate (64 * least - j) noSlot) n
     ∙ append-assoc (drop k xs) (replicate k noSlot) (replicate (64 * least - length xs) noSlot)
-    ∙ ap (λ (ys : List Slot). drop k xs ++ ys) (replicate-append-replicate k (64 * least - length xs) noSlot ∙ ap (λ (j : ℕ). replicate j noSlot) m)
+    ∙ ap (λ (ys : List Slot). drop k xs ++ ys)
+    (replicate-append-replicate k (64 * least - length xs) noSlot ∙ ap (λ (j : ℕ). replicate j noSlot) m)

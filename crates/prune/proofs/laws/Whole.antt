@@ -40,7 +40,8 @@ use Rattle.prune.proofs.laws.Shift.{stage, stage-start, stage-length, s
 use Rattle.prune.specs.Needed.{Needed}
 
 -- bytes of a store that can be held are exactly its own
-pub kept-encoded : (least : ℕ) → 4 ≤ least → least ≤ 8 → (s : Store) → Holds least s → (b : List ℕ) → b ≡ encode least s → HeadedBytes least b
+pub kept-encoded : (least : ℕ) → 4 ≤ least → least ≤ 8 → (s : Store) → Holds least s → (b : List ℕ) → b ≡ encode least s
+    → HeadedBytes least b
 kept-encoded least four eight s h b e =
     let d : decode least b ≡ s = ap (decode least) e ∙ decode-encoded least four eight s h in
     record {
@@ -68,18 +69,25 @@ module _ {l : Limits} (d : Edition l) (b : List ℕ) (k : HeadedBytes (l .least)
 
   pub kept-short : length b ≤ 2 ^ 40
   kept-short =
-      let q : length (at .pages) * (64 * l .least) ≤ 8192 * (64 * l .least) = mul-le-mul-right (64 * l .least) (omega (arith, k .holds .most)) in
+      let q : length (at .pages) * (64 * l .least) ≤ 8192 * (64 * l .least)
+      = mul-le-mul-right (64 * l .least) (omega (arith, k .holds .most)) in
       omega (arith, long, d .eight)
 
-  pub slot-is : (i : ℕ) → i < length (decode (l .least) b .slots) → readSlot b (512 * l .least + 32 * i) ≡ getD (decode (l .least) b .slots) i noSlot
-  slot-is i h = ap (λ (x : List ℕ). readSlot x (512 * l .least + 32 * i)) (sym (k .same)) ∙ slot-encoded (l .least) (d .four) (d .eight) at (k .holds) i h
+  pub slot-is : (i : ℕ) → i < length (decode (l .least) b .slots)
+      → readSlot b (512 * l .least + 32 * i) ≡ getD (decode (l .least) b .slots) i noSlot
+  slot-is i h =
+      ap (λ (x : List ℕ). readSlot x (512 * l .least + 32 * i)) (sym (k .same))
+      ∙ slot-encoded (l .least) (d .four) (d .eight) at (k .holds) i h
 
   pub few-slots : length (decode (l .least) b .slots) ≤ 64 * l .least
   few-slots = k .holds .few
 
   pub slot-put : (i : ℕ) (x : Slot) → i < length (decode (l .least) b .slots) → SlotFits x
-      → lay b (512 * l .least + 32 * i) (slotParts x) ≡ encode (l .least) (withSlots (decode (l .least) b) (set (decode (l .least) b .slots) i x))
-  slot-put i x h f = ap (λ (y : List ℕ). lay y (512 * l .least + 32 * i) (slotParts x)) (sym (k .same)) ∙ slot-set (l .least) (d .four) (d .eight) at (k .holds) i x h f
+      → lay b (512 * l .least + 32 * i) (slotParts x)
+      ≡ encode (l .least) (withSlots (decode (l .least) b) (set (decode (l .least) b .slots) i x))
+  slot-put i x h f =
+      ap (λ (y : List ℕ). lay y (512 * l .least + 32 * i) (slotParts x)) (sym (k .same))
+      ∙ slot-set (l .least) (d .four) (d .eight) at (k .holds) i x h f
 
   pub slot-fits : (i : ℕ) → SlotFits (getD (decode (l .least) b .slots) i noSlot)
   slot-fits i = k .holds .slots i
@@ -94,7 +102,8 @@ pub record Shifted (least : ℕ) (s : Store) (k i : ℕ) (b : List ℕ) : Type 0
 equal : (m n : ℕ) → (m ≡ n) ⊎ (m ≢ n)
 equal m n = ⊎-elim (λ l. inr (λ e. omega arith)) (λ g. ⊎-elim (λ l. inr (λ e. omega arith)) (λ l. inl (omega arith)) (less n m)) (less m n)
 
-set-fits : (xs : List Slot) (i : ℕ) (x : Slot) → i < length xs → SlotFits x → ((j : ℕ) → SlotFits (getD xs j noSlot)) → (j : ℕ) → SlotFits (getD (set xs i x) j noSlot)
+set-fits : (xs : List Slot) (i : ℕ) (x : Slot) → i < length xs → SlotFits x → ((j : ℕ) → SlotFits (getD xs j noSlot)) → (j : ℕ)
+    → SlotFits (getD (set xs i x) j noSlot)
 set-fits xs i x low f h j =
     ⊎-elim
     (λ (e : j ≡ i). rw e (subst SlotFits (sym (getD-set-same xs i x noSlot low)) f))
@@ -104,7 +113,10 @@ module _ (least : ℕ) (four : 4 ≤ least) (eight : least ≤ 8) (s : Store) (k
   pub shifted-start : (b : List ℕ) → b ≡ encode least s → Holds least s → Shifted least s k 0 b
   shifted-start b e h =
       let q : s .slots ≡ stage k 0 (s .slots) = stage-start k (s .slots) in
-      record { bytes = e ∙ ap (λ (xs : List Slot). encode least (withSlots s xs)) q; holds = subst (λ (xs : List Slot). Holds least (withSlots s xs)) q h }
+      record {
+        bytes = e ∙ ap (λ (xs : List Slot). encode least (withSlots s xs)) q;
+        holds = subst (λ (xs : List Slot). Holds least (withSlots s xs)) q h;
+      }
 
   module _ (i : ℕ) (b : List ℕ) (u : Shifted least s k i b) where
     abbrev now : Store
@@ -120,15 +132,19 @@ module _ (least : ℕ) (four : 4 ≤ least) (eight : least ≤ 8) (s : Store) (k
     shifted-roots = ap (λ (x : Store). length (x .slots)) held ∙ stage-length k (s .slots) low i
 
     pub shifted-step : i < length (s .slots) → (c : List ℕ)
-        → c ≡ encode least (withSlots (decode least b) (set (decode least b .slots) i (getD (decode least b .slots) (i + k) noSlot))) → Shifted least s k (i + 1) c
+        → c ≡ encode least (withSlots (decode least b) (set (decode least b .slots) i (getD (decode least b .slots) (i + k) noSlot)))
+        → Shifted least s k (i + 1) c
     shifted-step h c e =
         let x : Slot = getD (stage k i (s .slots)) (i + k) noSlot in
         let t : set (stage k i (s .slots)) i x ≡ stage k (i + 1) (s .slots) = stage-step k (s .slots) low i h in
         let n : i < length (stage k i (s .slots)) = omega (arith, h, stage-length k (s .slots) low i) in
         record {
-          bytes = e ∙ ap (λ (y : Store). encode least (withSlots y (set (y .slots) i (getD (y .slots) (i + k) noSlot)))) held ∙ ap (λ (xs : List Slot). encode least (withSlots s xs)) t;
+          bytes = e ∙ ap (λ (y : Store). encode least (withSlots y (set (y .slots) i (getD (y .slots) (i + k) noSlot)))) held
+              ∙ ap (λ (xs : List Slot). encode least (withSlots s xs)) t;
           holds = subst (λ (xs : List Slot). Holds least (withSlots s xs)) t
-              (holds-slots least now (u .holds) (set (stage k i (s .slots)) i x) (omega (arith, length-set (stage k i (s .slots)) i x, u .holds .few)) (set-fits (stage k i (s .slots)) i x n (u .holds .slots (i + k)) (u .holds .slots)));
+              (holds-slots least now (u .holds) (set (stage k i (s .slots)) i x)
+              (omega (arith, length-set (stage k i (s .slots)) i x, u .holds .few))
+              (set-fits (stage k i (s .slots)) i x n (u .holds .slots (i + k)) (u .holds .slots)));
         }
 
     pub shifted-end : length (s .slots) ≤ i → b ≡ encode least (withSlots s (shifted k (s .slots)))
@@ -151,7 +167,9 @@ pages-hold least v s h = record {
   oldest = h .oldest;
   few = h .few;
   slots = h .slots;
-  pages = λ k. subst (Valid least) (sym (List·getD-map (prunedPage v) (s .pages) k free) ∙ ap (λ (x : Page). getD (map (prunedPage v) (s .pages)) k x) (free-pruned v)) (valid-pruned least v _ (h .pages k));
+  pages = λ k. subst (Valid least)
+      (sym (List·getD-map (prunedPage v) (s .pages) k free) ∙ ap (λ (x : Page). getD (map (prunedPage v) (s .pages)) k x) (free-pruned v))
+      (valid-pruned least v _ (h .pages k));
 }
 
 some-slot : (old : ℕ) (xs : List Slot) → firstVersion old xs ≤ old → 0 < length xs
@@ -162,7 +180,8 @@ some-slot old (x ∷ xs) e = omega arith
 pub oldest-fits : (least v : ℕ) → 4 < least → v < 2 ^ 20 → v < 2 ^ oldestBits least
 oldest-fits least v h low = rw (lt-leb least 4 h) low
 
-module _ {l : Limits} (d : Edition l) (two : 4 < l .least) (b : List ℕ) (h : isSound (l .least) b ≡ true) (k : HeadedBytes (l .least) b) (v : ℕ) (upto : v ≤ decode (l .least) b .current) where
+module _ {l : Limits} (d : Edition l) (two : 4 < l .least) (b : List ℕ) (h : isSound (l .least) b ≡ true) (k : HeadedBytes (l .least) b)
+    (v : ℕ) (upto : v ≤ decode (l .least) b .current) where
   abbrev least : ℕ
   least = l .least
 
@@ -184,7 +203,8 @@ module _ {l : Limits} (d : Edition l) (two : 4 < l .least) (b : List ℕ) (h : i
   pub low-version : v < 2 ^ 20
   low-version = omega (arith, k .holds .current)
 
-  pub header-right : (r : ℕ) → r ≤ readHeader (l .least) b .roots → HeaderFits (l .least) (withOldest (withRoots (readHeader (l .least) b) r) v)
+  pub header-right : (r : ℕ) → r ≤ readHeader (l .least) b .roots
+      → HeaderFits (l .least) (withOldest (withRoots (readHeader (l .least) b) r) v)
   header-right r le =
       let f : HeaderFits least (headerOf s) = header-holds least (d .four) (d .eight) s (k .holds) in
       let g : HeaderFits least (readHeader least b) = subst (HeaderFits least) (k .header) f in
@@ -194,51 +214,57 @@ module _ {l : Limits} (d : Edition l) (two : 4 < l .least) (b : List ℕ) (h : i
   held1 = pages-hold least v s (k .holds)
 
   -- ---- pages pruned
-  module _ (b1 : List ℕ) (e1 : b1 ≡ encode (l .least) (withPages (decode (l .least) b) (map (prunedPage v) (decode (l .least) b .pages)))) where
-    pub pages-kept : HeadedBytes (l .least) b1
-    pages-kept = kept-encoded least (d .four) (d .eight) s1 held1 b1 e1
+  module _ (b1 : List ℕ) (e1 : b1 ≡ encode (l .least) (withPages (decode (l .least) b) (map (prunedPage v) (decode (l .least) b .pages))))
+    where
+      pub pages-kept : HeadedBytes (l .least) b1
+      pages-kept = kept-encoded least (d .four) (d .eight) s1 held1 b1 e1
 
-    is1 : decode least b1 ≡ s1
-    is1 = held-is least (d .four) (d .eight) s1 held1 b1 e1
+      is1 : decode least b1 ≡ s1
+      is1 = held-is least (d .four) (d .eight) s1 held1 b1 e1
 
-    pub pages-roots : readHeader (l .least) b .roots ≡ length (decode (l .least) b1 .slots)
-    pages-roots = rooted ∙ sym (ap (λ (x : Store). length (x .slots)) is1)
+      pub pages-roots : readHeader (l .least) b .roots ≡ length (decode (l .least) b1 .slots)
+      pages-roots = rooted ∙ sym (ap (λ (x : Store). length (x .slots)) is1)
 
-    -- ---- slots moved
-    module _ (n : ℕ) (q : Needed v (decode (l .least) b .slots) n) (b2 : List ℕ) (e2 : b2 ≡ encode (l .least) (withSlots (decode (l .least) b1) (shifted n (decode (l .least) b1 .slots)))) where
-      abbrev xs : List Slot
-      xs = s .slots
+      -- ---- slots moved
+      module _ (n : ℕ) (q : Needed v (decode (l .least) b .slots) n) (b2 : List ℕ)
+          (e2 : b2 ≡ encode (l .least) (withSlots (decode (l .least) b1) (shifted n (decode (l .least) b1 .slots)))) where
+        abbrev xs : List Slot
+        xs = s .slots
 
-      in-roots : n < length (s .slots)
-      in-roots = q .inside
+        in-roots : n < length (s .slots)
+        in-roots = q .inside
 
-      pub first-in : n ≤ readHeader (l .least) b .roots
-      first-in = omega (arith, rooted, in-roots)
+        pub first-in : n ≤ readHeader (l .least) b .roots
+        first-in = omega (arith, rooted, in-roots)
 
-      s2 : Store
-      s2 = withSlots s1 (shifted n (s .slots))
+        s2 : Store
+        s2 = withSlots s1 (shifted n (s .slots))
 
-      bytes2 : b2 ≡ encode least (withSlots s1 (shifted n (s .slots)))
-      bytes2 = e2 ∙ ap (λ (x : Store). encode least (withSlots x (shifted n (x .slots)))) is1
+        bytes2 : b2 ≡ encode least (withSlots s1 (shifted n (s .slots)))
+        bytes2 = e2 ∙ ap (λ (x : Store). encode least (withSlots x (shifted n (x .slots)))) is1
 
-      -- the header that is written
-      header-is : withOldest (withRoots (readHeader least b) (readHeader least b .roots - n)) v ≡ headerOf (pruned s v)
-      unfolding pruned
-      header-is = λ i. record {
-        pages = (sym (ap (λ (x : Header). x .pages) (k .header)) ∙ sym (length-map (s .pages) (prunedPage v))) i;
-        current = sym (ap (λ (x : Header). x .current) (k .header)) i;
-        opened = sym (ap (λ (x : Header). x .opened) (k .header)) i;
-        roots = (ap (λ (r : ℕ). r - n) rooted ∙ sym (length-drop n (s .slots)) ∙ sym (ap (λ (ys : List Slot). length ys) (q .is))) i;
-        oldest = v;
-      }
+        -- the header that is written
+        header-is : withOldest (withRoots (readHeader least b) (readHeader least b .roots - n)) v ≡ headerOf (pruned s v)
+        unfolding pruned
+        header-is = λ i. record {
+          pages = (sym (ap (λ (x : Header). x .pages) (k .header)) ∙ sym (length-map (s .pages) (prunedPage v))) i;
+          current = sym (ap (λ (x : Header). x .current) (k .header)) i;
+          opened = sym (ap (λ (x : Header). x .opened) (k .header)) i;
+          roots = (ap (λ (r : ℕ). r - n) rooted ∙ sym (length-drop n (s .slots)) ∙ sym (ap (λ (ys : List Slot). length ys) (q .is))) i;
+          oldest = v;
+        }
 
-      same-slots : directory least (shifted n (s .slots)) ≡ directory least (needed v (s .slots))
-      same-slots = shifted-directory least n (s .slots) (omega (arith, in-roots)) (k .holds .few) ∙ ap (directory least) (sym (q .is))
+        same-slots : directory least (shifted n (s .slots)) ≡ directory least (needed v (s .slots))
+        same-slots = shifted-directory least n (s .slots) (omega (arith, in-roots)) (k .holds .few) ∙ ap (directory least) (sym (q .is))
 
-      pub pruned-bytes : putHeader (l .least) b2 (withOldest (withRoots (readHeader (l .least) b) (readHeader (l .least) b .roots - n)) v) ≡ encode (l .least) (pruned (decode (l .least) b) v)
-      unfolding pruned
-      pruned-bytes =
-          ap (putHeader least b2) header-is ∙ ap (λ (x : List ℕ). putHeader least x (headerOf (pruned s v))) (bytes2 ∙ encode-of least (withSlots s1 (shifted n (s .slots))))
-          ∙ header-in least (d .four) (d .eight) (headerOf (withSlots s1 (shifted n (s .slots)))) (directory least (shifted n (s .slots))) (drop 5 (map (prunedPage v) (s .pages))) (headerOf (pruned s v))
-          (subst (HeaderFits least) header-is (header-right (readHeader least b .roots - n) (omega arith)))
-          ∙ ap (λ (ys : List Slot). bytesOf least (headerOf (pruned s v)) ys (drop 5 (map (prunedPage v) (s .pages)))) same-slots ∙ sym (encode-of least (pruned s v))
+        pub pruned-bytes : putHeader (l .least) b2 (withOldest (withRoots (readHeader (l .least) b) (readHeader (l .least) b .roots - n)) v)
+            ≡ encode (l .least) (pruned (decode (l .least) b) v)
+        unfolding pruned
+        pruned-bytes =
+            ap (putHeader least b2) header-is ∙ ap (λ (x : List ℕ). putHeader least x (headerOf (pruned s v)))
+            (bytes2 ∙ encode-of least (withSlots s1 (shifted n (s .slots))))
+            ∙ header-in least (d .four) (d .eight) (headerOf (withSlots s1 (shifted n (s .slots)))) (directory least (shifted n (s .slots)))
+            (drop 5 (map (prunedPage v) (s .pages))) (headerOf (pruned s v))
+            (subst (HeaderFits least) header-is (header-right (readHeader least b .roots - n) (omega arith)))
+            ∙ ap (λ (ys : List Slot). bytesOf least (headerOf (pruned s v)) ys (drop 5 (map (prunedPage v) (s .pages)))) same-slots
+            ∙ sym (encode-of least (pruned s v))

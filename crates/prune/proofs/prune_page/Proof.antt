@@ -12,7 +12,9 @@ offset-requires : tie.Need-offset-requires
 offset-requires c κs = search needs
 
 add-drop-ended : tie.Need-add-drop-ended
-add-drop-ended c = omega (arith, bytes-is (c .before .before .before .pre .0), c .before .offset .ensures, c .before .before .before .pre .1, c .before .before .before .pre .2)
+add-drop-ended c =
+    let at-start = c .before .before .before in
+    omega (arith, bytes-is (at-start .pre .0), c .before .offset .ensures, at-start .pre .1, at-start .pre .2)
 
 sub-drop-ended : tie.Need-sub-drop-ended
 sub-drop-ended c = search needs
@@ -21,22 +23,32 @@ part-drop-ended-start : tie.Need-part-drop-ended-start
 part-drop-ended-start c = search needs
 
 part-drop-ended-end : tie.Need-part-drop-ended-end
-part-drop-ended-end c = omega (arith, bytes-is (c .before .before .before .pre .0), c .before .offset .ensures, c .before .before .before .pre .1)
+part-drop-ended-end c =
+    let at-start = c .before .before .before in
+    omega (arith, bytes-is (at-start .pre .0), c .before .offset .ensures, at-start .pre .1)
 
 drop-ended-requires : tie.Need-drop-ended-requires
 drop-ended-requires c κs =
-    let a = c .before .before .before .before .args in
-    rw (part-page (a .l .least) (a .s .now) (a .n) (c .before .before .offset .result) (a .l .bytes) (c .before .before .offset .ensures) (bytes-is (c .before .before .before .before .pre .0))) (c .before .before .before .before .pre .0, c .before .before .before .before .pre .3)
+    let at-offset = c .before .before in
+    let at-start = at-offset .before .before in
+    let a = at-start .args in
+    rw (part-page (a .l .least) (a .s .now) (a .n) (at-offset .offset .result) (a .l .bytes) (at-offset .offset .ensures)
+    (bytes-is (at-start .pre .0))) (at-start .pre .0, at-start .pre .3)
 
 same-length : tie.Need-same-length
 same-length c = search needs
 
 returns : tie.Need-returns
 returns c =
-    let a = c .before .before .before .before .before .before .before .args in
-    part-back (a .l .least) (a .s .now) (a .n) (c .before .before .before .before .before .offset .result) (a .l .bytes) (c .before .before .drop-ended .last .0) (c .before .before .before .before .before .offset .ensures) (bytes-is (c .before .before .before .before .before .before .before .pre .0))
+    let at-drop-ended = c .before .before in
+    let at-offset = at-drop-ended .before .before .before in
+    let at-start = at-offset .before .before in
+    let a = at-start .args in
+    part-back (a .l .least) (a .s .now) (a .n) (at-offset .offset .result) (a .l .bytes) (at-drop-ended .drop-ended .last .0)
+    (at-offset .offset .ensures) (bytes-is (at-start .pre .0))
     ∙ ap (withPage (a .l .least) (a .s .now) (a .n))
-    (rw (part-page (a .l .least) (a .s .now) (a .n) (c .before .before .before .before .before .offset .result) (a .l .bytes) (c .before .before .before .before .before .offset .ensures) (bytes-is (c .before .before .before .before .before .before .before .pre .0))) at (c .before .before .drop-ended .ensures))
+    (rw (part-page (a .l .least) (a .s .now) (a .n) (at-offset .offset .result) (a .l .bytes) (at-offset .offset .ensures)
+    (bytes-is (at-start .pre .0))) at (at-drop-ended .drop-ended .ensures))
 
 pub prune-page-spec : {M : Type 1} → statement M
 prune-page-spec =

@@ -9,8 +9,9 @@ use Rattle.prune.proofs.shift_slot.Tie as tie
 
 add-slot-at : tie.Need-add-slot-at
 add-slot-at c =
-    let p = c .before .before .pre in
-    omega (arith, p .2, p .3, p .4, few-slots (p .0) (c .before .before .args .s .now) (p .1), p .0 .eight)
+    let at-start = c .before .before in
+    let p = at-start .pre in
+    omega (arith, p .2, p .3, p .4, few-slots (p .0) (at-start .args .s .now) (p .1), p .0 .eight)
 
 slot-at-requires : tie.Need-slot-at-requires
 slot-at-requires c κs = search needs
@@ -20,18 +21,27 @@ wide-requires c κs = search needs
 
 put-slot-requires : tie.Need-put-slot-requires
 put-slot-requires c κs =
-    let a = c .before .before .before .before .before .args in
-    let p = c .before .before .before .before .before .pre in
-    (p .0, subst SlotFits (sym (c .before .before .slot-at .ensures)) (slot-fits (p .0) (a .s .now) (p .1) _), kept-front (p .0) (a .s .now) (p .1), omega (arith, few-slots (p .0) (a .s .now) (p .1), p .2, p .4, c .wide .ensures), kept-short (p .0) (a .s .now) (p .1))
+    let at-start = c .before .before .before .before .before in
+    let a = at-start .args in
+    let p = at-start .pre in (
+      p .0,
+      subst SlotFits (sym (c .before .before .slot-at .ensures)) (slot-fits (p .0) (a .s .now) (p .1) _),
+      kept-front (p .0) (a .s .now) (p .1),
+      omega (arith, few-slots (p .0) (a .s .now) (p .1), p .2, p .4, c .wide .ensures),
+      kept-short (p .0) (a .s .now) (p .1),
+    )
 
 same-length : tie.Need-same-length
 same-length c = search needs
 
 returns : tie.Need-returns
 returns c =
-    let a = c .before .before .before .before .before .before .before .before .args in
-    let p = c .before .before .before .before .before .before .before .before .pre in
-    rw (c .before .before .before .wide .ensures, c .before .before .before .before .before .slot-at .ensures) at (c .before .before .put-slot .ensures) ∙ slot-put (p .0) (a .s .now) (p .1) (a .i) _ (omega (arith, p .2, p .4)) (slot-fits (p .0) (a .s .now) (p .1) _)
+    let at-slot-at = c .before .before .before .before .before in
+    let at-start = at-slot-at .before .before .before in
+    let a = at-start .args in
+    let p = at-start .pre in
+    rw (c .before .before .before .wide .ensures, at-slot-at .slot-at .ensures) at (c .before .before .put-slot .ensures)
+    ∙ slot-put (p .0) (a .s .now) (p .1) (a .i) _ (omega (arith, p .2, p .4)) (slot-fits (p .0) (a .s .now) (p .1) _)
 
 pub shift-slot-spec : {M : Type 1} → statement M
 shift-slot-spec =

@@ -18,13 +18,18 @@ abbrev μ-loop : tie.MeasureT-loop
 loop-holds : tie.Need-loop-holds Inv-loop μ-loop
 loop-holds c =
     let a = c .before .args in
-    let p = c .before .pre in
-    (omega arith, refl, shifted-start (a .l .least) (p .0 .four) (p .0 .eight) (decode (a .l .least) (a .s .now)) (a .k) (omega (arith, p .2, p .3)) (a .s .now) (sym (p .1 .same)) (p .1 .holds))
+    let p = c .before .pre in (
+      omega arith,
+      refl,
+      shifted-start (a .l .least) (p .0 .four) (p .0 .eight) (decode (a .l .least) (a .s .now)) (a .k)
+          (omega (arith, p .2, p .3)) (a .s .now) (sym (p .1 .same)) (p .1 .holds),
+    )
 
 shift-slot-requires : tie.Need-shift-slot-requires Inv-loop μ-loop
 shift-slot-requires c κs =
-    let a = c .before .before .before .before .args in
-    let p = c .before .before .before .before .pre in
+    let at-start = c .before .before .before .before in
+    let a = at-start .args in
+    let p = at-start .pre in
     let l = c .before .before .loop in
     let st = decode (a .l .least) (a .s .now) in
     let low : a .k ≤ length (st .slots) = omega (arith, p .2, p .3) in (
@@ -43,14 +48,19 @@ loop-less c = search needs
 
 loop-again : tie.Need-loop-again Inv-loop μ-loop
 loop-again c =
-    let a = c .before .before .before .before .before .before .before .args in
-    let p = c .before .before .before .before .before .before .before .pre in
-    let l = c .before .before .before .before .before .loop in
+    let at-shift-slot = c .before .before in
+    let at-test = at-shift-slot .before .before in
+    let at-loop = at-test .before in
+    let at-start = at-loop .before .before in
+    let a = at-start .args in
+    let p = at-start .pre in
+    let l = at-loop .loop in
     let st = decode (a .l .least) (a .s .now) in
     let low : a .k ≤ length (st .slots) = omega (arith, p .2, p .3) in (
-      omega (arith, c .before .before .before .before .loop-test .taken),
-      c .before .before .shift-slot .kept .0 ∙ l .inv .1,
-      shifted-step (a .l .least) (p .0 .four) (p .0 .eight) st (a .k) low (l .i) (l .s) (l .inv .2) (omega (arith, c .before .before .before .before .loop-test .taken, p .2)) _ (c .before .before .shift-slot .ensures),
+      omega (arith, at-test .loop-test .taken),
+      at-shift-slot .shift-slot .kept .0 ∙ l .inv .1,
+      shifted-step (a .l .least) (p .0 .four) (p .0 .eight) st (a .k) low (l .i) (l .s) (l .inv .2)
+          (omega (arith, at-test .loop-test .taken, p .2)) _ (at-shift-slot .shift-slot .ensures),
     )
 
 same-length : tie.Need-same-length Inv-loop μ-loop
@@ -58,10 +68,12 @@ same-length c = c .before .loop .inv .1
 
 returns : tie.Need-returns Inv-loop μ-loop
 returns c =
-    let a = c .before .before .before .args in
-    let p = c .before .before .before .pre in
+    let at-start = c .before .before .before in
+    let a = at-start .args in
+    let p = at-start .pre in
     let l = c .before .loop in
-    shifted-end (a .l .least) (p .0 .four) (p .0 .eight) (decode (a .l .least) (a .s .now)) (a .k) (omega (arith, p .2, p .3)) (l .i) (l .s) (l .inv .2) (omega (arith, c .loop-test .left, p .2))
+    shifted-end (a .l .least) (p .0 .four) (p .0 .eight) (decode (a .l .least) (a .s .now)) (a .k) (omega (arith, p .2, p .3)) (l .i) (l .s)
+    (l .inv .2) (omega (arith, c .loop-test .left, p .2))
 
 pub shift-slots-spec : {M : Type 1} → statement M
 shift-slots-spec =

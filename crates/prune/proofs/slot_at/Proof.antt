@@ -13,20 +13,28 @@ wide-requires c κs = search needs
 
 slot-requires : tie.Need-slot-requires
 slot-requires c κs =
-    let a = c .before .before .before .args in
-    let p = c .before .before .before .pre in
-    (p .0, kept-front (p .0) (a .s .now) (p .1), omega (arith, few-slots (p .0) (a .s .now) (p .1), p .2, c .before .if1 .taken, c .wide .ensures), kept-short (p .0) (a .s .now) (p .1))
+    let at-start = c .before .before .before in
+    let a = at-start .args in
+    let p = at-start .pre in (
+      p .0,
+      kept-front (p .0) (a .s .now) (p .1),
+      omega (arith, few-slots (p .0) (a .s .now) (p .1), p .2, c .before .if1 .taken, c .wide .ensures),
+      kept-short (p .0) (a .s .now) (p .1),
+    )
 
 returns : tie.Need-returns
 returns c =
-    let a = c .before .before .before .before .args in
-    let p = c .before .before .before .before .pre in
-    rw (c .before .wide .ensures) at (c .slot .ensures) ∙ slot-is (p .0) (a .s .now) (p .1) (a .j) (omega (arith, p .2, c .before .before .if1 .taken))
+    let at-start = c .before .before .before .before in
+    let a = at-start .args in
+    let p = at-start .pre in
+    rw (c .before .wide .ensures) at (c .slot .ensures)
+    ∙ slot-is (p .0) (a .s .now) (p .1) (a .j) (omega (arith, p .2, c .before .before .if1 .taken))
 
 returns-2 : tie.Need-returns-2
 returns-2 c =
-    let a = c .before .before .args in
-    sym (List·getD-eq-default (decode (a .l .least) (a .s .now) .slots) noSlot (omega (arith, c .before .before .pre .2, c .if1 .left)))
+    let at-start = c .before .before in
+    let a = at-start .args in
+    sym (List·getD-eq-default (decode (a .l .least) (a .s .now) .slots) noSlot (omega (arith, at-start .pre .2, c .if1 .left)))
 
 pub slot-at-spec : {M : Type 1} → statement M
 slot-at-spec = tie.close (tie.spec wide-requires slot-requires returns returns-2)

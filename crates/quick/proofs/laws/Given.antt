@@ -21,7 +21,8 @@ none : (p : List ℕ) (k : ℕ) → k ≡ 0 → inOrder before (readEntries p 12
 unfolding readEntries
 none p k e = ap (λ (n : ℕ). inOrder before (readEntries p 128 n)) e
 
-pub good : (least : ℕ) (s : List ℕ) (size : ℕ) → Sized least s size → clean least s ≡ true → rule3 (decode least s) ≡ true → QuickGood least s
+pub good : (least : ℕ) (s : List ℕ) (size : ℕ) → Sized least s size → clean least s ≡ true → rule3 (decode least s) ≡ true
+    → QuickGood least s
 good least s size z one three =
     let r : Ruled least s = ruled least s size z one in
     record {
@@ -33,5 +34,6 @@ good least s size z one three =
         lower = child-lower least s r three;
       };
       low = r .level;
-      order = λ n k. ⊎-elim (λ q. none (pageOf least s n) (countAt least s n) (r .empty n k q)) (λ q. order least s size z one n k q) (same? (levelAt least s n) 0);
+      order = λ n k. ⊎-elim (λ q. none (pageOf least s n) (countAt least s n) (r .empty n k q)) (λ q. order least s size z one n k q)
+          (same? (levelAt least s n) 0);
     }

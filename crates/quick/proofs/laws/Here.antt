@@ -15,7 +15,8 @@ use Rattle.local.specs.Local.{IsPage}
 use Rattle.notes.proofs.laws.Here.{entries-are}
 use Rattle.quick.specs.Good.{QuickGood}
 
-module _ {l : Limits} (d : Edition l) (s : List ℕ) (g : QuickGood (l .least) s) (n : ℕ) (k : IsPage (l .least) s n) (p : List ℕ) (part : (p ≡ pageOf (l .least) s n) × (length p ≡ 64 * l .least)) where
+module _ {l : Limits} (d : Edition l) (s : List ℕ) (g : QuickGood (l .least) s) (n : ℕ) (k : IsPage (l .least) s n) (p : List ℕ)
+    (part : (p ≡ pageOf (l .least) s n) × (length p ≡ 64 * l .least)) where
   pub order-part : inOrder before (readEntries p 128 (readHead (l .least) p .count)) ≡ true
   order-part = rw (part .0) (g .order n k)
 

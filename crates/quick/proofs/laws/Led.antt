@@ -23,7 +23,9 @@ use Rattle.quick.proofs.laws.Sums.{sum-at, none, fewer, slots-more}
 entries-length : (old : ℕ) (sums : List ℕ) (es : List Entry) → length (addEntries old sums es) ≡ length sums
 unfolding addEntries
 entries-length old sums [] = refl
-entries-length old sums (e ∷ es) = entries-length old (addTo sums (e .value) (e .end - max old (e .start))) es ∙ length-set sums (e .value) (getD sums (e .value) 0 + (e .end - max old (e .start)))
+entries-length old sums (e ∷ es) =
+    entries-length old (addTo sums (e .value) (e .end - max old (e .start))) es
+    ∙ length-set sums (e .value) (getD sums (e .value) 0 + (e .end - max old (e .start)))
 
 page-length : (old : ℕ) (sums : List ℕ) (p : Page) → length (addPage old sums p) ≡ length sums
 page-length old sums p = at (leb (p .level) 1)
@@ -35,7 +37,9 @@ page-length old sums p = at (leb (p .level) 1)
 slots-length : (old : ℕ) (sums : List ℕ) (xs : List Slot) → length (addSlots old sums xs) ≡ length sums
 unfolding addSlots
 slots-length old sums [] = refl
-slots-length old sums (x ∷ xs) = slots-length old (addTo sums (x .root) (upto xs - max old (x .version))) xs ∙ length-set sums (x .root) (getD sums (x .root) 0 + (upto xs - max old (x .version)))
+slots-length old sums (x ∷ xs) =
+    slots-length old (addTo sums (x .root) (upto xs - max old (x .version))) xs
+    ∙ length-set sums (x .root) (getD sums (x .root) 0 + (upto xs - max old (x .version)))
 
 pages-length : (old : ℕ) (sums : List ℕ) (ps : List Page) → length (addPages old sums ps) ≡ length sums
 unfolding addPages
@@ -61,7 +65,8 @@ module _ (old n : ℕ) where
       let c : length (addTo sums (e .value) y) ≡ length sums = length-set sums (e .value) (getD sums (e .value) 0 + y) in
       omega (arith, entries-led (addTo sums (e .value) y) es (omega arith), sum-at sums (e .value) y n l)
 
-  page-led : (sums : List ℕ) (p : Page) → n < length sums → getD (addPage old sums p) n 0 ≡ pick (leb (p .level) 1) 0 (routed old n (p .entries)) + getD sums n 0
+  page-led : (sums : List ℕ) (p : Page) → n < length sums
+      → getD (addPage old sums p) n 0 ≡ pick (leb (p .level) 1) 0 (routed old n (p .entries)) + getD sums n 0
   page-led sums p l = at (leb (p .level) 1)
     where
       at : (b : Bool) → getD (pick b sums (addEntries old sums (p .entries))) n 0 ≡ pick b 0 (routed old n (p .entries)) + getD sums n 0
@@ -82,7 +87,9 @@ allSums t = addPages (t .oldest) (addSlots (t .oldest) (replicate 4096 0) (t .sl
 
 all-long : (t : Store) → length (allSums t) ≡ 4096
 unfolding allSums
-all-long t = pages-length (t .oldest) (addSlots (t .oldest) (replicate 4096 0) (t .slots)) (drop 5 (t .pages)) ∙ slots-length (t .oldest) (replicate 4096 0) (t .slots) ∙ length-replicate {A = ℕ} 4096 0
+all-long t =
+    pages-length (t .oldest) (addSlots (t .oldest) (replicate 4096 0) (t .slots)) (drop 5 (t .pages))
+    ∙ slots-length (t .oldest) (replicate 4096 0) (t .slots) ∙ length-replicate {A = ℕ} 4096 0
 
 all-led : (t : Store) (n : ℕ) → n < 4096 → getD (allSums t) n 0 ≡ ledTo t n
 unfolding allSums
@@ -90,9 +97,15 @@ all-led t n l =
     let z : List ℕ = replicate 4096 0 in
     let a : length z ≡ 4096 = length-replicate {A = ℕ} 4096 0 in
     let b : length (addSlots (t .oldest) z (t .slots)) ≡ length z = slots-length (t .oldest) z (t .slots) in
-    omega (arith, pages-led (t .oldest) n (addSlots (t .oldest) z (t .slots)) (drop 5 (t .pages)) (omega arith), slots-led (t .oldest) n z (t .slots) (omega arith), getD-replicate {A = ℕ} 4096 n 0 0 l)
+    omega (
+      arith,
+      pages-led (t .oldest) n (addSlots (t .oldest) z (t .slots)) (drop 5 (t .pages)) (omega arith),
+      slots-led (t .oldest) n z (t .slots) (omega arith),
+      getD-replicate {A = ℕ} 4096 n 0 0 l,
+    )
 
-met-led : (t : Store) (sums : List ℕ) → ((n : ℕ) → n < 4096 → getD sums n 0 ≡ ledTo t n) → (n : ℕ) (ps : List Page) → n + length ps ≤ 4096 → allMet (t .oldest) sums n ps ≡ spansMet t n ps
+met-led : (t : Store) (sums : List ℕ) → ((n : ℕ) → n < 4096 → getD sums n 0 ≡ ledTo t n) → (n : ℕ) (ps : List Page) → n + length ps ≤ 4096
+    → allMet (t .oldest) sums n ps ≡ spansMet t n ps
 unfolding allMet
 met-led t sums h n [] l = refl
 met-led t sums h n (p ∷ ps) l = rw (h n (omega arith), add-one n, met-led t sums h (suc n) ps (omega arith))
@@ -103,17 +116,24 @@ module _ (least : ℕ) (s : List ℕ) where
 
   module _ (old : ℕ) (is : old ≡ t .oldest) (sums : List ℕ) (e : sums ≡ addSlots old (replicate 4096 0) (t .slots)) where
     pub slots-in : readHeader least s .roots ≤ 512 → Sums 512 sums
-    slots-in l = rw (e, slots-of least s) (fewer (addSlots old (replicate 4096 0) (readSlots s (512 * least) (readHeader least s .roots))) (slots-more old (replicate 4096 0) s (512 * least) (readHeader least s .roots) none) (omega arith))
+    slots-in l =
+        rw (e, slots-of least s)
+        (fewer (addSlots old (replicate 4096 0) (readSlots s (512 * least) (readHeader least s .roots)))
+        (slots-more old (replicate 4096 0) s (512 * least) (readHeader least s .roots) none) (omega arith))
 
     module _ (both : List ℕ) (f : both ≡ addPages old sums (drop 5 (t .pages))) where
       sums-are : both ≡ allSums t
       unfolding allSums
-      sums-are = f ∙ ap (λ (x : List ℕ). addPages old x (drop 5 (t .pages))) e ∙ ap (λ (o : ℕ). addPages o (addSlots o (replicate 4096 0) (t .slots)) (drop 5 (t .pages))) is
+      sums-are =
+          f ∙ ap (λ (x : List ℕ). addPages old x (drop 5 (t .pages))) e
+          ∙ ap (λ (o : ℕ). addPages o (addSlots o (replicate 4096 0) (t .slots)) (drop 5 (t .pages))) is
 
       pub sums-long : length both ≡ 4096
       sums-long = ap (λ (x : List ℕ). length x) sums-are ∙ all-long t
 
       pub met-all : sizeOf least s ≤ 4096 → allMet old both 5 (drop 5 (t .pages)) ≡ spansMet t 5 (drop 5 (t .pages))
       met-all l =
-          let k : length (drop 5 (t .pages)) ≡ sizeOf least s - 5 = ap (λ (ps : List Page). length ps) (behind least s) ∙ length-pages least s 5 (sizeOf least s - 5) in
-          ap (λ (o : ℕ). allMet o both 5 (drop 5 (t .pages))) is ∙ met-led t both (λ n h. ap (λ (x : List ℕ). getD x n 0) sums-are ∙ all-led t n h) 5 (drop 5 (t .pages)) (omega arith)
+          let k : length (drop 5 (t .pages)) ≡ sizeOf least s - 5 = ap (λ (ps : List Page). length ps) (behind least s)
+          ∙ length-pages least s 5 (sizeOf least s - 5) in
+          ap (λ (o : ℕ). allMet o both 5 (drop 5 (t .pages))) is
+          ∙ met-led t both (λ n h. ap (λ (x : List ℕ). getD x n 0) sums-are ∙ all-led t n h) 5 (drop 5 (t .pages)) (omega arith)

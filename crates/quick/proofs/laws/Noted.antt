@@ -19,11 +19,13 @@ module _ (least : ℕ) (s : Store) (h : ThreeRules least s) where
   pub not-led : (spansMet s 5 (drop 5 (s .pages)) && slotsFine least (s .oldest) (s .pages) (s .slots)) ≡ false → false ≡ quick least s
   not-led e = sym (by ∙ ap (λ (b : Bool). b && (rule4 s && rule5 least s)) e)
 
-  pub noted : (r : Bool) → r ≡ (rule4 s && rule5 least s) → (spansMet s 5 (drop 5 (s .pages)) && slotsFine least (s .oldest) (s .pages) (s .slots)) ≡ true → r ≡ quick least s
+  pub noted : (r : Bool) → r ≡ (rule4 s && rule5 least s)
+      → (spansMet s 5 (drop 5 (s .pages)) && slotsFine least (s .oldest) (s .pages) (s .slots)) ≡ true → r ≡ quick least s
   noted r q e = q ∙ sym (by ∙ ap (λ (b : Bool). b && (rule4 s && rule5 least s)) e)
 
   -- the same by check's pass
-  pub noted-none : (n : ℕ) → n ≡ told (rule4 s) (rule5 least s) → (spansMet s 5 (drop 5 (s .pages)) && slotsFine least (s .oldest) (s .pages) (s .slots)) ≡ true → eqb n 0 ≡ quick least s
+  pub noted-none : (n : ℕ) → n ≡ told (rule4 s) (rule5 least s)
+      → (spansMet s 5 (drop 5 (s .pages)) && slotsFine least (s .oldest) (s .pages) (s .slots)) ≡ true → eqb n 0 ≡ quick least s
   noted-none n q e = noted (eqb n 0) (ap (λ (m : ℕ). eqb m 0) q ∙ at (rule4 s) (rule5 least s)) e
     where
       at : (x y : Bool) → eqb (told x y) 0 ≡ (x && y)
@@ -32,7 +34,9 @@ module _ (least : ℕ) (s : Store) (h : ThreeRules least s) where
       at false y = refl
 
   pub not-reached : rule6 s ≡ false → false ≡ quick least s
-  not-reached e = sym (quick-rules least (h .two) s (h .first) (h .second) (h .third) ∙ ap (λ (b : Bool). rule4 s && rule5 least s && b) e ∙ at (rule4 s && rule5 least s))
+  not-reached e =
+      sym (quick-rules least (h .two) s (h .first) (h .second) (h .third) ∙ ap (λ (b : Bool). rule4 s && rule5 least s && b) e
+      ∙ at (rule4 s && rule5 least s))
     where
       at : (b : Bool) → (b && false) ≡ false
       at true = refl

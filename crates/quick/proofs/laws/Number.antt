@@ -22,9 +22,14 @@ use Rattle.quick.specs.Number.{refusedBy}
 
 -- where sums and slots are found right, the pages are left
 pub quick-pages : (least : ℕ) (s : Store) → (spansMet s 5 (drop 5 (s .pages)) && slotsFine least (s .oldest) (s .pages) (s .slots)) ≡ true
-    → quick least s ≡ pagesPass (λ (p : Page). inOrder apart (kept (s .oldest) (p .entries)) && childrenFine least (s .oldest) (s .pages) (p .level) (kept (s .oldest) (p .entries))) s
+    → quick least s
+    ≡ pagesPass (λ (p : Page). inOrder apart (kept (s .oldest) (p .entries))
+    && childrenFine least (s .oldest) (s .pages) (p .level) (kept (s .oldest) (p .entries))) s
 unfolding quick
-quick-pages least s e = ap (λ (b : Bool). b && pagesPass (λ (p : Page). inOrder apart (kept (s .oldest) (p .entries)) && childrenFine least (s .oldest) (s .pages) (p .level) (kept (s .oldest) (p .entries))) s) e
+quick-pages least s e =
+    ap (λ (b : Bool). b
+    && pagesPass (λ (p : Page). inOrder apart (kept (s .oldest) (p .entries))
+    && childrenFine least (s .oldest) (s .pages) (p .level) (kept (s .oldest) (p .entries))) s) e
 
 -- ---- rules 1 to 7
 
@@ -57,7 +62,8 @@ module _ (least : ℕ) (b : List ℕ) where
   in-clean e =
       let s = decode least b in
       let (q, r7) = both-true (clean least b && rule2 s && rule3 s && quick least s) (rule7 s) e in
-      both-true (clean least b) (rule2 s) (both-true (clean least b && rule2 s) (rule3 s) (both-true (clean least b && rule2 s && rule3 s) (quick least s) q .0) .0) .0
+      both-true (clean least b) (rule2 s)
+      (both-true (clean least b && rule2 s) (rule3 s) (both-true (clean least b && rule2 s && rule3 s) (quick least s) q .0) .0) .0
 
   -- ---- the number, with rule 8
 
@@ -74,7 +80,8 @@ module _ (least : ℕ) (b : List ℕ) where
     pub not-refused : n ≡ 0 → (lengthOk least b ≡ true) × (magicOk b ≡ true) × (editionOk least b ≡ true)
     not-refused u = at (lengthOk least b) (magicOk b) (editionOk least b) refl refl refl q
       where
-        at : (x y z : Bool) → lengthOk least b ≡ x → magicOk b ≡ y → editionOk least b ≡ z → n ≡ refusedBy x y z → (lengthOk least b ≡ true) × (magicOk b ≡ true) × (editionOk least b ≡ true)
+        at : (x y z : Bool) → lengthOk least b ≡ x → magicOk b ≡ y → editionOk least b ≡ z → n ≡ refusedBy x y z
+            → (lengthOk least b ≡ true) × (magicOk b ≡ true) × (editionOk least b ≡ true)
         at false y z f g h e = absurd (omega arith)
         at true false z f g h e = absurd (omega arith)
         at true true false f g h e = absurd (omega arith)

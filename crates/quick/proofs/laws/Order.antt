@@ -40,7 +40,9 @@ high-here h a b e l = ap (λ (t : Bool). not (meets a b e) || t) (lt-ltb (e .key
 low-all : (low a b : ℕ) (e : Entry) (es : List Entry) → inOrder before (e ∷ es) ≡ true → low ≤ e .key → lowOver low a b (e ∷ es) ≡ true
 low-all low a b e es o l =
     let (x, y) = both-true (all (before e) es) (inOrder before es) o in
-    both-intro (not (meets a b e) || leb low (e .key)) (lowOver low a b es) (low-here low a b e l) (all-by (λ (f : Entry). not (meets a b f) || leb low (f .key)) es (λ f i. low-here low a b f (omega (arith, l, before-key e f (all-in (before e) f es x i)))))
+    both-intro (not (meets a b e) || leb low (e .key)) (lowOver low a b es) (low-here low a b e l)
+    (all-by (λ (f : Entry). not (meets a b f) || leb low (f .key)) es
+    (λ f i. low-here low a b f (omega (arith, l, before-key e f (all-in (before e) f es x i)))))
 
 module _ (p : List ℕ) (n : ℕ) (o : inOrder before (readEntries p 128 n) ≡ true) (a b : ℕ) where
   pub low-none : (low : ℕ) → n ≡ 0 → lowOver low a b (readEntries p 128 n) ≡ true
@@ -49,8 +51,10 @@ module _ (p : List ℕ) (n : ℕ) (o : inOrder before (readEntries p 128 n) ≡ 
 
   pub low-first : (low : ℕ) → 0 < n → low ≤ readEntry p (128 + 96 * 0) .key → lowOver low a b (readEntries p 128 n) ≡ true
   low-first low pos l =
-      let q : readEntries p 128 n ≡ readEntry p (128 + 96 * 0) ∷ readEntries p (128 + 96 * (0 + 1)) (n - (0 + 1)) = rw sub-zero at (entries-step p 0 n pos) in
-      ap (lowOver low a b) q ∙ low-all low a b (readEntry p (128 + 96 * 0)) (readEntries p (128 + 96 * (0 + 1)) (n - (0 + 1))) (ap (inOrder before) (sym q) ∙ o) l
+      let q : readEntries p 128 n ≡ readEntry p (128 + 96 * 0) ∷ readEntries p (128 + 96 * (0 + 1)) (n - (0 + 1))
+      = rw sub-zero at (entries-step p 0 n pos) in
+      ap (lowOver low a b) q ∙ low-all low a b (readEntry p (128 + 96 * 0)) (readEntries p (128 + 96 * (0 + 1)) (n - (0 + 1)))
+      (ap (inOrder before) (sym q) ∙ o) l
 
 -- the last key
 
@@ -59,7 +63,8 @@ unfolding readEntries
 last-in p o zero = let e : o + 96 * 0 ≡ o = omega arith in inl (ap (readEntry p) e)
 last-in p o (suc k) = let e : o + 96 * suc k ≡ o + 96 + 96 * k = omega arith in inr (rw e (last-in p (o + 96) k))
 
-high-all : (h a b : ℕ) (p : List ℕ) (o k : ℕ) → inOrder before (readEntries p o (suc k)) ≡ true → readEntry p (o + 96 * k) .key < h → highOver h a b (readEntries p o (suc k)) ≡ true
+high-all : (h a b : ℕ) (p : List ℕ) (o k : ℕ) → inOrder before (readEntries p o (suc k)) ≡ true → readEntry p (o + 96 * k) .key < h
+    → highOver h a b (readEntries p o (suc k)) ≡ true
 unfolding readEntries
 high-all h a b p o zero q l =
     let e : o + 96 * 0 ≡ o = omega arith in
@@ -69,12 +74,20 @@ high-all h a b p o (suc k) q l =
     let m : readEntry p (o + 96 + 96 * k) .key < h = rw e at l in
     let rest = readEntries p (o + 96) (suc k) in
     let (x, y) = both-true (all (before (readEntry p o)) rest) (inOrder before rest) q in
-    both-intro (not (meets a b (readEntry p o)) || ltb (readEntry p o .key) h) (highOver h a b rest) (high-here h a b (readEntry p o) (omega (arith, m, before-key (readEntry p o) (readEntry p (o + 96 + 96 * k)) (all-in (before (readEntry p o)) (readEntry p (o + 96 + 96 * k)) rest x (last-in p (o + 96) k))))) (high-all h a b p (o + 96) k y m)
+    both-intro (not (meets a b (readEntry p o)) || ltb (readEntry p o .key) h) (highOver h a b rest)
+    (high-here h a b (readEntry p o)
+    (omega (
+      arith,
+      m,
+      before-key (readEntry p o) (readEntry p (o + 96 + 96 * k))
+          (all-in (before (readEntry p o)) (readEntry p (o + 96 + 96 * k)) rest x (last-in p (o + 96) k)),
+    ))) (high-all h a b p (o + 96) k y m)
 
 pub high-none : (p : List ℕ) (n h a b : ℕ) → n ≡ 0 → highOver h a b (readEntries p 128 n) ≡ true
 unfolding readEntries
 high-none p n h a b e = ap (λ (k : ℕ). highOver h a b (readEntries p 128 k)) e
 
-pub high-last : (p : List ℕ) (n : ℕ) → inOrder before (readEntries p 128 n) ≡ true → (h a b : ℕ) → 0 < n → readEntry p (128 + 96 * (n - 1)) .key < h → highOver h a b (readEntries p 128 n) ≡ true
+pub high-last : (p : List ℕ) (n : ℕ) → inOrder before (readEntries p 128 n) ≡ true → (h a b : ℕ) → 0 < n
+    → readEntry p (128 + 96 * (n - 1)) .key < h → highOver h a b (readEntries p 128 n) ≡ true
 high-last p zero o h a b pos l = absurd (omega arith)
 high-last p (suc k) o h a b pos l = let e : suc k - 1 ≡ k = omega arith in high-all h a b p 128 k o (rw e at l)

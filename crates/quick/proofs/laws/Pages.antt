@@ -33,7 +33,8 @@ belowLevel k least old ps p = not (ltb (p .level) k) || ownFine least old ps p
 
 -- all pages
 pub pages-own : (least old : ℕ) (s : List ℕ)
-    → pagesPass (λ (p : Page). inOrder apart (kept old (p .entries)) && childrenFine least old (decode least s .pages) (p .level) (kept old (p .entries))) (decode least s)
+    → pagesPass (λ (p : Page). inOrder apart (kept old (p .entries))
+    && childrenFine least old (decode least s .pages) (p .level) (kept old (p .entries))) (decode least s)
     ≡ all (ownFine least old (decode least s .pages)) (readPages least s 5 (sizeOf least s - 5))
 pages-own least old s = ap (all (ownFine least old (decode least s .pages))) (behind least s)
 
@@ -44,28 +45,40 @@ module _ (least old : ℕ) (ps : List Page) (es : List Entry) where
   pub children-index : (k up : ℕ) → k ≡ up + 2 → childrenFine least old ps k es ≡ routersFine least old up ps es
   children-index k up z = let q : up + 2 ≡ suc (suc up) = omega arith in ap (λ (x : ℕ). childrenFine least old ps x es) (z ∙ q)
 
-module _ {l : Limits} (d : Edition l) (s : List ℕ) (g : QuickGood (l .least) s) (n : ℕ) (k : IsPage (l .least) s n) (p : List ℕ) (part : (p ≡ pageOf (l .least) s n) × (length p ≡ 64 * l .least)) (h : Head) (front : h ≡ readHead (l .least) p) (old : ℕ) where
+module _ {l : Limits} (d : Edition l) (s : List ℕ) (g : QuickGood (l .least) s) (n : ℕ) (k : IsPage (l .least) s n) (p : List ℕ)
+    (part : (p ≡ pageOf (l .least) s n) × (length p ≡ 64 * l .least)) (h : Head) (front : h ≡ readHead (l .least) p) (old : ℕ) where
   abbrev ps : List Page
   ps = decode (l .least) s .pages
 
   abbrev own : Bool
   own = ownFine (l .least) old ps (decodePage (l .least) (pageOf (l .least) s n))
 
-  own-by : own ≡ (eqb (h .level) 0 || (inOrder apart (kept old (readEntries p 128 (h .count))) && childrenFine (l .least) old ps (h .level) (kept old (entriesAt (l .least) s n))))
+  own-by : own ≡
+      (eqb (h .level) 0
+      || (inOrder apart (kept old (readEntries p 128 (h .count)))
+      && childrenFine (l .least) old ps (h .level) (kept old (entriesAt (l .least) s n))))
   own-by =
-      rw (level-of (l .least) (pageOf (l .least) s n), entries-of (l .least) (pageOf (l .least) s n), level-is d s (g .linked) n k p part h front, ← entries-are d s (g .linked) n k p part h front)
+      rw (
+        level-of (l .least) (pageOf (l .least) s n),
+        entries-of (l .least) (pageOf (l .least) s n),
+        level-is d s (g .linked) n k p part h front,
+        ← entries-are d s (g .linked) n k p part h front,
+      )
 
   pub own-none : h .level ≡ 0 → own ≡ true
   own-none z = own-by ∙ rw (eq-eqb (h .level) 0 z)
 
-  pub own-some : (h .level ≡ 0 → ⊥) → own ≡ (inOrder apart (kept old (readEntries p 128 (h .count))) && childrenFine (l .least) old ps (h .level) (kept old (entriesAt (l .least) s n)))
+  pub own-some : (h .level ≡ 0 → ⊥)
+      → own ≡ (inOrder apart (kept old (readEntries p 128 (h .count)))
+      && childrenFine (l .least) old ps (h .level) (kept old (entriesAt (l .least) s n)))
   own-some u = own-by ∙ rw (ne-eqb (h .level) 0 u)
 
   level-here : decodePage (l .least) (pageOf (l .least) s n) .level ≡ h .level
   level-here = level-of (l .least) (pageOf (l .least) s n) ∙ sym (level-is d s (g .linked) n k p part h front)
 
   pub at-other : (m : ℕ) → (h .level ≡ m → ⊥) → true ≡ atLevel m (l .least) old ps (decodePage (l .least) (pageOf (l .least) s n))
-  at-other m z = sym (ap (λ (b : Bool). not b || own) (ne-eqb (decodePage (l .least) (pageOf (l .least) s n) .level) m (λ e. z (sym level-here ∙ e))))
+  at-other m z =
+      sym (ap (λ (b : Bool). not b || own) (ne-eqb (decodePage (l .least) (pageOf (l .least) s n) .level) m (λ e. z (sym level-here ∙ e))))
 
   pub at-same : (m : ℕ) → h .level ≡ m → own ≡ atLevel m (l .least) old ps (decodePage (l .least) (pageOf (l .least) s n))
   at-same m z = sym (ap (λ (b : Bool). not b || own) (eq-eqb (decodePage (l .least) (pageOf (l .least) s n) .level) m (level-here ∙ z)))
@@ -79,10 +92,15 @@ one-level : (a m : ℕ) (b : Bool) → (not (ltb a (suc m)) || b) ≡ ((not (eqb
 one-level a m b = at b (less a m) (less m a)
   where
     at : (c : Bool) → (a < m) ⊎ (m ≤ a) → (m < a) ⊎ (a ≤ m) → (not (ltb a (suc m)) || c) ≡ ((not (eqb a m) || c) && (not (ltb a m) || c))
-    at c (inl x) y = ap (λ (p : Bool). not p || c) (lt-ltb a (suc m) (omega arith)) ∙ sym (ap₂ (sides c) (ne-eqb a m (λ e. omega arith)) (lt-ltb a m x))
-    at c (inr x) (inl y) = ap (λ (p : Bool). not p || c) (le-ltb a (suc m) (omega arith)) ∙ sym (ap₂ (sides c) (ne-eqb a m (λ e. omega arith)) (le-ltb a m x))
-    at true (inr x) (inr y) = ap (λ (p : Bool). not p || true) (lt-ltb a (suc m) (omega arith)) ∙ sym (ap₂ (sides true) (eq-eqb a m (omega arith)) (le-ltb a m x))
-    at false (inr x) (inr y) = ap (λ (p : Bool). not p || false) (lt-ltb a (suc m) (omega arith)) ∙ sym (ap₂ (sides false) (eq-eqb a m (omega arith)) (le-ltb a m x))
+    at c (inl x) y =
+        ap (λ (p : Bool). not p || c) (lt-ltb a (suc m) (omega arith)) ∙ sym (ap₂ (sides c) (ne-eqb a m (λ e. omega arith)) (lt-ltb a m x))
+    at c (inr x) (inl y) =
+        ap (λ (p : Bool). not p || c) (le-ltb a (suc m) (omega arith)) ∙ sym (ap₂ (sides c) (ne-eqb a m (λ e. omega arith)) (le-ltb a m x))
+    at true (inr x) (inr y) =
+        ap (λ (p : Bool). not p || true) (lt-ltb a (suc m) (omega arith)) ∙ sym (ap₂ (sides true) (eq-eqb a m (omega arith)) (le-ltb a m x))
+    at false (inr x) (inr y) =
+        ap (λ (p : Bool). not p || false) (lt-ltb a (suc m) (omega arith))
+        ∙ sym (ap₂ (sides false) (eq-eqb a m (omega arith)) (le-ltb a m x))
 
 four-ways : (f g x y : Bool) → ((f && g) && (x && y)) ≡ ((f && x) && (g && y))
 four-ways true true x y = refl
@@ -91,11 +109,13 @@ four-ways true false false y = refl
 four-ways false g x y = refl
 
 module _ (least old : ℕ) (ps : List Page) where
-  pub level-step : (m : ℕ) (xs : List Page) → all (belowLevel (suc m) least old ps) xs ≡ (all (atLevel m least old ps) xs && all (belowLevel m least old ps) xs)
+  pub level-step : (m : ℕ) (xs : List Page) → all (belowLevel (suc m) least old ps) xs
+      ≡ (all (atLevel m least old ps) xs && all (belowLevel m least old ps) xs)
   level-step m [] = refl
   level-step m (x ∷ xs) =
       ap₂ _&&_ (one-level (x .level) m (ownFine least old ps x)) (level-step m xs)
-      ∙ four-ways (atLevel m least old ps x) (belowLevel m least old ps x) (all (atLevel m least old ps) xs) (all (belowLevel m least old ps) xs)
+      ∙ four-ways (atLevel m least old ps x) (belowLevel m least old ps x) (all (atLevel m least old ps) xs)
+      (all (belowLevel m least old ps) xs)
 
   -- of a free page nothing is asked
   pub level-end : (xs : List Page) → all (belowLevel 1 least old ps) xs ≡ true
@@ -107,10 +127,12 @@ module _ (least old : ℕ) (ps : List Page) where
       at (inr h) = rw (le-ltb (x .level) 1 h)
 
 module _ (least old : ℕ) (ps : List Page) (s : List ℕ) (g : QuickGood least s) where
-  pub level-start : (n m : ℕ) → 5 ≤ n → m ≤ sizeOf least s - n → all (ownFine least old ps) (readPages least s n m) ≡ all (belowLevel 8 least old ps) (readPages least s n m)
+  pub level-start : (n m : ℕ) → 5 ≤ n → m ≤ sizeOf least s - n
+      → all (ownFine least old ps) (readPages least s n m) ≡ all (belowLevel 8 least old ps) (readPages least s n m)
   unfolding readPages
   level-start n zero a b = refl
   level-start n (suc m) a b =
       let x = decodePage least (pageOf least s n) in
       let q : x .level < 8 = omega (arith, level-of least (pageOf least s n), g .low n (a, omega arith)) in
-      ap₂ _&&_ (sym (ap (λ (b : Bool). not b || ownFine least old ps x) (lt-ltb (x .level) 8 q))) (level-start (n + 1) m (omega arith) (omega arith))
+      ap₂ _&&_ (sym (ap (λ (b : Bool). not b || ownFine least old ps x) (lt-ltb (x .level) 8 q)))
+      (level-start (n + 1) m (omega arith) (omega arith))

@@ -49,17 +49,26 @@ leb-min m x = at (less x m)
 abbrev pub behind : ℕ → Entry → List Entry → Bool
 behind old d es = firstOk apart d (kept old es) && inOrder apart (kept old es)
 
-behind-one : (old : ℕ) (d e : Entry) (es : List Entry) → inOrder before (e ∷ es) ≡ true → behind old d (e ∷ es) ≡ ((leb (e .end) old || apart d e) && behind old (pick (leb (e .end) old) d e) es)
+behind-one : (old : ℕ) (d e : Entry) (es : List Entry) → inOrder before (e ∷ es) ≡ true
+    → behind old d (e ∷ es) ≡ ((leb (e .end) old || apart d e) && behind old (pick (leb (e .end) old) d e) es)
 behind-one old d e es o = at (leb (e .end) old) refl
   where
-    at : (t : Bool) → leb (e .end) old ≡ t → (firstOk apart d (keep (ltb old (e .end)) e (kept old es)) && inOrder apart (keep (ltb old (e .end)) e (kept old es))) ≡ ((t || apart d e) && behind old (pick t d e) es)
-    at true q = ap (λ (b : Bool). firstOk apart d (keep b e (kept old es)) && inOrder apart (keep b e (kept old es))) (le-ltb old (e .end) (leb-true (e .end) old q))
+    at : (t : Bool) → leb (e .end) old ≡ t
+        → (firstOk apart d (keep (ltb old (e .end)) e (kept old es)) && inOrder apart (keep (ltb old (e .end)) e (kept old es)))
+        ≡ ((t || apart d e) && behind old (pick t d e) es)
+    at true q =
+        ap (λ (b : Bool). firstOk apart d (keep b e (kept old es)) && inOrder apart (keep b e (kept old es)))
+        (le-ltb old (e .end) (leb-true (e .end) old q))
     at false q =
         let late = lt-ltb old (e .end) (leb-false (e .end) old q) in
-        let ordered : inOrder before (e ∷ kept old es) ≡ true = ap (λ (b : Bool). inOrder before (keep b e (kept old es))) (sym late) ∙ kept-order old before (e ∷ es) o in
-        let rest : inOrder before (kept old es) ≡ true = both-true (all (before e) (kept old es)) (inOrder before (kept old es)) ordered .1 in
+        let ordered : inOrder before (e ∷ kept old es) ≡ true = ap (λ (b : Bool). inOrder before (keep b e (kept old es))) (sym late)
+        ∙ kept-order old before (e ∷ es) o in
+        let rest : inOrder before (kept old es) ≡ true
+        = both-true (all (before e) (kept old es)) (inOrder before (kept old es)) ordered .1 in
         ap (λ (b : Bool). firstOk apart d (keep b e (kept old es)) && inOrder apart (keep b e (kept old es))) late
-        ∙ ap (λ (b : Bool). apart d e && b) (apart-neighbours (e ∷ kept old es) ordered ∙ ap (λ (b : Bool). firstOk apart e (kept old es) && b) (sym (apart-neighbours (kept old es) rest)))
+        ∙ ap (λ (b : Bool). apart d e && b)
+        (apart-neighbours (e ∷ kept old es) ordered
+        ∙ ap (λ (b : Bool). firstOk apart e (kept old es) && b) (sym (apart-neighbours (kept old es) rest)))
 
 small : (p : List ℕ) (o k : ℕ) (e : Entry) → In e (readEntries p o k) → e .key < 16777216
 unfolding readEntries
@@ -68,8 +77,10 @@ small p o (suc k) e (inl q) = subst (λ (x : Entry). x .key < 16777216) (sym q) 
 small p o (suc k) e (inr i) = small p (o + 96) k e i
 
 -- before the first one: no key is as large as that of nobody
-pub behind-start : (old : ℕ) (d : Entry) (p : List ℕ) (n : ℕ) → 16777216 ≤ d .key → inOrder apart (kept old (readEntries p 128 n)) ≡ behind old d (readEntries p 128 n)
-behind-start old d p n h = sym (ap (λ (b : Bool). b && inOrder apart (kept old (readEntries p 128 n))) (first (readEntries p 128 n) (small p 128 n)))
+pub behind-start : (old : ℕ) (d : Entry) (p : List ℕ) (n : ℕ) → 16777216 ≤ d .key
+    → inOrder apart (kept old (readEntries p 128 n)) ≡ behind old d (readEntries p 128 n)
+behind-start old d p n h =
+    sym (ap (λ (b : Bool). b && inOrder apart (kept old (readEntries p 128 n))) (first (readEntries p 128 n) (small p 128 n)))
   where
     first : (es : List Entry) → ((e : Entry) → In e es → e .key < 16777216) → firstOk apart d (kept old es) ≡ true
     first es f = at (kept old es) (λ e i. f e (in-those (λ (x : Entry). ltb old (x .end)) e es i .1))
@@ -120,7 +131,8 @@ module _ (p : List ℕ) (i n : ℕ) where
   -- those kept, behind the entry d
   pub apart-step : (old : ℕ) (d : Entry) → i < n → inOrder before here ≡ true
       → behind old d here ≡ ((leb (e .end) old || apart d e) && behind old (pick (leb (e .end) old) d e) rest)
-  apart-step old d h o = ap (behind old d) (entries-step p i n h) ∙ behind-one old d e rest (ap (inOrder before) (sym (entries-step p i n h)) ∙ o)
+  apart-step old d h o =
+      ap (behind old d) (entries-step p i n h) ∙ behind-one old d e rest (ap (inOrder before) (sym (entries-step p i n h)) ∙ o)
 
   pub apart-end : (old : ℕ) (d : Entry) → n ≤ i → behind old d here ≡ true
   apart-end old d h = ap (behind old d) (entries-end p (128 + 96 * i) i n h)
@@ -138,5 +150,6 @@ module _ (least : ℕ) (p : List ℕ) (h : Head) (f : h ≡ readHead least p) (m
   abbrev es : List Entry
   es = readEntries p 128 (h .count)
 
-  pub fine-by : fineOver m low a b (decodePage least p) ≡ ((lowOver low a b es && (eqb (h .level) 1 || keyOver low a b es)) && manyOver m a b es)
+  pub fine-by : fineOver m low a b (decodePage least p)
+      ≡ ((lowOver low a b es && (eqb (h .level) 1 || keyOver low a b es)) && manyOver m a b es)
   fine-by = rw (f, level-of least p, entries-of least p)

@@ -46,7 +46,8 @@ module _ (s : List ℕ) (o i n : ℕ) where
   pub upto-none : n ≤ i → upto here ≡ alive
   upto-none h = ap upto (slots-end s (o + 32 * i) i n h)
 
-  pub slots-fine-step : (least old : ℕ) (ps : List Page) → i < n → slotsFine least old ps here ≡ (slotFine least (max old (x .version)) (upto rest) (page ps (x .root)) && slotsFine least old ps rest)
+  pub slots-fine-step : (least old : ℕ) (ps : List Page) → i < n
+      → slotsFine least old ps here ≡ (slotFine least (max old (x .version)) (upto rest) (page ps (x .root)) && slotsFine least old ps rest)
   slots-fine-step least old ps h = ap (slotsFine least old ps) (slots-step s o i n h)
 
   pub slots-fine-end : (least old : ℕ) (ps : List Page) → n ≤ i → slotsFine least old ps here ≡ true
@@ -54,7 +55,8 @@ module _ (s : List ℕ) (o i n : ℕ) where
 
 module _ (least : ℕ) (s : List ℕ) where
   pub slots-start : (n : ℕ) → n ≡ readHeader least s .roots → decode least s .slots ≡ readSlots s (512 * least + 32 * 0) (n - 0)
-  slots-start n e = let a : 512 * least + 32 * 0 ≡ 512 * least = omega arith in let b : n - 0 ≡ n = omega arith in slots-of least s ∙ rw (a, b, e)
+  slots-start n e =
+      let a : 512 * least + 32 * 0 ≡ 512 * least = omega arith in let b : n - 0 ≡ n = omega arith in slots-of least s ∙ rw (a, b, e)
 
 -- ---- a root
 
@@ -65,5 +67,6 @@ root-least least (suc zero) = refl
 root-least least (suc (suc n)) = rw (lt-leb (suc (suc n)) 1 (omega arith))
 
 module _ (least : ℕ) (p : List ℕ) (h : Head) (f : h ≡ readHead least p) (a b : ℕ) where
-  pub slot-by : slotFine least a b (decodePage least p) ≡ ((leb (h .start) a && leb b (h .end)) && fineOver (pick (leb (h .level) 1) 0 2) 0 a b (decodePage least p))
+  pub slot-by : slotFine least a b (decodePage least p)
+      ≡ ((leb (h .start) a && leb b (h .end)) && fineOver (pick (leb (h .level) 1) 0 2) 0 a b (decodePage least p))
   slot-by = rw (root-least least (decodePage least p .level), level-of least p, start-of least p, end-of least p, f)

@@ -54,7 +54,10 @@ none = record { all = length-replicate {A = ℕ} 4096 0; most = λ n t. omega (a
 module _ (old : ℕ) (sums s : List ℕ) (o i n : ℕ) where
   pub add-slots-step : i < n
       → addSlots old sums (readSlots s (o + 32 * i) (n - i))
-      ≡ addSlots old (addTo sums (readSlot s (o + 32 * i) .root) (upto (readSlots s (o + 32 * (i + 1)) (n - (i + 1))) - max old (readSlot s (o + 32 * i) .version))) (readSlots s (o + 32 * (i + 1)) (n - (i + 1)))
+      ≡ addSlots old
+      (addTo sums (readSlot s (o + 32 * i) .root)
+      (upto (readSlots s (o + 32 * (i + 1)) (n - (i + 1))) - max old (readSlot s (o + 32 * i) .version)))
+      (readSlots s (o + 32 * (i + 1)) (n - (i + 1)))
   unfolding addSlots
   add-slots-step h = ap (addSlots old sums) (slots-step s o i n h)
 
@@ -65,7 +68,9 @@ module _ (old : ℕ) (sums s : List ℕ) (o i n : ℕ) where
 module _ (old : ℕ) (sums p : List ℕ) (i n : ℕ) where
   pub add-entries-step : i < n
       → addEntries old sums (readEntries p (128 + 96 * i) (n - i))
-      ≡ addEntries old (addTo sums (readEntry p (128 + 96 * i) .value) (readEntry p (128 + 96 * i) .end - max old (readEntry p (128 + 96 * i) .start))) (readEntries p (128 + 96 * (i + 1)) (n - (i + 1)))
+      ≡ addEntries old
+      (addTo sums (readEntry p (128 + 96 * i) .value) (readEntry p (128 + 96 * i) .end - max old (readEntry p (128 + 96 * i) .start)))
+      (readEntries p (128 + 96 * (i + 1)) (n - (i + 1)))
   unfolding addEntries
   add-entries-step h = ap (addEntries old sums) (entries-step p i n h)
 
@@ -74,7 +79,8 @@ module _ (old : ℕ) (sums p : List ℕ) (i n : ℕ) where
   add-entries-end h = ap (addEntries old sums) (entries-end p (128 + 96 * i) i n h)
 
 module _ (old : ℕ) (sums : List ℕ) (least : ℕ) (s : List ℕ) (n m : ℕ) where
-  pub add-pages-step : n < m → addPages old sums (readPages least s n (m - n)) ≡ addPages old (addPage old sums (decodePage least (pageOf least s n))) (readPages least s (n + 1) (m - (n + 1)))
+  pub add-pages-step : n < m → addPages old sums (readPages least s n (m - n))
+      ≡ addPages old (addPage old sums (decodePage least (pageOf least s n))) (readPages least s (n + 1) (m - (n + 1)))
   unfolding addPages
   add-pages-step h = ap (addPages old sums) (pages-step least s n m h)
 
@@ -82,7 +88,9 @@ module _ (old : ℕ) (sums : List ℕ) (least : ℕ) (s : List ℕ) (n m : ℕ) 
   unfolding addPages
   add-pages-end h = ap (addPages old sums) (pages-end least s n m h)
 
-  pub met-step : n < m → allMet old sums n (readPages least s n (m - n)) ≡ (pageMet old (getD sums n 0) (decodePage least (pageOf least s n)) && allMet old sums (n + 1) (readPages least s (n + 1) (m - (n + 1))))
+  pub met-step : n < m → allMet old sums n (readPages least s n (m - n))
+      ≡ (pageMet old (getD sums n 0) (decodePage least (pageOf least s n))
+      && allMet old sums (n + 1) (readPages least s (n + 1) (m - (n + 1))))
   unfolding allMet
   met-step h = ap (allMet old sums n) (pages-step least s n m h)
 
@@ -96,7 +104,8 @@ module _ (least old : ℕ) (p : List ℕ) (h : Head) (f : h ≡ readHead least p
   pub met-by : (sum : ℕ) → pageMet old sum (decodePage least p) ≡ (eqb (h .level) 0 || eqb sum (h .end - max old (h .start)))
   met-by sum = rw (level-of least p, start-of least p, end-of least p, f)
 
-  pub page-by : (sums : List ℕ) → addPage old sums (decodePage least p) ≡ pick (leb (h .level) 1) sums (addEntries old sums (readEntries p 128 (h .count)))
+  pub page-by : (sums : List ℕ) → addPage old sums (decodePage least p)
+      ≡ pick (leb (h .level) 1) sums (addEntries old sums (readEntries p 128 (h .count)))
   page-by sums = rw (level-of least p, entries-of least p, f)
 
 -- ---- all of a list
@@ -113,20 +122,27 @@ slots-more {k} old sums s o (suc n) h =
     let x : Slot = readSlot s o in
     let y : ℕ = upto (readSlots s (o + 32) n) - max old (x .version) in
     let g = one-more sums (x .root) y h (omega (arith, upto-most s (o + 32) n)) in
-    fewer (addSlots old (addTo sums (x .root) y) (readSlots s (o + 32) n)) (slots-more old (addTo sums (x .root) y) s (o + 32) n g) (omega arith)
+    fewer (addSlots old (addTo sums (x .root) y) (readSlots s (o + 32) n)) (slots-more old (addTo sums (x .root) y) s (o + 32) n g)
+    (omega arith)
 
-pub entries-more : {k : ℕ} (old : ℕ) (sums : List ℕ) (p : List ℕ) (o n : ℕ) → Sums k sums → Sums (k + n) (addEntries old sums (readEntries p o n))
+pub entries-more : {k : ℕ} (old : ℕ) (sums : List ℕ) (p : List ℕ) (o n : ℕ) → Sums k sums
+    → Sums (k + n) (addEntries old sums (readEntries p o n))
 unfolding addEntries readEntries
 entries-more old sums p o zero h = fewer sums h (omega arith)
 entries-more {k} old sums p o (suc n) h =
     let e : Entry = readEntry p o in
     let y : ℕ = e .end - max old (e .start) in
     let g = one-more sums (e .value) y h (omega (arith, read-sized p o .end)) in
-    fewer (addEntries old (addTo sums (e .value) y) (readEntries p (o + 96) n)) (entries-more old (addTo sums (e .value) y) p (o + 96) n g) (omega arith)
+    fewer (addEntries old (addTo sums (e .value) y) (readEntries p (o + 96) n)) (entries-more old (addTo sums (e .value) y) p (o + 96) n g)
+    (omega arith)
 
-pub page-more : {k : ℕ} (old : ℕ) (sums : List ℕ) (least : ℕ) (p : List ℕ) → readHead least p .count ≤ 40 → Sums k sums → Sums (k + 40) (addPage old sums (decodePage least p))
+pub page-more : {k : ℕ} (old : ℕ) (sums : List ℕ) (least : ℕ) (p : List ℕ) → readHead least p .count ≤ 40 → Sums k sums
+    → Sums (k + 40) (addPage old sums (decodePage least p))
 page-more {k} old sums least p few h = at (leb (decodePage least p .level) 1)
   where
     at : (b : Bool) → Sums (k + 40) (pick b sums (addEntries old sums (decodePage least p .entries)))
     at true = fewer sums h (omega arith)
-    at false = rw (entries-of least p) (fewer (addEntries old sums (readEntries p 128 (readHead least p .count))) (entries-more old sums p 128 (readHead least p .count) h) (omega arith))
+    at false =
+        rw (entries-of least p)
+        (fewer (addEntries old sums (readEntries p 128 (readHead least p .count))) (entries-more old sums p 128 (readHead least p .count) h)
+        (omega arith))

@@ -13,7 +13,9 @@ slots-fine-requires : tie.Need-slots-fine-requires
 slots-fine-requires c κs = search needs
 
 returns-2 : tie.Need-returns-2
-returns-2 c = rw (← c .before .before .spans-met .ensures, not-false (c .before .before .spans-met .result) (c .before .if1 .left)) (c .slots-fine .ensures)
+returns-2 c =
+    let at-spans-met = c .before .before in
+    rw (← at-spans-met .spans-met .ensures, not-false (at-spans-met .spans-met .result) (c .before .if1 .left)) (c .slots-fine .ensures)
 
 pub led-spec : {M : Type 1} → statement M
 led-spec = tie.close (tie.spec spans-met-requires returns slots-fine-requires returns-2)

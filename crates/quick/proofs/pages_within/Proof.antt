@@ -18,12 +18,17 @@ budget-requires : tie.Need-budget-requires
 budget-requires c κs = omega (arith, c .size .ensures, c .before .before .before .pre .1 .linked .most)
 
 pages-fine-requires : tie.Need-pages-fine-requires
-pages-fine-requires c κs = let r = c .before .before .before .before .pre in (r .0, r .1, ap (λ (x : Header). x .oldest) (c .before .before .header .ensures))
+pages-fine-requires c κs =
+    let at-start = c .before .before .before .before in
+    let r = at-start .pre in (r .0, r .1, ap (λ (x : Header). x .oldest) (c .before .before .header .ensures))
 
 returns : tie.Need-returns
 returns c led some =
-    let a = c .before .before .before .before .before .args in
-    let old : c .before .before .before .header .result .oldest ≡ decode (a .l .least) (a .s .now) .oldest = ap (λ (x : Header). x .oldest) (c .before .before .before .header .ensures) ∙ sym (oldest-of (a .l .least) (a .s .now)) in
+    let at-header = c .before .before .before in
+    let at-start = at-header .before .before in
+    let a = at-start .args in
+    let old : at-header .header .result .oldest ≡ decode (a .l .least) (a .s .now) .oldest
+    = ap (λ (x : Header). x .oldest) (at-header .header .ensures) ∙ sym (oldest-of (a .l .least) (a .s .now)) in
     rw old at (c .pages-fine .ensures .right some) ∙ sym (quick-pages (a .l .least) (decode (a .l .least) (a .s .now)) led)
 
 pub pages-within-spec : {M : Type 1} → statement M

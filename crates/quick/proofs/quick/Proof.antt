@@ -10,20 +10,27 @@ led-requires : tie.Need-led-requires
 led-requires c κs = let r = c .before .pre in (r .0, r .1, r .2)
 
 returns : tie.Need-returns
-returns c = let a = c .before .before .before .args in not-led (a .l .least) (decode (a .l .least) (a .s .now)) (c .before .before .before .pre .4) (sym (c .before .led .ensures) ∙ not-true (c .before .led .result) (c .if1 .taken))
+returns c =
+    let at-start = c .before .before .before in
+    let a = at-start .args in not-led (a .l .least) (decode (a .l .least) (a .s .now)) (at-start .pre .4)
+    (sym (c .before .led .ensures) ∙ not-true (c .before .led .result) (c .if1 .taken))
 
 pages-within-requires : tie.Need-pages-within-requires
 pages-within-requires c κs = let r = c .before .before .before .pre in (r .0, r .1, r .2)
 
 returns-2 : tie.Need-returns-2
-returns-2 c = c .before .before .pages-within .ensures (sym (c .before .before .before .before .led .ensures) ∙ not-false (c .before .before .before .before .led .result) (c .before .before .before .if1 .left)) (c .if2 .taken)
+returns-2 c =
+    let at-led = c .before .before .before .before in
+    c .before .before .pages-within .ensures
+    (sym (at-led .led .ensures) ∙ not-false (at-led .led .result) (c .before .before .before .if1 .left)) (c .if2 .taken)
 
 by-notes-requires : tie.Need-by-notes-requires
 by-notes-requires c κs =
-    let at-if = c .before .before .before in
-    let at-led = at-if .before in
-    let r = at-led .before .before .pre in
-    (r .0, r .3, r .4, sym (at-led .led .ensures) ∙ not-false (at-led .led .result) (at-if .if1 .left))
+    let at-if1 = c .before .before .before in
+    let at-led = at-if1 .before in
+    let at-start = at-led .before .before in
+    let r = at-start .pre in
+    (r .0, r .3, r .4, sym (at-led .led .ensures) ∙ not-false (at-led .led .result) (at-if1 .if1 .left))
 
 returns-3 : tie.Need-returns-3
 returns-3 c = c .by-notes .ensures

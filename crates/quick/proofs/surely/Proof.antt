@@ -17,9 +17,10 @@ returns-2 c e = wrong e
 
 returns-3 : tie.Need-returns-3
 returns-3 c e =
-    let at-if = c .before .before .before in
-    let s = at-if .before .before in
-    sym (c .before .before .pages-within .ensures (sym (s .pre .3) ∙ not-false (s .args .fit) (at-if .if1 .left)) (omega (arith, c .if2 .left))) ∙ e
+    let at-if1 = c .before .before .before in
+    let at-start = at-if1 .before .before in
+    sym (c .before .before .pages-within .ensures (sym (at-start .pre .3) ∙ not-false (at-start .args .fit) (at-if1 .if1 .left))
+    (omega (arith, c .if2 .left))) ∙ e
 
 pub surely-spec : {M : Type 1} → statement M
 surely-spec = tie.close (tie.spec returns pages-within-requires returns-2 returns-3)

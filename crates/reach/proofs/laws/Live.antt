@@ -17,7 +17,8 @@ use Rattle.page.proofs.laws.Read.{entries-step, entries-end}
 use Rattle.reach.specs.Pending.{pairsFrom, NextLive, firstKey, openOk}
 
 module _ (p : List ℕ) (v k n : ℕ) where
-  pub pairs-live : k < n → liveAt v (readEntry p (128 + 96 * k)) ≡ true → pairsFrom p v k n ≡ pairOf (readEntry p (128 + 96 * k)) ∷ pairsFrom p v (k + 1) n
+  pub pairs-live : k < n → liveAt v (readEntry p (128 + 96 * k)) ≡ true
+      → pairsFrom p v k n ≡ pairOf (readEntry p (128 + 96 * k)) ∷ pairsFrom p v (k + 1) n
   unfolding pairsFrom
   pairs-live h e = rw (entries-step p k n h, e)
 
@@ -30,14 +31,17 @@ module _ (p : List ℕ) (v k n : ℕ) where
   pairs-end h = rw (entries-end p (128 + 96 * k) k n h)
 
 -- the key of the next live entry, or the page's high key
-pub upper-first : (p : List ℕ) (v i n k high : ℕ) → NextLive p v i n k → pick (ltb k n) (readEntry p (128 + 96 * k) .key) high ≡ firstKey (pairsFrom p v i n) high
-upper-first p v i n k high x = ⊎-elim (λ l. rw (lt-ltb k n l, x .same, x .live l)) (λ l. rw (le-ltb k n l, x .same, pairs-end p v k n l)) (less k n)
+pub upper-first : (p : List ℕ) (v i n k high : ℕ) → NextLive p v i n k
+    → pick (ltb k n) (readEntry p (128 + 96 * k) .key) high ≡ firstKey (pairsFrom p v i n) high
+upper-first p v i n k high x =
+    ⊎-elim (λ l. rw (lt-ltb k n l, x .same, x .live l)) (λ l. rw (le-ltb k n l, x .same, pairs-end p v k n l)) (less k n)
 
 -- the first live key
 pub starts-none : (p : List ℕ) (v i n k low : ℕ) → NextLive p v i n k → n ≤ k → startsAt low (pairsFrom p v i n) ≡ true
 starts-none p v i n k low x l = rw (x .same, pairs-end p v k n l)
 
-pub starts-first : (p : List ℕ) (v i n k low : ℕ) → NextLive p v i n k → k < n → startsAt low (pairsFrom p v i n) ≡ eqb (readEntry p (128 + 96 * k) .key) low
+pub starts-first : (p : List ℕ) (v i n k low : ℕ) → NextLive p v i n k → k < n
+    → startsAt low (pairsFrom p v i n) ≡ eqb (readEntry p (128 + 96 * k) .key) low
 starts-first p v i n k low x l = rw (x .same, x .live l)
 
 -- ---- how many are wanted
@@ -64,7 +68,8 @@ module _ (least rule : ℕ) (root : Bool) (up low : ℕ) (xs : List Pair) where
   unfolding openOk
   open-starts b a u e = rw (eq-eqb rule 4 a, ne-eqb up 0 u) (sym e)
 
-  pub open-counts : (k n : ℕ) → (rule ≡ 4 → ⊥) → rule ≡ 5 → k ≡ fewest least root up → n ≡ length xs → leb k n ≡ openOk least rule root up low xs
+  pub open-counts : (k n : ℕ) → (rule ≡ 4 → ⊥) → rule ≡ 5 → k ≡ fewest least root up → n ≡ length xs
+      → leb k n ≡ openOk least rule root up low xs
   unfolding openOk
   open-counts k n a b e f = rw (ne-eqb rule 4 a, eq-eqb rule 5 b, e, f)
 

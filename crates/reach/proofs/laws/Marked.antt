@@ -27,15 +27,23 @@ use Rattle.reach.specs.Versions.{markedWell, versionOk}
 module _ (least : ℕ) (s : List ℕ) (v : ℕ) (marks : List Bool) (n m : ℕ) where
   pub marked-step : n < m
       → markedWell v marks n (readPages least s n (m - n))
-      ≡ (same (not (eqb (levelAt least s n) 0) && within (headAt least s n .start) (headAt least s n .end) v) (getD marks n false) && markedWell v marks (n + 1) (readPages least s (n + 1) (m - (n + 1))))
+      ≡ (same (not (eqb (levelAt least s n) 0) && within (headAt least s n .start) (headAt least s n .end) v) (getD marks n false)
+      && markedWell v marks (n + 1) (readPages least s (n + 1) (m - (n + 1))))
   unfolding markedWell
-  marked-step h = rw (pages-step least s n m h, ← level-of least (pageOf least s n), ← start-of least (pageOf least s n), ← end-of least (pageOf least s n))
+  marked-step h =
+      rw (
+        pages-step least s n m h,
+        ← level-of least (pageOf least s n),
+        ← start-of least (pageOf least s n),
+        ← end-of least (pageOf least s n),
+      )
 
   pub marked-end : m ≤ n → markedWell v marks n (readPages least s n (m - n)) ≡ true
   unfolding markedWell
   marked-end h = rw (pages-end least s n m h)
 
-marked-reached : (v : ℕ) (marks : List Bool) (ns : List ℕ) → ((m : ℕ) → getD marks m false ≡ has m ns) → (n : ℕ) (ps : List Page) → markedWell v marks n ps ≡ reachedWell v ns n ps
+marked-reached : (v : ℕ) (marks : List Bool) (ns : List ℕ) → ((m : ℕ) → getD marks m false ≡ has m ns) → (n : ℕ) (ps : List Page)
+    → markedWell v marks n ps ≡ reachedWell v ns n ps
 unfolding markedWell
 marked-reached v marks ns h n [] = refl
 marked-reached v marks ns h n (p ∷ ps) = rw (h n, add-one, marked-reached v marks ns h (suc n) ps)
@@ -50,7 +58,8 @@ module _ (least : ℕ) (s : List ℕ) (r up : ℕ) (f : RootFine least s r) (u :
   seen-whole : (v : ℕ) → r ≡ rootAt (decode least s .slots) v → seen (decode least s) v ≡ whole least s up v r
   unfolding whole
   seen-whole v e =
-      let h : heightOf (decode least s .pages) r ≡ up = rw (page-at least s r (f .isPage .0) (f .isPage .1), level-of least (pageOf least s r)) (sym (u ∙ sub-one (levelAt least s r))) in
+      let h : heightOf (decode least s .pages) r ≡ up
+      = rw (page-at least s r (f .isPage .0) (f .isPage .1), level-of least (pageOf least s r)) (sym (u ∙ sub-one (levelAt least s r))) in
       rw (← e, h)
 
   -- rule 6, at one version
@@ -64,7 +73,9 @@ module _ (least : ℕ) (s : List ℕ) (r up : ℕ) (f : RootFine least s r) (u :
 
     version-is : versionOk least 6 s v ≡ (all (passes least 6) (whole least s up v r) && reach)
     unfolding versionOk
-    version-is = ap (λ (xs : List Seen). all (passes least 6) xs && reachedWell v (map (λ (x : Seen). x .number) xs) 5 (drop 5 (decode least s .pages))) (seen-whole v e)
+    version-is =
+        ap (λ (xs : List Seen). all (passes least 6) xs
+        && reachedWell v (map (λ (x : Seen). x .number) xs) 5 (drop 5 (decode least s .pages))) (seen-whole v e)
 
     told : w .broken ≡ pick (all (passes least 6) (whole least s up v r)) 0 6
     told = rw one at (t .verdict)
@@ -90,4 +101,5 @@ module _ (least : ℕ) (s : List ℕ) (r up : ℕ) (f : RootFine least s r) (u :
       pub passes-six : versionOk least 6 s v ≡ markedWell v (w .marks) 5 (readPages least s 5 (sizeOf least s - 5))
       passes-six =
           version-is ∙ rw (holds, behind least s)
-          (sym (marked-reached v (w .marks) (map (λ (x : Seen). x .number) (whole least s up v r)) (λ m. marks-are m ∙ any-map m (whole least s up v r)) 5 (readPages least s 5 (sizeOf least s - 5))))
+          (sym (marked-reached v (w .marks) (map (λ (x : Seen). x .number) (whole least s up v r))
+          (λ m. marks-are m ∙ any-map m (whole least s up v r)) 5 (readPages least s 5 (sizeOf least s - 5))))

@@ -41,19 +41,26 @@ module _ (least : ℕ) where
     versions-are : versions (decode least s) ≡ upto
     versions-are =
         rw add-one
-        (ap₂ (λ (o n : ℕ). count o (suc n - o)) (oldest-of least s ∙ ap (λ (x : Header). x .oldest) (sym e)) (last-is least s ∙ ap (λ (x : Header). lastOf (x .opened) (x .current)) (sym e)))
+        (ap₂ (λ (o n : ℕ). count o (suc n - o)) (oldest-of least s ∙ ap (λ (x : Header). x .oldest) (sym e))
+        (last-is least s ∙ ap (λ (x : Header). lastOf (x .opened) (x .current)) (sym e)))
 
     pub six-is : rule6 (decode least s) ≡ all (versionOk least 6 s) upto
     unfolding rule6 versionOk
     six-is =
         all-ext (λ (v : ℕ). reachedWell v (numbers (decode least s) v) 5 (drop 5 (decode least s .pages))) (versionOk least 6 s)
-        (λ v. sym (ap (λ (b : Bool). b && reachedWell v (numbers (decode least s) v) 5 (drop 5 (decode least s .pages))) (all-true (passes least 6) passes-six (seen (decode least s) v)))) (versions (decode least s))
+        (λ v. sym (ap (λ (b : Bool). b && reachedWell v (numbers (decode least s) v) 5 (drop 5 (decode least s .pages)))
+        (all-true (passes least 6) passes-six (seen (decode least s) v)))) (versions (decode least s))
         ∙ ap (all (versionOk least 6 s)) versions-are
 
     -- a version at which it is broken
-    pub six-missed : (v : ℕ) → h .oldest ≤ v → v ≤ lastOf (h .opened) (h .current) → versionOk least 6 s v ≡ false → rule6 (decode least s) ≡ false
+    pub six-missed : (v : ℕ) → h .oldest ≤ v → v ≤ lastOf (h .opened) (h .current) → versionOk least 6 s v ≡ false
+        → rule6 (decode least s) ≡ false
     six-missed v low high f = at (bool-cases (rule6 (decode least s)))
       where
         at : (rule6 (decode least s) ≡ true) ⊎ (rule6 (decode least s) ≡ false) → rule6 (decode least s) ≡ false
-        at (inl t) = absurd (not-both (versionOk least 6 s v) (all-in (versionOk least 6 s) v upto (sym six-is ∙ t) (in-count v (h .oldest) (lastOf (h .opened) (h .current) + 1 - h .oldest) (omega (arith, low, high)) (omega (arith, low, high)))) f)
+        at (inl t) =
+            absurd (not-both (versionOk least 6 s v)
+            (all-in (versionOk least 6 s) v upto (sym six-is ∙ t)
+            (in-count v (h .oldest) (lastOf (h .opened) (h .current) + 1 - h .oldest) (omega (arith, low, high))
+            (omega (arith, low, high)))) f)
         at (inr t) = t

@@ -26,7 +26,8 @@ use Rattle.reach.specs.Pending.{firstKey, stepOk, chainOk, passes, restO
 use Rattle.reach.proofs.laws.Pending.{here, spanOf, kidsIn, none, pend, weight, heft, weigh, Fine}
 use Rattle.reach.proofs.laws.Live.{pairs-end, upper-first}
 use Rattle.reach.proofs.laws.Tests.{any-append, same-all}
-use Rattle.reach.proofs.laws.Walking.{Walking, Entering, kidWeight, weight-kids, pend-push, weigh-push, kids-none, kids-leaf, kids-next, pairs-here}
+use Rattle.reach.proofs.laws.Walking.{Walking, Entering, kidWeight, weight-kids, pend-push, weigh-push, kids-none, kids-leaf}
+use Rattle.reach.proofs.laws.Walking.{kids-next, pairs-here}
 
 rotate : (a p c k : Bool) → (a || (p || (c || k))) ≡ (a || ((c || p) || k))
 rotate true p c k = refl
@@ -52,10 +53,12 @@ module _ (least : ℕ) (four : 4 ≤ least) (eight : least ≤ 8) (s : List ℕ)
 
   -- ---- an entry is taken
 
-  module _ (linked : Linked least s) (marks : List Bool) (items₀ : List Item) (top₀ : ℕ) (it : Item) (n : ℕ) (p : List ℕ) (count c : ℕ) (items : List Item) (top j : ℕ)
+  module _ (linked : Linked least s) (marks : List Bool) (items₀ : List Item) (top₀ : ℕ) (it : Item) (n : ℕ) (p : List ℕ) (count c : ℕ)
+      (items : List Item) (top j : ℕ)
       (w : Entering least s root up a b rule marks items₀ top₀ it n p count c items top j) (lt : j < count) where
     chain-next : chainOk rule (it .low) (it .high) (pairsFrom p (it .from) 0 count)
-        ≡ (stepOk rule (it .low) (it .high) (firstKey (pairsFrom p (it .from) (j + 1) count) (it .high)) (readEntry p (128 + 96 * j) .key) && chainOk rule (it .low) (it .high) (pairsFrom p (it .from) (j + 1) count))
+        ≡ (stepOk rule (it .low) (it .high) (firstKey (pairsFrom p (it .from) (j + 1) count) (it .high)) (readEntry p (128 + 96 * j) .key)
+        && chainOk rule (it .low) (it .high) (pairsFrom p (it .from) (j + 1) count))
     unfolding chainOk
     chain-next = w .chain ∙ ap (chainOk rule (it .low) (it .high)) (w .live lt)
 
@@ -66,22 +69,28 @@ module _ (least : ℕ) (four : 4 ≤ least) (eight : least ≤ 8) (s : List ℕ)
     pairs-now = rw (w .bytes, w .counted, ← w .number) (pairs-here least s (it .from) n on-page)
 
     -- an entry that breaks the rule
-    pub stops : (k next : ℕ) → NextLive p (it .from) (j + 1) count k → next ≡ pick (ltb k count) (readEntry p (128 + 96 * k) .key) (it .high)
-        → stepOk rule (it .low) (it .high) next (readEntry p (128 + 96 * j) .key) ≡ false → all (passes least rule) (wholeIn least s up a b root) ≡ false
+    pub stops : (k next : ℕ) → NextLive p (it .from) (j + 1) count k
+        → next ≡ pick (ltb k count) (readEntry p (128 + 96 * k) .key) (it .high)
+        → stepOk rule (it .low) (it .high) next (readEntry p (128 + 96 * j) .key) ≡ false
+        → all (passes least rule) (wholeIn least s up a b root) ≡ false
     unfolding passes here
     stops k next y nx o =
         let h : Seen = here ps (it .from) it in
         let r : List Seen = pend ps items top ++ kidsIn (it .up) ps (it .from) c (pairsFrom p (it .from) j count) (it .high) in
-        let f : next ≡ firstKey (pairsFrom p (it .from) (j + 1) count) (it .high) = nx ∙ upper-first p (it .from) (j + 1) count k (it .high) y in
-        same-all (passes least rule) (wholeIn least s up a b root) ((h ∷ w .done) ++ r) (w .same) ∙ rw (pairs-now, w .opened, chain-next, ← f, o)
+        let f : next ≡ firstKey (pairsFrom p (it .from) (j + 1) count) (it .high) = nx
+        ∙ upper-first p (it .from) (j + 1) count k (it .high) y in
+        same-all (passes least rule) (wholeIn least s up a b root) ((h ∷ w .done) ++ r) (w .same)
+        ∙ rw (pairs-now, w .opened, chain-next, ← f, o)
 
     -- one that keeps it
-    module _ (k next : ℕ) (y : NextLive p (it .from) (j + 1) count k) (nx : next ≡ pick (ltb k count) (readEntry p (128 + 96 * k) .key) (it .high))
+    module _ (k next : ℕ) (y : NextLive p (it .from) (j + 1) count k)
+        (nx : next ≡ pick (ltb k count) (readEntry p (128 + 96 * k) .key) (it .high))
         (o : stepOk rule (it .low) (it .high) next (readEntry p (128 + 96 * j) .key) ≡ true) where
       is-next : next ≡ firstKey (pairsFrom p (it .from) (j + 1) count) (it .high)
       is-next = nx ∙ upper-first p (it .from) (j + 1) count k (it .high) y
 
-      chain-k : chainOk rule (it .low) (it .high) (pairsFrom p (it .from) 0 count) ≡ chainOk rule (it .low) (it .high) (pairsFrom p (it .from) k count)
+      chain-k : chainOk rule (it .low) (it .high) (pairsFrom p (it .from) 0 count)
+          ≡ chainOk rule (it .low) (it .high) (pairsFrom p (it .from) k count)
       chain-k = chain-next ∙ rw (← is-next, o, y .same)
 
       abbrev load : ℕ
@@ -112,7 +121,8 @@ module _ (least : ℕ) (four : 4 ≤ least) (eight : least ≤ 8) (s : List ℕ)
             live = y .live;
             alive = y .alive;
             done = w .done;
-            same = rw (kids-leaf (it .up) ps (it .from) c (pairsFrom p (it .from) k count) (it .high) z) (rw (kids-leaf (it .up) ps (it .from) c (pairsFrom p (it .from) j count) (it .high) z) at (w .same));
+            same = rw (kids-leaf (it .up) ps (it .from) c (pairsFrom p (it .from) k count) (it .high) z)
+                (rw (kids-leaf (it .up) ps (it .from) c (pairsFrom p (it .from) j count) (it .high) z) at (w .same));
             good = w .good;
             opened = w .opened;
             chain = chain-k;
@@ -120,7 +130,8 @@ module _ (least : ℕ) (four : 4 ≤ least) (eight : least ≤ 8) (s : List ℕ)
           }
 
       -- in an index page, with the page below put on the list
-      module _ (six : up ≤ 6) (pos : 0 < it .up) (z : Item) (zp : z .page ≡ readEntry p (128 + 96 * j) .value) (zu : z .up ≡ it .up - 1) (zr : z .root ≡ false)
+      module _ (six : up ≤ 6) (pos : 0 < it .up) (z : Item) (zp : z .page ≡ readEntry p (128 + 96 * j) .value) (zu : z .up ≡ it .up - 1)
+          (zr : z .root ≡ false)
           (zl : z .low ≡ readEntry p (128 + 96 * j) .key) (zh : z .high ≡ next) (zf : z .from ≡ it .from) (zt : z .upto ≡ c) where
         pub fits : top < 288
         fits = omega (arith, w .above, w .own .place, w .room)
@@ -134,8 +145,10 @@ module _ (least : ℕ) (four : 4 ≤ least) (eight : least ≤ 8) (s : List ℕ)
         -- the router has not ended by the oldest version
         late : readHeader least s .oldest < entryAt least s n j .end
         late =
-            let e : ltb (it .from) (readEntry p (128 + 96 * j) .end) ≡ true = both-true (leb (readEntry p (128 + 96 * j) .start) (it .from)) _ (w .alive lt) .1 in
-            subst (λ (q : List ℕ). readHeader least s .oldest < readEntry q (128 + 96 * j) .end) (w .bytes) (omega (arith, w .own .old, ltb-true (it .from) (readEntry p (128 + 96 * j) .end) e))
+            let e : ltb (it .from) (readEntry p (128 + 96 * j) .end) ≡ true
+            = both-true (leb (readEntry p (128 + 96 * j) .start) (it .from)) _ (w .alive lt) .1 in
+            subst (λ (q : List ℕ). readHeader least s .oldest < readEntry q (128 + 96 * j) .end) (w .bytes)
+            (omega (arith, w .own .old, ltb-true (it .from) (readEntry p (128 + 96 * j) .end) e))
 
         new : Fine least s up top z
         new =
@@ -150,10 +163,12 @@ module _ (least : ℕ) (four : 4 ≤ least) (eight : least ≤ 8) (s : List ℕ)
         long : top < length items
         long = rw (w .slots) fits
 
-        below : (g : Seen → Bool) → any g (kidsIn (it .up) ps (it .from) c (pairsFrom p (it .from) j count) (it .high)) ≡ (any g (spanOf ps z) || any g (kidsIn (it .up) ps (it .from) c (pairsFrom p (it .from) k count) (it .high)))
+        below : (g : Seen → Bool) → any g (kidsIn (it .up) ps (it .from) c (pairsFrom p (it .from) j count) (it .high))
+            ≡ (any g (spanOf ps z) || any g (kidsIn (it .up) ps (it .from) c (pairsFrom p (it .from) k count) (it .high)))
         below g =
             ap (λ (l : List Pair). any g (kidsIn (it .up) ps (it .from) c l (it .high))) (w .live lt)
-            ∙ kids-next g (it .up) ps (it .from) c (pairOf (readEntry p (128 + 96 * j))) (pairsFrom p (it .from) (j + 1) count) (it .high) z pos zu zr zl (zh ∙ is-next) zp zf zt
+            ∙ kids-next g (it .up) ps (it .from) c (pairOf (readEntry p (128 + 96 * j))) (pairsFrom p (it .from) (j + 1) count)
+            (it .high) z pos zu zr zl (zh ∙ is-next) zp zf zt
             ∙ ap (λ (l : List Pair). any g (spanOf ps z) || any g (kidsIn (it .up) ps (it .from) c l (it .high))) (y .same)
 
         heft-new : heft z ≡ load
@@ -186,7 +201,15 @@ module _ (least : ℕ) (four : 4 ≤ least) (eight : least ≤ 8) (s : List ℕ)
                   let x : List Seen = spanOf ps z in
                   let o : List Seen = kidsIn (it .up) ps (it .from) c (pairsFrom p (it .from) j count) (it .high) in
                   let r : List Seen = kidsIn (it .up) ps (it .from) c (pairsFrom p (it .from) k count) (it .high) in
-                  w .same g ∙ rw (pend-push ps items top z long, any-append g h (q ++ o), any-append g q o, below g, any-append g h ((x ++ q) ++ r), any-append g (x ++ q) r, any-append g x q)
+                  w .same g ∙ rw (
+                    pend-push ps items top z long,
+                    any-append g h (q ++ o),
+                    any-append g q o,
+                    below g,
+                    any-append g h ((x ++ q) ++ r),
+                    any-append g (x ++ q) r,
+                    any-append g x q,
+                  )
                   (rotate (any g h) (any g q) (any g x) (any g r));
               good = w .good;
               opened = w .opened;
@@ -196,7 +219,8 @@ module _ (least : ℕ) (four : 4 ≤ least) (eight : least ≤ 8) (s : List ℕ)
 
   -- ---- a page is left
 
-  module _ (marks : List Bool) (items₀ : List Item) (top₀ : ℕ) (it : Item) (n : ℕ) (p : List ℕ) (count c : ℕ) (items : List Item) (top j : ℕ)
+  module _ (marks : List Bool) (items₀ : List Item) (top₀ : ℕ) (it : Item) (n : ℕ) (p : List ℕ) (count c : ℕ) (items : List Item)
+      (top j : ℕ)
       (w : Entering least s root up a b rule marks items₀ top₀ it n p count c items top j) (ge : count ≤ j) where
     pairs-all : pairsAt (it .from) (page ps (it .page)) ≡ pairsFrom p (it .from) 0 count
     pairs-all = rw (w .bytes, w .counted, ← w .number) (pairs-here least s (it .from) n (rw (w .number) (w .own .isPage)))
@@ -212,7 +236,8 @@ module _ (least : ℕ) (four : 4 ≤ least) (eight : least ≤ 8) (s : List ℕ)
           size = w .size;
           fine = w .fine;
           done = here ps (it .from) it ∷ w .done;
-          same = rw (pairs-end p (it .from) j count ge, kids-none (it .up) ps (it .from) c (it .high), append-nil (pend ps items top)) at (w .same);
+          same = rw (pairs-end p (it .from) j count ge, kids-none (it .up) ps (it .from) c (it .high), append-nil (pend ps items top)) at
+              (w .same);
           good = rw (passes-here, w .good);
           mark = w .mark;
         }
@@ -221,4 +246,11 @@ module _ (least : ℕ) (four : 4 ≤ least) (eight : least ≤ 8) (s : List ℕ)
     unfolding heft
     lighter x high e =
         let d : it .upto - it .from ≡ (c - it .from) + (it .upto - c) = omega (arith, w .cut) in
-        omega (arith, w .weighs, e, ap (λ (k : ℕ). k * weight (it .up)) d, share (c - it .from) (it .upto - c) (weight (it .up)) (kidWeight (it .up)) j (weight-kids (it .up)) (omega (arith, w .place, w .room)) (omega (arith, w .cut)))
+        omega (
+          arith,
+          w .weighs,
+          e,
+          ap (λ (k : ℕ). k * weight (it .up)) d,
+          share (c - it .from) (it .upto - c) (weight (it .up)) (kidWeight (it .up)) j (weight-kids (it .up))
+              (omega (arith, w .place, w .room)) (omega (arith, w .cut)),
+        )

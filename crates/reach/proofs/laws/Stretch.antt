@@ -21,12 +21,19 @@ cross false true false d = refl
 cross false false c d = refl
 
 module _ (g : Seen → Bool) where
-  flat-split : (f : ℕ → List Seen) (a m n : ℕ) → any g (flatMap f (count a (m + n))) ≡ (any g (flatMap f (count a m)) || any g (flatMap f (count (a + m) n)))
+  flat-split : (f : ℕ → List Seen) (a m n : ℕ) → any g (flatMap f (count a (m + n)))
+      ≡ (any g (flatMap f (count a m)) || any g (flatMap f (count (a + m) n)))
   flat-split f a zero n = let e : 0 + n ≡ n = omega arith in let z : a + 0 ≡ a = omega arith in rw (e, z)
   flat-split f a (suc m) n =
       let e : suc m + n ≡ suc (m + n) = omega arith in
       let z : a + suc m ≡ suc a + m = omega arith in
-      rw (e, z, any-append g (f a) (flatMap f (count (suc a) (m + n))), any-append g (f a) (flatMap f (count (suc a) m)), flat-split f (suc a) m n)
+      rw (
+        e,
+        z,
+        any-append g (f a) (flatMap f (count (suc a) (m + n))),
+        any-append g (f a) (flatMap f (count (suc a) m)),
+        flat-split f (suc a) m n,
+      )
       (sym (or-assoc (any g (f a)) (any g (flatMap f (count (suc a) m))) (any g (flatMap f (count (suc a + m) n)))))
 
   -- two stretches, one behind the other
@@ -36,7 +43,8 @@ module _ (g : Seen → Bool) where
       let z : a + (c - a) ≡ c = omega arith in
       rw e (rw z at (flat-split f a (c - a) (b - c)))
 
-  flat-here : (f h : ℕ → List Seen) (x : Seen) (a n : ℕ) → ((v : ℕ) → a ≤ v → v < a + suc n → f v ≡ x ∷ h v) → any g (flatMap f (count a (suc n))) ≡ (g x || any g (flatMap h (count a (suc n))))
+  flat-here : (f h : ℕ → List Seen) (x : Seen) (a n : ℕ) → ((v : ℕ) → a ≤ v → v < a + suc n → f v ≡ x ∷ h v)
+      → any g (flatMap f (count a (suc n))) ≡ (g x || any g (flatMap h (count a (suc n))))
   flat-here f h x a zero e = rw (e a (omega arith) (omega arith))
   flat-here f h x a (suc n) e =
       any-append g (f a) (flatMap f (count (suc a) (suc n)))
@@ -45,12 +53,14 @@ module _ (g : Seen → Bool) where
       ∙ ap (λ (b : Bool). g x || b) (sym (any-append g (h a) (flatMap h (count (suc a) (suc n)))))
 
   -- the same one in front at each version
-  pub over-here : (f h : ℕ → List Seen) (x : Seen) (a b : ℕ) → a < b → ((v : ℕ) → a ≤ v → v < b → f v ≡ x ∷ h v) → any g (over f a b) ≡ (g x || any g (over h a b))
+  pub over-here : (f h : ℕ → List Seen) (x : Seen) (a b : ℕ) → a < b → ((v : ℕ) → a ≤ v → v < b → f v ≡ x ∷ h v)
+      → any g (over f a b) ≡ (g x || any g (over h a b))
   over-here f h x a b lt e =
       let z : b - a ≡ suc (b - a - 1) = omega arith in
       rw z (flat-here f h x a (b - a - 1) (λ v l k. e v l (omega arith)))
 
-  flat-both : (f h k : ℕ → List Seen) → ((v : ℕ) → f v ≡ h v ++ k v) → (vs : List ℕ) → any g (flatMap f vs) ≡ (any g (flatMap h vs) || any g (flatMap k vs))
+  flat-both : (f h k : ℕ → List Seen) → ((v : ℕ) → f v ≡ h v ++ k v) → (vs : List ℕ)
+      → any g (flatMap f vs) ≡ (any g (flatMap h vs) || any g (flatMap k vs))
   flat-both f h k e [] = refl
   flat-both f h k e (v ∷ vs) =
       any-append g (f v) (flatMap f vs)
@@ -59,7 +69,8 @@ module _ (g : Seen → Bool) where
       ∙ sym (ap₂ _||_ (any-append g (h v) (flatMap h vs)) (any-append g (k v) (flatMap k vs)))
 
   -- two parts at each version
-  pub over-both : (f h k : ℕ → List Seen) (a b : ℕ) → ((v : ℕ) → f v ≡ h v ++ k v) → any g (over f a b) ≡ (any g (over h a b) || any g (over k a b))
+  pub over-both : (f h k : ℕ → List Seen) (a b : ℕ) → ((v : ℕ) → f v ≡ h v ++ k v)
+      → any g (over f a b) ≡ (any g (over h a b) || any g (over k a b))
   over-both f h k a b e = flat-both f h k e (count a (b - a))
 
   flat-const : (f : ℕ → List Seen) (x : Bool) → ((v : ℕ) → any g (f v) ≡ x) → (a n : ℕ) → any g (flatMap f (count a (suc n))) ≡ x

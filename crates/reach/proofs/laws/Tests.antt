@@ -42,6 +42,7 @@ module _ {A : Type 0} where
 pub same-all : (g : Seen → Bool) (a b : List Seen) → Same a b → all g a ≡ all g b
 same-all g a b h = all-any g a ∙ ap not (h (λ (x : Seen). not (g x))) ∙ sym (all-any g b)
 
-pub spread-cons : (f : ℕ → ℕ → ℕ → List Seen) (x : Pair) (xs : List Pair) (high : ℕ) → spread f (x ∷ xs) high ≡ f (x .key) (firstKey xs high) (x .value) ++ spread f xs high
+pub spread-cons : (f : ℕ → ℕ → ℕ → List Seen) (x : Pair) (xs : List Pair) (high : ℕ)
+    → spread f (x ∷ xs) high ≡ f (x .key) (firstKey xs high) (x .value) ++ spread f xs high
 spread-cons f x [] high = sym (append-nil (f (x .key) high (x .value)))
 spread-cons f x (y ∷ ys) high = refl

@@ -48,7 +48,8 @@ pub record Walking (least : ℕ) (s : List ℕ) (root up a b rule : ℕ) (marks 
   pub mark : (m : ℕ) → getD marks m false ≡ any (isNumber m) done
 
 -- at the head of the loop over the entries of page n, which is taken from the list as `it` for its versions up to c
-pub record Entering (least : ℕ) (s : List ℕ) (root up a b rule : ℕ) (marks : List Bool) (items₀ : List Item) (top₀ : ℕ) (it : Item) (n : ℕ) (p : List ℕ) (count c : ℕ) (items : List Item) (top j : ℕ) : Type 0 where
+pub record Entering (least : ℕ) (s : List ℕ) (root up a b rule : ℕ) (marks : List Bool) (items₀ : List Item) (top₀ : ℕ) (it : Item) (n : ℕ)
+    (p : List ℕ) (count c : ℕ) (items : List Item) (top j : ℕ) : Type 0 where
   pub number : n ≡ it .page
   pub bytes : p ≡ pageOf least s n
   pub sized : length p ≡ 64 * least
@@ -66,10 +67,13 @@ pub record Entering (least : ℕ) (s : List ℕ) (root up a b rule : ℕ) (marks
   pub alive : j < count → liveAt (it .from) (readEntry p (128 + 96 * j)) ≡ true
   pub done : List Seen
   pub same : Same (wholeIn least s up a b root)
-      ((here (decode least s .pages) (it .from) it ∷ done) ++ (pend (decode least s .pages) items top ++ kidsIn (it .up) (decode least s .pages) (it .from) c (pairsFrom p (it .from) j count) (it .high)))
+      ((here (decode least s .pages) (it .from) it ∷ done) ++
+      (pend (decode least s .pages) items top ++ kidsIn (it .up) (decode least s .pages) (it .from) c (pairsFrom p (it .from) j count)
+      (it .high)))
   pub good : all (passes least rule) done ≡ true
   pub opened : openOk least rule (it .root) (it .up) (it .low) (pairsFrom p (it .from) 0 count) ≡ true
-  pub chain : chainOk rule (it .low) (it .high) (pairsFrom p (it .from) 0 count) ≡ chainOk rule (it .low) (it .high) (pairsFrom p (it .from) j count)
+  pub chain : chainOk rule (it .low) (it .high) (pairsFrom p (it .from) 0 count)
+      ≡ chainOk rule (it .low) (it .high) (pairsFrom p (it .from) j count)
   pub mark : (m : ℕ) → getD marks m false ≡ any (isNumber m) (here (decode least s .pages) (it .from) it ∷ done)
 
 -- ---- the list of items
@@ -85,11 +89,13 @@ module _ (ps : List Page) (items : List Item) where
   pend-push top x h = rw (add-one, getD-set-same items top x none h, pend-other top x top (omega arith))
 
   -- what is left of an item is put back, if it is anything
-  pub pend-put : (k : ℕ) (x : Item) → k < length items → pend ps (set items k x) (k + pick (ltb (x .from) (x .upto)) 1 0) ≡ spanOf ps x ++ pend ps items k
+  pub pend-put : (k : ℕ) (x : Item) → k < length items
+      → pend ps (set items k x) (k + pick (ltb (x .from) (x .upto)) 1 0) ≡ spanOf ps x ++ pend ps items k
   unfolding spanOf
   pend-put k x h =
       ⊎-elim (λ l. rw (lt-ltb (x .from) (x .upto) l) (pend-push k x h))
-      (λ l. let z : k + 0 ≡ k = omega arith in let o : k ≤ k = omega arith in rw (le-ltb (x .from) (x .upto) l, z, over-none (λ (v : ℕ). seenOf ps v x) (x .from) (x .upto) l) (pend-other k x k o))
+      (λ l. let z : k + 0 ≡ k = omega arith in let o : k ≤ k = omega arith in
+      rw (le-ltb (x .from) (x .upto) l, z, over-none (λ (v : ℕ). seenOf ps v x) (x .from) (x .upto) l) (pend-other k x k o))
       (less (x .from) (x .upto))
 
   pub pend-top : (top : ℕ) → 0 < top → pend ps items top ≡ spanOf ps (getD items (top - 1) none) ++ pend ps items (top - 1)
@@ -107,11 +113,14 @@ module _ (items : List Item) where
   unfolding weigh
   weigh-push top x h = rw (add-one, getD-set-same items top x none h, weigh-other top x top (omega arith))
 
-  pub weigh-put : (k : ℕ) (x : Item) → k < length items → weigh (set items k x) (k + pick (ltb (x .from) (x .upto)) 1 0) ≡ heft x + weigh items k
+  pub weigh-put : (k : ℕ) (x : Item) → k < length items
+      → weigh (set items k x) (k + pick (ltb (x .from) (x .upto)) 1 0) ≡ heft x + weigh items k
   unfolding heft
   weigh-put k x h =
       ⊎-elim (λ l. rw (lt-ltb (x .from) (x .upto) l) (weigh-push k x h))
-      (λ l. let z : k + 0 ≡ k = omega arith in let y : (x .upto - x .from) * weight (x .up) ≡ 0 = nothing (x .upto - x .from) (weight (x .up)) (omega arith) in let o : k ≤ k = omega arith in rw (le-ltb (x .from) (x .upto) l, z) (omega (arith, y, weigh-other k x k o)))
+      (λ l. let z : k + 0 ≡ k = omega arith in let y : (x .upto - x .from) * weight (x .up)
+      ≡ 0 = nothing (x .upto - x .from) (weight (x .up)) (omega arith) in let o : k ≤ k = omega arith in
+      rw (le-ltb (x .from) (x .upto) l, z) (omega (arith, y, weigh-other k x k o)))
       (less (x .from) (x .upto))
     where
       nothing : (d w : ℕ) → d ≡ 0 → d * w ≡ 0
@@ -124,7 +133,8 @@ module _ (items : List Item) where
 
 -- ---- a page, and what is below it
 
-pub seen-item : (ps : List Page) (v : ℕ) (it : Item) → seenOf ps v it ≡ here ps v it ∷ kids (it .up) ps v (pairsAt v (page ps (it .page))) (it .high)
+pub seen-item : (ps : List Page) (v : ℕ) (it : Item)
+    → seenOf ps v it ≡ here ps v it ∷ kids (it .up) ps v (pairsAt v (page ps (it .page))) (it .high)
 unfolding seenOf here kids
 seen-item ps v it = at (it .up)
   where
@@ -155,22 +165,28 @@ module _ (u : ℕ) (ps : List Page) (a b : ℕ) where
   unfolding kidsIn kids
   kids-leaf xs high e = rw e (over-nil (λ (v : ℕ). kids 0 ps v xs high) a b (λ v. refl))
 
-kids-cons : (u : ℕ) (ps : List Page) (v : ℕ) (x : Pair) (xs : List Pair) (high : ℕ) (y : Item) → 0 < u → y .up ≡ u - 1 → y .root ≡ false → y .low ≡ x .key → y .high ≡ firstKey xs high → y .page ≡ x .value
+kids-cons : (u : ℕ) (ps : List Page) (v : ℕ) (x : Pair) (xs : List Pair) (high : ℕ) (y : Item) → 0 < u → y .up ≡ u - 1 → y .root ≡ false
+    → y .low ≡ x .key → y .high ≡ firstKey xs high → y .page ≡ x .value
     → kids u ps v (x ∷ xs) high ≡ seenOf ps v y ++ kids u ps v xs high
 unfolding kids seenOf
 kids-cons zero ps v x xs high y h a b c d e = absurd (omega arith)
-kids-cons (suc u) ps v x xs high y h a b c d e = let f : y .up ≡ u = omega arith in rw (f, b, c, d, e) (spread-cons (seenBelow u ps v false) x xs high)
+kids-cons (suc u) ps v x xs high y h a b c d e =
+    let f : y .up ≡ u = omega arith in rw (f, b, c, d, e) (spread-cons (seenBelow u ps v false) x xs high)
 
 -- over a stretch
-pub kids-next : (g : Seen → Bool) (u : ℕ) (ps : List Page) (a b : ℕ) (x : Pair) (xs : List Pair) (high : ℕ) (y : Item) → 0 < u → y .up ≡ u - 1 → y .root ≡ false → y .low ≡ x .key → y .high ≡ firstKey xs high → y .page ≡ x .value
+pub kids-next : (g : Seen → Bool) (u : ℕ) (ps : List Page) (a b : ℕ) (x : Pair) (xs : List Pair) (high : ℕ) (y : Item) → 0 < u
+    → y .up ≡ u - 1 → y .root ≡ false → y .low ≡ x .key → y .high ≡ firstKey xs high → y .page ≡ x .value
     → y .from ≡ a → y .upto ≡ b → any g (kidsIn u ps a b (x ∷ xs) high) ≡ (any g (spanOf ps y) || any g (kidsIn u ps a b xs high))
 unfolding kidsIn spanOf
 kids-next g u ps a b x xs high y h up root low hi page from upto =
-    over-both g (λ (v : ℕ). kids u ps v (x ∷ xs) high) (λ (v : ℕ). seenOf ps v y) (λ (v : ℕ). kids u ps v xs high) a b (λ v. kids-cons u ps v x xs high y h up root low hi page)
-    ∙ ap (λ (l : List Seen). any g l || any g (over (λ (v : ℕ). kids u ps v xs high) a b)) (sym (ap₂ (over (λ (v : ℕ). seenOf ps v y)) from upto))
+    over-both g (λ (v : ℕ). kids u ps v (x ∷ xs) high) (λ (v : ℕ). seenOf ps v y) (λ (v : ℕ). kids u ps v xs high) a b
+    (λ v. kids-cons u ps v x xs high y h up root low hi page)
+    ∙ ap (λ (l : List Seen). any g l || any g (over (λ (v : ℕ). kids u ps v xs high) a b))
+    (sym (ap₂ (over (λ (v : ℕ). seenOf ps v y)) from upto))
 
 -- of a leaf nothing but itself is seen
-pub leaf-number : (ps : List Page) (it : Item) (m : ℕ) → it .up ≡ 0 → it .from < it .upto → any (isNumber m) (spanOf ps it) ≡ eqb m (it .page)
+pub leaf-number : (ps : List Page) (it : Item) (m : ℕ) → it .up ≡ 0 → it .from < it .upto
+    → any (isNumber m) (spanOf ps it) ≡ eqb m (it .page)
 unfolding spanOf
 leaf-number ps it m e lt = over-const (isNumber m) (λ (v : ℕ). seenOf ps v it) (eqb m (it .page)) (it .from) (it .upto) lt at
   where
@@ -182,10 +198,13 @@ leaf-number ps it m e lt = over-const (isNumber m) (λ (v : ℕ). seenOf ps v it
     or-false false = refl
 
     at : (v : ℕ) → any (isNumber m) (seenOf ps v it) ≡ eqb m (it .page)
-    at v = ap (any (isNumber m)) (seen-item ps v it ∙ ap (λ (xs : List Seen). here ps v it ∷ xs) (alone v (pairsAt v (page ps (it .page))))) ∙ ap (λ (b : Bool). b || false) (number-here ps v it m) ∙ or-false (eqb m (it .page))
+    at v =
+        ap (any (isNumber m)) (seen-item ps v it ∙ ap (λ (xs : List Seen). here ps v it ∷ xs) (alone v (pairsAt v (page ps (it .page)))))
+        ∙ ap (λ (b : Bool). b || false) (number-here ps v it m) ∙ or-false (eqb m (it .page))
 
 -- the live pairs of a page of the store
-pub pairs-here : (least : ℕ) (s : List ℕ) (v n : ℕ) → IsPage least s n → pairsAt v (page (decode least s .pages) n) ≡ pairsFrom (pageOf least s n) v 0 (countAt least s n)
+pub pairs-here : (least : ℕ) (s : List ℕ) (v n : ℕ) → IsPage least s n
+    → pairsAt v (page (decode least s .pages) n) ≡ pairsFrom (pageOf least s n) v 0 (countAt least s n)
 unfolding pairsFrom
 pairs-here least s v n h =
     let e : 128 + 96 * 0 ≡ 128 = omega arith in

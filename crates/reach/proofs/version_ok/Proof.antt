@@ -17,42 +17,82 @@ root-at-requires : tie.Need-root-at-requires
 root-at-requires c κs = let r = c .before .pre in (r .0, r .1, r .3)
 
 part-requires : tie.Need-part-requires
-part-requires c κs = let a = c .before .before .args in (c .before .before .pre .0, part-fits (a .l .least) (c .before .before .pre .0 .four) (a .s .now) (c .root-at .result) (c .root-at .ensures .1 .isPage .1), omega (arith, c .before .before .pre .1 .sized .long))
+part-requires c κs =
+    let at-start = c .before .before in
+    let a = at-start .args in (
+      at-start .pre .0,
+      part-fits (a .l .least) (at-start .pre .0 .four) (a .s .now) (c .root-at .result)
+          (c .root-at .ensures .1 .isPage .1),
+      omega (arith, at-start .pre .1 .sized .long),
+    )
 
 head-of-requires : tie.Need-head-of-requires
-head-of-requires c κs = (c .before .before .before .pre .0, omega (arith, c .part .ensures .1, c .before .before .before .pre .0 .four), omega (arith, c .part .ensures .1, c .before .before .before .pre .0 .eight))
+head-of-requires c κs =
+    let at-start = c .before .before .before in (
+      at-start .pre .0,
+      omega (arith, c .part .ensures .1, at-start .pre .0 .four),
+      omega (arith, c .part .ensures .1, at-start .pre .0 .eight),
+    )
 
 wide-requires : tie.Need-wide-requires
 wide-requires c κs = search needs
 
 -- the level of the root
-level : (c : tie.After-wide) → let a = c .before .before .before .before .before .args in c .wide .result ≡ levelAt (a .l .least) (a .s .now) (c .before .before .before .root-at .result)
+level : (c : tie.After-wide) →
+    let at-start = c .before .before .before .before .before in
+    let a = at-start .args in c .wide .result ≡ levelAt (a .l .least) (a .s .now) (c .before .before .before .root-at .result)
 level c =
-    let a = c .before .before .before .before .before .args in
-    c .wide .ensures ∙ ap (λ (h : Head). h .level) (c .before .head-of .ensures) ∙ ap (λ (p : List ℕ). readHead (a .l .least) p .level) (c .before .before .part .ensures .0)
+    let at-start = c .before .before .before .before .before in
+    let a = at-start .args in
+    c .wide .ensures ∙ ap (λ (h : Head). h .level) (c .before .head-of .ensures)
+    ∙ ap (λ (p : List ℕ). readHead (a .l .least) p .level) (c .before .before .part .ensures .0)
 
 sub-up : tie.Need-sub-up
 sub-up c = omega (arith, level (c), c .before .before .before .root-at .ensures .1 .used)
 
 add-walk : tie.Need-add-walk
-add-walk c = omega (arith, c .before .before .before .before .before .pre .2)
+add-walk c =
+    let at-start = c .before .before .before .before .before in
+    omega (arith, at-start .pre .2)
 
 walk-requires : tie.Need-walk-requires
-walk-requires c κs = (c .before .before .before .before .before .pre .0, c .before .before .before .before .before .pre .1 .linked, c .before .before .before .root-at .ensures .1 .isPage, omega (arith, level (c), c .before .before .before .root-at .ensures .1 .used), omega (arith, level (c), c .before .before .before .root-at .ensures .1 .low), omega arith, omega (arith, c .before .before .before .before .before .pre .3, ap (λ (x : Header). x .oldest) (c .before .before .before .before .before .pre .1 .header)))
+walk-requires c κs =
+    let at-root-at = c .before .before .before in
+    let at-start = at-root-at .before .before in (
+      at-start .pre .0,
+      at-start .pre .1 .linked,
+      at-root-at .root-at .ensures .1 .isPage,
+      omega (arith, level (c), at-root-at .root-at .ensures .1 .used),
+      omega (arith, level (c), at-root-at .root-at .ensures .1 .low),
+      omega arith,
+      omega (arith, at-start .pre .3, ap (λ (x : Header). x .oldest) (at-start .pre .1 .header)),
+    )
 
 returns : tie.Need-returns
 returns c =
-    let a = c .before .before .before .before .before .before .before .before .args in let r = c .before .before .before .before .before .before .root-at in
-    sym (fails (a .l .least) (a .s .now) (r .result) (c .before .before .before .wide .result - 1) (r .ensures .1) (omega (arith, level ((c .before .before .before)))) (a .v) (r .ensures .0) (c .before .before .walk .result) (c .before .before .walk .ensures) (c .if1 .taken))
+    let at-walk = c .before .before in
+    let at-wide = at-walk .before in
+    let at-root-at = at-wide .before .before .before in
+    let at-start = at-root-at .before .before in
+    let a = at-start .args in let r = at-root-at .root-at in
+    sym (fails (a .l .least) (a .s .now) (r .result) (at-wide .wide .result - 1) (r .ensures .1) (omega (arith, level at-wide)) (a .v)
+    (r .ensures .0) (at-walk .walk .result) (at-walk .walk .ensures) (c .if1 .taken))
 
 reached-requires : tie.Need-reached-requires
-reached-requires c κs = (c .before .before .before .before .before .before .before .before .before .pre .0, c .before .before .before .before .before .before .before .before .before .pre .1)
+reached-requires c κs =
+    let at-start = c .before .before .before .before .before .before .before .before .before in
+    (at-start .pre .0, at-start .pre .1)
 
 returns-2 : tie.Need-returns-2
 returns-2 c =
-    let a = c .before .before .before .before .before .before .before .before .before .before .args in let r = c .before .before .before .before .before .before .before .before .root-at in
+    let at-walk = c .before .before .before .before in
+    let at-wide = at-walk .before in
+    let at-root-at = at-wide .before .before .before in
+    let at-start = at-root-at .before .before in
+    let a = at-start .args in let r = at-root-at .root-at in
     c .reached .ensures
-    ∙ sym (passes-six (a .l .least) (a .s .now) (r .result) (c .before .before .before .before .before .wide .result - 1) (r .ensures .1) (omega (arith, level ((c .before .before .before .before .before)))) (a .v) (r .ensures .0) (c .before .before .before .before .walk .result) (c .before .before .before .before .walk .ensures) (c .before .before .if1 .left))
+    ∙ sym (passes-six (a .l .least) (a .s .now) (r .result) (at-wide .wide .result - 1) (r .ensures .1) (omega (arith, level at-wide))
+    (a .v) (r .ensures .0) (at-walk .walk .result) (at-walk .walk .ensures) (c .before .before .if1 .left))
 
 pub version-ok-spec : {M : Type 1} → statement M
 version-ok-spec =

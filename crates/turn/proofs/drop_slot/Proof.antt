@@ -20,8 +20,9 @@ same-length c = search needs
 
 returns : tie.Need-returns
 returns c =
+    let at-wide = c .before .before .before .before in
     let e = ap (λ (x : Slot). x .version) (c .before .before .slot .ensures) in
-    record { fewer = omega arith; goes = λ q. absurd (c .if1 .taken (rw (c .before .before .before .before .wide .ensures) at e ∙ q)); stays = λ q. (refl, refl) }
+    record { fewer = omega arith; goes = λ q. absurd (c .if1 .taken (rw (at-wide .wide .ensures) at e ∙ q)); stays = λ q. (refl, refl) }
 
 put-slot-requires : tie.Need-put-slot-requires
 put-slot-requires c κs = search needs
@@ -34,8 +35,15 @@ same-length-2 c = search needs
 
 returns-2 : tie.Need-returns-2
 returns-2 c =
-    let e = ap (λ (x : Slot). x .version) (c .before .before .before .before .before .before .slot .ensures) in
-    record { fewer = omega arith; goes = λ q. (rw (c .before .before .before .before .before .before .before .before .wide .ensures) at (c .before .before .put-slot .ensures), refl); stays = λ q. absurd (q (sym (rw (c .before .before .before .before .before .before .before .before .wide .ensures) at e) ∙ c .before .before .before .before .if1 .left)) }
+    let at-if1 = c .before .before .before .before in
+    let at-slot = at-if1 .before .before in
+    let at-wide = at-slot .before .before in
+    let e = ap (λ (x : Slot). x .version) (at-slot .slot .ensures) in
+    record {
+      fewer = omega arith;
+      goes = λ q. (rw (at-wide .wide .ensures) at (c .before .before .put-slot .ensures), refl);
+      stays = λ q. absurd (q (sym (rw (at-wide .wide .ensures) at e) ∙ at-if1 .if1 .left));
+    }
 
 pub drop-slot-spec : {M : Type 1} → statement M
 drop-slot-spec =

@@ -54,7 +54,9 @@ back-holds least w s p q h = record {
   oldest = h .oldest;
   few = h .few;
   slots = h .slots;
-  pages = λ k. subst (Valid least) (sym (List·getD-map (back w) (s .pages) k free) ∙ ap (λ (x : Page). getD (map (back w) (s .pages)) k x) (free-back w p)) (valid-back least w _ q (h .pages k));
+  pages = λ k. subst (Valid least)
+      (sym (List·getD-map (back w) (s .pages) k free) ∙ ap (λ (x : Page). getD (map (back w) (s .pages)) k x) (free-back w p))
+      (valid-back least w _ q (h .pages k));
 }
 
 some-slot : (old : ℕ) (xs : List Slot) → firstVersion old xs ≤ old → 0 < length xs
@@ -68,7 +70,8 @@ module _ {l : Limits} (d : Edition l) (b : List ℕ) (h : isSound (l .least) b �
   pub some-roots : 0 < readHeader (l .least) b .roots
   some-roots = omega (arith, roots-are, some-slot (decode (l .least) b .oldest) (decode (l .least) b .slots) (sure d b h .begins))
 
-module _ {l : Limits} (d : Edition l) (b : List ℕ) (h : isSound (l .least) b ≡ true) (k : HeadedBytes (l .least) b) (o : decode (l .least) b .opened ≡ true)
+module _ {l : Limits} (d : Edition l) (b : List ℕ) (h : isSound (l .least) b ≡ true) (k : HeadedBytes (l .least) b)
+    (o : decode (l .least) b .opened ≡ true)
     (w : ℕ) (e : w ≡ next (decode (l .least) b)) (low : w < 2 ^ 20) where
   abbrev least : ℕ
   least = l .least
@@ -99,7 +102,9 @@ module _ {l : Limits} (d : Edition l) (b : List ℕ) (h : isSound (l .least) b �
 
   last-low : lastSlot .version ≤ w
   last-low =
-      let q : lastSlot .version ≤ last s = leb-true (lastSlot .version) (last s) (all-at (λ (x : Slot). leb (x .version) (last s)) noSlot (s .slots) (sure d b h .upto) (length (s .slots) - 1) (omega (arith, some))) in
+      let q : lastSlot .version ≤ last s = leb-true (lastSlot .version) (last s)
+      (all-at (λ (x : Slot). leb (x .version) (last s)) noSlot (s .slots) (sure d b h .upto) (length (s .slots) - 1)
+      (omega (arith, some))) in
       omega (arith, ap (λ (x : Bool). lastOf x (s .current)) o)
 
   in-bytes : readSlot (encode least s1) (lastPlace least (readHeader least b .roots)) ≡ lastSlot
@@ -111,7 +116,8 @@ module _ {l : Limits} (d : Edition l) (b : List ℕ) (h : isSound (l .least) b �
   few-others = length-take-le (length (s .slots) - 1) (s .slots) (omega arith)
 
   -- the header that is written
-  header-is : (xs : List Slot) (r : ℕ) → r ≡ length xs → withFlag (withRoots (readHeader least b) r) false ≡ headerOf (withState (withSlots s1 xs) (s .current) false)
+  header-is : (xs : List Slot) (r : ℕ) → r ≡ length xs
+      → withFlag (withRoots (readHeader least b) r) false ≡ headerOf (withState (withSlots s1 xs) (s .current) false)
   header-is xs r q = λ i. record {
     pages = (sym (ap (λ (x : Header). x .pages) (k .header)) ∙ sym (length-map (s .pages) (back w))) i;
     current = sym (ap (λ (x : Header). x .current) (k .header)) i;
@@ -125,7 +131,15 @@ module _ {l : Limits} (d : Edition l) (b : List ℕ) (h : isSound (l .least) b �
   unfolding abandoned
   abandoned-is xs q =
       let t : Store = withState (withSlots s1 (those (other w) (s .slots))) (s .current) false in
-      ap (λ (ys : List Slot). withState (withSlots s1 ys) (s .current) false) (sym q) ∙ ap (λ (n : ℕ). record { current = s .current; opened = false; oldest = s .oldest; slots = those (other n) (s .slots); pages = map (back n) (s .pages) }) e
+      ap (λ (ys : List Slot). withState (withSlots s1 ys) (s .current) false) (sym q)
+      ∙ ap (λ (n : ℕ).
+      record {
+        current = s .current;
+        opened = false;
+        oldest = s .oldest;
+        slots = those (other n) (s .slots);
+        pages = map (back n) (s .pages);
+      }) e
 
   pub abandoned-bytes : (b1 b2 : List ℕ) (r : ℕ) → b1 ≡ encode least s1 → Cleared least b1 b2 (readHeader least b .roots) w r
       → putHeader least b2 (withFlag (withRoots (readHeader least b) r) false) ≡ encode least (abandoned s)
@@ -135,21 +149,29 @@ module _ {l : Limits} (d : Edition l) (b : List ℕ) (h : isSound (l .least) b �
       order = subst (λ (xs : List Slot). inOrder (λ (x y : Slot). ltb (x .version) (y .version)) xs ≡ true) split (sure d b h .rises)
 
       found : readSlot b1 (lastPlace least (readHeader least b .roots)) .version ≡ lastSlot .version
-      found = ap (λ (x : List ℕ). readSlot x (lastPlace least (readHeader least b .roots)) .version) q ∙ ap (λ (x : Slot). x .version) in-bytes
+      found =
+          ap (λ (x : List ℕ). readSlot x (lastPlace least (readHeader least b .roots)) .version) q ∙ ap (λ (x : Slot). x .version) in-bytes
 
-      at : (eqb (lastSlot .version) w ≡ true) ⊎ (eqb (lastSlot .version) w ≡ false) → putHeader least b2 (withFlag (withRoots (readHeader least b) r) false) ≡ encode least (abandoned s)
+      at : (eqb (lastSlot .version) w ≡ true) ⊎ (eqb (lastSlot .version) w ≡ false)
+          → putHeader least b2 (withFlag (withRoots (readHeader least b) r) false) ≡ encode least (abandoned s)
       at (inl y) =
           let is-w : lastSlot .version ≡ w = eqb-true (lastSlot .version) w y in
           let (u, v) = c .goes (found ∙ is-w) in
-          let those-are : those (other w) (s .slots) ≡ others = ap (those (other w)) split ∙ last-goes w others lastSlot order last-low is-w in
-          let n : 512 * least + 32 * (readHeader least b .roots - 1) ≡ 512 * least + 32 * length others = omega (arith, rooted, few-others) in
+          let those-are : those (other w) (s .slots) ≡ others = ap (those (other w)) split
+          ∙ last-goes w others lastSlot order last-low is-w in
+          let n : 512 * least + 32 * (readHeader least b .roots - 1) ≡ 512 * least + 32 * length others
+          = omega (arith, rooted, few-others) in
           ap (putHeader least b2) (header-is others r (omega (arith, rooted, few-others)))
           ∙ ap (λ (x : List ℕ). putHeader least x (headerOf (withState (withSlots s1 others) (s .current) false)))
-          (u ∙ ap (λ (x : List ℕ). lay x (lastPlace least (readHeader least b .roots)) (slotParts noSlot)) q ∙ ap (λ (i : ℕ). lay (encode least s1) i (slotParts noSlot)) n)
+          (u ∙ ap (λ (x : List ℕ). lay x (lastPlace least (readHeader least b .roots)) (slotParts noSlot)) q
+          ∙ ap (λ (i : ℕ). lay (encode least s1) i (slotParts noSlot)) n)
           ∙ dropped least (d .four) (d .eight) s1 held1 others lastSlot split ∙ ap (encode least) (abandoned-is others those-are)
       at (inr y) =
           let not-w : lastSlot .version ≡ w → ⊥ = eqb-false (lastSlot .version) w y in
           let (u, v) = c .stays (λ z. not-w (sym found ∙ z)) in
-          let those-are : those (other w) (s .slots) ≡ s .slots = ap (those (other w)) split ∙ last-stays w others lastSlot order last-low not-w ∙ sym split in
-          ap (putHeader least b2) (header-is (s .slots) r (v ∙ rooted)) ∙ ap (λ (x : List ℕ). putHeader least x (headerOf (withState s1 (s .current) false))) (u ∙ q)
-          ∙ state-set least (d .four) (d .eight) s1 held1 (s .current) false (k .holds .current) ∙ ap (encode least) (abandoned-is (s .slots) those-are)
+          let those-are : those (other w) (s .slots) ≡ s .slots = ap (those (other w)) split
+          ∙ last-stays w others lastSlot order last-low not-w ∙ sym split in
+          ap (putHeader least b2) (header-is (s .slots) r (v ∙ rooted))
+          ∙ ap (λ (x : List ℕ). putHeader least x (headerOf (withState s1 (s .current) false))) (u ∙ q)
+          ∙ state-set least (d .four) (d .eight) s1 held1 (s .current) false (k .holds .current)
+          ∙ ap (encode least) (abandoned-is (s .slots) those-are)

@@ -25,7 +25,8 @@ use Rattle.turn.proofs.laws.Touched.{Still, still-more, still-page}
 use Rattle.turn.specs.Past.{Past, AllPast}
 
 -- by the front as it is read
-pub past-read : (least w : ℕ) (p : List ℕ) → (readHead least p .end ≡ alive → ⊥) → (readHead least p .end ≡ w → ⊥) → Past w (decodePage least p) → back w (decodePage least p) ≡ decodePage least p
+pub past-read : (least w : ℕ) (p : List ℕ) → (readHead least p .end ≡ alive → ⊥) → (readHead least p .end ≡ w → ⊥)
+    → Past w (decodePage least p) → back w (decodePage least p) ≡ decodePage least p
 unfolding decodePage readHead
 past-read least w p g h x = x .stays g h
 
@@ -41,11 +42,13 @@ module _ (s : Store) (p : Page) (w : ℕ) (h : p .end < w) (o : s .oldest < w) w
   stills : (es : List Entry) → all (entryOk (last s) (length (s .pages)) (p .level)) es ≡ true → all (liesWell s p) es ≡ true → Still w es
   stills [] a b = refl
   stills (e ∷ es) a b =
-      let (x, xs) = both-true (entryOk (last s) (length (s .pages)) (p .level) e) (all (entryOk (last s) (length (s .pages)) (p .level)) es) a in
+      let (x, xs) = both-true (entryOk (last s) (length (s .pages)) (p .level) e)
+      (all (entryOk (last s) (length (s .pages)) (p .level)) es) a in
       let (y, ys) = both-true (liesWell s p e) (all (liesWell s p) es) b in
       let g = entry-ok s p e x y in
       let f = ends-before e g in
-      still-more w e es (λ (z : e .start ≡ w). omega (arith, z, g .span .some, f)) (λ (z : e .end ≡ w). omega (arith, z, f)) (stills es xs ys)
+      still-more w e es (λ (z : e .start ≡ w). omega (arith, z, g .span .some, f)) (λ (z : e .end ≡ w). omega (arith, z, f))
+      (stills es xs ys)
 
 -- an end that is neither comes before w
 earlier : (l b w : ℕ) → l ≤ w → (b ≤ l) ⊎ (b ≡ alive) → (b ≡ alive → ⊥) → (b ≡ w → ⊥) → b < w
@@ -68,12 +71,18 @@ module _ (least : ℕ) (s : Store) (d : Sound least s) (w : ℕ) (some : s .olde
   past n = by (isFree (page (s .pages) n)) refl
     where
       by : (f : Bool) → isFree (page (s .pages) n) ≡ f → Past w (page (s .pages) n)
-      by true e = rw (d .zeros n e) (record { stays = λ (g : free .end ≡ alive → ⊥) (f : free .end ≡ w → ⊥). free-back w (omega (arith, some)) })
+      by true e =
+          rw (d .zeros n e) (record { stays = λ (g : free .end ≡ alive → ⊥) (f : free .end ≡ w → ⊥). free-back w (omega (arith, some)) })
       by false e =
           let p : Page = page (s .pages) n in
           let g = d .pages n e in
           let t = span-of (last s) (p .start) (p .end) (g .span) in
-          record { stays = λ (x : p .end ≡ alive → ⊥) (f : p .end ≡ w → ⊥). stay p (earlier (last s) (p .end) w (last-most s w open-now) (t .ends) x f) (t .some) (stills s p w (earlier (last s) (p .end) w (last-most s w open-now) (t .ends) x f) some (p .entries) (g .entries) (d .spans n e)) }
+          record {
+            stays = λ (x : p .end ≡ alive → ⊥) (f : p .end ≡ w → ⊥). stay p
+                (earlier (last s) (p .end) w (last-most s w open-now) (t .ends) x f) (t .some)
+                (stills s p w (earlier (last s) (p .end) w (last-most s w open-now) (t .ends) x f) some (p .entries) (g .entries)
+                (d .spans n e));
+          }
         where
           stay : (p : Page) → p .end < w → p .start < p .end → Still w (p .entries) → back w p ≡ p
           stay p h t = still-page w p (λ (z : p .start ≡ w). omega (arith, z, h, t)) (λ (z : p .end ≡ w). omega (arith, z, h))

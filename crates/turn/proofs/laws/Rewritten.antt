@@ -27,18 +27,24 @@ module _ (least : ℕ) (four : 4 ≤ least) (eight : least ≤ 8) (f : Page → 
   pub rewritten-start : f free ≡ free → (b : List ℕ) → b ≡ encode least s → Holds least s → Rewritten least f s 5 b
   rewritten-start z b e h =
       let q : s .pages ≡ partly f 5 (s .pages) = partly-start f z (s .pages) (h .front) in
-      record { bytes = e ∙ ap (λ (ps : List Page). encode least (withPages s ps)) q; holds = subst (λ (ps : List Page). Holds least (withPages s ps)) q h }
+      record {
+        bytes = e ∙ ap (λ (ps : List Page). encode least (withPages s ps)) q;
+        holds = subst (λ (ps : List Page). Holds least (withPages s ps)) q h;
+      }
 
   module _ (n : ℕ) (b : List ℕ) (u : Rewritten least f s n b) where
     abbrev now : Store
     now = withPages s (partly f n (s .pages))
 
     long : length b ≡ length (s .pages) * (64 * least)
-    long = ap (λ (x : List ℕ). length x) (u .bytes) ∙ encoded-length least four eight now (u .holds) ∙ ap (λ (k : ℕ). k * (64 * least)) (partly-length f n (s .pages))
+    long =
+        ap (λ (x : List ℕ). length x) (u .bytes) ∙ encoded-length least four eight now (u .holds)
+        ∙ ap (λ (k : ℕ). k * (64 * least)) (partly-length f n (s .pages))
 
     pub rewritten-short : length b ≤ 2 ^ 40
     rewritten-short =
-        let q : length (s .pages) * (64 * least) ≤ 8192 * (64 * least) = mul-le-mul-right (64 * least) (omega (arith, u .holds .most, partly-length f n (s .pages))) in
+        let q : length (s .pages) * (64 * least) ≤ 8192 * (64 * least)
+        = mul-le-mul-right (64 * least) (omega (arith, u .holds .most, partly-length f n (s .pages))) in
         omega (arith, long)
 
     pub rewritten-end : length (s .pages) ≤ n → b ≡ encode least (withPages s (map f (s .pages)))
@@ -54,7 +60,9 @@ module _ (least : ℕ) (four : 4 ≤ least) (eight : least ≤ 8) (f : Page → 
 
       part-is : pageOf least b n ≡ encodePage least here
       unfolding here
-      part-is = ap (λ (x : List ℕ). pageOf least x n) (u .bytes) ∙ page-encoded least four eight now (u .holds) n five (omega (arith, partly-length f n (s .pages)))
+      part-is =
+          ap (λ (x : List ℕ). pageOf least x n) (u .bytes)
+          ∙ page-encoded least four eight now (u .holds) n five (omega (arith, partly-length f n (s .pages)))
 
       pub rewritten-part : n * (64 * least) + 64 * least ≤ length b
       rewritten-part = page-fits least (length (s .pages)) n b long low
@@ -67,14 +75,18 @@ module _ (least : ℕ) (four : 4 ≤ least) (eight : least ≤ 8) (f : Page → 
       unfolding here
       rewritten-own = ap (decodePage least) part-is ∙ decode-encode least four eight _ valid ∙ partly-at f n (s .pages)
 
-      pub rewritten-step : ((p : Page) → Valid least p → Valid least (f p)) → (c : List ℕ) → c ≡ withPage least b n (encodePage least (f (decodePage least (pageOf least b n)))) → Rewritten least f s (n + 1) c
+      pub rewritten-step : ((p : Page) → Valid least p → Valid least (f p)) → (c : List ℕ)
+          → c ≡ withPage least b n (encodePage least (f (decodePage least (pageOf least b n)))) → Rewritten least f s (n + 1) c
       unfolding here
       rewritten-step v c e =
           let q : Page = f (page (partly f n (s .pages)) n) in
-          let d : decodePage least (pageOf least b n) ≡ page (partly f n (s .pages)) n = ap (decodePage least) part-is ∙ decode-encode least four eight _ valid in
+          let d : decodePage least (pageOf least b n) ≡ page (partly f n (s .pages)) n = ap (decodePage least) part-is
+          ∙ decode-encode least four eight _ valid in
           let t : set (partly f n (s .pages)) n q ≡ partly f (n + 1) (s .pages) = partly-step f n (s .pages) low in
           record {
-            bytes = e ∙ ap (λ (p : Page). withPage least b n (encodePage least (f p))) d ∙ ap (λ (x : List ℕ). withPage least x n (encodePage least q)) (u .bytes)
-                ∙ page-set least four eight now (u .holds) n q five (omega (arith, partly-length f n (s .pages))) ∙ ap (λ (ps : List Page). encode least (withPages s ps)) t;
+            bytes = e ∙ ap (λ (p : Page). withPage least b n (encodePage least (f p))) d
+                ∙ ap (λ (x : List ℕ). withPage least x n (encodePage least q)) (u .bytes)
+                ∙ page-set least four eight now (u .holds) n q five (omega (arith, partly-length f n (s .pages)))
+                ∙ ap (λ (ps : List Page). encode least (withPages s ps)) t;
             holds = subst (λ (ps : List Page). Holds least (withPages s ps)) t (holds-page least now (u .holds) n q five (v _ valid));
           }

@@ -33,12 +33,18 @@ below-last : (xs : List Slot) (x : Slot) → inOrder rising (xs ++ (x ∷ [])) �
 below-last [] x h y i = absurd i
 below-last (z ∷ xs) x h y (inl e) =
     let (a, b) = both-true (all (rising z) (xs ++ (x ∷ []))) (inOrder rising (xs ++ (x ∷ []))) h in
-    omega (arith, ap (λ (s : Slot). s .version) e, ltb-true (z .version) (x .version) (all-in (rising z) x (xs ++ (x ∷ [])) a (in-right x xs (x ∷ []) (inl refl))))
+    omega (
+      arith,
+      ap (λ (s : Slot). s .version) e,
+      ltb-true (z .version) (x .version) (all-in (rising z) x (xs ++ (x ∷ [])) a (in-right x xs (x ∷ []) (inl refl))),
+    )
 below-last (z ∷ xs) x h y (inr i) = below-last xs x (both-true (all (rising z) (xs ++ (x ∷ []))) (inOrder rising (xs ++ (x ∷ []))) h .1) y i
 
 module _ (w : ℕ) (xs : List Slot) (x : Slot) (h : inOrder rising (xs ++ (x ∷ [])) ≡ true) (low : x .version ≤ w) where
   before-stay : those (other w) xs ≡ xs
-  before-stay = those-all (other w) xs (all-by (other w) xs (λ y i. ap not (ne-eqb (y .version) w (λ (e : y .version ≡ w). omega (arith, below-last xs x h y i)))))
+  before-stay =
+      those-all (other w) xs
+      (all-by (other w) xs (λ y i. ap not (ne-eqb (y .version) w (λ (e : y .version ≡ w). omega (arith, below-last xs x h y i)))))
 
   pub last-goes : x .version ≡ w → those (other w) (xs ++ (x ∷ [])) ≡ xs
   last-goes e =

@@ -45,9 +45,11 @@ unfolding readHead
 count-is least p = refl
 
 -- by the front and the entries as they are read
-pub still-read : (least w : ℕ) (p : List ℕ) → (readHead least p .start ≡ w → ⊥) → (readHead least p .end ≡ w → ⊥) → Still w (from p 0 (readHead least p .count)) → back w (decodePage least p) ≡ decodePage least p
+pub still-read : (least w : ℕ) (p : List ℕ) → (readHead least p .start ≡ w → ⊥) → (readHead least p .end ≡ w → ⊥)
+    → Still w (from p 0 (readHead least p .count)) → back w (decodePage least p) ≡ decodePage least p
 unfolding decodePage readHead
-still-read least w p s t h = still-page w (decodePage least p) s t (subst (λ (k : ℕ). Still w (readEntries p 128 k)) (sub-zero (readHead least p .count)) h)
+still-read least w p s t h =
+    still-page w (decodePage least p) s t (subst (λ (k : ℕ). Still w (readEntries p 128 k)) (sub-zero (readHead least p .count)) h)
   where
     sub-zero : (n : ℕ) → n - 0 ≡ n
     sub-zero n = omega arith
@@ -62,6 +64,7 @@ same-page least s n =
     ∙ ap (λ (x : List ℕ). take a s ++ x) (take-append-drop b (drop a s))
     ∙ take-append-drop a s
 
-pub unmoved : (least : ℕ) (s : List ℕ) (n w : ℕ) → Exact least (pageOf least s n) → back w (decodePage least (pageOf least s n)) ≡ decodePage least (pageOf least s n)
+pub unmoved : (least : ℕ) (s : List ℕ) (n w : ℕ) → Exact least (pageOf least s n)
+    → back w (decodePage least (pageOf least s n)) ≡ decodePage least (pageOf least s n)
     → s ≡ withPage least s n (encodePage least (back w (decodePage least (pageOf least s n))))
 unmoved least s n w x e = sym (ap (withPage least s n) (ap (encodePage least) e ∙ x .same) ∙ same-page least s n)

@@ -30,23 +30,30 @@ use Rattle.store.proofs.laws.Set.{state-set}
 use Rattle.turn.specs.Turned.{begun, HeadedBytes}
 
 module _ (least : ℕ) (four : 4 ≤ least) (eight : least ≤ 8) (b : List ℕ) (k : HeadedBytes least b) where
-  turned : (c : ℕ) (o : Bool) → c < 2 ^ 20 → putHeader least b (withFlag (withVersion (headerOf (decode least b)) c) o) ≡ encode least (withState (decode least b) c o)
-  turned c o low = ap (λ (x : List ℕ). putHeader least x (headerOf (withState (decode least b) c o))) (sym (k .same)) ∙ state-set least four eight (decode least b) (k .holds) c o low
+  turned : (c : ℕ) (o : Bool) → c < 2 ^ 20 → putHeader least b (withFlag (withVersion (headerOf (decode least b)) c) o)
+      ≡ encode least (withState (decode least b) c o)
+  turned c o low =
+      ap (λ (x : List ℕ). putHeader least x (headerOf (withState (decode least b) c o))) (sym (k .same))
+      ∙ state-set least four eight (decode least b) (k .holds) c o low
 
   pub begun-bytes : putHeader least b (withFlag (readHeader least b) true) ≡ encode least (begun (decode least b))
-  begun-bytes = ap (λ (h : Header). putHeader least b (withFlag h true)) (sym (k .header)) ∙ turned (decode least b .current) true (k .holds .current)
+  begun-bytes =
+      ap (λ (h : Header). putHeader least b (withFlag h true)) (sym (k .header)) ∙ turned (decode least b .current) true (k .holds .current)
 
   pub committed-bytes : readHeader least b .current + 1 < 2 ^ 20
-      → putHeader least b (withFlag (withVersion (readHeader least b) (readHeader least b .current + 1)) false) ≡ encode least (committed (decode least b))
+      → putHeader least b (withFlag (withVersion (readHeader least b) (readHeader least b .current + 1)) false)
+      ≡ encode least (committed (decode least b))
   committed-bytes low =
       let e : decode least b .current ≡ readHeader least b .current = ap (λ (h : Header). h .current) (k .header) in
       let f : readHeader least b .current + 1 ≡ next (decode least b) = omega (arith, e) in
       ap (λ (h : Header). putHeader least b (withFlag (withVersion h (readHeader least b .current + 1)) false)) (sym (k .header))
-      ∙ ap (λ (n : ℕ). putHeader least b (withFlag (withVersion (headerOf (decode least b)) n) false)) f ∙ turned (next (decode least b)) false (omega (arith, e))
+      ∙ ap (λ (n : ℕ). putHeader least b (withFlag (withVersion (headerOf (decode least b)) n) false)) f
+      ∙ turned (next (decode least b)) false (omega (arith, e))
 
 -- the last slot gone, and the flag
 pub dropped : (least : ℕ) → 4 ≤ least → least ≤ 8 → (s : Store) → Holds least s → (xs : List Slot) (x : Slot) → s .slots ≡ xs ++ x ∷ []
-    → let t = withState (withSlots s xs) (s .current) false in putHeader least (lay (encode least s) (512 * least + 32 * length xs) (slotParts noSlot)) (headerOf t) ≡ encode least t
+    → let t = withState (withSlots s xs) (s .current) false in
+    putHeader least (lay (encode least s) (512 * least + 32 * length xs) (slotParts noSlot)) (headerOf t) ≡ encode least t
 dropped least four eight s v xs x e =
     let t : Store = withState (withSlots s xs) (s .current) false in
     let g : HeaderFits least (headerOf s) = header-holds least four eight s v in
@@ -58,7 +65,8 @@ dropped least four eight s v xs x e =
     (slot-in least four eight (headerOf s) (directory least (s .slots)) (drop 5 (s .pages)) (length xs) noSlot (omega arith) none-fits)
     ∙ header-in least four eight (headerOf s) (set (directory least (s .slots)) (length xs) noSlot) (drop 5 (s .pages)) (headerOf t)
     (record { pages = g .pages; current = g .current; roots = omega (arith, root-bits least eight); oldest = g .oldest })
-    ∙ ap (λ (ys : List Slot). bytesOf least (headerOf t) ys (drop 5 (s .pages))) (ap (λ (ys : List Slot). set (directory least ys) (length xs) noSlot) e ∙ directory-drop least xs x low)
+    ∙ ap (λ (ys : List Slot). bytesOf least (headerOf t) ys (drop 5 (s .pages)))
+    (ap (λ (ys : List Slot). set (directory least ys) (length xs) noSlot) e ∙ directory-drop least xs x low)
     ∙ sym (encode-of least t)
 
 -- ---- a sound store's bytes
@@ -70,7 +78,11 @@ current-last false n = omega arith
 module _ {l : Limits} (d : Edition l) (b : List ℕ) (h : isSound (l .least) b ≡ true) where
   pub kept : Bytes b → HeadedBytes (l .least) b
   kept y =
-      record { same = same-bytes d b h y; holds = held d b h y; header = header-of (l .least) (d .four) (d .eight) b (sizeOf (l .least) b) (exact d b h y) }
+      record {
+        same = same-bytes d b h y;
+        holds = held d b h y;
+        header = header-of (l .least) (d .four) (d .eight) b (sizeOf (l .least) b) (exact d b h y);
+      }
 
   pub next-low : readHeader (l .least) b .current + 1 < 2 ^ 20
   next-low =

@@ -12,7 +12,8 @@ use Rattle.store.specs.Set.{withPages}
 use Rattle.edit.proofs.laws.Left.{valid-back}
 use Rattle.turn.specs.Past.{Past, AllPast}
 use Rattle.turn.proofs.laws.Partly.{free-back}
-use Rattle.turn.proofs.laws.Rewritten.{Rewritten, rewritten-start, rewritten-short, rewritten-end, rewritten-part, rewritten-exact, rewritten-own, rewritten-step}
+use Rattle.turn.proofs.laws.Rewritten.{Rewritten, rewritten-start, rewritten-short, rewritten-end, rewritten-part, rewritten-exact}
+use Rattle.turn.proofs.laws.Rewritten.{rewritten-own, rewritten-step}
 
 -- pages below n of the store came back
 abbrev pub Undone : ℕ → Store → ℕ → ℕ → List ℕ → Type 0
@@ -39,5 +40,6 @@ module _ (least : ℕ) (four : 4 ≤ least) (eight : least ≤ 8) (s : Store) (w
       pub undone-past : AllPast w (s .pages) → Past w (decodePage least (pageOf least b n))
       undone-past a = rw (rewritten-own least four eight (back w) s n b u five low) (a .at n)
 
-      pub undone-step : w < 2 ^ 20 → (c : List ℕ) → c ≡ withPage least b n (encodePage least (back w (decodePage least (pageOf least b n)))) → Undone least s w (n + 1) c
+      pub undone-step : w < 2 ^ 20 → (c : List ℕ) → c ≡ withPage least b n (encodePage least (back w (decodePage least (pageOf least b n))))
+          → Undone least s w (n + 1) c
       undone-step v = rewritten-step least four eight (back w) s n b u five low (λ p. valid-back least w p v)

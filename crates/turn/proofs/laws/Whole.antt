@@ -1,4 +1,5 @@
--- What one word of a page tells without being taken apart: that an entry neither starts nor ends at a version, that a page did not end there.
+-- What one word of a page tells without being taken apart: that an entry neither starts nor ends at a version, that a page did not end
+-- there.
 -- Assumes nothing.
 use Prim.Native.Nat.{ℕ, _+_, _*_, _-_, _/_, _%_, _^_, _≤_, _<_}
 use native.Mathlib.Omega.{arith}
@@ -40,7 +41,8 @@ module _ (p : List ℕ) (o w b v : ℕ) (e : b ≡ field p (o + 32) 32) (q : v �
   starts-off (inl h) z = omega (arith, start-so, short, q, z, h)
   starts-off (inr h) z = omega (arith, start-so, short, q, z, h)
 
-  pub apart : w < 2 ^ 20 → ((b + (1048576 - v)) % 1048576 ≡ 0 → ⊥) → (b < v % 4096 * 1048576) ⊎ (v % 4096 * 1048576 + 1048576 ≤ b) → Apart w (readEntry p o)
+  pub apart : w < 2 ^ 20 → ((b + (1048576 - v)) % 1048576 ≡ 0 → ⊥) → (b < v % 4096 * 1048576) ⊎ (v % 4096 * 1048576 + 1048576 ≤ b)
+      → Apart w (readEntry p o)
   apart hw n h = record { start = starts-off h; end = ends-off hw n }
 
 -- ---- the front of a page
@@ -75,9 +77,12 @@ module _ (p : List ℕ) (w : ℕ) where
   unfolding readHead
   below least h = at (leb least 4) h
     where
-      at : (b : Bool) → field p 32 32 < pick b (w % 131072 * 32768) (w % 262144 * 16384) → (field p (24 + pick b 5 6) 20 ≡ alive → ⊥) × (field p (24 + pick b 5 6) 20 ≡ w → ⊥)
-      at true h = (λ z. omega (arith, end-five, word-five, field-lt p 32 17, h, z), λ z. omega (arith, end-five, word-five, field-lt p 32 17, h, z))
-      at false h = (λ z. omega (arith, end-six, word-six, field-lt p 32 18, h, z), λ z. omega (arith, end-six, word-six, field-lt p 32 18, h, z))
+      at : (b : Bool) → field p 32 32 < pick b (w % 131072 * 32768) (w % 262144 * 16384)
+          → (field p (24 + pick b 5 6) 20 ≡ alive → ⊥) × (field p (24 + pick b 5 6) 20 ≡ w → ⊥)
+      at true h =
+          (λ z. omega (arith, end-five, word-five, field-lt p 32 17, h, z), λ z. omega (arith, end-five, word-five, field-lt p 32 17, h, z))
+      at false h =
+          (λ z. omega (arith, end-six, word-six, field-lt p 32 18, h, z), λ z. omega (arith, end-six, word-six, field-lt p 32 18, h, z))
 
   above : (least : ℕ) → lowEnd least w + 32768 ≤ field p 32 32 → readHead least p .end ≡ w → ⊥
   unfolding readHead

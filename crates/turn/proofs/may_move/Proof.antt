@@ -23,27 +23,38 @@ low-end-requires : tie.Need-low-end-requires
 low-end-requires c κs = search needs
 
 returns : tie.Need-returns
-returns c = λ h.
-    let s = c .before .before .before .before .before in
-    let a = s .args in
+returns c =
+    let at-start = c .before .before .before .before .before in
+    λ h.
+    let a = at-start .args in
     let x = c .before .before .wide in
     let e = x .ensures ∙ c .before .before .before .field .ensures in
-    let (g, f) = ended-before (a .page .now) (a .w) (a .l .least) (x .result) (c .before .low-end .result) e (c .before .low-end .ensures) (c .if1 .taken) in
-    past-read (a .l .least) (a .w) (a .page .now) g f (s .pre .3)
+    let (g, f) = ended-before (a .page .now) (a .w) (a .l .least) (x .result) (c .before .low-end .result) e (c .before .low-end .ensures)
+    (c .if1 .taken) in
+    past-read (a .l .least) (a .w) (a .page .now) g f (at-start .pre .3)
 
 add-if2 : tie.Need-add-if2
-add-if2 c = let a = c .before .before .before .before .before .args in omega (arith, c .before .low-end .ensures, low-small (a .l .least) (a .w))
+add-if2 c =
+    let at-start = c .before .before .before .before .before in
+    let a = at-start .args in omega (arith, c .before .low-end .ensures, low-small (a .l .least) (a .w))
 
 returns-2 : tie.Need-returns-2
 returns-2 c = nothing
 
 touched-requires : tie.Need-touched-requires
 touched-requires c κs =
-    let s = c .before .before .before .before .before .before in
-    let a = s .args in
-    let x = c .before .before .before .wide in
-    let e = x .ensures ∙ c .before .before .before .before .field .ensures in
-    (s .pre .0, s .pre .1, s .pre .2, ended-else (a .page .now) (a .w) (a .l .least) (x .result) (c .before .before .low-end .result) e (c .before .before .low-end .ensures) (c .if2 .left))
+    let at-low-end = c .before .before in
+    let at-field = at-low-end .before .before in
+    let at-start = at-field .before .before in
+    let a = at-start .args in
+    let x = at-low-end .before .wide in
+    let e = x .ensures ∙ at-field .field .ensures in (
+      at-start .pre .0,
+      at-start .pre .1,
+      at-start .pre .2,
+      ended-else (a .page .now) (a .w) (a .l .least) (x .result) (at-low-end .low-end .result) e (at-low-end .low-end .ensures)
+          (c .if2 .left),
+    )
 
 returns-3 : tie.Need-returns-3
 returns-3 c = c .touched .ensures

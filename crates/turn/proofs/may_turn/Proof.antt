@@ -36,23 +36,27 @@ mul-low : tie.Need-mul-low
 mul-low c = search needs
 
 returns-2 : tie.Need-returns-2
-returns-2 c = λ h.
-    let s = c .before .before .before .before .before in
-    let a = s .args in
+returns-2 c =
+    let at-start = c .before .before .before .before .before in
+    λ h.
+    let a = at-start .args in
     let b = c .before .before .before .second-word in
     let v = c .before .before .wide in
-    apart (a .page .now) (128 + 96 * a .i) (a .w) (b .result) (v .result) (b .ensures) (v .ensures) (s .pre .2) (c .before .if1 .left) (inl (c .if2 .taken))
+    apart (a .page .now) (128 + 96 * a .i) (a .w) (b .result) (v .result) (b .ensures) (v .ensures) (at-start .pre .2)
+    (c .before .if1 .left) (inl (c .if2 .taken))
 
 add-result : tie.Need-add-result
 add-result c = search needs
 
 returns-3 : tie.Need-returns-3
-returns-3 c = λ h.
-    let s = c .before .before .before .before .before in
-    let a = s .args in
+returns-3 c =
+    let at-start = c .before .before .before .before .before in
+    λ h.
+    let a = at-start .args in
     let b = c .before .before .before .second-word in
     let v = c .before .before .wide in
-    apart (a .page .now) (128 + 96 * a .i) (a .w) (b .result) (v .result) (b .ensures) (v .ensures) (s .pre .2) (c .before .if1 .left) (inr (ltb-false _ _ h))
+    apart (a .page .now) (128 + 96 * a .i) (a .w) (b .result) (v .result) (b .ensures) (v .ensures) (at-start .pre .2)
+    (c .before .if1 .left) (inr (ltb-false _ _ h))
 
 pub may-turn-spec : {M : Type 1} → statement M
 may-turn-spec =

@@ -30,9 +30,10 @@ loop-holds c = (omega arith, λ h. h)
 
 may-turn-requires : tie.Need-may-turn-requires Inv-loop μ-loop
 may-turn-requires c κs =
-    let s = c .before .before .before .before .before .before in
-    let p = s .pre in
-    let e = ap (λ (x : Head). x .count) (c .before .before .before .before .head-of .ensures) ∙ count-is (s .args .l .least) (s .args .page .now) in
+    let at-head-of = c .before .before .before .before in
+    let at-start = at-head-of .before .before in
+    let p = at-start .pre in
+    let e = ap (λ (x : Head). x .count) (at-head-of .head-of .ensures) ∙ count-is (at-start .args .l .least) (at-start .args .page .now) in
     (omega (arith, p .1 .size, p .1 .room, p .0 .four, e, c .loop-test .taken), omega (arith, p .1 .size, p .0 .eight), p .2)
 
 returns-2 : tie.Need-returns-2 Inv-loop μ-loop
@@ -46,23 +47,31 @@ loop-less c = search needs
 
 loop-again : tie.Need-loop-again Inv-loop μ-loop
 loop-again c =
+    let at-head-of = c .before .before .before .before .before .before in
+    let at-start = at-head-of .before .before in
     let l = c .before .before .before .loop in
-    let a = c .before .before .before .before .before .before .before .before .args in
-    let n : ℕ = c .before .before .before .before .before .before .head-of .result .count in
+    let a = at-start .args in
+    let n : ℕ = at-head-of .head-of .result .count in
     let f = c .before .may-turn .ensures (c .if2 .left) in
     let t : l .i < n = c .before .before .loop-test .taken in (
       omega arith,
-      λ h. l .inv .1 (subst (Still (a .w)) (sym (from-step (a .page .now) (l .i) n t)) (still-more (a .w) _ (from (a .page .now) (l .i + 1) n) (f .start) (f .end) h)),
+      λ h. l .inv .1
+          (subst (Still (a .w)) (sym (from-step (a .page .now) (l .i) n t))
+          (still-more (a .w) _ (from (a .page .now) (l .i + 1) n) (f .start) (f .end) h)),
     )
 
 returns-3 : tie.Need-returns-3 Inv-loop μ-loop
-returns-3 c = λ h.
-    let s = c .before .before .before .before .before .before in
-    let a = s .args in
-    let e = c .before .before .before .before .head-of .ensures in
+returns-3 c =
+    let at-head-of = c .before .before .before .before in
+    let at-start = at-head-of .before .before in
+    λ h.
+    let a = at-start .args in
+    let e = at-head-of .head-of .ensures in
     let l = c .before .loop in
-    still-read (a .l .least) (a .w) (a .page .now) (λ z. c .before .before .if1 .left (ap (λ (x : Head). x .start) e ∙ z)) (s .pre .3)
-    (subst (λ (k : ℕ). Still (a .w) (from (a .page .now) 0 k)) (ap (λ (x : Head). x .count) e) (l .inv .1 (from-end (a .page .now) (a .w) (l .i) (c .before .before .before .before .head-of .result .count) (omega (arith, c .loop-test .left)))))
+    still-read (a .l .least) (a .w) (a .page .now) (λ z. c .before .before .if1 .left (ap (λ (x : Head). x .start) e ∙ z))
+    (at-start .pre .3)
+    (subst (λ (k : ℕ). Still (a .w) (from (a .page .now) 0 k)) (ap (λ (x : Head). x .count) e)
+    (l .inv .1 (from-end (a .page .now) (a .w) (l .i) (at-head-of .head-of .result .count) (omega (arith, c .loop-test .left)))))
 
 pub touched-spec : {M : Type 1} → statement M
 touched-spec =

@@ -20,8 +20,10 @@ same-length c = search needs
 returns : tie.Need-returns
 unfolding workedOf
 returns c =
-    let p = c .before .before .before .before .before .before .before .pre in
-    let r = c .before .before .before .before .climb-up .ensures in
+    let at-climb-up = c .before .before .before .before in
+    let at-start = at-climb-up .before .before .before in
+    let p = at-start .pre in
+    let r = at-climb-up .climb-up .ensures in
     done-settled (p .kept) (r .1) _ _ _ _ (rw (c .enum-told .given .1) at (r .0))
 
 enum-told-2 : tie.Need-enum-told-2
@@ -33,8 +35,10 @@ same-length-2 c = search needs
 returns-2 : tie.Need-returns-2
 unfolding workedOf
 returns-2 c =
-    let p = c .before .before .before .before .before .before .before .pre in
-    let r = c .before .before .before .before .climb-up .ensures in
+    let at-climb-up = c .before .before .before .before in
+    let at-start = at-climb-up .before .before .before in
+    let p = at-start .pre in
+    let r = at-climb-up .climb-up .ensures in
     absurd (done-lacking (p .kept) (r .1) _ _ _ _ (rw (c .enum-told2 .given .1) at (r .0)) (p .planned))
 
 enum-known-d : tie.Need-enum-known-d
@@ -43,10 +47,13 @@ enum-known-d c = search needs
 apply-root-requires : tie.Need-apply-root-requires
 unfolding workedOf
 apply-root-requires c κs =
-    let p = c .before .before .before .before .before .before .before .before .before .pre in
-    let r = c .before .before .before .before .before .before .climb-up .ensures in
-    let e = rw (c .before .before .d .given .1) at (r .0) in
-    to-root p (r .1) (c .before .before .d .given .0 .0) (rw (c .before .before .d .given .1) at (r .2)) e
+    let at-d = c .before .before in
+    let at-climb-up = at-d .before .before .before .before in
+    let at-start = at-climb-up .before .before .before in
+    let p = at-start .pre in
+    let r = at-climb-up .climb-up .ensures in
+    let e = rw (at-d .d .given .1) at (r .0) in
+    to-root p (r .1) (at-d .d .given .0 .0) (rw (at-d .d .given .1) at (r .2)) e
 
 same-length-3 : tie.Need-same-length-3
 same-length-3 c = search needs
@@ -54,10 +61,13 @@ same-length-3 c = search needs
 returns-3 : tie.Need-returns-3
 unfolding workedOf
 returns-3 c =
-    let p = c .before .before .before .before .before .before .before .before .before .before .before .before .pre in
-    let r = c .before .before .before .before .before .before .before .before .before .climb-up .ensures in
-    let e = rw (c .before .before .before .before .before .d .given .1) at (r .0) in
-    c .before .before .apply-root .ensures ∙ applied p (r .1) (c .before .before .before .before .before .d .given .0 .0) e
+    let at-d = c .before .before .before .before .before in
+    let at-climb-up = at-d .before .before .before .before in
+    let at-start = at-climb-up .before .before .before in
+    let p = at-start .pre in
+    let r = at-climb-up .climb-up .ensures in
+    let e = rw (at-d .d .given .1) at (r .0) in
+    c .before .before .apply-root .ensures ∙ applied p (r .1) (at-d .d .given .0 .0) e
 
 pub apply-spec : {M : Type 1} → statement M
 apply-spec =

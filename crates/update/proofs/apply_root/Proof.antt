@@ -21,8 +21,10 @@ same-length c = search needs
 returns : tie.Need-returns
 unfolding rootedOf
 returns c =
-    let p = c .before .before .before .before .before .before .before .pre in
-    let r = c .before .before .before .before .work-root .ensures in
+    let at-work-root = c .before .before .before .before in
+    let at-start = at-work-root .before .before .before in
+    let p = at-start .pre in
+    let r = at-work-root .work-root .ensures in
     bytes-stay (p .kept) (r .1) _ (rw (c .enum-told .given .1) at (r .0))
 
 enum-told-2 : tie.Need-enum-told-2
@@ -34,8 +36,10 @@ same-length-2 c = search needs
 returns-2 : tie.Need-returns-2
 unfolding rootedOf
 returns-2 c =
-    let p = c .before .before .before .before .before .before .before .pre in
-    let r = c .before .before .before .before .work-root .ensures in
+    let at-work-root = c .before .before .before .before in
+    let at-start = at-work-root .before .before .before in
+    let p = at-start .pre in
+    let r = at-work-root .work-root .ensures in
     absurd (done-lacks (p .kept) (r .1) _ (p .planned) (rw (c .enum-told2 .given .1) at (r .0)))
 
 enum-known-m : tie.Need-enum-known-m
@@ -44,10 +48,17 @@ enum-known-m c = search needs
 take-slot-requires : tie.Need-take-slot-requires
 unfolding rootedOf
 take-slot-requires c κs =
-    let p = c .before .before .before .before .before .before .before .before .before .pre in
-    let r = c .before .before .before .before .before .before .work-root .ensures in
-    let e = rw (c .before .before .m .given .1) at (r .0) in
-    (kept-after (p .kept) (r .1), done-inside (p .kept) (r .1) _ (p .planned) (c .before .before .m .given .0 .0) e, slotted-after (p .kept) (r .1) (p .slots), done-slot (p .kept) (r .1) _ (p .planned) (c .before .before .m .given .0 .0) e)
+    let at-m = c .before .before in
+    let at-work-root = at-m .before .before .before .before in
+    let at-start = at-work-root .before .before .before in
+    let p = at-start .pre in
+    let r = at-work-root .work-root .ensures in
+    let e = rw (at-m .m .given .1) at (r .0) in (
+      kept-after (p .kept) (r .1),
+      done-inside (p .kept) (r .1) _ (p .planned) (at-m .m .given .0 .0) e,
+      slotted-after (p .kept) (r .1) (p .slots),
+      done-slot (p .kept) (r .1) _ (p .planned) (at-m .m .given .0 .0) e,
+    )
 
 same-length-3 : tie.Need-same-length-3
 same-length-3 c = search needs
@@ -55,10 +66,13 @@ same-length-3 c = search needs
 returns-3 : tie.Need-returns-3
 unfolding rootedOf
 returns-3 c =
-    let p = c .before .before .before .before .before .before .before .before .before .before .before .before .pre in
-    let r = c .before .before .before .before .before .before .before .before .before .work-root .ensures in
-    let e = rw (c .before .before .before .before .before .m .given .1) at (r .0) in
-    done-moves (p .kept) (r .1) _ (p .planned) (c .before .before .before .before .before .m .given .0 .0) e _ (c .before .before .take-slot .ensures)
+    let at-m = c .before .before .before .before .before in
+    let at-work-root = at-m .before .before .before .before in
+    let at-start = at-work-root .before .before .before in
+    let p = at-start .pre in
+    let r = at-work-root .work-root .ensures in
+    let e = rw (at-m .m .given .1) at (r .0) in
+    done-moves (p .kept) (r .1) _ (p .planned) (at-m .m .given .0 .0) e _ (c .before .before .take-slot .ensures)
 
 pub apply-root-spec : {M : Type 1} → statement M
 apply-root-spec =

@@ -76,27 +76,33 @@ module _ {l : Limits} {b b′ : List ℕ} (k : ExactBytes l b) (become : Becomes
     abbrev to : Rooted
     to = climb (l .least) w r up c (pagesOf l b)
 
-    pub done-settled : settled (pagesOf l b′) ≡ climbUp (l .least) w up c (pagesOf l b) → b′ ≡ left (l .least) b (rooted (l .least) (decode (l .least) b) (climb (l .least) w r up c (pagesOf l b))) .store
+    pub done-settled : settled (pagesOf l b′) ≡ climbUp (l .least) w up c (pagesOf l b)
+        → b′ ≡ left (l .least) b (rooted (l .least) (decode (l .least) b) (climb (l .least) w r up c (pagesOf l b))) .store
     done-settled e = bytes-stay to (rw (climb-by (l .least) w r up c (pagesOf l b), ← e))
 
-    pub done-lacking : lacking ≡ climbUp (l .least) w up c (pagesOf l b) → Done (l .least) (rooted (l .least) (decode (l .least) b) (climb (l .least) w r up c (pagesOf l b))) → ⊥
+    pub done-lacking : lacking ≡ climbUp (l .least) w up c (pagesOf l b)
+        → Done (l .least) (rooted (l .least) (decode (l .least) b) (climb (l .least) w r up c (pagesOf l b))) → ⊥
     unfolding rooted
     done-lacking e d = not-done 12 (rw (climb-by (l .least) w r up c (pagesOf l b), ← e) at d)
 
     -- the rest is the root's work, on the store as it stands then
     pub done-upward : (d : changes.Change) → upward d (pagesOf l b′) ≡ climbUp (l .least) w up c (pagesOf l b)
-        → rooted (l .least) (decode (l .least) b) (climb (l .least) w r up c (pagesOf l b)) ≡ rooted (l .least) (decode (l .least) b′) (workRoot (l .least) w (pagesOf l b′) r d)
+        → rooted (l .least) (decode (l .least) b) (climb (l .least) w r up c (pagesOf l b))
+        ≡ rooted (l .least) (decode (l .least) b′) (workRoot (l .least) w (pagesOf l b′) r d)
     done-upward d e =
         ap (rooted (l .least) (decode (l .least) b)) (rw (climb-by (l .least) w r up c (pagesOf l b), ← e))
-        ∙ sym (ap (λ (t : Store). rooted (l .least) t (workRoot (l .least) w (pagesOf l b′) r d)) (shows k become) ∙ rooted-pages (l .least) (decode (l .least) b) (pagesOf l b′) (workRoot (l .least) w (pagesOf l b′) r d))
+        ∙ sym (ap (λ (t : Store). rooted (l .least) t (workRoot (l .least) w (pagesOf l b′) r d)) (shows k become)
+        ∙ rooted-pages (l .least) (decode (l .least) b) (pagesOf l b′) (workRoot (l .least) w (pagesOf l b′) r d))
 
   -- ---- the root
 
-  slot-there : (n : ℕ) (qs : List Page) → Done (l .least) (rooted (l .least) (decode (l .least) b) (moves n qs)) → leb (length (putSlot (next s) n (s .slots))) (64 * l .least) ≡ true
+  slot-there : (n : ℕ) (qs : List Page) → Done (l .least) (rooted (l .least) (decode (l .least) b) (moves n qs))
+      → leb (length (putSlot (next s) n (s .slots))) (64 * l .least) ≡ true
   unfolding rooted slotted
   slot-there n qs d = at (leb (length (putSlot (next s) n (s .slots))) (64 * l .least)) refl d
     where
-      at : (x : Bool) → leb (length (putSlot (next s) n (s .slots))) (64 * l .least) ≡ x → Done (l .least) (slotted x s (putSlot (next s) n (s .slots)) qs) → x ≡ true
+      at : (x : Bool) → leb (length (putSlot (next s) n (s .slots))) (64 * l .least) ≡ x
+          → Done (l .least) (slotted x s (putSlot (next s) n (s .slots)) qs) → x ≡ true
       at true e d = refl
       at false e d = absurd (not-done 13 d)
 
@@ -117,7 +123,8 @@ module _ {l : Limits} {b b′ : List ℕ} (k : ExactBytes l b) (become : Becomes
       pub done-inside : Inside l b′ n
       done-inside = moved-inside l b′ (decode (l .least) b) n (d .store) (ap (rooted (l .least) (decode (l .least) b)) e ∙ d .is) (d .sound)
 
-      pub done-moves : (b″ : List ℕ) → b″ ≡ encode (l .least) (withSlots (decode (l .least) b′) (putSlot (next (decode (l .least) b′)) n (decode (l .least) b′ .slots)))
+      pub done-moves : (b″ : List ℕ) → b″ ≡ encode (l .least)
+          (withSlots (decode (l .least) b′) (putSlot (next (decode (l .least) b′)) n (decode (l .least) b′ .slots)))
           → b″ ≡ left (l .least) b (rooted (l .least) (decode (l .least) b) x) .store
       unfolding rooted slotted
       done-moves b″ f =
@@ -125,8 +132,10 @@ module _ {l : Limits} {b b′ : List ℕ} (k : ExactBytes l b) (become : Becomes
           ∙ sym (ap (λ (y : Rooted). left (l .least) b (rooted (l .least) (decode (l .least) b) y) .store) (sym e) ∙ rw there)
 
 -- the root's part of it, once the work has come there
-module _ {l : Limits} {b b′ : List ℕ} {w : ℕ} {way : Way} {c : code.Change} {size : ℕ} (a : ToApply l b w way c size) (become : Becomes l b b′ (pagesOf l b′)) where
-  pub to-root : (d : code.Change) → Fits d → upward (changeOf d) (pagesOf l b′) ≡ climbUp (l .least) w (upsOf (way .list) (way .n)) (changeOf c) (pagesOf l b) → ToRoot l b′ w (way .root) d size
+module _ {l : Limits} {b b′ : List ℕ} {w : ℕ} {way : Way} {c : code.Change} {size : ℕ} (a : ToApply l b w way c size)
+    (become : Becomes l b b′ (pagesOf l b′)) where
+  pub to-root : (d : code.Change) → Fits d → upward (changeOf d) (pagesOf l b′)
+      ≡ climbUp (l .least) w (upsOf (way .list) (way .n)) (changeOf c) (pagesOf l b) → ToRoot l b′ w (way .root) d size
   to-root d f e = record {
     kept = kept-after (a .kept) become;
     root = inside-after (a .kept) become (a .led .root);
@@ -139,9 +148,12 @@ module _ {l : Limits} {b b′ : List ℕ} {w : ℕ} {way : Way} {c : code.Change
     planned = rw (done-upward (a .kept) become w (way .root) (upsOf (way .list) (way .n)) (changeOf c) (changeOf d) e) at (a .planned);
   }
 
-  pub applied : (d : code.Change) → upward (changeOf d) (pagesOf l b′) ≡ climbUp (l .least) w (upsOf (way .list) (way .n)) (changeOf c) (pagesOf l b)
+  pub applied : (d : code.Change) → upward (changeOf d) (pagesOf l b′)
+      ≡ climbUp (l .least) w (upsOf (way .list) (way .n)) (changeOf c) (pagesOf l b)
       → left (l .least) b′ (rooted (l .least) (decode (l .least) b′) (workRoot (l .least) w (pagesOf l b′) (way .root) (changeOf d))) .store
-      ≡ left (l .least) b (rooted (l .least) (decode (l .least) b) (climb (l .least) w (way .root) (upsOf (way .list) (way .n)) (changeOf c) (pagesOf l b))) .store
+      ≡ left (l .least) b
+      (rooted (l .least) (decode (l .least) b)
+      (climb (l .least) w (way .root) (upsOf (way .list) (way .n)) (changeOf c) (pagesOf l b))) .store
   applied d e =
       let q = done-upward (a .kept) become w (way .root) (upsOf (way .list) (way .n)) (changeOf c) (changeOf d) e in
       sym (left-same (l .least) _ (a .planned) b b′ ∙ ap (λ (r : Result). left (l .least) b′ r .store) q)

@@ -41,4 +41,5 @@ module _ (b : Bool) (r : Outlook) (x : plan.Outlook) (e : outlookOf r ≡ x) whe
 
   pub moves-number : r ≡ Moves → (a : Bool) → b ≡ a → pick a 0 13 ≡ outlookNumber b x
   unfolding outlookOf outlookNumber
-  moves-number f a g = ap (λ (c : Bool). pick c 0 13) (sym g) ∙ ap (λ (y : Outlook). outlookNumber b (outlookOf y)) (sym f) ∙ ap (outlookNumber b) e
+  moves-number f a g =
+      ap (λ (c : Bool). pick c 0 13) (sym g) ∙ ap (λ (y : Outlook). outlookNumber b (outlookOf y)) (sym f) ∙ ap (outlookNumber b) e

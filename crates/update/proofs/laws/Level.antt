@@ -27,7 +27,8 @@ module _ (least u : ℕ) (r : ℕ) where
   risen l (a ∷ up) c ps t g = at (work least (suc u) ps a c) (work-fine least u l ps t a c (g .0)) (λ d qs. risen (suc l) up d qs)
     where
       at : (x : Worked) → WorkedFine least u l ps x
-          → ((d : Change) (qs : List Page) → ((m : ℕ) → TamePage (suc u) (page qs m)) → WayGood least u (suc l) qs r up → RisenTo (suc (suc l + length up)) r (climbUp least (suc u) up d qs))
+          → ((d : Change) (qs : List Page) → ((m : ℕ) → TamePage (suc u) (page qs m)) → WayGood least u (suc l) qs r up
+          → RisenTo (suc (suc l + length up)) r (climbUp least (suc u) up d qs))
           → RisenTo (suc (l + suc (length up))) r (onward x (λ (d : Change) (qs : List Page). climbUp least (suc u) up d qs))
       at (settled qs) f ih = tt
       at (upward d qs) f ih =

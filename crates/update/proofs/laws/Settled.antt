@@ -33,15 +33,20 @@ leaf-stays : (w : ℕ) (c : Change) (p : Page) → p .level ≡ 1 → goes w c p
 leaf-stays w c p e = ap (λ (b : Bool). b && eqb (length (wanted w c p)) 1) (lt-leb 2 (p .level) (omega arith))
 
 -- at the leaf of a way, be it the root or not
-climb-settles : (least w r : ℕ) (up : List Around) (c : Change) (ps : List Page) (n : ℕ) → n ≡ leafOf r up → page ps n .level ≡ 1 → takesInPlace least w c (page ps n) ≡ true
+climb-settles : (least w r : ℕ) (up : List Around) (c : Change) (ps : List Page) (n : ℕ) → n ≡ leafOf r up → page ps n .level ≡ 1
+    → takesInPlace least w c (page ps n) ≡ true
     → climb least w r up c ps ≡ stays (set ps n (changed w c (page ps n)))
 unfolding climb
 climb-settles least w r [] c ps n is level t =
-    rw (← is) (sym (root-stays least w ps n c (leaf-stays w c (page ps n) level) (both-true (roomy least w c (page ps n)) (leb least (length (wanted w c (page ps n)))) t .0)))
+    rw (← is) (sym
+    (root-stays least w ps n c (leaf-stays w c (page ps n) level)
+    (both-true (roomy least w c (page ps n)) (leb least (length (wanted w c (page ps n)))) t .0)))
 climb-settles least w r (a ∷ up) c ps n is level t =
-    rw is (ap (λ (x : Worked). goOn x (λ (d : Change) (qs : List Page). climb least w r up d qs)) (sym (work-settles least w ps a c (rw is at t))))
+    rw is (ap (λ (x : Worked). goOn x (λ (d : Change) (qs : List Page). climb least w r up d qs))
+    (sym (work-settles least w ps a c (rw is at t))))
 
-module _ {l : Limits} {b : List ℕ} {k : ℕ} (u : Begun l b k) (w : ℕ) (e : w ≡ next (decode (l .least) b)) (n : ℕ) (leaf : Leaf l b w k n) where
+module _ {l : Limits} {b : List ℕ} {k : ℕ} (u : Begun l b k) (w : ℕ) (e : w ≡ next (decode (l .least) b)) (n : ℕ)
+    (leaf : Leaf l b w k n) where
   pub leaf-inside : Inside l b n
   leaf-inside = inside-used (u .edition) b (u .sound) n 0 (leaf .covers .level)
 
@@ -51,9 +56,11 @@ module _ {l : Limits} {b : List ℕ} {k : ℕ} (u : Begun l b k) (w : ℕ) (e : 
     unfolding update
     update-is =
         ap (rooted (l .least) (decode (l .least) b))
-        (rw (← e) (climb-settles (l .least) w (rootAt (decode (l .least) b .slots) w) (way (decode (l .least) b) w k) (changeOf c) (pagesOf l b) n (leaf .is) (leaf .covers .level) t))
+        (rw (← e) (climb-settles (l .least) w (rootAt (decode (l .least) b .slots) w) (way (decode (l .least) b) w k) (changeOf c)
+        (pagesOf l b) n (leaf .is) (leaf .covers .level) t))
 
     pub settles : (b′ : List ℕ) → Becomes l b b′ (set (pagesOf l b) n (changed w (changeOf c) (page (pagesOf l b) n)))
-        → (0 ≡ left (l .least) b (update (l .least) (decode (l .least) b) k (changeOf c)) .number) × (b′ ≡ left (l .least) b (update (l .least) (decode (l .least) b) k (changeOf c)) .store)
+        → (0 ≡ left (l .least) b (update (l .least) (decode (l .least) b) k (changeOf c)) .number)
+        × (b′ ≡ left (l .least) b (update (l .least) (decode (l .least) b) k (changeOf c)) .store)
     unfolding rooted
     settles b′ d = (rw update-is refl, d .is ∙ rw update-is refl)

@@ -22,7 +22,8 @@ use Rattle.update.specs.Whole.{LeavesSound}
 use Rattle.update.specs.Single.{Enters, Ends}
 
 -- there a delete is its change
-pub delete-is : (least : ℕ) (s : Store) (k : ℕ) → k < keyLimit → s .opened ≡ true → isSome (lookup s k (next s)) ≡ true → delete least s k ≡ update least s k (deleting k)
+pub delete-is : (least : ℕ) (s : Store) (k : ℕ) → k < keyLimit → s .opened ≡ true → isSome (lookup s k (next s)) ≡ true
+    → delete least s k ≡ update least s k (deleting k)
 unfolding delete
 delete-is least s k low o a = rw (lt-leb keyLimit k low, o, a)
 
@@ -30,20 +31,25 @@ follows : {l : Limits} (d : Edition l) (b : List ℕ) (h : isSound (l .least) b 
     → Sounds (l .least) (d .four) (decode (l .least) b) (sure d b h) o r → LeavesSound (l .least) r
 follows d b h o r f t e = rw e at f .sound-now
 
-pub insert-leaves : {l : Limits} {b : List ℕ} {k : ℕ} → Enters l b k → (x : ℕ) → x < 2 ^ 32 → (c : Change) → c ≡ inserting k x → LeavesSound (l .least) (update (l .least) (decode (l .least) b) k c)
+pub insert-leaves : {l : Limits} {b : List ℕ} {k : ℕ} → Enters l b k → (x : ℕ) → x < 2 ^ 32 → (c : Change) → c ≡ inserting k x
+    → LeavesSound (l .least) (update (l .least) (decode (l .least) b) k c)
 insert-leaves {l} {b} {k} p x low c e =
     let s = decode (l .least) b in
     rw e (follows (p .edition) b (p .sound) (p .opened) (rawInsert (l .least) s k x)
-    (raw-keeps (l .least) (p .edition .four) s (sure (p .edition) b (p .sound)) (p .opened) k x (p .key) (is-none (lookup s k (next s)) (p .absent)) low))
+    (raw-keeps (l .least) (p .edition .four) s (sure (p .edition) b (p .sound)) (p .opened) k x (p .key)
+    (is-none (lookup s k (next s)) (p .absent)) low))
 
-pub delete-leaves : {l : Limits} {b : List ℕ} {k : ℕ} → Ends l b k → (c : Change) → c ≡ deleting k → LeavesSound (l .least) (update (l .least) (decode (l .least) b) k c)
+pub delete-leaves : {l : Limits} {b : List ℕ} {k : ℕ} → Ends l b k → (c : Change) → c ≡ deleting k
+    → LeavesSound (l .least) (update (l .least) (decode (l .least) b) k c)
 delete-leaves {l} {b} {k} p c e =
     let s = decode (l .least) b in
     rw e (follows (p .edition) b (p .sound) (p .opened) (update (l .least) s k (deleting k))
-    (rw (delete-is (l .least) s k (p .key) (p .opened) (p .present)) at (delete-keeps (l .least) (p .edition .four) s (sure (p .edition) b (p .sound)) (p .opened) k)))
+    (rw (delete-is (l .least) s k (p .key) (p .opened) (p .present)) at
+    (delete-keeps (l .least) (p .edition .four) s (sure (p .edition) b (p .sound)) (p .opened) k)))
 
 -- what a change comes to, by the one that it is
-pub comes-to : (least : ℕ) (b : List ℕ) (k : ℕ) (c e : Change) → c ≡ e → (r : ℕ) (b′ : List ℕ) → r ≡ left least b (update least (decode least b) k c) .number
+pub comes-to : (least : ℕ) (b : List ℕ) (k : ℕ) (c e : Change) → c ≡ e → (r : ℕ) (b′ : List ℕ)
+    → r ≡ left least b (update least (decode least b) k c) .number
     → b′ ≡ left least b (update least (decode least b) k c) .store
     → (r ≡ left least b (update least (decode least b) k e) .number) × (b′ ≡ left least b (update least (decode least b) k e) .store)
 comes-to least b k c e f r b′ g h = rw (sym f) (g, h)

@@ -65,8 +65,13 @@ module _ {l : Limits} {b : List ℕ} {k : ℕ} (u : Begun l b k) where
 
     pub readable : Walkable l b w
     readable =
-        let q : last (decode (l .least) b) ≡ next (decode (l .least) b) = ap (λ (x : Bool). lastOf x (decode (l .least) b .current)) (u .opened) in
-        record { edition = u .edition; sound = u .sound; version = omega (arith, old-current (l .least) (decode (l .least) b) (sure (u .edition) b (u .sound) .old-low)) }
+        let q : last (decode (l .least) b) ≡ next (decode (l .least) b)
+        = ap (λ (x : Bool). lastOf x (decode (l .least) b .current)) (u .opened) in
+        record {
+          edition = u .edition;
+          sound = u .sound;
+          version = omega (arith, old-current (l .least) (decode (l .least) b) (sure (u .edition) b (u .sound) .old-low));
+        }
 
     module _ (to : plan-code.Way) (leads : Leads l b w k to) (c : code.Change) where
       abbrev ups : List Around
@@ -77,25 +82,30 @@ module _ {l : Limits} {b : List ℕ} {k : ℕ} (u : Begun l b k) where
       unfolding update
       update-is = rw (leads .root, leads .ups, e)
 
-      plan-is : outlookNumber (slotLeft (l .least) (decode (l .least) b)) (planUp (l .least) w (pagesOf l b) (to .root) (upsOf (to .list) (to .n)) (changeOf c) (length (freeOnes (pagesOf l b))))
+      plan-is : outlookNumber (slotLeft (l .least) (decode (l .least) b))
+          (planUp (l .least) w (pagesOf l b) (to .root) (upsOf (to .list) (to .n)) (changeOf c) (length (freeOnes (pagesOf l b))))
           ≡ plan (l .least) (decode (l .least) b) k (changeOf c)
       unfolding plan outlook
       plan-is = rw (leads .root, leads .ups, e)
 
       module _ (n : ℕ)
-          (f : n ≡ outlookNumber (slotLeft (l .least) (decode (l .least) b)) (planUp (l .least) w (pagesOf l b) (to .root) (upsOf (to .list) (to .n)) (changeOf c) (length (freeOnes (pagesOf l b))))) where
+          (f : n ≡ outlookNumber (slotLeft (l .least) (decode (l .least) b))
+          (planUp (l .least) w (pagesOf l b) (to .root) (upsOf (to .list) (to .n)) (changeOf c) (length (freeOnes (pagesOf l b))))) where
         -- a number that is foreseen is given, and nothing is written
         pub is-refused : (n ≡ 0 → ⊥) → update (l .least) (decode (l .least) b) k (changeOf c) ≡ refused n
         is-refused z = at n (sym (f ∙ plan-is)) z
           where
-            at : (m : ℕ) → plan (l .least) (decode (l .least) b) k (changeOf c) ≡ m → (m ≡ 0 → ⊥) → update (l .least) (decode (l .least) b) k (changeOf c) ≡ refused m
+            at : (m : ℕ) → plan (l .least) (decode (l .least) b) k (changeOf c) ≡ m → (m ≡ 0 → ⊥)
+                → update (l .least) (decode (l .least) b) k (changeOf c) ≡ refused m
             at zero g z = absurd (z refl)
             at (suc m) g z = plan-refused (l .least) two (decode (l .least) b) given (u .opened) k (u .key) (changeOf c) m g
 
         -- with 0 it is done
-        pub to-apply : n ≡ 0 → Fits c → LeavesSound (l .least) (update (l .least) (decode (l .least) b) k (changeOf c)) → (size : ℕ) → size ≡ length (pagesOf l b) → ToApply l b w to c size
+        pub to-apply : n ≡ 0 → Fits c → LeavesSound (l .least) (update (l .least) (decode (l .least) b) k (changeOf c)) → (size : ℕ)
+            → size ≡ length (pagesOf l b) → ToApply l b w to c size
         to-apply z fits after size g =
-            let (t, is) = plan-done (l .least) two (decode (l .least) b) given (u .opened) k (u .key) (changeOf c) (sym (f ∙ plan-is) ∙ z) in
+            let (t, is) = plan-done (l .least) two (decode (l .least) b) given (u .opened) k (u .key) (changeOf c)
+            (sym (f ∙ plan-is) ∙ z) in
             let r = ready (l .least) two (decode (l .least) b) given (u .opened) k (u .key) in
             record {
               kept = kept;
@@ -105,14 +115,24 @@ module _ {l : Limits} {b : List ℕ} {k : ℕ} (u : Begun l b k) where
               size-is = g;
               version = e;
               level = λ d qs h.
-                  omega (arith, root-level (l .least) (decode (l .least) b .current) (to .root) ups (changeOf c) (pagesOf l b) (r .tame) (rw (leads .root, leads .ups, e) (r .leads)) d qs (rw e at h), length-ups (to .list) (to .n), leads .led .few);
+                  omega (
+                    arith,
+                    root-level (l .least) (decode (l .least) b .current) (to .root) ups (changeOf c) (pagesOf l b) (r .tame)
+                        (rw (leads .root, leads .ups, e) (r .leads)) d qs (rw e at h),
+                    length-ups (to .list) (to .n),
+                    leads .led .few,
+                  );
               slots = slots;
               planned = record { store = t; is = sym update-is ∙ is; sound = after t is };
             }
 
         pub is-done : n ≡ 0 → (b′ : List ℕ)
-            → b′ ≡ left (l .least) b (rooted (l .least) (decode (l .least) b) (climb (l .least) w (to .root) (upsOf (to .list) (to .n)) (changeOf c) (pagesOf l b))) .store
-            → (0 ≡ left (l .least) b (update (l .least) (decode (l .least) b) k (changeOf c)) .number) × (b′ ≡ left (l .least) b (update (l .least) (decode (l .least) b) k (changeOf c)) .store)
+            → b′ ≡ left (l .least) b
+            (rooted (l .least) (decode (l .least) b)
+            (climb (l .least) w (to .root) (upsOf (to .list) (to .n)) (changeOf c) (pagesOf l b))) .store
+            → (0 ≡ left (l .least) b (update (l .least) (decode (l .least) b) k (changeOf c)) .number)
+            × (b′ ≡ left (l .least) b (update (l .least) (decode (l .least) b) k (changeOf c)) .store)
         is-done z b′ g =
-            let (t, is) = plan-done (l .least) two (decode (l .least) b) given (u .opened) k (u .key) (changeOf c) (sym (f ∙ plan-is) ∙ z) in
+            let (t, is) = plan-done (l .least) two (decode (l .least) b) given (u .opened) k (u .key) (changeOf c)
+            (sym (f ∙ plan-is) ∙ z) in
             (rw is refl, g ∙ rw update-is)

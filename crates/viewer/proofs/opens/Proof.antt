@@ -14,24 +14,28 @@ edition-lent-requires c κs = search needs
 returns : tie.Need-returns
 unfolding viewed
 returns c =
-    let a = c .before .before .before .before .args in
+    let at-start = c .before .before .before .before in
+    let a = at-start .args in
     let b = a .store .now in
     let e = c .before .before .edition-lent in
     refused-early (e .result) b (e .ensures) (λ (n : ℕ). n) (λ (least : ℕ). viewedBy least b (a .version)) (c .if1 .taken)
 
 guard-requires : tie.Need-guard-requires
-guard-requires c κs = let e = c .before .before .edition-lent in is-edition (e .result) (c .before .before .before .before .args .store .now) (e .ensures)
+guard-requires c κs =
+    let at-start = c .before .before .before .before in
+    let e = c .before .before .edition-lent in is-edition (e .result) (at-start .args .store .now) (e .ensures)
 
 returns-2 : tie.Need-returns-2
 unfolding viewed
 returns-2 c =
-    let h = c .before in
-    let a = h .before .before .before .before .args in
+    let at-if1 = c .before in
+    let at-start = at-if1 .before .before .before .before in
+    let a = at-start .args in
     let b = a .store .now in
-    let e = h .before .before .edition-lent in
+    let e = at-if1 .before .before .edition-lent in
     c .guard .ensures
     ∙ (viewed-is (e .result .limits .least) b (a .version)
-    ∙ gone-on (e .result) b (e .ensures) (λ (n : ℕ). n) (λ (least : ℕ). viewedBy least b (a .version)) (h .if1 .left))
+    ∙ gone-on (e .result) b (e .ensures) (λ (n : ℕ). n) (λ (least : ℕ). viewedBy least b (a .version)) (at-if1 .if1 .left))
 
 pub opens-spec : {M : Type 1} → statement M
 opens-spec = tie.close (tie.spec edition-lent-requires returns guard-requires returns-2)

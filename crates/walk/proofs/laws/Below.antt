@@ -30,7 +30,8 @@ module _ (up : ℕ) (ps : List Page) (v lo hi : ℕ) where
     unfolding later
     later-step i e = ap (flatMap (through up ps v lo hi)) e
 
-    pub later-same : (i j : ℕ) → between 0 hi (live v (from p i n)) ≡ between 0 hi (live v (from p j n)) → later up ps v lo hi p n i ≡ later up ps v lo hi p n j
+    pub later-same : (i j : ℕ) → between 0 hi (live v (from p i n)) ≡ between 0 hi (live v (from p j n))
+        → later up ps v lo hi p n i ≡ later up ps v lo hi p n j
     unfolding later
     later-same i j e = ap (flatMap (through up ps v lo hi)) e
 
@@ -47,5 +48,6 @@ module _ (up : ℕ) (ps : List Page) (v lo hi : ℕ) where
         ∙ ap (λ (xs : List Pair). flatMap (through up ps v lo hi) (pair at (r .page) ∷ xs)) (upto-between hi (live v (from p (r .next) n)))
 
 -- at a leaf
-pub leaf-range : (up : ℕ) (ps : List Page) (v lo hi at m : ℕ) (xs : List Pair) → up ≡ 0 → pairsAt v (page ps m) ≡ xs → rangeBelow up ps v lo hi at m ≡ between lo hi xs
+pub leaf-range : (up : ℕ) (ps : List Page) (v lo hi at m : ℕ) (xs : List Pair) → up ≡ 0 → pairsAt v (page ps m) ≡ xs
+    → rangeBelow up ps v lo hi at m ≡ between lo hi xs
 leaf-range up ps v lo hi at m xs z e = ap (λ (u : ℕ). rangeBelow u ps v lo hi at m) z ∙ ap (between lo hi) e

@@ -14,7 +14,8 @@ use Rattle.walk.proofs.laws.Written.{written-not, written-all}
 use Rattle.walk.specs.Counted.{withList}
 
 -- "caller's list holds fewer numbers than twice the settings found"
-pub counted-short : (ns : List ℕ) (xs : List Pair) → length ns < 2 * length xs → listed ns (rangedBy 0 (length ns) xs) ≡ record { number = 14; count = length xs; list = ns }
+pub counted-short : (ns : List ℕ) (xs : List Pair) → length ns < 2 * length xs
+    → listed ns (rangedBy 0 (length ns) xs) ≡ record { number = 14; count = length xs; list = ns }
 unfolding rangedIn rangedBy
 counted-short ns xs h = ap (λ (b : Bool). listed ns (rangedIn (firstOf (rule 14 b ∷ [])) xs)) (lt-ltb (length ns) (2 * length xs) h)
 
@@ -38,8 +39,10 @@ module _ {ns ns1 : List ℕ} {r : ℕ} {xs : List Pair} (g : PairGathers false n
     pub second-space : length xs ≤ 2 ^ 40 → PairSpace true ns1 0 xs
     second-space few = record { few = omega arith; room = λ e. omega (arith, counted) }
 
-    pub range-all : {ns2 : List ℕ} {r2 : ℕ} → PairGathers true ns1 ns2 0 r2 xs → withList (record { number = 0; count = r }) ns2 ≡ listed ns (rangedBy 0 (length ns) xs)
+    pub range-all : {ns2 : List ℕ} {r2 : ℕ} → PairGathers true ns1 ns2 0 r2 xs
+        → withList (record { number = 0; count = r }) ns2 ≡ listed ns (rangedBy 0 (length ns) xs)
     range-all {ns2} k =
         let room : 2 * length xs ≤ length ns = rw (counted, untouched) at h in
-        let e : ns2 ≡ numbers xs ++ drop (length (numbers xs)) ns = k .list ∙ ap (λ (ms : List ℕ). written true ms 0 xs) untouched ∙ written-all ns xs room in
+        let e : ns2 ≡ numbers xs ++ drop (length (numbers xs)) ns = k .list ∙ ap (λ (ms : List ℕ). written true ms 0 xs) untouched
+        ∙ written-all ns xs room in
         rw (counted, e) (sym (counted-all ns xs room))

@@ -78,7 +78,8 @@ next at hi x y ys false = pair at (x .value) ∷ upto hi (y ∷ ys)
 follow-next : (at hi : ℕ) (x y : Pair) (ys : List Pair) → followFrom at hi x (y ∷ ys) ≡ next at hi x y ys (leb (y .key) at)
 follow-next at hi x y ys = by (leb (y .key) at)
   where
-    by : (b : Bool) → _≡_ {A = List Pair} (elim b [ true ↦ followFrom at hi y ys | false ↦ pair at (x .value) ∷ upto hi (y ∷ ys) ]) (next at hi x y ys b)
+    by : (b : Bool) → _≡_ {A = List Pair} (elim b [ true ↦ followFrom at hi y ys | false ↦ pair at (x .value) ∷ upto hi (y ∷ ys) ])
+        (next at hi x y ys b)
     by true = refl
     by false = refl
 
@@ -91,7 +92,8 @@ trail-value at hi x (y ∷ ys) = follow-next at hi x y ys ∙ by (leb (y .key) a
     by false = refl
 
 pub trail-on : (at hi c : ℕ) (x : Pair) (xs : List Pair) → x .key ≤ at → trail at hi c (x ∷ xs) ≡ trail at hi (x .value) xs
-trail-on at hi c x xs h = follow-next at hi (pair 0 c) x xs ∙ ap (next at hi (pair 0 c) x xs) (le-leb (x .key) at h) ∙ trail-value at hi x xs
+trail-on at hi c x xs h =
+    follow-next at hi (pair 0 c) x xs ∙ ap (next at hi (pair 0 c) x xs) (le-leb (x .key) at h) ∙ trail-value at hi x xs
 
 pub trail-start : (at hi c : ℕ) (xs : List Pair) → startsBy at xs ≡ true → followed at hi xs ≡ trail at hi c xs
 trail-start at hi c [] h = absurd (let z : _≡_ {A = ℕ} 0 1 = cc in omega arith)
@@ -100,4 +102,5 @@ trail-start at hi c (x ∷ xs) h = trail-value at hi x xs ∙ sym (trail-on at h
 pub trail-above : (at hi c : ℕ) (xs : List Pair) → above at xs ≡ true → trail at hi c xs ≡ pair at c ∷ upto hi xs
 trail-above at hi c [] h = refl
 trail-above at hi c (x ∷ xs) h =
-    follow-next at hi (pair 0 c) x xs ∙ ap (next at hi (pair 0 c) x xs) (lt-leb (x .key) at (ltb-true at (x .key) (all-cons (λ (y : Pair). ltb at (y .key)) x xs h .0)))
+    follow-next at hi (pair 0 c) x xs ∙ ap (next at hi (pair 0 c) x xs)
+    (lt-leb (x .key) at (ltb-true at (x .key) (all-cons (λ (y : Pair). ltb at (y .key)) x xs h .0)))

@@ -31,7 +31,8 @@ order-rest e es h = both-true (all (before e) es) (inOrder before es) h .1
 
 pub later : (e f : Entry) (es : List Entry) → inOrder before (e ∷ es) ≡ true → In f (e ∷ es) → e .key ≤ f .key
 later e f es h (inl q) = omega (arith, ap (λ (x : Entry). x .key) q)
-later e f es h (inr i) = at (either-true (ltb (e .key) (f .key)) _ (all-in (before e) f es (both-true (all (before e) es) (inOrder before es) h .0) i))
+later e f es h (inr i) =
+    at (either-true (ltb (e .key) (f .key)) _ (all-in (before e) f es (both-true (all (before e) es) (inOrder before es) h .0) i))
   where
     at : (ltb (e .key) (f .key) ≡ true) ⊎ ((eqb (e .key) (f .key) && ltb (e .start) (f .start)) ≡ true) → e .key ≤ f .key
     at (inl z) = omega (arith, ltb-true (e .key) (f .key) z)
@@ -39,7 +40,8 @@ later e f es h (inr i) = at (either-true (ltb (e .key) (f .key)) _ (all-in (befo
 
 -- behind an entry whose key is above k all keys are
 pub live-above : (v k : ℕ) (e : Entry) (es : List Entry) → inOrder before (e ∷ es) ≡ true → k < e .key → above k (live v (e ∷ es)) ≡ true
-live-above v k e es h l = all-by (λ (x : Pair). ltb k (x .key)) (live v (e ∷ es)) (λ x i. at x (in-map pairOf x (those (liveAt v) (e ∷ es)) i))
+live-above v k e es h l =
+    all-by (λ (x : Pair). ltb k (x .key)) (live v (e ∷ es)) (λ x i. at x (in-map pairOf x (those (liveAt v) (e ∷ es)) i))
   where
     at : (x : Pair) → (f : Entry) × (In f (those (liveAt v) (e ∷ es))) × (x ≡ pairOf f) → ltb k (x .key) ≡ true
     at x t =

@@ -19,7 +19,8 @@ use Rattle.walk.specs.Live.{live}
 use Rattle.walk.proofs.laws.Live.{later}
 use Rattle.model.specs.Near.{startsBy}
 use Rattle.walk.specs.Scan.{entry, from, Owns}
-use Rattle.walk.proofs.laws.Scan.{from-step, order-from, next-passed, Owning, owning-start, owning-on, owning-off, owning-above, owning-end}
+use Rattle.walk.proofs.laws.Scan.{from-step, order-from, next-passed, Owning, owning-start, owning-on, owning-off, owning-above}
+use Rattle.walk.proofs.laws.Scan.{owning-end}
 use Rattle.walk.specs.Places.{Place, Fives}
 
 -- the key and the eight bits behind it, one word
@@ -60,11 +61,13 @@ module _ (p : List ℕ) (n : ℕ) (o : inOrder before (readEntries p 128 n) ≡ 
   key-step i h =
       let e : from p i n ≡ entry p i ∷ from p (i + 1) n = from-step p n i (omega arith) in
       let q : inOrder before (entry p i ∷ from p (i + 1) n) ≡ true = rw e at (order-from p n i o (omega arith)) in
-      later (entry p i) (entry p (i + 1)) (from p (i + 1) n) q (inr (subst (In (entry p (i + 1))) (sym (from-step p n (i + 1) h)) (inl refl)))
+      later (entry p i) (entry p (i + 1)) (from p (i + 1) n) q
+      (inr (subst (In (entry p (i + 1))) (sym (from-step p n (i + 1) h)) (inl refl)))
 
   pub keys-rise : (i d : ℕ) → i + d < n → entry p i .key ≤ entry p (i + d) .key
   keys-rise i zero h = let e : i + 0 ≡ i = omega arith in rw e (omega arith)
-  keys-rise i (suc d) h = let e : i + suc d ≡ i + d + 1 = omega arith in rw e (omega (arith, keys-rise i d (omega arith), key-step (i + d) (omega arith)))
+  keys-rise i (suc d) h =
+      let e : i + suc d ≡ i + d + 1 = omega arith in rw e (omega (arith, keys-rise i d (omega arith), key-step (i + d) (omega arith)))
 
   -- ---- by fives
   module _ (k : ℕ) where
@@ -72,7 +75,8 @@ module _ (p : List ℕ) (n : ℕ) (o : inOrder before (readEntries p 128 n) ≡ 
     fives-start i h = absurd (omega arith)
 
     -- the entry four places on has its key under k, so all up to it have
-    pub fives-on : (r c : ℕ) → c ≡ pick (ltb (entry p (r + 4) .key) k) 1 0 → (c ≡ 0 → ⊥) → r + 4 < n → ((i : ℕ) → i < r → entry p i .key < k) → (i : ℕ) → i < r + 5 → entry p i .key < k
+    pub fives-on : (r c : ℕ) → c ≡ pick (ltb (entry p (r + 4) .key) k) 1 0 → (c ≡ 0 → ⊥) → r + 4 < n
+        → ((i : ℕ) → i < r → entry p i .key < k) → (i : ℕ) → i < r + 5 → entry p i .key < k
     fives-on r c e z l h i j = at (less i r)
       where
         at : (i < r) ⊎ (r ≤ i) → entry p i .key < k
@@ -92,7 +96,9 @@ module _ (p : List ℕ) (n : ℕ) (o : inOrder before (readEntries p 128 n) ≡ 
     place-on i r c l e f = at (ltb (entry p i .key) k) refl (less r i)
       where
         at : (b : Bool) → ltb (entry p i .key) k ≡ b → (r < i) ⊎ (i ≤ r) → Place p k (i + 1) (r + c)
-        at true g (inl q) = let (d, x) = gap r i (omega arith) in absurd (omega (arith, ltb-true (entry p i .key) k g, f .next q, rw x at (keys-rise r d (omega (arith, x)))))
+        at true g (inl q) =
+            let (d, x) = gap r i (omega arith) in
+            absurd (omega (arith, ltb-true (entry p i .key) k g, f .next q, rw x at (keys-rise r d (omega (arith, x)))))
         at true g (inr q) =
             let z : c ≡ 1 = e ∙ ap (λ (b : Bool). pick b 1 0) g in
             let y : i ≡ r = omega (arith, f .within) in
@@ -154,7 +160,8 @@ module _ (p : List ℕ) (v k n : ℕ) (o : inOrder before (readEntries p 128 n) 
         at : (b : Bool) → liveAt v (entry p i) ≡ b → Owning p v k n i (lastAlive p v i) → Owning p v k n (suc i) (lastAlive p v (suc i))
         at true a w =
             let e : i + 1 ≡ suc i = omega arith in
-            rw (alive-here p v (suc i) i refl a) (rw e at (owning-on p v k n i (lastAlive p v i) (omega (arith, f .within)) w a (omega (arith, f .below i (omega arith)))))
+            rw (alive-here p v (suc i) i refl a)
+            (rw e at (owning-on p v k n i (lastAlive p v i) (omega (arith, f .within)) w a (omega (arith, f .below i (omega arith)))))
         at false a w =
             let e : i + 1 ≡ suc i = omega arith in
             rw (alive-not p v (suc i) i refl a) (rw e at (owning-off p v k n i (lastAlive p v i) (omega (arith, f .within)) w a))

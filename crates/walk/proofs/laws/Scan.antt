@@ -42,7 +42,8 @@ module _ (p : List ℕ) (n : ℕ) where
       order-rest (entry p i) (from p (suc i) n) (rw (from-step i (omega arith), e) at (order-from i h (omega arith)))
 
   -- behind an entry whose key is above k all keys are
-  pub above-from : (v k i : ℕ) → i < n → inOrder before (readEntries p 128 n) ≡ true → k < entry p i .key → above k (live v (from p i n)) ≡ true
+  pub above-from : (v k i : ℕ) → i < n → inOrder before (readEntries p 128 n) ≡ true → k < entry p i .key
+      → above k (live v (from p i n)) ≡ true
   above-from v k i l o h =
       let e : from p i n ≡ entry p i ∷ from p (i + 1) n = from-step i l in
       let q : inOrder before (entry p i ∷ from p (i + 1) n) ≡ true = rw e at (order-from i o (omega arith)) in
@@ -52,7 +53,8 @@ module _ (v lo hi : ℕ) (e : Entry) (es : List Entry) where
   passed : (leb lo (e .key) && liveAt v e) ≡ false → between lo hi (live v (e ∷ es)) ≡ between lo hi (live v es)
   passed h = at (liveAt v e) refl (leb lo (e .key)) refl h
     where
-      at : (a : Bool) → liveAt v e ≡ a → (b : Bool) → leb lo (e .key) ≡ b → (b && a) ≡ false → between lo hi (live v (e ∷ es)) ≡ between lo hi (live v es)
+      at : (a : Bool) → liveAt v e ≡ a → (b : Bool) → leb lo (e .key) ≡ b → (b && a) ≡ false
+          → between lo hi (live v (e ∷ es)) ≡ between lo hi (live v es)
       at false x b y z = ap (between lo hi) (live-off v e es x)
       at true x false y z = ap (between lo hi) (live-on v e es x) ∙ rw y
       at true x true y z = absurd (let q : _≡_ {A = ℕ} 0 1 = cc in omega arith)
@@ -65,13 +67,16 @@ module _ (v lo hi : ℕ) (e : Entry) (es : List Entry) where
 module _ (p : List ℕ) (v lo hi n : ℕ) where
   pub next-passed : (i : ℕ) → i < n → (leb lo (entry p i .key) && liveAt v (entry p i)) ≡ false
       → between lo hi (live v (from p i n)) ≡ between lo hi (live v (from p (i + 1) n))
-  next-passed i l h = ap (λ (es : List Entry). between lo hi (live v es)) (from-step p n i l) ∙ passed v lo hi (entry p i) (from p (i + 1) n) h
+  next-passed i l h =
+      ap (λ (es : List Entry). between lo hi (live v es)) (from-step p n i l) ∙ passed v lo hi (entry p i) (from p (i + 1) n) h
 
   pub next-taken : (i : ℕ) → i < n → (leb lo (entry p i .key) && liveAt v (entry p i)) ≡ true → entry p i .key ≤ hi
       → between lo hi (live v (from p i n)) ≡ pairOf (entry p i) ∷ between lo hi (live v (from p (i + 1) n))
-  next-taken i l h u = ap (λ (es : List Entry). between lo hi (live v es)) (from-step p n i l) ∙ taken v lo hi (entry p i) (from p (i + 1) n) h u
+  next-taken i l h u =
+      ap (λ (es : List Entry). between lo hi (live v es)) (from-step p n i l) ∙ taken v lo hi (entry p i) (from p (i + 1) n) h u
 
-  pub next-above : (i : ℕ) → i < n → inOrder before (readEntries p 128 n) ≡ true → hi < entry p i .key → between lo hi (live v (from p i n)) ≡ []
+  pub next-above : (i : ℕ) → i < n → inOrder before (readEntries p 128 n) ≡ true → hi < entry p i .key
+      → between lo hi (live v (from p i n)) ≡ []
   next-above i l o h = between-above lo hi (live v (from p i n)) (above-from p n v hi i l o h)
 
   pub next-none : between lo hi (live v (from p n n)) ≡ []
@@ -88,7 +93,8 @@ unfolding first
 find-first k [] = refl
 find-first k (x ∷ xs) = at (eqb (x .key) k) refl (leb k (x .key)) refl (leb (x .key) k) refl (find-first k xs)
   where
-    at : (a : Bool) → eqb (x .key) k ≡ a → (b : Bool) → leb k (x .key) ≡ b → (c : Bool) → leb (x .key) k ≡ c → find k xs ≡ first (between k k xs)
+    at : (a : Bool) → eqb (x .key) k ≡ a → (b : Bool) → leb k (x .key) ≡ b → (c : Bool) → leb (x .key) k ≡ c
+        → find k xs ≡ first (between k k xs)
         → pick a (some (x .value)) (find k xs) ≡ first (keep (b && c) x (between k k xs))
     at true p true q true r ih = refl
     at true p false q c r ih = absurd (omega (arith, eqb-true (x .key) k p, leb-false k (x .key) q))
@@ -117,7 +123,8 @@ module _ (p : List ℕ) (v k n : ℕ) where
   module _ (i c : ℕ) (l : i < n) (w : Owning p v k n i c) where
     pub owning-on : liveAt v (entry p i) ≡ true → entry p i .key ≤ k → Owning p v k n (i + 1) (entry p i .value)
     owning-on a h =
-        let e : live v (from p i n) ≡ pairOf (entry p i) ∷ live v (from p (i + 1) n) = ap (live v) (from-step p n i l) ∙ live-on v (entry p i) (from p (i + 1) n) a in
+        let e : live v (from p i n) ≡ pairOf (entry p i) ∷ live v (from p (i + 1) n) = ap (live v) (from-step p n i l)
+        ∙ live-on v (entry p i) (from p (i + 1) n) a in
         record {
           own = w .own ∙ ap (lead k c) e ∙ lead-on k c (pairOf (entry p i)) (live v (from p (i + 1) n)) h;
           later = λ hi. w .later hi ∙ ap (trail k hi c) e ∙ trail-on k hi c (pairOf (entry p i)) (live v (from p (i + 1) n)) h;
@@ -125,7 +132,8 @@ module _ (p : List ℕ) (v k n : ℕ) where
 
     pub owning-off : liveAt v (entry p i) ≡ false → Owning p v k n (i + 1) c
     owning-off a =
-        let e : live v (from p i n) ≡ live v (from p (i + 1) n) = ap (live v) (from-step p n i l) ∙ live-off v (entry p i) (from p (i + 1) n) a in
+        let e : live v (from p i n) ≡ live v (from p (i + 1) n) = ap (live v) (from-step p n i l)
+        ∙ live-off v (entry p i) (from p (i + 1) n) a in
         record { own = w .own ∙ ap (lead k c) e; later = λ hi. w .later hi ∙ ap (trail k hi c) e }
 
     pub owning-above : inOrder before (readEntries p 128 n) ≡ true → k < entry p i .key → Owns p v k n (record { page = c; next = i })
@@ -140,4 +148,8 @@ module _ (p : List ℕ) (v k n : ℕ) where
   pub owning-end : (i c : ℕ) → i ≡ n → Owning p v k n i c → Owns p v k n (record { page = c; next = i })
   owning-end i c e w =
       let z : live v (from p i n) ≡ [] = ap (live v) (from-end p n i (omega arith)) in
-      record { within = omega arith; own = w .own ∙ ap (lead k c) z; later = λ hi. w .later hi ∙ ap (trail k hi c) z ∙ sym (ap (λ (xs : List Pair). pair k c ∷ upto hi xs) z) }
+      record {
+        within = omega arith;
+        own = w .own ∙ ap (lead k c) z;
+        later = λ hi. w .later hi ∙ ap (trail k hi c) z ∙ sym (ap (λ (xs : List Pair). pair k c ∷ upto hi xs) z);
+      }

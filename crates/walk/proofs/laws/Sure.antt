@@ -41,7 +41,8 @@ module _ {l : Limits} (d : Edition l) (b : List ℕ) (h : isSound (l .least) b �
     page-is : page (decode (l .least) b .pages) n ≡ decodePage (l .least) (pageOf (l .least) b n)
     page-is = page-at (l .least) b n five size
 
-    entries-are : page (decode (l .least) b .pages) n .entries ≡ readEntries (pageOf (l .least) b n) 128 (readHead (l .least) (pageOf (l .least) b n) .count)
+    entries-are : page (decode (l .least) b .pages) n .entries
+        ≡ readEntries (pageOf (l .least) b n) 128 (readHead (l .least) (pageOf (l .least) b n) .count)
     entries-are = ap (λ (p : Page). p .entries) page-is ∙ entries-of (l .least) (pageOf (l .least) b n)
 
     pub inside : PageStands (l .least) b n
@@ -62,8 +63,10 @@ module _ {l : Limits} (d : Edition l) (b : List ℕ) (h : isSound (l .least) b �
 -- the pages of a walk
 module _ {l : Limits} {b : List ℕ} {v : ℕ} (r : Walkable l b v) where
   pub root-covers : (k : ℕ) → k < keyLimit
-      → Covers (l .least) v (decode (l .least) b .pages) (heightOf (decode (l .least) b .pages) (rootAt (decode (l .least) b .slots) v)) (rootAt (decode (l .least) b .slots) v) k
-  root-covers k h = covers-root (l .least) (omega (arith, r .edition .four)) (decode (l .least) b) (sure (r .edition) b (r .sound)) v k (r .version) h
+      → Covers (l .least) v (decode (l .least) b .pages) (heightOf (decode (l .least) b .pages) (rootAt (decode (l .least) b .slots) v))
+      (rootAt (decode (l .least) b .slots) v) k
+  root-covers k h =
+      covers-root (l .least) (omega (arith, r .edition .four)) (decode (l .least) b) (sure (r .edition) b (r .sound)) v k (r .version) h
 
   pub covers-inside : (up n k : ℕ) → Covers (l .least) v (decode (l .least) b .pages) up n k → PageStands (l .least) b n
   covers-inside up n k c = inside (r .edition) b (r .sound) n up (c .level)

@@ -33,7 +33,8 @@ module _ (ns ms : List ℕ) where
   -- the list holds fewer numbers than pages are visited
   short : length ns < length ms → told ≡ record { number = 14; count = length ms; list = ns }
   unfolding toldIn toldBy
-  short h = ap (λ (b : Bool). listed ns (toldIn pageNumber (firstOf (rule 14 b ∷ [])) ms)) (lt-ltb (length ns) (1 * length ms) (omega arith))
+  short h =
+      ap (λ (b : Bool). listed ns (toldIn pageNumber (firstOf (rule 14 b ∷ [])) ms)) (lt-ltb (length ns) (1 * length ms) (omega arith))
 
   -- it holds them all: they are written, and nothing behind them
   enough : length ms ≤ length ns → told ≡ record { number = 0; count = length ms; list = sets ns 0 ms }
@@ -42,7 +43,8 @@ module _ (ns ms : List ℕ) where
       let e : 0 + length ms ≡ length ms = omega arith in
       ap (λ (b : Bool). listed ns (toldIn pageNumber (firstOf (rule 14 b ∷ [])) ms)) (le-ltb (length ns) (1 * length ms) (omega arith))
       ∙ ap (λ (us : List ℕ). record { number = 0; count = length ms; list = us ++ drop (length us) ns }) (pages-told ms)
-      ∙ ap (λ (us : List ℕ). record { number = 0; count = length ms; list = us }) (sym (sets-eq ms ns 0 (omega arith) ∙ ap (λ (i : ℕ). ms ++ drop i ns) e))
+      ∙ ap (λ (us : List ℕ). record { number = 0; count = length ms; list = us })
+      (sym (sets-eq ms ns 0 (omega arith) ∙ ap (λ (i : ℕ). ms ++ drop i ns) e))
 
 -- the pages are counted by the root's height
 module _ (s : Store) (k v : ℕ) (ns : List ℕ) (up : ℕ) (e : up ≡ heightOf (s .pages) (rootAt (s .slots) v)) where
@@ -50,24 +52,34 @@ module _ (s : Store) (k v : ℕ) (ns : List ℕ) (up : ℕ) (e : up ≡ heightOf
   count = omega (arith, visits-count s k v)
 
   pub visits-short : length ns < up + 1 → withList (record { number = 14; count = up + 1 }) ns ≡ told ns (lookupVisits s k v)
-  visits-short h = ap (λ (n : ℕ). record { number = 14; count = n; list = ns }) count ∙ sym (short ns (lookupVisits s k v) (omega (arith, count)))
+  visits-short h =
+      ap (λ (n : ℕ). record { number = 14; count = n; list = ns }) count ∙ sym (short ns (lookupVisits s k v) (omega (arith, count)))
 
-  pub visits-all : up + 1 ≤ length ns → (ns′ : List ℕ) → ns′ ≡ sets ns 0 (lookupVisits s k v) → withList (record { number = 0; count = up + 1 }) ns′ ≡ told ns (lookupVisits s k v)
-  visits-all h ns′ w = ap₂ (λ (n : ℕ) (us : List ℕ). record { number = 0; count = n; list = us }) count w ∙ sym (enough ns (lookupVisits s k v) (omega (arith, count)))
+  pub visits-all : up + 1 ≤ length ns → (ns′ : List ℕ) → ns′ ≡ sets ns 0 (lookupVisits s k v)
+      → withList (record { number = 0; count = up + 1 }) ns′ ≡ told ns (lookupVisits s k v)
+  visits-all h ns′ w =
+      ap₂ (λ (n : ℕ) (us : List ℕ). record { number = 0; count = n; list = us }) count w
+      ∙ sym (enough ns (lookupVisits s k v) (omega (arith, count)))
 
 -- ---- one page after the other
 
 -- a page's number has 32 bits
-pub covers-number : {l : Limits} {b : List ℕ} {v : ℕ} → Walkable l b v → (up n k : ℕ) → Covers (l .least) v (decode (l .least) b .pages) up n k → n < 2 ^ 32
+pub covers-number : {l : Limits} {b : List ℕ} {v : ℕ} → Walkable l b v → (up n k : ℕ)
+    → Covers (l .least) v (decode (l .least) b .pages) up n k → n < 2 ^ 32
 covers-number {l} {b} r up n k c = omega (arith, size (r .edition) b (r .sound) n up (c .level), whole (r .edition) b (r .sound) .most)
 
 -- no root stands more than six levels above the leaves
-pub root-height : {l : Limits} {b : List ℕ} {v : ℕ} → Walkable l b v → heightOf (decode (l .least) b .pages) (rootAt (decode (l .least) b .slots) v) ≤ 6
+pub root-height : {l : Limits} {b : List ℕ} {v : ℕ} → Walkable l b v
+    → heightOf (decode (l .least) b .pages) (rootAt (decode (l .least) b .slots) v) ≤ 6
 root-height {l} {b} {v} r =
     let s : Store = decode (l .least) b in
     let n : ℕ = rootAt (s .slots) v in
     let c = root-covers r 0 (omega arith) in
-    omega (arith, sure (r .edition) b (r .sound) .pages n (level-used (page (s .pages) n) (heightOf (s .pages) n) (c .level)) .low, c .level)
+    omega (
+      arith,
+      sure (r .edition) b (r .sound) .pages n (level-used (page (s .pages) n) (heightOf (s .pages) n) (c .level)) .low,
+      c .level,
+    )
 
 -- what the loop has: i pages are noted, and it stands at page `here`, the next
 pub record Noting (least v k : ℕ) (ps : List Page) (ns₀ ns : List ℕ) (up n i here : ℕ) : Type 0 where
@@ -100,7 +112,8 @@ module _ {least v k : ℕ} {ps : List Page} where
             within = omega arith;
             covers = covers-own least v ps (up - (i + 1)) here k noting-covers;
             same = length-set ns i here ∙ h .same;
-            list = h .list ∙ ap (λ (u : ℕ). sets ns i (pathDown u ps v k here)) left ∙ ap (λ (j : ℕ). sets (set ns i here) j (pathDown (up - (i + 1)) ps v k own)) (sym e);
+            list = h .list ∙ ap (λ (u : ℕ). sets ns i (pathDown u ps v k here)) left
+                ∙ ap (λ (j : ℕ). sets (set ns i here) j (pathDown (up - (i + 1)) ps v k own)) (sym e);
           }
 
     pub noting-end : up ≤ i → set ns i here ≡ sets ns₀ 0 (pathDown up ps v k n)

@@ -21,21 +21,25 @@ flat-append f (x ∷ xs) ys = ap (λ (zs : List _). f x ++ zs) (flat-append f xs
 
 sets-append : (ns : List ℕ) (i : ℕ) (us vs : List ℕ) → sets ns i (us ++ vs) ≡ sets (sets ns i us) (i + length us) vs
 sets-append ns i [] vs = let e : i + 0 ≡ i = omega arith in rw e
-sets-append ns i (u ∷ us) vs = let e : i + suc (length us) ≡ suc i + length us = omega arith in rw e (sets-append (set ns i u) (suc i) us vs)
+sets-append ns i (u ∷ us) vs =
+    let e : i + suc (length us) ≡ suc i + length us = omega arith in rw e (sets-append (set ns i u) (suc i) us vs)
 
 pub written-none : (w : Bool) (ns : List ℕ) (k : ℕ) → written w ns k [] ≡ ns
 unfolding written
 written-none true ns k = refl
 written-none false ns k = refl
 
-pub written-append : (w : Bool) (ns : List ℕ) (k : ℕ) (xs ys : List Pair) → written w ns k (xs ++ ys) ≡ written w (written w ns k xs) (k + length xs) ys
+pub written-append : (w : Bool) (ns : List ℕ) (k : ℕ) (xs ys : List Pair)
+    → written w ns k (xs ++ ys) ≡ written w (written w ns k xs) (k + length xs) ys
 unfolding written
 written-append true ns k xs ys =
     let e : 2 * k + length (numbers xs) ≡ 2 * (k + length xs) = omega (arith, length-numbers xs) in
-    ap (sets ns (2 * k)) (flat-append pairNumbers xs ys) ∙ sets-append ns (2 * k) (numbers xs) (numbers ys) ∙ ap (λ (i : ℕ). sets (sets ns (2 * k) (numbers xs)) i (numbers ys)) e
+    ap (sets ns (2 * k)) (flat-append pairNumbers xs ys) ∙ sets-append ns (2 * k) (numbers xs) (numbers ys)
+    ∙ ap (λ (i : ℕ). sets (sets ns (2 * k) (numbers xs)) i (numbers ys)) e
 written-append false ns k xs ys = refl
 
-pub written-step : (w : Bool) (ns : List ℕ) (k : ℕ) (x : Pair) (ys : List Pair) → written w ns k (x ∷ ys) ≡ written w (written w ns k (x ∷ [])) (k + 1) ys
+pub written-step : (w : Bool) (ns : List ℕ) (k : ℕ) (x : Pair) (ys : List Pair)
+    → written w ns k (x ∷ ys) ≡ written w (written w ns k (x ∷ [])) (k + 1) ys
 written-step w ns k x ys = written-append w ns k (x ∷ []) ys
 
 pub length-written : (w : Bool) (ns : List ℕ) (k : ℕ) (xs : List Pair) → length (written w ns k xs) ≡ length ns
@@ -53,7 +57,8 @@ unfolding written
 put-none ns k x = refl
 
 -- all of them, in a list that holds them
-pub written-all : (ns : List ℕ) (xs : List Pair) → 2 * length xs ≤ length ns → written true ns 0 xs ≡ numbers xs ++ drop (length (numbers xs)) ns
+pub written-all : (ns : List ℕ) (xs : List Pair) → 2 * length xs ≤ length ns
+    → written true ns 0 xs ≡ numbers xs ++ drop (length (numbers xs)) ns
 unfolding written
 written-all ns xs h =
     let e : 0 + length (numbers xs) ≡ length (numbers xs) = omega arith in
@@ -72,9 +77,11 @@ module _ {w : Bool} {ns : List ℕ} {k : ℕ} (xs ys : List Pair) (s : PairSpace
   space-front = record { few = omega (arith, s .few, length-append xs ys); room = λ e. omega (arith, s .room e, length-append xs ys) }
 
   pub space-rest : (ns′ : List ℕ) → length ns′ ≡ length ns → PairSpace w ns′ (k + length xs) ys
-  space-rest ns′ l = record { few = omega (arith, s .few, length-append xs ys); room = λ e. omega (arith, s .room e, length-append xs ys, l) }
+  space-rest ns′ l =
+      record { few = omega (arith, s .few, length-append xs ys); room = λ e. omega (arith, s .room e, length-append xs ys, l) }
 
-pub gathers-append : {w : Bool} {ns ns1 ns2 : List ℕ} {k k1 k2 : ℕ} {xs ys : List Pair} → PairGathers w ns ns1 k k1 xs → PairGathers w ns1 ns2 k1 k2 ys → PairGathers w ns ns2 k k2 (xs ++ ys)
+pub gathers-append : {w : Bool} {ns ns1 ns2 : List ℕ} {k k1 k2 : ℕ} {xs ys : List Pair} → PairGathers w ns ns1 k k1 xs
+    → PairGathers w ns1 ns2 k1 k2 ys → PairGathers w ns ns2 k k2 (xs ++ ys)
 gathers-append {w} {ns} {k = k} {xs = xs} {ys = ys} a b = record {
   count = omega (arith, a .count, b .count, length-append xs ys);
   list = b .list ∙ rw (a .list, a .count) (sym (written-append w ns k xs ys));
@@ -83,7 +90,8 @@ gathers-append {w} {ns} {k = k} {xs = xs} {ys = ys} a b = record {
 pub gathers-length : {w : Bool} {ns ns1 : List ℕ} {k k1 : ℕ} {xs : List Pair} → PairGathers w ns ns1 k k1 xs → length ns1 ≡ length ns
 gathers-length {w} {ns} {k = k} {xs = xs} g = ap (λ (zs : List ℕ). length zs) (g .list) ∙ length-written w ns k xs
 
-pub gathers-space : {w : Bool} {ns ns1 : List ℕ} {k k1 : ℕ} (xs ys : List Pair) → PairSpace w ns k (xs ++ ys) → PairGathers w ns ns1 k k1 xs → PairSpace w ns1 k1 ys
+pub gathers-space : {w : Bool} {ns ns1 : List ℕ} {k k1 : ℕ} (xs ys : List Pair) → PairSpace w ns k (xs ++ ys) → PairGathers w ns ns1 k k1 xs
+    → PairSpace w ns1 k1 ys
 gathers-space {w} {ns} {ns1} {k} {k1} xs ys s g = rw (g .count) (space-rest xs ys s ns1 (gathers-length g))
 
 -- what a loop that gathers has: what is left of the whole, behind the first k, with the list as it is now
@@ -98,7 +106,8 @@ gather-start s = record { count = refl; list = refl; same = refl; space = s }
 
 module _ {w : Bool} {ns₀ ns : List ℕ} {k₀ k : ℕ} {whole : List Pair} where
   -- the first of what is left is written
-  pub gather-step : (xs ys : List Pair) → PairGathering w ns₀ ns k₀ k whole (xs ++ ys) → (ns′ : List ℕ) (k′ : ℕ) → PairGathers w ns ns′ k k′ xs → PairGathering w ns₀ ns′ k₀ k′ whole ys
+  pub gather-step : (xs ys : List Pair) → PairGathering w ns₀ ns k₀ k whole (xs ++ ys) → (ns′ : List ℕ) (k′ : ℕ)
+      → PairGathers w ns ns′ k k′ xs → PairGathering w ns₀ ns′ k₀ k′ whole ys
   gather-step xs ys g ns′ k′ r = record {
     count = omega (arith, g .count, r .count, length-append xs ys);
     list = g .list ∙ written-append w ns k xs ys ∙ rw (r .list, r .count);

@@ -19,38 +19,48 @@ same-length c = search needs
 
 returns : tie.Need-returns
 returns c =
-    let a = c .before .before .before .before .args in
-    return-refused (a .l .least) (a .s .now) (a .v) (c .before .guard-returning .result) (c .before .guard-returning .ensures) (c .if1 .taken)
+    let at-start = c .before .before .before .before in
+    let a = at-start .args in
+    return-refused (a .l .least) (a .s .now) (a .v) (c .before .guard-returning .result) (c .before .guard-returning .ensures)
+    (c .if1 .taken)
 
 header-requires : tie.Need-header-requires
 header-requires c κs =
-    let e = c .before .before .before .before .before in
-    let a = e .args in
-    let h = guard-sound (a .l .least) (a .s .now) (returning (a .v)) (sym (c .before .before .guard-returning .ensures) ∙ c .before .if1 .left) in
-    (e .pre, omega (arith, front (e .pre) (a .s .now) h), few (e .pre) (a .s .now) h)
+    let at-start = c .before .before .before .before .before in
+    let a = at-start .args in
+    let h = guard-sound (a .l .least) (a .s .now) (returning (a .v))
+    (sym (c .before .before .guard-returning .ensures) ∙ c .before .if1 .left) in
+    (at-start .pre, omega (arith, front (at-start .pre) (a .s .now) h), few (at-start .pre) (a .s .now) h)
 
 add-return-to : tie.Need-add-return-to
 add-return-to c =
-    let a = c .before .before .before .before .before .before .before .before .args in
+    let at-start = c .before .before .before .before .before .before .before .before in
+    let a = at-start .args in
     omega (arith, current-lt (a .l .least) (a .s .now), ap (λ (h : Header). h .current) (c .before .before .header .ensures))
 
 return-to-requires : tie.Need-return-to-requires
 return-to-requires c κs =
-    let e = c .before .before .before .before .before .before .before .before in
+    let at-if1 = c .before .before .before .before in
+    let at-guard-returning = at-if1 .before in
+    let at-start = at-guard-returning .before .before .before in
     let h = c .before .before .header in
-    goes-back (e .pre) (e .args .s .now) (e .args .v) (sym (c .before .before .before .before .before .guard-returning .ensures) ∙ c .before .before .before .before .if1 .left) (h .result) (h .ensures)
+    goes-back (at-start .pre) (at-start .args .s .now) (at-start .args .v)
+    (sym (at-guard-returning .guard-returning .ensures) ∙ at-if1 .if1 .left) (h .result) (h .ensures)
 
 same-length-2 : tie.Need-same-length-2
 same-length-2 c = search needs
 
 returns-2 : tie.Need-returns-2
 returns-2 c =
-    let e = c .before .before .before .before .before .before .before .before .before .before .before in
-    let a = e .args in
-    let r = c .before .before .before .before .before .before .before .before .guard-returning in
-    let z = c .before .before .before .before .before .before .before .if1 .left in
-    let h = c .before .before .before .before .before .header in
-    let g = goes-back (e .pre) (a .s .now) (a .v) (sym (r .ensures) ∙ z) (h .result) (h .ensures) in
+    let at-header = c .before .before .before .before .before in
+    let at-if1 = at-header .before .before in
+    let at-guard-returning = at-if1 .before in
+    let at-start = at-guard-returning .before .before .before in
+    let a = at-start .args in
+    let r = at-guard-returning .guard-returning in
+    let z = at-if1 .if1 .left in
+    let h = at-header .header in
+    let g = goes-back (at-start .pre) (a .s .now) (a .v) (sym (r .ensures) ∙ z) (h .result) (h .ensures) in
     let u = c .before .before .return-to .ensures in
     return-done (a .l .least) (a .s .now) (a .v) (r .result) (r .ensures) z _ (g .is-next) _ _ (u .0) (u .1)
 

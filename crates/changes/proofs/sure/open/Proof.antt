@@ -15,23 +15,28 @@ same-length c = search needs
 
 returns : tie.Need-returns
 returns c =
-    let a = c .before .before .before .before .args in
+    let at-start = c .before .before .before .before in
+    let a = at-start .args in
     open-refused (a .l .least) (a .s .now) (c .before .guard-opening .result) (c .before .guard-opening .ensures) (c .if1 .taken)
 
 begin-requires : tie.Need-begin-requires
 begin-requires c κs =
-    let a = c .before .before .before .before .before .args in
+    let at-start = c .before .before .before .before .before in
+    let a = at-start .args in
     let z = sym (c .before .before .guard-opening .ensures) ∙ c .before .if1 .left in
-    (c .before .before .before .before .before .pre .0, guard-sound (a .l .least) (a .s .now) opening z)
+    (at-start .pre .0, guard-sound (a .l .least) (a .s .now) opening z)
 
 same-length-2 : tie.Need-same-length-2
 same-length-2 c = search needs
 
 returns-2 : tie.Need-returns-2
 returns-2 c =
-    let h = c .before .before .before .before in
-    let a = h .before .before .before .before .args in
-    open-done (a .l .least) (a .s .now) (h .before .guard-opening .result) (h .before .guard-opening .ensures) (h .if1 .left) _ (c .before .before .begin .ensures)
+    let at-if1 = c .before .before .before .before in
+    let at-guard-opening = at-if1 .before in
+    let at-start = at-guard-opening .before .before .before in
+    let a = at-start .args in
+    open-done (a .l .least) (a .s .now) (at-guard-opening .guard-opening .result) (at-guard-opening .guard-opening .ensures)
+    (at-if1 .if1 .left) _ (c .before .before .begin .ensures)
 
 pub open-spec : {M : Type 1} → statement M
 open-spec = tie.close (tie.spec guard-opening-requires same-length returns begin-requires same-length-2 returns-2)

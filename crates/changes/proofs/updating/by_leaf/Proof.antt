@@ -16,7 +16,8 @@ against-requires c κs = search needs
 
 returns : tie.Need-returns
 returns c =
-    let a = c .before .before .before .before .args in
+    let at-start = c .before .before .before .before in
+    let a = at-start .args in
     (c .against .ensures ∙ ap (against (a .insert)) (c .before .is-alive .ensures), (refl, c .before .before .leaf-for .ensures))
 
 pub by-leaf-spec : {M : Type 1} → statement M

@@ -21,13 +21,22 @@ enum-told-3 : tie.Need-enum-told-3
 enum-told-3 c = search needs
 
 returns : tie.Need-returns
-returns c = sym (ap lookedFound (c .enum-told .given .1)) ∙ ap lookedFound (c .before .before .lookup-at .ensures) ∙ found-is (lookup (decode (c .before .before .before .before .args .l .least) (c .before .before .before .before .args .s .now)) (c .before .before .before .before .args .key) (c .before .before .before .before .args .w))
+returns c =
+    let at-start = c .before .before .before .before in
+    sym (ap lookedFound (c .enum-told .given .1)) ∙ ap lookedFound (c .before .before .lookup-at .ensures)
+    ∙ found-is (lookup (decode (at-start .args .l .least) (at-start .args .s .now)) (at-start .args .key) (at-start .args .w))
 
 returns-2 : tie.Need-returns-2
-returns-2 c = sym (ap lookedFound (c .enum-told2 .given .1)) ∙ ap lookedFound (c .before .before .lookup-at .ensures) ∙ found-is (lookup (decode (c .before .before .before .before .args .l .least) (c .before .before .before .before .args .s .now)) (c .before .before .before .before .args .key) (c .before .before .before .before .args .w))
+returns-2 c =
+    let at-start = c .before .before .before .before in
+    sym (ap lookedFound (c .enum-told2 .given .1)) ∙ ap lookedFound (c .before .before .lookup-at .ensures)
+    ∙ found-is (lookup (decode (at-start .args .l .least) (at-start .args .s .now)) (at-start .args .key) (at-start .args .w))
 
 returns-3 : tie.Need-returns-3
-returns-3 c = sym (ap lookedFound (c .enum-told3 .given .1)) ∙ ap lookedFound (c .before .before .lookup-at .ensures) ∙ found-is (lookup (decode (c .before .before .before .before .args .l .least) (c .before .before .before .before .args .s .now)) (c .before .before .before .before .args .key) (c .before .before .before .before .args .w))
+returns-3 c =
+    let at-start = c .before .before .before .before in
+    sym (ap lookedFound (c .enum-told3 .given .1)) ∙ ap lookedFound (c .before .before .lookup-at .ensures)
+    ∙ found-is (lookup (decode (at-start .args .l .least) (at-start .args .s .now)) (at-start .args .key) (at-start .args .w))
 
 pub is-alive-spec : {M : Type 1} → statement M
 is-alive-spec =

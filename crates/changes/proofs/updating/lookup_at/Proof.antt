@@ -30,8 +30,9 @@ find-requires c κs =
 
 returns : tie.Need-returns
 returns c =
-    let a = c .before .before .before .before .args in
-    let p = c .before .before .before .before .pre in
+    let at-start = c .before .before .before .before in
+    let a = at-start .args in
+    let p = at-start .pre in
     let i = covers-inside (p .0) _ _ _ (p .1 .covers) in
     rw (c .before .head-of .ensures, c .before .before .part .ensures .0) at (c .find .ensures)
     ∙ sym (ap (λ (n : ℕ). lookedAt (find (a .key) (pairsAt (a .w) (page (decode (a .l .least) (a .s .now) .pages) n)))) (sym (p .1 .is))

@@ -22,8 +22,10 @@ same-length-3 c = search needs
 
 returns : tie.Need-returns
 returns c =
-    let a = c .before .before .before .before .before .before .answer .ensures in
-    ended (c .before .before .before .before .before .before .before .before .before .before .last .result) (c .before .before .before .before .before .before .before .before .before .before .last .ensures) a (omega (arith, a .room, c .before .out .given))
+    let at-answer = c .before .before .before .before .before .before in
+    let at-last = at-answer .before .before .before .before in
+    let a = at-answer .answer .ensures in
+    ended (at-last .last .result) (at-last .last .ensures) a (omega (arith, a .room, c .before .out .given))
 
 pub end-spec : {M : Type 1} → statement M
 end-spec =

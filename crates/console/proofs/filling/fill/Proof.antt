@@ -19,8 +19,15 @@ abbrev μ-loop : tie.MeasureT-loop
 
 loop-holds : tie.Need-loop-holds Inv-loop μ-loop
 loop-holds c =
-    let a = c .before .before .before .before .args in
-    (refl, refl, refl, omega arith, from-here (a .held) (a .bytes .now) (a .pages) (a .piece .now) (a .out .now) (omega arith) (omega arith) (c .before .before .before .before .pre .0 .3))
+    let at-start = c .before .before .before .before in
+    let a = at-start .args in (
+      refl,
+      refl,
+      refl,
+      omega arith,
+      from-here (a .held) (a .bytes .now) (a .pages) (a .piece .now) (a .out .now) (omega arith) (omega arith)
+          (at-start .pre .0 .3),
+    )
 
 sub-if1 : tie.Need-sub-if1 Inv-loop μ-loop
 sub-if1 c = c .before .loop .inv .4 .len
@@ -41,34 +48,54 @@ hear-requires c κs =
 
 answer-requires : tie.Need-answer-requires Inv-loop μ-loop
 answer-requires c κs =
-    let l = c .before .before .before .before .before .before .before .loop in
-    let a = c .before .before .before .before .before .before .before .before .before .before .before .before .pre .0 in
+    let at-loop = c .before .before .before .before .before .before .before in
+    let at-start = at-loop .before .before .before .before .before in
+    let l = at-loop .loop in
+    let a = at-start .pre .0 in
     let room : l .len + 110462 ≤ length (l .out) = omega (arith, l .inv .4 .len) in
     ((l .inv .4 .pages, l .inv .0 ∙ a .1, l .inv .1 ∙ a .2, l .inv .4 .sure), room)
 
 add-used : tie.Need-add-used Inv-loop μ-loop
 add-used c =
-    let a = c .before .before .before .before .before .before .before .before .before .before .before .before .before .before .before .before .before .before .before .before .before .args in
-    let l = c .before .before .before .before .before .before .before .before .before .before .before .before .before .before .before .before .loop in
-    let few : a .held .before + length (a .piece .now) + 1 < 18446744073709551616 = c .before .before .before .before .before .before .before .before .before .before .before .before .before .before .before .before .before .before .before .before .before .pre .1 .0 .1 in
-    let m = moves-on (a .piece .now) (l .used) (from-part (a .piece .now) (l .used) (c .before .before .before .before .before .before .before .before .before .before .before .before .hear .ensures)) (omega arith) in
-    let small : l .used + c .before .before .before .before .before .before .before .before .before .before .before .before .hear .result .used < 18446744073709551616 = omega (arith, m .1, few) in
+    let at-hear = c .before .before .before .before .before .before .before .before .before .before .before .before in
+    let at-loop = at-hear .before .before .before .before in
+    let at-start = at-loop .before .before .before .before .before in
+    let a = at-start .args in
+    let l = at-loop .loop in
+    let few : a .held .before + length (a .piece .now) + 1 < 18446744073709551616 = at-start .pre .1 .0 .1 in
+    let m = moves-on (a .piece .now) (l .used) (from-part (a .piece .now) (l .used) (at-hear .hear .ensures)) (omega arith) in
+    let small : l .used + at-hear .hear .result .used < 18446744073709551616 = omega (arith, m .1, few) in
     record { fits = small }
 
 loop-less : tie.Need-loop-less Inv-loop μ-loop
 loop-less c =
-    let l = c .before .before .before .before .before .before .before .before .before .before .before .before .before .before .before .before .loop in
-    let k = from-part (c .before .before .before .before .before .before .before .before .before .before .before .before .before .before .before .before .before .before .before .before .before .args .piece .now) (l .used) (c .before .before .before .before .before .before .before .before .before .before .before .before .hear .ensures) in
-    let m = moves-on (c .before .before .before .before .before .before .before .before .before .before .before .before .before .before .before .before .before .before .before .before .before .args .piece .now) (l .used) k (omega arith) in
+    let at-hear = c .before .before .before .before .before .before .before .before .before .before .before .before in
+    let at-loop = at-hear .before .before .before .before in
+    let at-start = at-loop .before .before .before .before .before in
+    let l = at-loop .loop in
+    let k = from-part (at-start .args .piece .now) (l .used) (at-hear .hear .ensures) in
+    let m = moves-on (at-start .args .piece .now) (l .used) k (omega arith) in
     omega (arith, m .0, m .1)
 
 loop-again : tie.Need-loop-again Inv-loop μ-loop
 loop-again c =
-    let l = c .before .before .before .before .before .before .before .before .before .before .before .before .before .before .before .before .loop in
-    let k = from-part (c .before .before .before .before .before .before .before .before .before .before .before .before .before .before .before .before .before .before .before .before .before .args .piece .now) (l .used) (c .before .before .before .before .before .before .before .before .before .before .before .before .hear .ensures) in
-    let m = moves-on (c .before .before .before .before .before .before .before .before .before .before .before .before .before .before .before .before .before .before .before .before .before .args .piece .now) (l .used) k (omega arith) in
-    let o = c .before .before .before .before .before .before .before .before .answer .ensures in
-    (c .before .before .before .before .before .before .before .bytes .given ∙ l .inv .0, c .before .before .before .before .before .list .given ∙ l .inv .1, c .before .before .before .out .given ∙ l .inv .2, omega (arith, l .inv .3, o .room, m .0), one-more (l .inv .4) k o (omega (arith, o .room, c .before .before .before .out .given)))
+    let at-out = c .before .before .before in
+    let at-list = at-out .before .before in
+    let at-bytes = at-list .before .before in
+    let at-answer = at-bytes .before in
+    let at-hear = at-answer .before .before .before .before in
+    let at-loop = at-hear .before .before .before .before in
+    let at-start = at-loop .before .before .before .before .before in
+    let l = at-loop .loop in
+    let k = from-part (at-start .args .piece .now) (l .used) (at-hear .hear .ensures) in
+    let m = moves-on (at-start .args .piece .now) (l .used) k (omega arith) in
+    let o = at-answer .answer .ensures in (
+      at-bytes .bytes .given ∙ l .inv .0,
+      at-list .list .given ∙ l .inv .1,
+      at-out .out .given ∙ l .inv .2,
+      omega (arith, l .inv .3, o .room, m .0),
+      one-more (l .inv .4) k o (omega (arith, o .room, at-out .out .given)),
+    )
 
 same-length : tie.Need-same-length Inv-loop μ-loop
 same-length c = c .before .loop .inv .0
@@ -92,7 +119,9 @@ same-length-6 : tie.Need-same-length-6 Inv-loop μ-loop
 same-length-6 c = c .before .before .loop .inv .2
 
 returns-2 : tie.Need-returns-2 Inv-loop μ-loop
-returns-2 c = (c .before .before .loop .inv .4, λ h. omega (arith, c .before .before .loop .inv .3))
+returns-2 c =
+    let at-loop = c .before .before in
+    (at-loop .loop .inv .4, λ h. omega (arith, at-loop .loop .inv .3))
 
 pub fill-spec : {M : Type 1} → statement M
 fill-spec =

@@ -24,12 +24,16 @@ same-length-3 : tie.Need-same-length-3
 same-length-3 c = search needs
 
 returns : tie.Need-returns
-returns c = rw (c .before .before .before .before .before .before .before .before .before .before .before .heard .given .1) (c .before .before .before .before .before .before .obey .ensures)
+returns c =
+    let at-obey = c .before .before .before .before .before .before in
+    let at-heard = at-obey .before .before .before .before .before in
+    rw (at-heard .heard .given .1) (at-obey .obey .ensures)
 
 returns-2 : tie.Need-returns-2
 returns-2 c =
-    let a = c .before .before .before .before .before .args in
-    rw (c .enum-told .given .1) (nothing-heard (a .bytes .now) (a .pages) (a .out .now) (a .at) (omega arith) (c .before .before .before .before .before .pre .0 .3))
+    let at-start = c .before .before .before .before .before in
+    let a = at-start .args in
+    rw (c .enum-told .given .1) (nothing-heard (a .bytes .now) (a .pages) (a .out .now) (a .at) (omega arith) (at-start .pre .0 .3))
 
 pub answer-spec : {M : Type 1} → statement M
 answer-spec =

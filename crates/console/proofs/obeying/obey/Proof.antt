@@ -20,7 +20,10 @@ same-length-3 : tie.Need-same-length-3
 same-length-3 c = search needs
 
 returns : tie.Need-returns
-returns c = obeyed (c .before .before .before .before .before .before .before .before .before .reply .ensures) (c .before .before .show .ensures .0) (c .before .before .show .ensures .1)
+returns c =
+    let at-show = c .before .before in
+    let at-reply = at-show .before .before .before .before .before .before .before in
+    obeyed (at-reply .reply .ensures) (at-show .show .ensures .0) (at-show .show .ensures .1)
 
 pub obey-spec : {M : Type 1} → statement M
 obey-spec =

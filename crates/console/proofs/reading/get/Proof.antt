@@ -21,17 +21,20 @@ slice-aggregate-lookup c = let a = c .before .before .before .args in front (a .
 
 lookup-requires : tie.Need-lookup-requires
 lookup-requires c κs =
-    let l = c .before .edition-one in
-    let h = c .before .before .before in
-    (edition-of 4 (l .ensures) (omega arith) (omega arith), surely (l .result) (h .args .bytes .now) (h .args .pages) (ap (λ (x : Limits). x .least) (l .ensures)) (h .pre .2))
+    let at-start = c .before .before .before in
+    let l = c .before .edition-one in (
+      edition-of 4 (l .ensures) (omega arith) (omega arith),
+      surely (l .result) (at-start .args .bytes .now) (at-start .args .pages) (ap (λ (x : Limits). x .least) (l .ensures))
+          (at-start .pre .2),
+    )
 
 looked-requires : tie.Need-looked-requires
 looked-requires c κs = search needs
 
 returns : tie.Need-returns
 returns c =
-    let d = c .before .before .before in
-    let four : d .edition-one .result .least ≡ 4 = ap (λ (l : Limits). l .least) (d .edition-one .ensures) in
+    let at-edition-one = c .before .before .before in
+    let four : at-edition-one .edition-one .result .least ≡ 4 = ap (λ (l : Limits). l .least) (at-edition-one .edition-one .ensures) in
     c .looked .ensures ∙ ap looked (rw four at (c .before .lookup .ensures))
 
 pub get-spec : {M : Type 1} → statement M

@@ -18,7 +18,9 @@ slice-reshare-prefix-write-all : tie.Need-slice-reshare-prefix-write-all
 slice-reshare-prefix-write-all c = search needs
 
 slice-aggregate-write-all : tie.Need-slice-aggregate-write-all
-slice-aggregate-write-all c = let e = c .before .before .before .before .before .before .before in sym (length-take-le (e .end .result) (e .end .last .1 .1 .1 .1 .0) (e .end .ensures .room))
+slice-aggregate-write-all c =
+    let at-end = c .before .before .before .before .before .before .before in
+    sym (length-take-le (at-end .end .result) (at-end .end .last .1 .1 .1 .1 .0) (at-end .end .ensures .room))
 
 write-all-requires : tie.Need-write-all-requires
 write-all-requires c κs = search needs

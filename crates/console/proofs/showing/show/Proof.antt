@@ -16,7 +16,12 @@ same-length c = search needs
 
 returns : tie.Need-returns
 returns c =
-    (then-put (c .before .before .before .before .before .before .say .ensures .0) (c .before .before .show-settings .ensures .0) (omega (arith, c .before .before .before .before .before .before .say .ensures .0 .behind, c .before .before .before .before .before .before .say .ensures .1)), omega (arith, c .before .before .before .before .before .before .say .ensures .1, c .before .before .show-settings .ensures .1))
+    let at-show-settings = c .before .before in
+    let at-say = at-show-settings .before .before .before .before in (
+      then-put (at-say .say .ensures .0) (at-show-settings .show-settings .ensures .0)
+          (omega (arith, at-say .say .ensures .0 .behind, at-say .say .ensures .1)),
+      omega (arith, at-say .say .ensures .1, at-show-settings .show-settings .ensures .1),
+    )
 
 pub show-spec : {M : Type 1} → statement M
 show-spec = tie.close (tie.spec say-requires show-settings-requires same-length returns)

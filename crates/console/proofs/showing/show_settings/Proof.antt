@@ -16,7 +16,9 @@ abbrev μ-loop : tie.MeasureT-loop
 μ-loop list count out₀ at i₀ e₀ out i e = count - i
 
 loop-holds : tie.Need-loop-holds Inv-loop μ-loop
-loop-holds c = (omega arith, refl, omega arith, put-none (c .before .before .args .out .now) (c .before .before .args .at))
+loop-holds c =
+    let at-start = c .before .before in
+    (omega arith, refl, omega arith, put-none (at-start .args .out .now) (at-start .args .at))
 
 mul-key : tie.Need-mul-key Inv-loop μ-loop
 mul-key c = search needs
@@ -50,17 +52,25 @@ loop-less c = search needs
 
 loop-again : tie.Need-loop-again Inv-loop μ-loop
 loop-again c =
-    let a = c .before .before .before .before .before .before .before .before .before .before .args in
-    let i = c .before .before .before .before .before .before .before .loop .i in
-    let inv = c .before .before .before .before .before .before .before .loop .inv in
-    (omega arith, c .before .out .given ∙ inv .1, omega (arith, c .before .before .say .ensures .1), put-more (a .list .now) i (omega arith) (inv .3) (c .before .before .say .ensures .0) (omega (arith, inv .3 .behind)))
+    let at-say = c .before .before in
+    let at-loop = at-say .before .before .before .before .before in
+    let at-start = at-loop .before .before .before in
+    let a = at-start .args in
+    let i = at-loop .loop .i in
+    let inv = at-loop .loop .inv in (
+      omega arith,
+      c .before .out .given ∙ inv .1,
+      omega (arith, at-say .say .ensures .1),
+      put-more (a .list .now) i (omega arith) (inv .3) (at-say .say .ensures .0) (omega (arith, inv .3 .behind)),
+    )
 
 same-length : tie.Need-same-length Inv-loop μ-loop
 same-length c = search needs
 
 returns : tie.Need-returns Inv-loop μ-loop
 returns c =
-    let a = c .before .before .before .before .args in
+    let at-start = c .before .before .before .before in
+    let a = at-start .args in
     let l = c .before .loop in
     let e : l .i ≡ a .count = omega arith in
     (subst (λ (n : ℕ). Put (a .out .now) (a .at) (shown (a .list .now) n) (l .out) (l .e)) e (l .inv .3), omega arith)

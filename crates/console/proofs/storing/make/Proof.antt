@@ -17,16 +17,20 @@ refused-requires c κs = search needs
 
 returns : tie.Need-returns
 returns c =
-    let a = c .before .before .before .args in
-    subst (λ (r : Reply). Single (stored 4 (storeIn (a .bytes .now) (a .pages)) (a .n)) (a .bytes .now) r) (sym (c .refused .ensures)) (few-kept (a .bytes .now) (a .n) (a .pages) (omega arith) (c .before .before .before .pre .2) (omega arith))
+    let at-start = c .before .before .before in
+    let a = at-start .args in
+    subst (λ (r : Reply). Single (stored 4 (storeIn (a .bytes .now) (a .pages)) (a .n)) (a .bytes .now) r) (sym (c .refused .ensures))
+    (few-kept (a .bytes .now) (a .n) (a .pages) (omega arith) (at-start .pre .2) (omega arith))
 
 refused-requires-2 : tie.Need-refused-requires-2
 refused-requires-2 c κs = search needs
 
 returns-2 : tie.Need-returns-2
 returns-2 c =
-    let a = c .before .before .before .before .args in
-    subst (λ (r : Reply). Single (stored 4 (storeIn (a .bytes .now) (a .pages)) (a .n)) (a .bytes .now) r) (sym (c .refused2 .ensures)) (many-kept (a .bytes .now) (a .n) (a .pages) (omega arith) (c .before .before .before .before .pre .2) (omega arith))
+    let at-start = c .before .before .before .before in
+    let a = at-start .args in
+    subst (λ (r : Reply). Single (stored 4 (storeIn (a .bytes .now) (a .pages)) (a .n)) (a .bytes .now) r) (sym (c .refused2 .ensures))
+    (many-kept (a .bytes .now) (a .n) (a .pages) (omega arith) (at-start .pre .2) (omega arith))
 
 mul-e : tie.Need-mul-e
 mul-e c = search needs
@@ -35,7 +39,9 @@ slice-relend-prefix-fresh : tie.Need-slice-relend-prefix-fresh
 slice-relend-prefix-fresh c = search needs
 
 slice-aggregate-fresh : tie.Need-slice-aggregate-fresh
-slice-aggregate-fresh c = front (c .before .before .before .before .args .bytes .now) (c .before .before .before .before .args .n) (omega arith) (omega arith)
+slice-aggregate-fresh c =
+    let at-start = c .before .before .before .before in
+    front (at-start .args .bytes .now) (at-start .args .n) (omega arith) (omega arith)
 
 fresh-requires : tie.Need-fresh-requires
 fresh-requires c κs = search needs
@@ -45,8 +51,13 @@ same-length c = search needs
 
 returns-3 : tie.Need-returns-3
 returns-3 c =
-    let a = c .before .before .before .before .before .before .before .args in
-    made-new (storeIn (a .bytes .now) (a .pages)) (storeIn (a .bytes .now) (a .n)) (c .before .before .fresh .last .0) (drop (a .n * 256) (a .bytes .now)) (a .n) (front (a .bytes .now) (a .n) (omega arith) (omega arith)) (front (a .bytes .now) (a .n) (omega arith) (omega arith) ∙ sym (c .before .bytes .given .0)) (c .before .before .fresh .ensures .1) (omega arith) (omega arith)
+    let at-fresh = c .before .before in
+    let at-start = at-fresh .before .before .before .before .before in
+    let a = at-start .args in
+    made-new (storeIn (a .bytes .now) (a .pages)) (storeIn (a .bytes .now) (a .n)) (at-fresh .fresh .last .0)
+    (drop (a .n * 256) (a .bytes .now)) (a .n) (front (a .bytes .now) (a .n) (omega arith) (omega arith))
+    (front (a .bytes .now) (a .n) (omega arith) (omega arith) ∙ sym (c .before .bytes .given .0)) (at-fresh .fresh .ensures .1)
+    (omega arith) (omega arith)
 
 pub make-spec : {M : Type 1} → statement M
 make-spec =

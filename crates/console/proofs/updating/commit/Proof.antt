@@ -21,7 +21,8 @@ none-requires c κs = search needs
 returns : tie.Need-returns
 returns c =
     let a = c .before .before .before .args in
-    subst (λ (r : Reply). Single (outcome (commitLent 4 (storeIn (a .bytes .now) (a .pages)))) (a .bytes .now) r) (sym (c .none .ensures)) (commit-none (a .bytes .now) (a .pages) (c .before .if1 .taken))
+    subst (λ (r : Reply). Single (outcome (commitLent 4 (storeIn (a .bytes .now) (a .pages)))) (a .bytes .now) r) (sym (c .none .ensures))
+    (commit-none (a .bytes .now) (a .pages) (c .before .if1 .taken))
 
 edition-one-requires : tie.Need-edition-one-requires
 edition-one-requires c κs = search needs
@@ -33,14 +34,16 @@ slice-relend-prefix-commit : tie.Need-slice-relend-prefix-commit
 slice-relend-prefix-commit c = search needs
 
 slice-aggregate-commit : tie.Need-slice-aggregate-commit
-slice-aggregate-commit c = let a = c .before .before .before .before .args in front (a .bytes .now) (a .pages) (omega arith) (omega arith)
+slice-aggregate-commit c =
+    let at-start = c .before .before .before .before in
+    let a = at-start .args in front (a .bytes .now) (a .pages) (omega arith) (omega arith)
 
 commit-requires : tie.Need-commit-requires
 commit-requires c κs =
+    let at-start = c .before .before .before .before in
     let l = c .before .edition-one in
-    let h = c .before .before .before .before in
     let four = ap (λ (x : Limits). x .least) (l .ensures) in
-    (edition-of 4 (l .ensures) (omega arith) (omega arith), λ t. rw four (h .pre .2 (omega arith)))
+    (edition-of 4 (l .ensures) (omega arith) (omega arith), λ t. rw four (at-start .pre .2 (omega arith)))
 
 answer-requires : tie.Need-answer-requires
 answer-requires c κs = search needs
@@ -50,12 +53,15 @@ same-length c = search needs
 
 returns-2 : tie.Need-returns-2
 returns-2 c =
-    let a = c .before .before .before .before .before .before .before .before .args in
+    let at-edition-one = c .before .before .before .before .before in
+    let at-start = at-edition-one .before .before .before in
+    let a = at-start .args in
     let r = c .before .before .before .commit in
-    let four : c .before .before .before .before .before .edition-one .result .least ≡ 4 = ap (λ (l : Limits). l .least) (c .before .before .before .before .before .edition-one .ensures) in
-    updated _ (r .result) (a .pages) (r .last .0) (drop (a .pages * 256) (a .bytes .now)) (c .answer .result) (rw four at (r .ensures)) (c .answer .ensures)
+    let four : at-edition-one .edition-one .result .least ≡ 4 = ap (λ (l : Limits). l .least) (at-edition-one .edition-one .ensures) in
+    updated _ (r .result) (a .pages) (r .last .0) (drop (a .pages * 256) (a .bytes .now)) (c .answer .result) (rw four at (r .ensures))
+    (c .answer .ensures)
     (front (a .bytes .now) (a .pages) (omega arith) (omega arith) ∙ sym (c .before .before .bytes .given .0)) (omega arith)
-    (λ t. commit-stays (storeIn (a .bytes .now) (a .pages)) (c .before .before .before .before .before .before .before .before .pre .2 t))
+    (λ t. commit-stays (storeIn (a .bytes .now) (a .pages)) (at-start .pre .2 t))
 
 pub commit-spec : {M : Type 1} → statement M
 commit-spec =

@@ -14,12 +14,14 @@ same-length c = search needs
 
 returns : tie.Need-returns
 returns c =
-    let a = c .before .before .before .before .before .args in
+    let at-start = c .before .before .before .before .before in
+    let a = at-start .args in
     refused-so (a .s .now) (a .t .now) _ (c .before .guard .ensures) (c .if1 .taken)
 
 convert-in-requires : tie.Need-convert-in-requires
 convert-in-requires c κs =
-    let a = c .before .before .before .before .before .before .args in
+    let at-start = c .before .before .before .before .before .before in
+    let a = at-start .args in
     let p = passes (a .s .now) (a .t .now) (sym (c .before .before .guard .ensures) ∙ c .before .if1 .left) in
     (p .sound, p .long)
 
@@ -28,8 +30,11 @@ same-length-2 c = search needs
 
 returns-2 : tie.Need-returns-2
 returns-2 c =
-    let a = c .before .before .before .before .before .before .before .before .before .args in
-    done-so (a .s .now) (a .t .now) (sym (c .before .before .before .before .before .guard .ensures) ∙ c .before .before .before .before .if1 .left) _ (c .before .before .convert-in .ensures)
+    let at-if1 = c .before .before .before .before in
+    let at-guard = at-if1 .before in
+    let at-start = at-guard .before .before .before .before in
+    let a = at-start .args in
+    done-so (a .s .now) (a .t .now) (sym (at-guard .guard .ensures) ∙ at-if1 .if1 .left) _ (c .before .before .convert-in .ensures)
 
 pub convert-spec : {M : Type 1} → statement M
 convert-spec = tie.close (tie.spec guard-requires same-length returns convert-in-requires same-length-2 returns-2)

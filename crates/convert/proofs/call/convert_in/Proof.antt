@@ -16,9 +16,11 @@ edition-two-requires c κs = search needs
 
 replay-requires : tie.Need-replay-requires
 replay-requires c κs =
-    let a = c .before .before .before .before .before .before .before .before .before .args in
-    let p = c .before .before .before .before .before .before .before .before .before .pre in
-    let f = c .before .before .before .before .before .fresh-second .ensures .1 ∙ fresh-made (a .t .now) (a .t .now) refl (p .1) in
+    let at-fresh-second = c .before .before .before .before .before in
+    let at-start = at-fresh-second .before .before .before .before in
+    let a = at-start .args in
+    let p = at-start .pre in
+    let f = at-fresh-second .fresh-second .ensures .1 ∙ fresh-made (a .t .now) (a .t .now) refl (p .1) in
     let k = c .before .before .edition-one .ensures in
     let l = c .edition-two .ensures in
     starts (a .s .now) (a .t .now) (p .0) (p .1) _ _ k l _ f
@@ -28,12 +30,17 @@ same-length c = search needs
 
 returns : tie.Need-returns
 returns c =
-    let a = c .before .before .before .before .before .before .before .before .before .before .before .before .before .args in
-    let p = c .before .before .before .before .before .before .before .before .before .before .before .before .before .pre in
-    let f = c .before .before .before .before .before .before .before .before .before .fresh-second .ensures .1 ∙ fresh-made (a .t .now) (a .t .now) refl (p .1) in
-    let k = c .before .before .before .before .before .before .edition-one .ensures in
-    let l = c .before .before .before .before .edition-two .ensures in
-    all-done (a .s .now) (a .t .now) (p .0) (p .1) _ _ k l _ f _ _ (c .before .before .before .replay .ensures) (c .if1 .taken) (λ i. c .before .slice-known3 .given i .fits)
+    let at-edition-two = c .before .before .before .before in
+    let at-edition-one = at-edition-two .before .before in
+    let at-fresh-second = at-edition-one .before .before .before in
+    let at-start = at-fresh-second .before .before .before .before in
+    let a = at-start .args in
+    let p = at-start .pre in
+    let f = at-fresh-second .fresh-second .ensures .1 ∙ fresh-made (a .t .now) (a .t .now) refl (p .1) in
+    let k = at-edition-one .edition-one .ensures in
+    let l = at-edition-two .edition-two .ensures in
+    all-done (a .s .now) (a .t .now) (p .0) (p .1) _ _ k l _ f _ _ (c .before .before .before .replay .ensures) (c .if1 .taken)
+    (λ i. c .before .slice-known3 .given i .fits)
 
 fresh-second-requires-2 : tie.Need-fresh-second-requires-2
 fresh-second-requires-2 c κs = search needs
@@ -43,13 +50,20 @@ same-length-2 c = search needs
 
 returns-2 : tie.Need-returns-2
 returns-2 c =
-    let a = c .before .before .before .before .before .before .before .before .before .before .before .before .before .before .before .before .before .args in
-    let p = c .before .before .before .before .before .before .before .before .before .before .before .before .before .before .before .before .before .pre in
-    let f = c .before .before .before .before .before .before .before .before .before .before .before .before .before .fresh-second .ensures .1 ∙ fresh-made (a .t .now) (a .t .now) refl (p .1) in
-    let k = c .before .before .before .before .before .before .before .before .before .before .edition-one .ensures in
-    let l = c .before .before .before .before .before .before .before .before .edition-two .ensures in
-    one-stops (a .s .now) (a .t .now) (p .0) (p .1) _ _ k l _ f _ _ (c .before .before .before .before .before .before .before .replay .ensures) (c .before .before .before .before .if1 .left) _
-    (c .before .before .fresh-second2 .ensures .1 ∙ fresh-made _ (a .t .now) (c .before .before .before .before .before .before .before .replay .kept .1 .1 .0 ∙ c .before .before .before .before .before .before .before .before .before .before .before .before .before .fresh-second .kept .0) (p .1))
+    let at-if1 = c .before .before .before .before in
+    let at-replay = at-if1 .before .before .before in
+    let at-edition-two = at-replay .before in
+    let at-edition-one = at-edition-two .before .before in
+    let at-fresh-second = at-edition-one .before .before .before in
+    let at-start = at-fresh-second .before .before .before .before in
+    let a = at-start .args in
+    let p = at-start .pre in
+    let f = at-fresh-second .fresh-second .ensures .1 ∙ fresh-made (a .t .now) (a .t .now) refl (p .1) in
+    let k = at-edition-one .edition-one .ensures in
+    let l = at-edition-two .edition-two .ensures in
+    one-stops (a .s .now) (a .t .now) (p .0) (p .1) _ _ k l _ f _ _ (at-replay .replay .ensures) (at-if1 .if1 .left) _
+    (c .before .before .fresh-second2 .ensures .1
+    ∙ fresh-made _ (a .t .now) (at-replay .replay .kept .1 .1 .0 ∙ at-fresh-second .fresh-second .kept .0) (p .1))
 
 pub convert-in-spec : {M : Type 1} → statement M
 convert-in-spec =

@@ -37,51 +37,75 @@ slots-change-requires c κs =
 
 loop-holds : tie.Need-loop-holds Inv-loop μ-loop
 loop-holds c =
-    let a = c .before .before .before .before .args in
-    let p = c .before .before .before .before .pre in
+    let at-start = c .before .before .before .before in
+    let a = at-start .args in
+    let p = at-start .pre in
     let n = ap (λ (h : Header). h .roots) (c .before .before .header .ensures) in
-    let x = c .slots-change .ensures in
-    (omega arith, omega (arith, c .before .size .ensures, whole (p .0) (a .s .now) (p .1) .six), x .0, λ i l. x .1 i (omega (arith, l, n)), λ m five l. absurd (omega (arith, five, l)))
+    let x = c .slots-change .ensures in (
+      omega arith,
+      omega (arith, c .before .size .ensures, whole (p .0) (a .s .now) (p .1) .six),
+      x .0,
+      λ i l. x .1 i (omega (arith, l, n)),
+      λ m five l. absurd (omega (arith, five, l)),
+    )
 
 part-requires : tie.Need-part-requires Inv-loop μ-loop
 part-requires c κs =
-    let a = c .before .before .before .before .before .before .args in
-    let p = c .before .before .before .before .before .before .pre in
-    (p .0, part-in (p .0) (a .s .now) (p .1) (c .before .loop .n) (omega (arith, c .loop-test .taken, c .before .before .before .size .ensures)), few (p .0) (a .s .now) (p .1))
+    let at-start = c .before .before .before .before .before .before in
+    let a = at-start .args in
+    let p = at-start .pre in (
+      p .0,
+      part-in (p .0) (a .s .now) (p .1) (c .before .loop .n)
+          (omega (arith, c .loop-test .taken, c .before .before .before .size .ensures)),
+      few (p .0) (a .s .now) (p .1),
+    )
 
 page-change-requires : tie.Need-page-change-requires Inv-loop μ-loop
 page-change-requires c κs =
-    let a = c .before .before .before .before .before .before .before .args in
-    let p = c .before .before .before .before .before .before .before .pre in
+    let at-size = c .before .before .before .before in
+    let at-start = at-size .before .before .before in
+    let a = at-start .args in
+    let p = at-start .pre in
     let i = c .before .before .loop in
-    let less : i .n < sizeOf (a .k .least) (a .s .now) = omega (arith, c .before .loop-test .taken, c .before .before .before .before .size .ensures) in
+    let less : i .n < sizeOf (a .k .least) (a .s .now) = omega (arith, c .before .loop-test .taken, at-size .size .ensures) in
     (p .0, c .part .ensures .1, rw (c .part .ensures .0) (room (p .0) (a .s .now) (p .1) (i .n) (i .inv .0) less), i .inv .2 .above)
 
 add-n : tie.Need-add-n Inv-loop μ-loop
 add-n c =
-    let a = c .before .before .before .before .before .before .before .before .args in
-    let p = c .before .before .before .before .before .before .before .before .pre in
-    omega (arith, c .before .before .loop-test .taken, c .before .before .before .before .before .size .ensures, whole (p .0) (a .s .now) (p .1) .most)
+    let at-size = c .before .before .before .before .before in
+    let at-start = at-size .before .before .before in
+    let a = at-start .args in
+    let p = at-start .pre in
+    omega (arith, c .before .before .loop-test .taken, at-size .size .ensures, whole (p .0) (a .s .now) (p .1) .most)
 
 loop-less : tie.Need-loop-less Inv-loop μ-loop
 loop-less c = omega (arith, c .before .before .loop-test .taken)
 
 loop-again : tie.Need-loop-again Inv-loop μ-loop
 loop-again c =
-    let a = c .before .before .before .before .before .before .before .before .args in
+    let at-start = c .before .before .before .before .before .before .before .before in
+    let a = at-start .args in
     let i = c .before .before .before .loop in
     let x = c .page-change .ensures in (
       omega (arith, i .inv .0),
       omega (arith, c .before .before .loop-test .taken),
       record { below = omega (arith, x .0 .below, i .inv .2 .below); above = x .0 .above },
-      slots-less (λ (j : ℕ). slotAt (a .k .least) (a .s .now) j .version) _ (a .v) (i .q) (c .page-change .result) (i .inv .3) (x .0 .below),
-      parts-more (a .k .least) (λ (m : ℕ). pageOf (a .k .least) (a .s .now) m) (i .n) (a .v) (i .q) (c .page-change .result) (i .inv .4) (x .0 .below) (rw (c .before .part .ensures .0) at (x .1)),
+      slots-less (λ (j : ℕ). slotAt (a .k .least) (a .s .now) j .version) _ (a .v) (i .q) (c .page-change .result) (i .inv .3)
+          (x .0 .below),
+      parts-more (a .k .least) (λ (m : ℕ). pageOf (a .k .least) (a .s .now) m) (i .n) (a .v) (i .q) (c .page-change .result) (i .inv .4)
+          (x .0 .below) (rw (c .before .part .ensures .0) at (x .1)),
     )
 
 returns : tie.Need-returns Inv-loop μ-loop
 returns c =
-    let i = c .before .loop in
-    (i .inv .2, record { slots = i .inv .3; pages = λ m five l. i .inv .4 m five (omega (arith, l, c .loop-test .left, c .before .before .before .size .ensures)) })
+    let i = c .before .loop in (
+      i .inv .2,
+      record {
+        slots = i .inv .3;
+        pages = λ m five l. i .inv .4 m five
+            (omega (arith, l, c .loop-test .left, c .before .before .before .size .ensures));
+      },
+    )
 
 pub next-change-spec : {M : Type 1} → statement M
 next-change-spec =

@@ -16,7 +16,8 @@ sub-w c = omega (arith, c .next-change .ensures .0 .above)
 
 move-on-requires : tie.Need-move-on-requires
 move-on-requires c κs =
-    let p = c .before .before .before .before .pre in
+    let at-start = c .before .before .before .before in
+    let p = at-start .pre in
     (p .0 .into, p .0 .target, omega (arith, c .before .next-change .ensures .0 .below, p .1, source-low (p .0)))
 
 same-length : tie.Need-same-length
@@ -24,9 +25,11 @@ same-length c = search needs
 
 returns : tie.Need-returns
 returns c =
-    let e = c .before .before .before .before .before .before .before in
-    let x = c .before .before .before .before .next-change in
-    skipped (e .pre .0) (e .args .c) (x .result) (e .pre .1) (e .pre .2) (x .ensures .0) (x .ensures .1) _ (c .before .before .move-on .ensures)
+    let at-next-change = c .before .before .before .before in
+    let at-start = at-next-change .before .before .before in
+    let x = at-next-change .next-change in
+    skipped (at-start .pre .0) (at-start .args .c) (x .result) (at-start .pre .1) (at-start .pre .2) (x .ensures .0) (x .ensures .1) _
+    (c .before .before .move-on .ensures)
 
 pub skip-spec : {M : Type 1} → statement M
 skip-spec = tie.close (tie.spec add-next-change next-change-requires sub-w move-on-requires same-length returns)

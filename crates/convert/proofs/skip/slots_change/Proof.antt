@@ -26,30 +26,39 @@ loop-holds c = (omega arith, record { below = omega arith; above = c .before .be
 
 slot-requires : tie.Need-slot-requires Inv-loop μ-loop
 slot-requires c κs =
-    let a = c .before .before .before .before .args in
-    let p = c .before .before .before .before .pre in
-    let n = ap (λ (h : Header). h .roots) (p .2) in
-    (p .0, omega (arith, front (p .0) (a .s .now) (p .1)), omega (arith, c .loop-test .taken, c .before .before .wide .ensures, n, roots (p .0) (a .s .now) (p .1)), few (p .0) (a .s .now) (p .1))
+    let at-start = c .before .before .before .before in
+    let a = at-start .args in
+    let p = at-start .pre in
+    let n = ap (λ (h : Header). h .roots) (p .2) in (
+      p .0,
+      omega (arith, front (p .0) (a .s .now) (p .1)),
+      omega (arith, c .loop-test .taken, c .before .before .wide .ensures, n, roots (p .0) (a .s .now) (p .1)),
+      few (p .0) (a .s .now) (p .1),
+    )
 
 sooner-requires : tie.Need-sooner-requires Inv-loop μ-loop
 sooner-requires c κs = c .before .before .loop .inv .1 .above
 
 add-i : tie.Need-add-i Inv-loop μ-loop
 add-i c =
-    let a = c .before .before .before .before .before .before .args in
-    let p = c .before .before .before .before .before .before .pre in
+    let at-wide = c .before .before .before .before in
+    let at-start = at-wide .before .before in
+    let a = at-start .args in
+    let p = at-start .pre in
     let n = ap (λ (h : Header). h .roots) (p .2) in
-    omega (arith, c .before .before .loop-test .taken, c .before .before .before .before .wide .ensures, n, roots (p .0) (a .s .now) (p .1), p .0 .eight)
+    omega (arith, c .before .before .loop-test .taken, at-wide .wide .ensures, n, roots (p .0) (a .s .now) (p .1), p .0 .eight)
 
 loop-less : tie.Need-loop-less Inv-loop μ-loop
 loop-less c = omega (arith, c .before .before .loop-test .taken)
 
 loop-again : tie.Need-loop-again Inv-loop μ-loop
 loop-again c =
-    let a = c .before .before .before .before .before .before .args in let i = c .before .before .before .loop in let x = c .sooner .ensures in (
+    let at-start = c .before .before .before .before .before .before in
+    let a = at-start .args in let i = c .before .before .before .loop in let x = c .sooner .ensures in (
       omega (arith, c .before .before .loop-test .taken),
       record { below = omega (arith, x .0 .below, i .inv .1 .below); above = x .0 .above },
-      outs-more (λ (j : ℕ). slotAt (a .k .least) (a .s .now) j .version) (i .i) (a .v) (i .q) (c .sooner .result) (i .inv .2) (x .0 .below) (rw (c .before .slot .ensures) at (x .1)),
+      outs-more (λ (j : ℕ). slotAt (a .k .least) (a .s .now) j .version) (i .i) (a .v) (i .q) (c .sooner .result) (i .inv .2) (x .0 .below)
+          (rw (c .before .slot .ensures) at (x .1)),
     )
 
 returns : tie.Need-returns Inv-loop μ-loop

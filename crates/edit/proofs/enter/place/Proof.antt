@@ -10,7 +10,8 @@ use Rattle.edit.proofs.enter.place.Statement.{statement}
 use Rattle.edit.proofs.enter.place.Tie as tie
 
 abbrev Inv-loop : tie.InvT-loop
-Inv-loop page count key start i₀ i = (i ≤ count) × (placeOf key start (readEntries page 128 count) ≡ i + placeOf key start (readEntries page (128 + 96 * i) (count - i)))
+Inv-loop page count key start i₀ i =
+    (i ≤ count) × (placeOf key start (readEntries page 128 count) ≡ i + placeOf key start (readEntries page (128 + 96 * i) (count - i)))
 
 abbrev μ-loop : tie.MeasureT-loop
 μ-loop page count key start i₀ i = count - i
@@ -26,8 +27,16 @@ stands-before-requires c κs = search needs
 
 returns : tie.Need-returns Inv-loop μ-loop
 returns c =
-    let l = c .before .before .before .before .loop in let a = c .before .before .before .before .before .before .args in
-    omega (arith, l .inv .1, place-here (a .page .now) (a .key) (a .start) (l .i) (a .count) (omega arith) (sym (c .before .stands-before .ensures ∙ ap (beforeOf (a .key) (a .start)) (c .before .before .entry-at .ensures)) ∙ c .if1 .taken))
+    let at-loop = c .before .before .before .before in
+    let at-start = at-loop .before .before in
+    let l = at-loop .loop in let a = at-start .args in
+    omega (
+      arith,
+      l .inv .1,
+      place-here (a .page .now) (a .key) (a .start) (l .i) (a .count) (omega arith)
+          (sym (c .before .stands-before .ensures ∙ ap (beforeOf (a .key) (a .start)) (c .before .before .entry-at .ensures))
+          ∙ c .if1 .taken),
+    )
 
 add-i : tie.Need-add-i Inv-loop μ-loop
 add-i c = search needs
@@ -37,8 +46,18 @@ loop-less c = omega arith
 
 loop-again : tie.Need-loop-again Inv-loop μ-loop
 loop-again c =
-    let l = c .before .before .before .before .loop in let a = c .before .before .before .before .before .before .args in
-    (omega arith, omega (arith, l .inv .1, place-later (a .page .now) (a .key) (a .start) (l .i) (a .count) (omega arith) (sym (c .before .stands-before .ensures ∙ ap (beforeOf (a .key) (a .start)) (c .before .before .entry-at .ensures)) ∙ c .if1 .left)))
+    let at-loop = c .before .before .before .before in
+    let at-start = at-loop .before .before in
+    let l = at-loop .loop in let a = at-start .args in (
+      omega arith,
+      omega (
+        arith,
+        l .inv .1,
+        place-later (a .page .now) (a .key) (a .start) (l .i) (a .count) (omega arith)
+            (sym (c .before .stands-before .ensures ∙ ap (beforeOf (a .key) (a .start)) (c .before .before .entry-at .ensures))
+            ∙ c .if1 .left),
+      ),
+    )
 
 returns-2 : tie.Need-returns-2 Inv-loop μ-loop
 returns-2 c =

@@ -20,30 +20,51 @@ cast-if1 : tie.Need-cast-if1
 cast-if1 c = search needs
 
 -- the entries of the page
-count-is : (c : tie.After-head-of) → c .head-of .result .count ≡ countOf (c .before .before .args .l .least) (c .before .before .args .page .now)
-count-is c = ap (λ h. h .count) (c .head-of .ensures) ∙ sym (count-of (c .before .before .args .l .least) (c .before .before .args .page .now))
+count-is : (c : tie.After-head-of) →
+    let at-start = c .before .before in
+    c .head-of .result .count ≡ countOf (at-start .args .l .least) (at-start .args .page .now)
+count-is c =
+    let at-start = c .before .before in
+    ap (λ h. h .count) (c .head-of .ensures) ∙ sym (count-of (at-start .args .l .least) (at-start .args .page .now))
 
-long-is : (c : tie.After-head-of) → length (decodePage (c .before .before .args .l .least) (c .before .before .args .page .now) .entries) ≡ c .head-of .result .count
+long-is : (c : tie.After-head-of) →
+    let at-start = c .before .before in
+    length (decodePage (at-start .args .l .least) (at-start .args .page .now) .entries) ≡ c .head-of .result .count
 long-is c =
-    let least = c .before .before .args .l .least in
-    let p = c .before .before .args .page .now in
+    let at-start = c .before .before in
+    let least = at-start .args .l .least in
+    let p = at-start .args .page .now in
     ap length (entries-of least p) ∙ length-entries p 128 _ ∙ sym (ap (λ h. h .count) (c .head-of .ensures))
 
 add-if1 : tie.Need-add-if1
-add-if1 c = omega (arith, count-is (c .before .before), c .before .before .before .before .pre .0 .room, c .before .before .before .before .pre .0 .edition .eight, c .before .before .before .before .pre .1 .takes)
+add-if1 c =
+    let at-start = c .before .before .before .before in
+    omega (arith, count-is (c .before .before), at-start .pre .0 .room, at-start .pre .0 .edition .eight, at-start .pre .1 .takes)
 
 returns : tie.Need-returns
 returns c =
-    let e = c .before .before .before .before .before .before in
-    let few : length (changed (e .args .w) (changeOf (e .args .c)) (decodePage (e .args .l .least) (e .args .page .now)) .entries) ≤ 5 * e .args .l .least
-    = omega (arith, c .if1 .taken, long-is (c .before .before .before .before), changed-few (e .args .w) (e .args .c) (decodePage (e .args .l .least) (e .args .page .now)) (e .pre .1), room-is (e .pre .0 .edition)) in
+    let at-head-of = c .before .before .before .before in
+    let at-start = at-head-of .before .before in
+    let few : length
+    (changed (at-start .args .w) (changeOf (at-start .args .c))
+    (decodePage (at-start .args .l .least) (at-start .args .page .now)) .entries) ≤ 5 * at-start .args .l .least
+    = omega (
+      arith,
+      c .if1 .taken,
+      long-is at-head-of,
+      changed-few (at-start .args .w) (at-start .args .c) (decodePage (at-start .args .l .least) (at-start .args .page .now))
+          (at-start .pre .1),
+      room-is (at-start .pre .0 .edition),
+    ) in
     sym (le-leb _ _ few)
 
 after-requires : tie.Need-after-requires
 after-requires c κs = search needs
 
 returns-2 : tie.Need-returns-2
-returns-2 c = rw (c .before .after .ensures, room-is (c .before .before .before .before .before .before .before .before .pre .0 .edition))
+returns-2 c =
+    let at-start = c .before .before .before .before .before .before .before .before in
+    rw (c .before .after .ensures, room-is (at-start .pre .0 .edition))
 
 pub has-room-spec : {M : Type 1} → statement M
 has-room-spec =

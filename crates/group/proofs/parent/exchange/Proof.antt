@@ -32,7 +32,10 @@ count-requires-2 : tie.Need-count-requires-2
 count-requires-2 c κs = search needs
 
 add-t15 : tie.Need-add-t15
-add-t15 c = omega (arith, ones (c .before .before .before .before .before .before .before .before .not-among .result) (c .before .before .before .before .before .before .both .result), c .before .count .ensures, c .count2 .ensures)
+add-t15 c =
+    let at-both = c .before .before .before .before .before .before in
+    let at-not-among = at-both .before .before in
+    omega (arith, ones (at-not-among .not-among .result) (at-both .both .result), c .before .count .ensures, c .count2 .ensures)
 
 pick-key-requires : tie.Need-pick-key-requires
 pick-key-requires c κs = search needs
@@ -44,18 +47,50 @@ count-requires-4 : tie.Need-count-requires-4
 count-requires-4 c κs = search needs
 
 add-t19 : tie.Need-add-t19
-add-t19 c = omega (arith, ones (c .before .before .before .before .before .before .before .before .not-among3 .result) (c .before .before .before .before .before .before .both2 .result), c .before .count3 .ensures, c .count4 .ensures)
+add-t19 c =
+    let at-both2 = c .before .before .before .before .before .before in
+    let at-not-among3 = at-both2 .before .before in
+    omega (arith, ones (at-not-among3 .not-among3 .result) (at-both2 .both2 .result), c .before .count3 .ensures, c .count4 .ensures)
 
 returns : tie.Need-returns
-returns c = (
-  rw (c .before .before .before .before .count .ensures, c .before .before .before .count2 .ensures, c .before .count3 .ensures, c .count4 .ensures, c .before .before .pick-key .ensures, c .before .before .before .before .before .pick-pair .ensures, c .before .before .before .before .before .before .before .before .before .both .ensures, c .before .before .before .before .before .before .both2 .ensures, c .before .before .before .before .before .before .before .before .before .before .before .not-among .ensures, c .before .before .before .before .before .before .before .before .before .before .not-among2 .ensures, c .before .before .before .before .before .before .before .before .not-among3 .ensures, c .before .before .before .before .before .before .before .not-among4 .ensures)
-      (exchange-is (c .before .before .before .before .before .before .before .before .before .before .before .before .before .before .before .before .args .olds) (c .before .before .before .before .before .before .before .before .before .before .before .before .before .before .before .before .args .news)),
-  record {
-    takes = omega (arith, ones (c .before .before .before .before .before .before .before .before .not-among3 .result) (c .before .before .before .before .before .before .both2 .result), c .before .count3 .ensures, c .count4 .ensures);
-    first = rw (c .before .before .before .before .before .pick-pair .ensures) (fitting-pick (c .before .before .before .before .before .before .before .before .not-among3 .result) (c .before .before .before .before .before .before .before .before .before .before .before .before .before .before .before .before .args .news .first) (c .before .before .before .before .before .before .before .before .before .before .before .before .before .before .before .before .args .news .second) (c .before .before .before .before .before .before .before .before .before .before .before .before .before .before .before .before .pre .0) (c .before .before .before .before .before .before .before .before .before .before .before .before .before .before .before .before .pre .1));
-    second = c .before .before .before .before .before .before .before .before .before .before .before .before .before .before .before .before .pre .1;
-  },
-)
+returns c =
+    let at-count = c .before .before .before .before in
+    let at-pick-pair = at-count .before in
+    let at-both2 = at-pick-pair .before in
+    let at-not-among4 = at-both2 .before in
+    let at-not-among3 = at-not-among4 .before in
+    let at-both = at-not-among3 .before in
+    let at-not-among2 = at-both .before in
+    let at-not-among = at-not-among2 .before in
+    let at-start = at-not-among .before .before .before .before .before in (
+      rw (
+        at-count .count .ensures,
+        c .before .before .before .count2 .ensures,
+        c .before .count3 .ensures,
+        c .count4 .ensures,
+        c .before .before .pick-key .ensures,
+        at-pick-pair .pick-pair .ensures,
+        at-both .both .ensures,
+        at-both2 .both2 .ensures,
+        at-not-among .not-among .ensures,
+        at-not-among2 .not-among2 .ensures,
+        at-not-among3 .not-among3 .ensures,
+        at-not-among4 .not-among4 .ensures,
+      )
+          (exchange-is (at-start .args .olds) (at-start .args .news)),
+      record {
+        takes = omega (
+          arith,
+          ones (at-not-among3 .not-among3 .result) (at-both2 .both2 .result),
+          c .before .count3 .ensures,
+          c .count4 .ensures,
+        );
+        first = rw (at-pick-pair .pick-pair .ensures)
+            (fitting-pick (at-not-among3 .not-among3 .result) (at-start .args .news .first) (at-start .args .news .second)
+            (at-start .pre .0) (at-start .pre .1));
+        second = at-start .pre .1;
+      },
+    )
 
 pub exchange-spec : {M : Type 1} → statement M
 exchange-spec =

@@ -16,7 +16,10 @@ either-requires : tie.Need-either-requires
 either-requires c κs = search needs
 
 returns : tie.Need-returns
-returns c = rw (c .either .ensures, c .before .both .ensures, c .before .before .before .same-pair .ensures, c .before .before .same-pair2 .ensures) (among-two (c .before .before .before .before .args .x) (c .before .before .before .before .args .rs))
+returns c =
+    let at-start = c .before .before .before .before in
+    rw (c .either .ensures, c .before .both .ensures, c .before .before .before .same-pair .ensures, c .before .before .same-pair2 .ensures)
+    (among-two (at-start .args .x) (at-start .args .rs))
 
 pub not-among-spec : {M : Type 1} → statement M
 not-among-spec =

@@ -13,20 +13,26 @@ cast-t13 c = search needs
 returns : tie.Need-returns
 unfolding routersOf
 returns c =
-    let h : c .before .before .before .args .g .all .n ≤ 4 * c .before .before .before .args .l .least = omega (arith, full-is (c .before .before .before .pre .0), c .if1 .taken) in (
-      to-one (c .before .before .before .args .l .least) (c .before .before .before .args .g .routers) (c .before .before .before .args .g .all) (c .before .before .before .pre .1) (c .before .before .before .args .first) (c .before .before .before .args .second) h,
-      record { key = c .before .before .before .pre .2 .key; value = c .before .before .before .pre .3 },
-      record { key = c .before .before .before .pre .2 .key; value = c .before .before .before .pre .3 },
+    let at-start = c .before .before .before in
+    let h : at-start .args .g .all .n ≤ 4 * at-start .args .l .least = omega (arith, full-is (at-start .pre .0), c .if1 .taken) in (
+      to-one (at-start .args .l .least) (at-start .args .g .routers) (at-start .args .g .all) (at-start .pre .1) (at-start .args .first)
+          (at-start .args .second) h,
+      record { key = at-start .pre .2 .key; value = at-start .pre .3 },
+      record { key = at-start .pre .2 .key; value = at-start .pre .3 },
     )
 
 add-k : tie.Need-add-k
-add-k c = omega (arith, c .before .before .before .before .pre .1 .room)
+add-k c =
+    let at-start = c .before .before .before .before in
+    omega (arith, at-start .pre .1 .room)
 
 mul-x : tie.Need-mul-x
 mul-x c = search needs
 
 array-copy-out-x : tie.Need-array-copy-out-x
-array-copy-out-x c = omega (arith, c .before .before .before .before .pre .1 .room, c .before .before .before .before .pre .1 .size, full-is (c .before .before .before .before .pre .0), c .before .before .before .before .pre .0 .four)
+array-copy-out-x c =
+    let at-start = c .before .before .before .before in
+    omega (arith, at-start .pre .1 .room, at-start .pre .1 .size, full-is (at-start .pre .0), at-start .pre .0 .four)
 
 cast-t13-2 : tie.Need-cast-t13-2
 cast-t13-2 c = search needs
@@ -34,11 +40,14 @@ cast-t13-2 c = search needs
 returns-2 : tie.Need-returns-2
 unfolding routersOf
 returns-2 c =
-    let h : 4 * c .before .before .before .before .before .args .l .least < c .before .before .before .before .before .args .g .all .n = omega (arith, full-is (c .before .before .before .before .before .pre .0), c .before .before .if1 .left) in
-    let f = c .before .before .before .before .before .pre .1 .fits ((c .before .before .before .before .before .args .g .all .n + 1) / 2) in (
-      to-two (c .before .before .before .before .before .args .l .least) (c .before .before .before .before .before .args .g .routers) (c .before .before .before .before .before .args .g .all) (c .before .before .before .before .before .pre .1) (c .before .before .before .before .before .args .first) (c .before .before .before .before .before .args .second) (omega (arith, c .before .before .before .before .before .pre .0 .four)) h,
-      record { key = c .before .before .before .before .before .pre .2 .key; value = c .before .before .before .before .before .pre .3 },
-      record { key = f .key; value = c .before .before .before .before .before .pre .4 },
+    let at-start = c .before .before .before .before .before in
+    let h : 4 * at-start .args .l .least < at-start .args .g .all .n
+    = omega (arith, full-is (at-start .pre .0), c .before .before .if1 .left) in
+    let f = at-start .pre .1 .fits ((at-start .args .g .all .n + 1) / 2) in (
+      to-two (at-start .args .l .least) (at-start .args .g .routers) (at-start .args .g .all) (at-start .pre .1) (at-start .args .first)
+          (at-start .args .second) (omega (arith, at-start .pre .0 .four)) h,
+      record { key = at-start .pre .2 .key; value = at-start .pre .3 },
+      record { key = f .key; value = at-start .pre .4 },
     )
 
 pub routers-to-spec : {M : Type 1} → statement M

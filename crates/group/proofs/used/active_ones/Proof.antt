@@ -11,10 +11,14 @@ wide-requires-2 : tie.Need-wide-requires-2
 wide-requires-2 c κs = search needs
 
 is-active-requires : tie.Need-is-active-requires
-is-active-requires c κs = rw (c .before .wide .ensures) (c .before .before .before .pre .0, c .before .before .before .pre .1 .first .inside)
+is-active-requires c κs =
+    let at-start = c .before .before .before in
+    rw (c .before .wide .ensures) (at-start .pre .0, at-start .pre .1 .first .inside)
 
 is-active-requires-2 : tie.Need-is-active-requires-2
-is-active-requires-2 c κs = rw (c .before .wide2 .ensures) (c .before .before .before .before .pre .0, c .before .before .before .before .pre .1 .second .inside)
+is-active-requires-2 c κs =
+    let at-start = c .before .before .before .before in
+    rw (c .before .wide2 .ensures) (at-start .pre .0, at-start .pre .1 .second .inside)
 
 both-requires : tie.Need-both-requires
 both-requires c κs = search needs
@@ -24,8 +28,17 @@ chosen-requires c κs = search needs
 
 returns : tie.Need-returns
 returns c =
-    rw (← actives-are (c .before .before .before .before .before .before .before .args .w) (pagesOf (c .before .before .before .before .before .before .before .args .l) (c .before .before .before .before .before .before .before .args .s .now)) (c .before .before .before .before .before .before .before .args .rs))
-    (rw (c .before .both .ensures, c .before .before .before .is-active .ensures, c .before .before .is-active2 .ensures, c .before .before .before .before .before .wide .ensures, c .before .before .before .before .wide2 .ensures) at (c .chosen .ensures))
+    let at-wide2 = c .before .before .before .before in
+    let at-wide = at-wide2 .before in
+    let at-start = at-wide .before .before in
+    rw (← actives-are (at-start .args .w) (pagesOf (at-start .args .l) (at-start .args .s .now)) (at-start .args .rs))
+    (rw (
+      c .before .both .ensures,
+      c .before .before .before .is-active .ensures,
+      c .before .before .is-active2 .ensures,
+      at-wide .wide .ensures,
+      at-wide2 .wide2 .ensures,
+    ) at (c .chosen .ensures))
 
 pub active-ones-spec : {M : Type 1} → statement M
 active-ones-spec =

@@ -16,14 +16,24 @@ free-ones-requires c κs = search needs
 
 first-two-requires : tie.Need-first-two-requires
 first-two-requires c κs =
-    let ps = pagesOf (c .before .before .before .args .l) (c .before .before .before .args .s .now) in
-    (numbered-self (c .before .active-ones .result) (actives (c .before .before .before .args .w) ps (routersOf (c .before .before .before .args .rs))) (c .before .active-ones .ensures) (actives-two (c .before .before .before .args .w) ps (c .before .before .before .args .rs)), numbered-self (c .free-ones .result) (take 2 (freeOnes ps)) (c .free-ones .ensures) (take-two (freeOnes ps)))
+    let at-start = c .before .before .before in
+    let ps = pagesOf (at-start .args .l) (at-start .args .s .now) in (
+      numbered-self (c .before .active-ones .result) (actives (at-start .args .w) ps (routersOf (at-start .args .rs)))
+          (c .before .active-ones .ensures) (actives-two (at-start .args .w) ps (at-start .args .rs)),
+      numbered-self (c .free-ones .result) (take 2 (freeOnes ps)) (c .free-ones .ensures) (take-two (freeOnes ps)),
+    )
 
 returns : tie.Need-returns
 returns c =
-    let ps = pagesOf (c .before .before .before .before .args .l) (c .before .before .before .before .args .s .now) in
-    rw (← usable-two (c .before .before .before .before .args .w) ps (c .before .before .before .before .args .rs))
-    (rw (numbers-are (c .before .before .active-ones .result) (actives (c .before .before .before .before .args .w) ps (routersOf (c .before .before .before .before .args .rs))) (c .before .before .active-ones .ensures) (actives-two (c .before .before .before .before .args .w) ps (c .before .before .before .before .args .rs)), numbers-are (c .before .free-ones .result) (take 2 (freeOnes ps)) (c .before .free-ones .ensures) (take-two (freeOnes ps))) at (c .first-two .ensures))
+    let at-active-ones = c .before .before in
+    let at-start = at-active-ones .before .before in
+    let ps = pagesOf (at-start .args .l) (at-start .args .s .now) in
+    rw (← usable-two (at-start .args .w) ps (at-start .args .rs))
+    (rw (
+      numbers-are (at-active-ones .active-ones .result) (actives (at-start .args .w) ps (routersOf (at-start .args .rs)))
+          (at-active-ones .active-ones .ensures) (actives-two (at-start .args .w) ps (at-start .args .rs)),
+      numbers-are (c .before .free-ones .result) (take 2 (freeOnes ps)) (c .before .free-ones .ensures) (take-two (freeOnes ps)),
+    ) at (c .first-two .ensures))
 
 pub usable-spec : {M : Type 1} → statement M
 usable-spec =

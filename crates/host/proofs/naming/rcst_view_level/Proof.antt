@@ -22,9 +22,11 @@ told-requires c κs = search needs
 
 returns : tie.Need-returns
 returns c =
-    let e = c .before .before .before .before .before .lookup-kind .ensures in
+    let at-value-of = c .before .before .before .before in
+    let at-lookup-kind = at-value-of .before in
+    let e = at-lookup-kind .lookup-kind .ensures in
     let t = c .told .ensures in
-    let float = c .before .before .before .float-of .ensures ∙ ap (ofBits binary32) (c .before .before .before .before .value-of .ensures ∙ ap lookedValue e) in
+    let float = c .before .before .before .float-of .ensures ∙ ap (ofBits binary32) (at-value-of .value-of .ensures ∙ ap lookedValue e) in
     (t .0 ∙ ap lookedNumber e, (t .1 .0 ∙ ap (λ (r : Looked). bit (lookedFound r)) e, (t .1 .1 ∙ ap lookedValue e, float)))
 
 pub rcst-view-level-spec : {M : Type 1} → statement M

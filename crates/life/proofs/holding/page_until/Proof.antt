@@ -34,13 +34,18 @@ loop-less c = search needs
 
 loop-again : tie.Need-loop-again Inv-loop μ-loop
 loop-again c =
-    let a = c .before .before .before .before .before .before .args in
-    let k = c .before .before .before .before .loop in
+    let at-test = c .before .before .before in
+    let at-loop = at-test .before in
+    let at-start = at-loop .before .before in
+    let a = at-start .args in
+    let k = at-loop .loop in
     let e = c .before .before .entry-at .ensures in
-    let i : k .i ≡ k .i - 1 + 1 = omega (arith, c .before .before .before .loop-test .taken) in (
+    let i : k .i ≡ k .i - 1 + 1 = omega (arith, at-test .loop-test .taken) in (
       omega arith,
-      page-more (a .page .now) (a .n) (a .v) (a .r) (k .i - 1) (k .q) (c .before .sooner .result) (c .sooner2 .result) (omega (arith, c .before .before .before .loop-test .taken))
-          (subst (λ (j : ℕ). Until (a .v) (a .r) (aliveFrom (a .page .now) (a .n) (a .v) (a .r) j) (k .q)) i (k .inv .1)) (rw e at (c .before .sooner .ensures)) (rw e at (c .sooner2 .ensures)),
+      page-more (a .page .now) (a .n) (a .v) (a .r) (k .i - 1) (k .q) (c .before .sooner .result) (c .sooner2 .result)
+          (omega (arith, at-test .loop-test .taken))
+          (subst (λ (j : ℕ). Until (a .v) (a .r) (aliveFrom (a .page .now) (a .n) (a .v) (a .r) j) (k .q)) i (k .inv .1))
+          (rw e at (c .before .sooner .ensures)) (rw e at (c .sooner2 .ensures)),
     )
 
 returns : tie.Need-returns Inv-loop μ-loop

@@ -23,21 +23,24 @@ abbrev μ-loop : tie.MeasureT-loop
 
 header-requires : tie.Need-header-requires Inv-loop μ-loop
 header-requires c κs =
-    let p = c .before .pre in
-    (p .0, omega (arith, front (p .0) (c .before .args .s .now) (p .1)), few (p .0) (c .before .args .s .now) (p .1))
+    let at-start = c .before in
+    let p = at-start .pre in
+    (p .0, omega (arith, front (p .0) (at-start .args .s .now) (p .1)), few (p .0) (at-start .args .s .now) (p .1))
 
 wide-requires : tie.Need-wide-requires Inv-loop μ-loop
 wide-requires c κs = search needs
 
 loop-holds : tie.Need-loop-holds Inv-loop μ-loop
 loop-holds c =
-    let a = c .before .before .before .args in
-    (omega arith, roots-none (a .s .now) (512 * a .l .least) (a .v) (a .r) (c .before .before .before .pre .2))
+    let at-start = c .before .before .before in
+    let a = at-start .args in
+    (omega arith, roots-none (a .s .now) (512 * a .l .least) (a .v) (a .r) (at-start .pre .2))
 
 slot-requires : tie.Need-slot-requires Inv-loop μ-loop
 slot-requires c κs =
-    let p = c .before .before .before .before .before .pre in
-    let a = c .before .before .before .before .before .args in
+    let at-start = c .before .before .before .before .before in
+    let p = at-start .pre in
+    let a = at-start .args in
     let e = c .before .before .wide .ensures ∙ ap (λ (h : Header). h .roots) (c .before .before .before .header .ensures) in
     (p .0, front (p .0) (a .s .now) (p .1), omega (arith, roots (p .0) (a .s .now) (p .1), e), few (p .0) (a .s .now) (p .1))
 
@@ -52,21 +55,26 @@ loop-less c = search needs
 
 loop-again : tie.Need-loop-again Inv-loop μ-loop
 loop-again c =
-    let a = c .before .before .before .before .before .before .before .args in
+    let at-start = c .before .before .before .before .before .before .before in
+    let a = at-start .args in
     let k = c .before .before .before .loop in
     let e : suc (k .i) ≡ k .i + 1 = omega arith in (
       omega arith,
       subst (λ (j : ℕ). Until (a .v) (a .r) (rootAt (readSlots (a .s .now) (512 * a .l .least) j)) (c .sooner .result)) e
-          (roots-more (a .s .now) (512 * a .l .least) (a .v) (a .r) (k .i) (k .q) (c .sooner .result) (k .inv .1) (rw (c .before .slot .ensures) at (c .sooner .ensures))),
+          (roots-more (a .s .now) (512 * a .l .least) (a .v) (a .r) (k .i) (k .q) (c .sooner .result) (k .inv .1)
+          (rw (c .before .slot .ensures) at (c .sooner .ensures))),
     )
 
 returns : tie.Need-returns Inv-loop μ-loop
 returns c =
-    let a = c .before .before .before .before .before .args in
+    let at-start = c .before .before .before .before .before in
+    let a = at-start .args in
     let k = c .before .loop in
     let e = c .before .before .wide .ensures ∙ ap (λ (h : Header). h .roots) (c .before .before .before .header .ensures) in
     let i = k .i in
-    subst (λ (xs : List Slot). Until (a .v) (a .r) (rootAt xs) (k .q)) (ap (readSlots (a .s .now) (512 * a .l .least)) (omega (arith, c .loop-test .left, k .inv .0) ∙ e) ∙ sym (slots-of (a .l .least) (a .s .now))) (k .inv .1)
+    subst (λ (xs : List Slot). Until (a .v) (a .r) (rootAt xs) (k .q))
+    (ap (readSlots (a .s .now) (512 * a .l .least)) (omega (arith, c .loop-test .left, k .inv .0) ∙ e)
+    ∙ sym (slots-of (a .l .least) (a .s .now))) (k .inv .1)
 
 pub root-until-spec : {M : Type 1} → statement M
 root-until-spec =

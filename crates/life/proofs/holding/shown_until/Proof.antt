@@ -17,7 +17,8 @@ page-until-requires c κs =
 
 returns : tie.Need-returns
 returns c =
-    let i = c .before .before .before .before .pre .1 in
+    let at-start = c .before .before .before .before in
+    let i = at-start .pre .1 in
     let u = rw (c .before .head-of .ensures, c .before .before .part .ensures .0) at (c .page-until .ensures) in
     record { below = u .below; above = u .above; still = λ w a b. i .pairs w ∙ u .still w a b ∙ sym (i .pairs _) }
 

@@ -8,7 +8,15 @@ slice-aggregate-filled : tie.Need-slice-aggregate-filled
 slice-aggregate-filled c = search needs
 
 filled-requires : tie.Need-filled-requires
-filled-requires c κs = (c .before .before .before .before .pre .0, c .before .before .before .before .pre .1, c .before .before .before .before .pre .2, c .before .before .before .before .pre .3, c .before .before .before .before .pre .4, small-long (c .before .before .before .before .args .l .least) (c .before .before .before .before .pre .5))
+filled-requires c κs =
+    let at-start = c .before .before .before .before in (
+      at-start .pre .0,
+      at-start .pre .1,
+      at-start .pre .2,
+      at-start .pre .3,
+      at-start .pre .4,
+      small-long (at-start .args .l .least) (at-start .pre .5),
+    )
 
 same-length : tie.Need-same-length
 same-length c = search needs

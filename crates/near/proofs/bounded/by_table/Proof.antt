@@ -12,12 +12,23 @@ use Rattle.near.proofs.bounded.by_table.Tie as tie
 
 returns : tie.Need-returns
 returns c =
-    let a = c .before .before .before .args in
-    answered-wrong (a .list .now) (rangeRight (a .l .least) (a .s .now) (a .q .version) (pred (a .level)) (a .q .high) (a .q .low) (a .n)) (rangeBelow (pred (a .level)) (decode (a .l .least) (a .s .now) .pages) (a .q .version) (a .q .low) (a .q .high) (a .q .low) (a .n))
-    (high-wrong (a .l .least) (a .s .now) (c .before .before .before .pre .0 .eight) (a .q .version) (a .q .high) (a .q .low) (a .level) (a .n) (c .if1 .taken))
+    let at-start = c .before .before .before in
+    let a = at-start .args in
+    answered-wrong (a .list .now) (rangeRight (a .l .least) (a .s .now) (a .q .version) (pred (a .level)) (a .q .high) (a .q .low) (a .n))
+    (rangeBelow (pred (a .level)) (decode (a .l .least) (a .s .now) .pages) (a .q .version) (a .q .low) (a .q .high) (a .q .low) (a .n))
+    (high-wrong (a .l .least) (a .s .now) (at-start .pre .0 .eight) (a .q .version) (a .q .high) (a .q .low) (a .level) (a .n)
+    (c .if1 .taken))
 
 by-small-requires : tie.Need-by-small-requires
-by-small-requires c κs = (c .before .before .before .before .before .before .pre .0, c .before .before .before .before .before .before .pre .1, c .before .before .before .before .before .before .pre .2, c .before .before .before .before .before .before .pre .3, omega (arith, c .before .before .before .if1 .left), c .before .if2 .taken)
+by-small-requires c κs =
+    let at-start = c .before .before .before .before .before .before in (
+      at-start .pre .0,
+      at-start .pre .1,
+      at-start .pre .2,
+      at-start .pre .3,
+      omega (arith, c .before .before .before .if1 .left),
+      c .before .if2 .taken,
+    )
 
 same-length : tie.Need-same-length
 same-length c = search needs
@@ -26,7 +37,9 @@ returns-2 : tie.Need-returns-2
 returns-2 c = c .before .before .by-small .ensures
 
 by-large-requires : tie.Need-by-large-requires
-by-large-requires c κs = (c .before .before .before .before .before .before .pre .0, c .before .before .before .before .before .before .pre .1, c .before .before .before .before .before .before .pre .2, c .before .before .before .before .before .before .pre .3, omega (arith, c .before .before .before .if1 .left))
+by-large-requires c κs =
+    let at-start = c .before .before .before .before .before .before in
+    (at-start .pre .0, at-start .pre .1, at-start .pre .2, at-start .pre .3, omega (arith, c .before .before .before .if1 .left))
 
 same-length-2 : tie.Need-same-length-2
 same-length-2 c = search needs

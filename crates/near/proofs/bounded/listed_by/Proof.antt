@@ -23,30 +23,45 @@ use Rattle.near.proofs.bounded.listed_by.Statement.{statement}
 use Rattle.near.proofs.bounded.listed_by.Tie as tie
 
 down-requires : tie.Need-down-requires
-down-requires c κs = (c .before .before .before .pre .0, c .before .before .before .pre .1, c .before .before .before .pre .2, c .before .before .before .pre .3, c .before .before .before .pre .4, c .before .before .before .pre .5)
+down-requires c κs =
+    let at-start = c .before .before .before in
+    (at-start .pre .0, at-start .pre .1, at-start .pre .2, at-start .pre .3, at-start .pre .4, at-start .pre .5)
 
 returns : tie.Need-returns
 returns c =
-    let a = c .before .before .before .before .before .args in
-    answered-wrong (a .list .now) (rangeRight (a .l .least) (a .s .now) (a .q .version) (pred (a .level)) (a .q .high) (a .q .low) (a .n)) (rangeBelow (pred (a .level)) (decode (a .l .least) (a .s .now) .pages) (a .q .version) (a .q .low) (a .q .high) (a .q .low) (a .n))
-    (found-zero (a .l .least) (a .s .now) (a .q .version) (a .q .low) (a .q .high) (pred (a .level)) (a .q .low) (a .n) (c .before .down .result) (c .before .down .ensures) (c .if1 .taken))
+    let at-start = c .before .before .before .before .before in
+    let a = at-start .args in
+    answered-wrong (a .list .now) (rangeRight (a .l .least) (a .s .now) (a .q .version) (pred (a .level)) (a .q .high) (a .q .low) (a .n))
+    (rangeBelow (pred (a .level)) (decode (a .l .least) (a .s .now) .pages) (a .q .version) (a .q .low) (a .q .high) (a .q .low) (a .n))
+    (found-zero (a .l .least) (a .s .now) (a .q .version) (a .q .low) (a .q .high) (pred (a .level)) (a .q .low) (a .n)
+    (c .before .down .result) (c .before .down .ensures) (c .if1 .taken))
 
 sub-found : tie.Need-sub-found
 sub-found c = omega (arith, c .if1 .left)
 
 mul-if2 : tie.Need-mul-if2
 mul-if2 c =
-    let a = c .before .before .before .before .before .args in
-    omega (arith, c .before .down .ensures, found-most (a .l .least) (a .s .now) (c .before .before .before .before .before .pre .0 .eight) (a .q .version) (a .q .low) (a .q .high) (pred (a .level)) (a .q .low) (a .n))
+    let at-start = c .before .before .before .before .before in
+    let a = at-start .args in
+    omega (
+      arith,
+      c .before .down .ensures,
+      found-most (a .l .least) (a .s .now) (at-start .pre .0 .eight) (a .q .version) (a .q .low)
+          (a .q .high) (pred (a .level)) (a .q .low) (a .n),
+    )
 
 returns-2 : tie.Need-returns-2
 returns-2 c =
-    let a = c .before .before .before .before .before .before .args in
+    let at-down = c .before .before in
+    let at-start = at-down .before .before .before .before in
+    let a = at-start .args in
     let ns = a .list .now in
     let x = rangeRight (a .l .least) (a .s .now) (a .q .version) (pred (a .level)) (a .q .high) (a .q .low) (a .n) in
-    let xs = rangeBelow (pred (a .level)) (decode (a .l .least) (a .s .now) .pages) (a .q .version) (a .q .low) (a .q .high) (a .q .low) (a .n) in
-    let t = found-some (a .l .least) (a .s .now) (a .q .version) (a .q .low) (a .q .high) (pred (a .level)) (a .q .low) (a .n) (c .before .before .down .result) (c .before .before .down .ensures) (c .before .if1 .left) in
-    let e : c .before .before .down .result - 1 ≡ length xs = omega (arith, t .1) in
+    let xs = rangeBelow (pred (a .level)) (decode (a .l .least) (a .s .now) .pages) (a .q .version) (a .q .low) (a .q .high) (a .q .low)
+    (a .n) in
+    let t = found-some (a .l .least) (a .s .now) (a .q .version) (a .q .low) (a .q .high) (pred (a .level)) (a .q .low) (a .n)
+    (at-down .down .result) (at-down .down .ensures) (c .before .if1 .left) in
+    let e : at-down .down .result - 1 ≡ length xs = omega (arith, t .1) in
     let f : ℕ → Listed = λ k. record { number = 14; count = k; list = ns } in
     ap f e ∙ sym (counted-short ns xs (omega (arith, e, c .if2 .taken))) ∙ answered-right ns x xs (t .0)
 
@@ -54,20 +69,30 @@ wide-requires : tie.Need-wide-requires
 wide-requires c κs = search needs
 
 sub-gather-by : tie.Need-sub-gather-by
-sub-gather-by c = omega (arith, c .wide .ensures, c .before .before .before .before .before .before .before .pre .3)
+sub-gather-by c =
+    let at-start = c .before .before .before .before .before .before .before in
+    omega (arith, c .wide .ensures, at-start .pre .3)
 
 gather-by-requires : tie.Need-gather-by-requires
 gather-by-requires c κs =
-    let a = c .before .before .before .before .before .before .before .before .args in
+    let at-wide = c .before in
+    let at-down = at-wide .before .before .before in
+    let at-start = at-down .before .before .before .before in
+    let a = at-start .args in
     let ns = a .list .now in
-    let t = found-some (a .l .least) (a .s .now) (a .q .version) (a .q .low) (a .q .high) (pred (a .level)) (a .q .low) (a .n) (c .before .before .before .before .down .result) (c .before .before .before .before .down .ensures) (c .before .before .before .if1 .left) in
-    let u = sub-one (c .before .wide .result) ∙ ap pred (c .before .wide .ensures) in
-    let few = right-few (a .l .least) (a .s .now) (c .before .before .before .before .before .before .before .before .pre .0 .eight) (pred (a .level)) (a .q .version) (a .q .low) (a .q .high) (a .q .low) (a .n) (t .0) in (
-      record { edition = c .before .before .before .before .before .before .before .before .pre .0; sized = rw (c .before .before .before .before .before .before .before .before .pre .1 .sized .is) (c .before .before .before .before .before .before .before .before .pre .1 .sized); few = c .before .before .before .before .before .before .before .before .pre .2 },
+    let t = found-some (a .l .least) (a .s .now) (a .q .version) (a .q .low) (a .q .high) (pred (a .level)) (a .q .low) (a .n)
+    (at-down .down .result) (at-down .down .ensures) (at-wide .before .before .if1 .left) in
+    let u = sub-one (at-wide .wide .result) ∙ ap pred (at-wide .wide .ensures) in
+    let few = right-few (a .l .least) (a .s .now) (at-start .pre .0 .eight) (pred (a .level)) (a .q .version) (a .q .low) (a .q .high)
+    (a .q .low) (a .n) (t .0) in (
+      record { edition = at-start .pre .0; sized = rw (at-start .pre .1 .sized .is) (at-start .pre .1 .sized); few = at-start .pre .2 },
       subst (λ (m : ℕ). rangeRight (a .l .least) (a .s .now) (a .q .version) m (a .q .high) (a .q .low) (a .n) ≡ true) (sym u) (t .0),
-      subst (λ (m : ℕ). PairSpace true ns 0 (rangeBelow m (decode (a .l .least) (a .s .now) .pages) (a .q .version) (a .q .low) (a .q .high) (a .q .low) (a .n))) (sym u)
-          (record { few = omega (arith, few); room = λ e. omega (arith, t .1, c .before .before .if2 .left) }),
-      table-fewer (a .l .least) (a .s .now) (a .q .size) (c .before .before .before .before .before .before .before .before .pre .1 .sized) (a .q .version) (a .q .low) (a .q .high) ((a .level + 1) * 4096) ((c .before .wide .result - 1 + 2) * 4096) (a .table .now) (omega (arith, c .before .wide .ensures, c .before .before .before .before .before .before .before .before .pre .3)) (c .before .before .before .before .before .before .before .before .pre .5),
+      subst (λ (m : ℕ). PairSpace true ns 0
+          (rangeBelow m (decode (a .l .least) (a .s .now) .pages) (a .q .version) (a .q .low) (a .q .high) (a .q .low) (a .n))) (sym u)
+          (record { few = omega (arith, few); room = λ e. omega (arith, t .1, at-wide .before .if2 .left) }),
+      table-fewer (a .l .least) (a .s .now) (a .q .size) (at-start .pre .1 .sized) (a .q .version) (a .q .low) (a .q .high)
+          ((a .level + 1) * 4096) ((at-wide .wide .result - 1 + 2) * 4096) (a .table .now)
+          (omega (arith, at-wide .wide .ensures, at-start .pre .3)) (at-start .pre .5),
     )
 
 same-length : tie.Need-same-length
@@ -75,17 +100,28 @@ same-length c = search needs
 
 returns-3 : tie.Need-returns-3
 returns-3 c =
-    let a = c .before .before .before .before .before .before .before .before .before .before .before .args in
+    let at-wide = c .before .before .before .before in
+    let at-if2 = at-wide .before in
+    let at-if1 = at-if2 .before in
+    let at-down = at-if1 .before in
+    let at-start = at-down .before .before .before .before in
+    let a = at-start .args in
     let ns = a .list .now in
     let x = rangeRight (a .l .least) (a .s .now) (a .q .version) (pred (a .level)) (a .q .high) (a .q .low) (a .n) in
-    let xs = rangeBelow (pred (a .level)) (decode (a .l .least) (a .s .now) .pages) (a .q .version) (a .q .low) (a .q .high) (a .q .low) (a .n) in
-    let t = found-some (a .l .least) (a .s .now) (a .q .version) (a .q .low) (a .q .high) (pred (a .level)) (a .q .low) (a .n) (c .before .before .before .before .before .before .before .down .result) (c .before .before .before .before .before .before .before .down .ensures) (c .before .before .before .before .before .before .if1 .left) in
-    let u = sub-one (c .before .before .before .before .wide .result) ∙ ap pred (c .before .before .before .before .wide .ensures) in
-    let e : c .before .before .before .before .before .before .before .down .result - 1 ≡ length xs = omega (arith, t .1) in
-    let room : 2 * length xs ≤ length ns = omega (arith, e, c .before .before .before .before .before .if2 .left) in
-    let g = c .before .before .gather-by .ensures .list ∙ ap (λ (m : ℕ). written true ns 0 (rangeBelow m (decode (a .l .least) (a .s .now) .pages) (a .q .version) (a .q .low) (a .q .high) (a .q .low) (a .n))) u ∙ written-all ns xs room in
+    let xs = rangeBelow (pred (a .level)) (decode (a .l .least) (a .s .now) .pages) (a .q .version) (a .q .low) (a .q .high) (a .q .low)
+    (a .n) in
+    let t = found-some (a .l .least) (a .s .now) (a .q .version) (a .q .low) (a .q .high) (pred (a .level)) (a .q .low) (a .n)
+    (at-down .down .result) (at-down .down .ensures) (at-if1 .if1 .left) in
+    let u = sub-one (at-wide .wide .result) ∙ ap pred (at-wide .wide .ensures) in
+    let e : at-down .down .result - 1 ≡ length xs = omega (arith, t .1) in
+    let room : 2 * length xs ≤ length ns = omega (arith, e, at-if2 .if2 .left) in
+    let g = c .before .before .gather-by .ensures .list
+    ∙ ap (λ (m : ℕ). written true ns 0
+    (rangeBelow m (decode (a .l .least) (a .s .now) .pages) (a .q .version) (a .q .low) (a .q .high) (a .q .low) (a .n))) u
+    ∙ written-all ns xs room in
     let f : ℕ → List ℕ → Listed = λ k ys. record { number = 0; count = k; list = ys } in
-    ap (f (c .before .before .before .before .before .before .before .down .result - 1)) g ∙ ap (λ (k : ℕ). f k (numbers xs ++ drop (length (numbers xs)) ns)) e ∙ sym (counted-all ns xs room) ∙ answered-right ns x xs (t .0)
+    ap (f (at-down .down .result - 1)) g ∙ ap (λ (k : ℕ). f k (numbers xs ++ drop (length (numbers xs)) ns)) e
+    ∙ sym (counted-all ns xs room) ∙ answered-right ns x xs (t .0)
 
 pub listed-by-spec : {M : Type 1} → statement M
 listed-by-spec =

@@ -11,24 +11,41 @@ use Rattle.near.proofs.down.level_at.Statement.{statement}
 use Rattle.near.proofs.down.level_at.Tie as tie
 
 returns : tie.Need-returns
-returns c = let a = c .before .before .args in sym (ap (λ (x : Page). x .level) (front-free (a .l .least) (a .s .now) (a .n) (c .if1 .taken)))
+returns c =
+    let a = c .before .before .args in sym (ap (λ (x : Page). x .level) (front-free (a .l .least) (a .s .now) (a .n) (c .if1 .taken)))
 
 returns-2 : tie.Need-returns-2
-returns-2 c = let a = c .before .before .before .args in sym (ap (λ (x : Page). x .level) (far-free (a .l .least) (a .s .now) (a .size) (c .before .before .before .pre .1) (a .n) (c .if2 .taken)))
+returns-2 c =
+    let at-start = c .before .before .before in
+    let a = at-start .args in
+    sym (ap (λ (x : Page). x .level) (far-free (a .l .least) (a .s .now) (a .size) (at-start .pre .1) (a .n) (c .if2 .taken)))
 
 part-requires : tie.Need-part-requires
 part-requires c κs =
-    let a = c .before .before .before .args in
-    (c .before .before .before .pre .0, part-fits (a .l .least) (c .before .before .before .pre .0 .four) (a .s .now) (a .n) (omega (arith, c .before .before .before .pre .1 .is, c .if2 .left)), omega (arith, c .before .before .before .pre .1 .long))
+    let at-start = c .before .before .before in
+    let a = at-start .args in (
+      at-start .pre .0,
+      part-fits (a .l .least) (at-start .pre .0 .four) (a .s .now) (a .n)
+          (omega (arith, at-start .pre .1 .is, c .if2 .left)),
+      omega (arith, at-start .pre .1 .long),
+    )
 
 head-of-requires : tie.Need-head-of-requires
-head-of-requires c κs = (c .before .before .before .before .pre .0, omega (arith, c .part .ensures .1, c .before .before .before .before .pre .0 .four), omega (arith, c .part .ensures .1, c .before .before .before .before .pre .0 .eight))
+head-of-requires c κs =
+    let at-start = c .before .before .before .before in (
+      at-start .pre .0,
+      omega (arith, c .part .ensures .1, at-start .pre .0 .four),
+      omega (arith, c .part .ensures .1, at-start .pre .0 .eight),
+    )
 
 returns-3 : tie.Need-returns-3
 returns-3 c =
-    let a = c .before .before .before .before .before .args in
+    let at-start = c .before .before .before .before .before in
+    let a = at-start .args in
     rw (c .before .part .ensures .0) at (ap (λ (x : Head). x .level) (c .head-of .ensures))
-    ∙ sym (ap (λ (x : Page). x .level) (page-at (a .l .least) (a .s .now) (a .n) (c .before .before .before .if1 .left) (omega (arith, c .before .before .before .before .before .pre .1 .is, c .before .before .if2 .left))) ∙ level-of (a .l .least) _)
+    ∙ sym (ap (λ (x : Page). x .level)
+    (page-at (a .l .least) (a .s .now) (a .n) (c .before .before .before .if1 .left)
+    (omega (arith, at-start .pre .1 .is, c .before .before .if2 .left))) ∙ level-of (a .l .least) _)
 
 pub level-at-spec : {M : Type 1} → statement M
 level-at-spec = tie.close (tie.spec returns returns-2 part-requires head-of-requires returns-3)

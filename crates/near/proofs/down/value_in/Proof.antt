@@ -19,8 +19,10 @@ find-requires c κs = rw (c .head-of .ensures, c .before .part .ensures .0) (c .
 
 returns : tie.Need-returns
 returns c =
-    let a = c .before .before .before .before .args in
-    rw (c .before .head-of .ensures, c .before .before .part .ensures .0) at (c .find .ensures) ∙ sym (ap (λ (xs : List Pair). lookedAt (find (a .key) xs)) (c .before .before .before .before .pre .1 .pairs (a .v)))
+    let at-start = c .before .before .before .before in
+    let a = at-start .args in
+    rw (c .before .head-of .ensures, c .before .before .part .ensures .0) at (c .find .ensures)
+    ∙ sym (ap (λ (xs : List Pair). lookedAt (find (a .key) xs)) (at-start .pre .1 .pairs (a .v)))
 
 pub value-in-spec : {M : Type 1} → statement M
 value-in-spec = tie.close (tie.spec part-requires head-of-requires find-requires returns)

@@ -23,33 +23,52 @@ returns c =
     e ∙ guard-front (a .l .least) (a .s .now) (a .bad) (a .v) (λ z. c .if1 .taken (e ∙ z))
 
 returns-2 : tie.Need-returns-2
-returns-2 c = let a = c .before .before .before .before .args in guard-five (a .l .least) (a .s .now) (a .v) (sym (c .before .before .front .ensures) ∙ c .before .if1 .left) (a .bad) (c .if2 .taken)
+returns-2 c =
+    let at-start = c .before .before .before .before in
+    let a = at-start .args in guard-five (a .l .least) (a .s .now) (a .v) (sym (c .before .before .front .ensures) ∙ c .before .if1 .left)
+    (a .bad) (c .if2 .taken)
 
 header-requires : tie.Need-header-requires
 header-requires c κs =
-    let z = none-sized (c .before .before .before .before .pre) (c .before .before .before .before .args .s .now) (sym (c .before .before .front .ensures) ∙ c .before .if1 .left) in
-    (c .before .before .before .before .pre, omega (arith, z .front), omega (arith, z .long))
+    let at-start = c .before .before .before .before in
+    let z = none-sized (at-start .pre) (at-start .args .s .now) (sym (c .before .before .front .ensures) ∙ c .before .if1 .left) in
+    (at-start .pre, omega (arith, z .front), omega (arith, z .long))
 
 unreadable-requires : tie.Need-unreadable-requires
-unreadable-requires c κs = rw (c .header .ensures) (current-lt (c .before .before .before .before .before .args .l .least) (c .before .before .before .before .before .args .s .now))
+unreadable-requires c κs =
+    let at-start = c .before .before .before .before .before in
+    rw (c .header .ensures) (current-lt (at-start .args .l .least) (at-start .args .s .now))
 
 -- as the store has it
-is : (c : tie.After-unreadable) → let a = c .before .before .before .before .before .before .args in c .unreadable .result ≡ unreadable (decode (a .l .least) (a .s .now)) (a .v)
+is : (c : tie.After-unreadable) →
+    let at-start = c .before .before .before .before .before .before in
+    let a = at-start .args in c .unreadable .result ≡ unreadable (decode (a .l .least) (a .s .now)) (a .v)
 is c =
-    let a = c .before .before .before .before .before .before .args in
+    let at-start = c .before .before .before .before .before .before in
+    let a = at-start .args in
     let h = c .before .header .ensures in
     c .unreadable .ensures
-    ∙ ap₂ (λ (m o : ℕ). beyond m o (a .v)) (ap (λ (x : Header). lastOf (x .opened) (x .current)) h ∙ sym (last-is (a .l .least) (a .s .now))) (ap (λ (x : Header). x .oldest) h ∙ sym (oldest-of (a .l .least) (a .s .now)))
+    ∙ ap₂ (λ (m o : ℕ). beyond m o (a .v))
+    (ap (λ (x : Header). lastOf (x .opened) (x .current)) h ∙ sym (last-is (a .l .least) (a .s .now)))
+    (ap (λ (x : Header). x .oldest) h ∙ sym (oldest-of (a .l .least) (a .s .now)))
 
 returns-3 : tie.Need-returns-3
 returns-3 c =
-    let a = c .before .before .before .before .before .before .before .args in
-    guard-six (a .l .least) (a .s .now) (a .v) (sym (c .before .before .before .before .before .front .ensures) ∙ c .before .before .before .before .if1 .left) (a .bad) (c .before .before .before .if2 .left) (sym (is (c .before)) ∙ c .if3 .taken)
+    let at-if1 = c .before .before .before .before in
+    let at-front = at-if1 .before in
+    let at-start = at-front .before .before in
+    let a = at-start .args in
+    guard-six (a .l .least) (a .s .now) (a .v) (sym (at-front .front .ensures) ∙ at-if1 .if1 .left) (a .bad)
+    (c .before .before .before .if2 .left) (sym (is (c .before)) ∙ c .if3 .taken)
 
 returns-4 : tie.Need-returns-4
 returns-4 c =
-    let a = c .before .before .before .before .before .before .before .args in
-    guard-none (a .l .least) (a .s .now) (a .v) (sym (c .before .before .before .before .before .front .ensures) ∙ c .before .before .before .before .if1 .left) (a .bad) (c .before .before .before .if2 .left) (sym (is (c .before)) ∙ c .if3 .left)
+    let at-if1 = c .before .before .before .before in
+    let at-front = at-if1 .before in
+    let at-start = at-front .before .before in
+    let a = at-start .args in
+    guard-none (a .l .least) (a .s .now) (a .v) (sym (at-front .front .ensures) ∙ at-if1 .if1 .left) (a .bad)
+    (c .before .before .before .if2 .left) (sym (is (c .before)) ∙ c .if3 .left)
 
 pub guard-spec : {M : Type 1} → statement M
 guard-spec =

@@ -14,7 +14,9 @@ full-by-requires : tie.Need-full-by-requires
 full-by-requires c κs = search needs
 
 returns-2 : tie.Need-returns-2
-returns-2 c = let at-keys = c .before .before in rw (← at-keys .keys-by .ensures, not-false (at-keys .keys-by .result) (c .before .if1 .left)) (c .full-by .ensures)
+returns-2 c =
+    let at-keys-by = c .before .before in
+    rw (← at-keys-by .keys-by .ensures, not-false (at-keys-by .keys-by .result) (c .before .if1 .left)) (c .full-by .ensures)
 
 pub both-by-spec : {M : Type 1} → statement M
 both-by-spec = tie.close (tie.spec keys-by-requires returns full-by-requires returns-2)

@@ -9,7 +9,13 @@ slice-aggregate-both-over : tie.Need-slice-aggregate-both-over
 slice-aggregate-both-over c = search needs
 
 both-over-requires : tie.Need-both-over-requires
-both-over-requires c κs = let e = c .before .before in (e .pre .0, e .pre .1, kept-none (e .args .l .least) (decode (e .args .l .least) (e .args .s .now) .pages) (e .args .h .oldest))
+both-over-requires c κs =
+    let at-start = c .before .before in (
+      at-start .pre .0,
+      at-start .pre .1,
+      kept-none (at-start .args .l .least)
+          (decode (at-start .args .l .least) (at-start .args .s .now) .pages) (at-start .args .h .oldest),
+    )
 
 returns : tie.Need-returns
 returns c = c .before .both-over .ensures

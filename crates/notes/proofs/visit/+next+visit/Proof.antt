@@ -9,7 +9,8 @@ use Rattle.notes.specs.declared.Note.{Note}
 use Rattle.notes.specs.Notes.{nothing, noteAt, row}
 use Rattle.notes.proofs.laws.Here.{part-asks, head-asks, stands-here, few, entries-start, leads-here}
 use Rattle.notes.specs.Kept.{Kept, kidsAt}
-use Rattle.notes.proofs.laws.Kept.{below-leaf, below-dead, below-live, leads-on, known-is, note-row, step-kid, row-end, row-next, row-stops, live-next, kept-away, kept-after, entries-here, height-here}
+use Rattle.notes.proofs.laws.Kept.{below-leaf, below-dead, below-live, leads-on, known-is, note-row, step-kid, row-end, row-next}
+use Rattle.notes.proofs.laws.Kept.{row-stops, live-next, kept-away, kept-after, entries-here, height-here}
 use borrow.Author.Needs.{needs}
 use Prim.Native.Nat.{ℕ, _<_, _≤_, _+_, _*_, _-_}
 use borrow.Fn.Kinds.{In}
@@ -92,10 +93,20 @@ next-nothing-requires : (t : ℕ) → next-lts.Need-nothing-requires (next-claim
 next-nothing-requires t c κs = search needs
 
 next-step-requires : (t : ℕ) → next-lts.Need-step-requires (next-claims t) (next-at t) next.Post
-next-step-requires t c κs = let a = c .before .before .before .before .args in let r = c .before .before .before .before .pre .1 in (r .4, r .5)
+next-step-requires t c κs =
+    let at-start = c .before .before .before .before in
+    let a = at-start .args in let r = at-start .pre .1 in (r .4, r .5)
 
 next-returns : (t : ℕ) → next-lts.Need-returns (next-claims t) (next-at t) next.Post
-next-returns t c = let a = c .before .before .before .before .before .args in let r = c .before .before .before .before .before .pre .1 in (step-kid (a .l .least) (a .up) (a .v) (decode (a .l .least) (a .s .now) .pages) (a .x) (c .step .result) (c .before .nothing .result) (a .e) (c .before .nothing .ensures ∙ sym (below-leaf (a .l .least) (a .up) (decode (a .l .least) (a .s .now) .pages) (a .v) (a .e) (c .before .before .if1 .taken))) (c .step .ensures), r .3)
+next-returns t c =
+    let at-start = c .before .before .before .before .before in
+    let a = at-start .args in let r = at-start .pre .1 in (
+      step-kid (a .l .least) (a .up) (a .v) (decode (a .l .least) (a .s .now) .pages) (a .x) (c .step .result) (c .before .nothing .result)
+          (a .e) (c .before .nothing .ensures ∙ sym
+          (below-leaf (a .l .least) (a .up) (decode (a .l .least) (a .s .now) .pages) (a .v) (a .e) (c .before .before .if1 .taken)))
+          (c .step .ensures),
+      r .3,
+    )
 
 next-is-live-requires : (t : ℕ) → next-lts.Need-is-live-requires (next-claims t) (next-at t) next.Post
 next-is-live-requires t c κs = search needs
@@ -104,122 +115,300 @@ next-nothing-requires-2 : (t : ℕ) → next-lts.Need-nothing-requires-2 (next-c
 next-nothing-requires-2 t c κs = search needs
 
 next-step-requires-2 : (t : ℕ) → next-lts.Need-step-requires-2 (next-claims t) (next-at t) next.Post
-next-step-requires-2 t c κs = let a = c .before .before .before .before .before .before .args in let r = c .before .before .before .before .before .before .pre .1 in (r .4, r .5)
+next-step-requires-2 t c κs =
+    let at-start = c .before .before .before .before .before .before in
+    let a = at-start .args in let r = at-start .pre .1 in (r .4, r .5)
 
 next-returns-2 : (t : ℕ) → next-lts.Need-returns-2 (next-claims t) (next-at t) next.Post
-next-returns-2 t c = let a = c .before .before .before .before .before .before .before .args in let r = c .before .before .before .before .before .before .before .pre .1 in (step-kid (a .l .least) (a .up) (a .v) (decode (a .l .least) (a .s .now) .pages) (a .x) (c .step2 .result) (c .before .nothing2 .result) (a .e) (c .before .nothing2 .ensures ∙ sym (below-dead (a .l .least) (a .up) (decode (a .l .least) (a .s .now) .pages) (a .v) (a .e) (sym (c .before .before .before .is-live .ensures) ∙ not-true (c .before .before .before .is-live .result) (c .before .before .if2 .taken)))) (c .step2 .ensures), r .3)
+next-returns-2 t c =
+    let at-is-live = c .before .before .before in
+    let at-start = at-is-live .before .before .before .before in
+    let a = at-start .args in let r = at-start .pre .1 in (
+      step-kid (a .l .least) (a .up) (a .v) (decode (a .l .least) (a .s .now) .pages) (a .x) (c .step2 .result)
+          (c .before .nothing2 .result)
+          (a .e) (c .before .nothing2 .ensures ∙ sym
+          (below-dead (a .l .least) (a .up) (decode (a .l .least) (a .s .now) .pages) (a .v) (a .e)
+          (sym (at-is-live .is-live .ensures) ∙ not-true (at-is-live .is-live .result) (c .before .before .if2 .taken))))
+          (c .step2 .ensures),
+      r .3,
+    )
 
 next-wide-requires : (t : ℕ) → next-lts.Need-wide-requires (next-claims t) (next-at t) next.Post
 next-wide-requires t c κs = search needs
 
 next-note-at-requires : (t : ℕ) → next-lts.Need-note-at-requires (next-claims t) (next-at t) next.Post
-next-note-at-requires t c κs = let a = c .before .before .before .before .before .before .before .args in let r = c .before .before .before .before .before .before .before .pre .1 in let (x, y) = leads-on (a .l .least) (a .s .now) (a .v) (a .up) (c .before .wide .result) (a .e) (r .2) (c .before .wide .ensures) (c .before .before .before .before .if1 .left) (sym (c .before .before .before .is-live .ensures) ∙ not-false (c .before .before .before .is-live .result) (c .before .before .if2 .left)) in (omega (arith, x .1, r .1 .most), r .3 .long)
+next-note-at-requires t c κs =
+    let at-is-live = c .before .before .before in
+    let at-if1 = at-is-live .before in
+    let at-start = at-if1 .before .before .before in
+    let a = at-start .args in let r = at-start .pre .1 in
+    let (x, y) = leads-on (a .l .least) (a .s .now) (a .v) (a .up) (c .before .wide .result) (a .e) (r .2) (c .before .wide .ensures)
+    (at-if1 .if1 .left) (sym (at-is-live .is-live .ensures) ∙ not-false (at-is-live .is-live .result) (c .before .before .if2 .left)) in
+    (omega (arith, x .1, r .1 .most), r .3 .long)
 
 next-step-requires-3 : (t : ℕ) → next-lts.Need-step-requires-3 (next-claims t) (next-at t) next.Post
-next-step-requires-3 t c κs = let a = c .before .before .before .before .before .before .before .before .before .before .args in let r = c .before .before .before .before .before .before .before .before .before .before .pre .1 in (r .4, r .5)
+next-step-requires-3 t c κs =
+    let at-start = c .before .before .before .before .before .before .before .before .before .before in
+    let a = at-start .args in let r = at-start .pre .1 in (r .4, r .5)
 
 next-same-length : (t : ℕ) → next-lts.Need-same-length (next-claims t) (next-at t) next.Post
 next-same-length t c = search needs
 
 next-returns-3 : (t : ℕ) → next-lts.Need-returns-3 (next-claims t) (next-at t) next.Post
-next-returns-3 t c = let a = c .before .before .before .before .before .before .before .before .before .before .before .args in let r = c .before .before .before .before .before .before .before .before .before .before .before .pre .1 in let (x, y) = leads-on (a .l .least) (a .s .now) (a .v) (a .up) (c .before .before .before .before .before .wide .result) (a .e) (r .2) (c .before .before .before .before .before .wide .ensures) (c .before .before .before .before .before .before .before .before .if1 .left) (sym (c .before .before .before .before .before .before .before .is-live .ensures) ∙ not-false (c .before .before .before .before .before .before .before .is-live .result) (c .before .before .before .before .before .before .if2 .left)) in (step-kid (a .l .least) (a .up) (a .v) (decode (a .l .least) (a .s .now) .pages) (a .x) (c .step3 .result) (c .before .before .before .note-at .result) (a .e) (known-is (a .l .least) (a .up - 1) (decode (a .l .least) (a .s .now) .pages) (a .v) (c .before .before .before .before .before .wide .result) (a .notes .now) (c .before .before .before .note-at .result) (r .3) (omega (arith, x .1, r .1 .most)) (height-here (a .l .least) (a .s .now) (c .before .before .before .before .before .wide .result) x (a .up - 1) y) (c .before .before .before .note-at .ensures) (c .before .if3 .taken) ∙ sym (below-live (a .l .least) (a .up) (decode (a .l .least) (a .s .now) .pages) (a .v) (a .e) (c .before .before .before .before .before .wide .result) (sym (c .before .before .before .before .before .before .before .is-live .ensures) ∙ not-false (c .before .before .before .before .before .before .before .is-live .result) (c .before .before .before .before .before .before .if2 .left)) (c .before .before .before .before .before .before .before .before .if1 .left) (c .before .before .before .before .before .wide .ensures))) (c .step3 .ensures), r .3)
+next-returns-3 t c =
+    let at-note-at = c .before .before .before in
+    let at-wide = at-note-at .before .before in
+    let at-if2 = at-wide .before in
+    let at-is-live = at-if2 .before in
+    let at-if1 = at-is-live .before in
+    let at-start = at-if1 .before .before .before in
+    let a = at-start .args in let r = at-start .pre .1 in
+    let (x, y) = leads-on (a .l .least) (a .s .now) (a .v) (a .up) (at-wide .wide .result) (a .e) (r .2) (at-wide .wide .ensures)
+    (at-if1 .if1 .left) (sym (at-is-live .is-live .ensures) ∙ not-false (at-is-live .is-live .result) (at-if2 .if2 .left)) in (
+      step-kid (a .l .least) (a .up) (a .v) (decode (a .l .least) (a .s .now) .pages) (a .x) (c .step3 .result)
+          (at-note-at .note-at .result)
+          (a .e) (known-is (a .l .least) (a .up - 1) (decode (a .l .least) (a .s .now) .pages) (a .v) (at-wide .wide .result)
+          (a .notes .now) (at-note-at .note-at .result) (r .3) (omega (arith, x .1, r .1 .most))
+          (height-here (a .l .least) (a .s .now) (at-wide .wide .result) x (a .up - 1) y) (at-note-at .note-at .ensures)
+          (c .before .if3 .taken)
+          ∙ sym (below-live (a .l .least) (a .up) (decode (a .l .least) (a .s .now) .pages) (a .v) (a .e) (at-wide .wide .result)
+          (sym (at-is-live .is-live .ensures) ∙ not-false (at-is-live .is-live .result) (at-if2 .if2 .left)) (at-if1 .if1 .left)
+          (at-wide .wide .ensures))) (c .step3 .ensures),
+      r .3,
+    )
 
 next-put-away-requires : (t : ℕ) → next-lts.Need-put-away-requires (next-claims t) (next-at t) next.Post
-next-put-away-requires t c κs = c .before .before .before .before .before .before .before .before .before .before .before .pre .1 .3 .long
+next-put-away-requires t c κs =
+    let at-start = c .before .before .before .before .before .before .before .before .before .before .before in
+    at-start .pre .1 .3 .long
 
 next-sub-visit : (t : ℕ) → next-lts.Need-sub-visit (next-claims t) (next-at t) next.Post
 next-sub-visit t c = search needs
 
 next-visit-requires : (t : ℕ) → next-lts.Need-visit-requires (next-claims t) (next-at t) next.Post
-next-visit-requires t c κs = let a = c .before .before .before .before .before .before .before .before .before .before .before .before .before .before .before .args in let r = c .before .before .before .before .before .before .before .before .before .before .before .before .before .before .before .pre .1 in let (x, y) = leads-on (a .l .least) (a .s .now) (a .v) (a .up) (c .before .before .before .before .before .before .before .before .before .wide .result) (a .e) (r .2) (c .before .before .before .before .before .before .before .before .before .wide .ensures) (c .before .before .before .before .before .before .before .before .before .before .before .before .if1 .left) (sym (c .before .before .before .before .before .before .before .before .before .before .before .is-live .ensures) ∙ not-false (c .before .before .before .before .before .before .before .before .before .before .before .is-live .result) (c .before .before .before .before .before .before .before .before .before .before .if2 .left)) in (omega (arith, c .before .before .before .before .before .before .before .before .before .before .before .before .if1 .left, c .before .before .before .before .before .before .before .before .before .before .before .before .before .before .before .pre .0), (r .0, r .1, x, y, kept-away (a .l .least) (decode (a .l .least) (a .s .now) .pages) (a .v) _ _ _ _ (c .before .before .before .put-away .ensures) (r .3), r .6))
+next-visit-requires t c κs =
+    let at-wide = c .before .before .before .before .before .before .before .before .before in
+    let at-if2 = at-wide .before in
+    let at-is-live = at-if2 .before in
+    let at-if1 = at-is-live .before in
+    let at-start = at-if1 .before .before .before in
+    let a = at-start .args in let r = at-start .pre .1 in
+    let (x, y) = leads-on (a .l .least) (a .s .now) (a .v) (a .up) (at-wide .wide .result) (a .e) (r .2) (at-wide .wide .ensures)
+    (at-if1 .if1 .left) (sym (at-is-live .is-live .ensures) ∙ not-false (at-is-live .is-live .result) (at-if2 .if2 .left)) in (
+      omega (arith, at-if1 .if1 .left, at-start .pre .0),
+      (
+        r .0,
+        r .1,
+        x,
+        y,
+        kept-away (a .l .least) (decode (a .l .least) (a .s .now) .pages) (a .v) _ _ _ _
+            (c .before .before .before .put-away .ensures) (r .3),
+        r .6,
+      ),
+    )
 
 next-step-requires-4 : (t : ℕ) → next-lts.Need-step-requires-4 (next-claims t) (next-at t) next.Post
-next-step-requires-4 t c κs = let a = c .before .before .before .before .before .before .before .before .before .before .before .before .before .before .before .before .before .before .args in let r = c .before .before .before .before .before .before .before .before .before .before .before .before .before .before .before .before .before .before .pre .1 in (r .4, r .5)
+next-step-requires-4 t c κs =
+    let at-start = c .before .before .before .before .before .before .before .before .before .before .before .before .before .before .before .before .before .before in
+    let a = at-start .args in let r = at-start .pre .1 in (r .4, r .5)
 
 next-same-length-2 : (t : ℕ) → next-lts.Need-same-length-2 (next-claims t) (next-at t) next.Post
 next-same-length-2 t c = search needs
 
 next-returns-4 : (t : ℕ) → next-lts.Need-returns-4 (next-claims t) (next-at t) next.Post
-next-returns-4 t c = let a = c .before .before .before .before .before .before .before .before .before .before .before .before .before .before .before .before .before .before .before .args in let r = c .before .before .before .before .before .before .before .before .before .before .before .before .before .before .before .before .before .before .before .pre .1 in (step-kid (a .l .least) (a .up) (a .v) (decode (a .l .least) (a .s .now) .pages) (a .x) (c .step4 .result) (c .before .before .before .visit .result) (a .e) (c .before .before .before .visit .ensures .0 ∙ sym (below-live (a .l .least) (a .up) (decode (a .l .least) (a .s .now) .pages) (a .v) (a .e) (c .before .before .before .before .before .before .before .before .before .before .before .before .before .wide .result) (sym (c .before .before .before .before .before .before .before .before .before .before .before .before .before .before .before .is-live .ensures) ∙ not-false (c .before .before .before .before .before .before .before .before .before .before .before .before .before .before .before .is-live .result) (c .before .before .before .before .before .before .before .before .before .before .before .before .before .before .if2 .left)) (c .before .before .before .before .before .before .before .before .before .before .before .before .before .before .before .before .if1 .left) (c .before .before .before .before .before .before .before .before .before .before .before .before .before .wide .ensures))) (c .step4 .ensures), c .before .before .before .visit .ensures .1)
+next-returns-4 t c =
+    let at-visit = c .before .before .before in
+    let at-wide = at-visit .before .before .before .before .before .before .before .before .before .before in
+    let at-if2 = at-wide .before in
+    let at-is-live = at-if2 .before in
+    let at-if1 = at-is-live .before in
+    let at-start = at-if1 .before .before .before in
+    let a = at-start .args in let r = at-start .pre .1 in (
+      step-kid (a .l .least) (a .up) (a .v) (decode (a .l .least) (a .s .now) .pages) (a .x) (c .step4 .result) (at-visit .visit .result)
+          (a .e) (at-visit .visit .ensures .0 ∙ sym
+          (below-live (a .l .least) (a .up) (decode (a .l .least) (a .s .now) .pages) (a .v) (a .e) (at-wide .wide .result)
+          (sym (at-is-live .is-live .ensures) ∙ not-false (at-is-live .is-live .result) (at-if2 .if2 .left)) (at-if1 .if1 .left)
+          (at-wide .wide .ensures))) (c .step4 .ensures),
+      at-visit .visit .ensures .1,
+    )
 
 -- ---- a page
 
 abbrev visit-Inv-loop : visit-lts.InvT-loop
 visit-Inv-loop notes₀ s l up v n p count x₀ i₀ notes x i =
     (i ≤ count) × (x .keys ≡ true) × (x .live ≤ i) × Kept (l .least) (decode (l .least) s .pages) v notes
-    × (noteAt (l .least) up (decode (l .least) s .pages) v n ≡ row (l .least) up v (kidsAt (l .least) up (decode (l .least) s .pages) v) x (readEntries p (128 + 96 * i) (count - i)))
+    × (noteAt (l .least) up (decode (l .least) s .pages) v n
+    ≡ row (l .least) up v (kidsAt (l .least) up (decode (l .least) s .pages) v) x (readEntries p (128 + 96 * i) (count - i)))
 
 abbrev visit-μ-loop : visit-lts.MeasureT-loop
 visit-μ-loop notes₀ s l up v n p count x₀ i₀ notes x i = count - i
 
 visit-part-requires : (t : ℕ) → visit-lts.Need-part-requires (visit-claims t) (visit-at t) visit.Post visit-Inv-loop visit-μ-loop
-visit-part-requires t c κs = let a = c .before .before .args in let r = c .before .before .pre .1 in let k = part-asks (r .0) (a .s .now) (r .1) (a .n) (r .2) in (r .0, k .0, k .1)
+visit-part-requires t c κs =
+    let at-start = c .before .before in
+    let a = at-start .args in let r = at-start .pre .1 in let k = part-asks (r .0) (a .s .now) (r .1) (a .n) (r .2) in (r .0, k .0, k .1)
 
 visit-head-of-requires : (t : ℕ) → visit-lts.Need-head-of-requires (visit-claims t) (visit-at t) visit.Post visit-Inv-loop visit-μ-loop
-visit-head-of-requires t c κs = let a = c .before .before .before .args in let r = c .before .before .before .pre .1 in let k = head-asks (r .0) (a .s .now) (r .1) (a .n) (r .2) (c .part .result .now) (c .part .ensures) in (r .0, k .0, k .1)
+visit-head-of-requires t c κs =
+    let at-start = c .before .before .before in
+    let a = at-start .args in let r = at-start .pre .1 in
+    let k = head-asks (r .0) (a .s .now) (r .1) (a .n) (r .2) (c .part .result .now) (c .part .ensures) in (r .0, k .0, k .1)
 
 visit-nothing-requires : (t : ℕ) → visit-lts.Need-nothing-requires (visit-claims t) (visit-at t) visit.Post visit-Inv-loop visit-μ-loop
 visit-nothing-requires t c κs = search needs
 
 visit-loop-holds : (t : ℕ) → visit-lts.Need-loop-holds (visit-claims t) (visit-at t) visit.Post visit-Inv-loop visit-μ-loop
-visit-loop-holds t c = let a = c .before .before .before .before .before .args in let r = c .before .before .before .before .before .pre .1 in let q = c .nothing .ensures in
+visit-loop-holds t c =
+    let at-head-of = c .before in
+    let at-part = at-head-of .before in
+    let at-start = at-part .before .before .before in
+    let a = at-start .args in let r = at-start .pre .1 in let q = c .nothing .ensures in
     let live : c .nothing .result .live ≡ 0 = ap (λ (x : Note). x .live) q in (
       omega arith,
       ap (λ (x : Note). x .keys) q,
       omega arith,
       r .4,
       note-row (a .l .least) (a .up) (decode (a .l .least) (a .s .now) .pages) (a .v) (a .n)
-          ∙ ap (row (a .l .least) (a .up) (a .v) (kidsAt (a .l .least) (a .up) (decode (a .l .least) (a .s .now) .pages) (a .v)) nothing) (entries-here (a .l .least) (a .s .now) (a .n) (r .2) ∙ entries-start (r .0) (a .s .now) (r .1) (a .n) (r .2) (c .before .before .part .result .now) (c .before .before .part .ensures) (c .before .head-of .result) (c .before .head-of .ensures))
-          ∙ ap (λ (x : Note). row (a .l .least) (a .up) (a .v) (kidsAt (a .l .least) (a .up) (decode (a .l .least) (a .s .now) .pages) (a .v)) x (readEntries (c .before .before .part .result .now) (128 + 96 * 0) (c .before .head-of .result .count - 0))) (sym q),
+          ∙ ap (row (a .l .least) (a .up) (a .v) (kidsAt (a .l .least) (a .up) (decode (a .l .least) (a .s .now) .pages) (a .v)) nothing)
+          (entries-here (a .l .least) (a .s .now) (a .n) (r .2)
+          ∙ entries-start (r .0) (a .s .now) (r .1) (a .n) (r .2) (at-part .part .result .now) (at-part .part .ensures)
+          (at-head-of .head-of .result) (at-head-of .head-of .ensures))
+          ∙ ap (λ (x : Note). row (a .l .least) (a .up) (a .v)
+          (kidsAt (a .l .least) (a .up) (decode (a .l .least) (a .s .now) .pages) (a .v)) x
+          (readEntries (at-part .part .result .now) (128 + 96 * 0) (at-head-of .head-of .result .count - 0))) (sym q),
     )
 
 visit-entry-at-requires : (t : ℕ) → visit-lts.Need-entry-at-requires (visit-claims t) (visit-at t) visit.Post visit-Inv-loop visit-μ-loop
-visit-entry-at-requires t c κs = let a = c .before .before .before .before .before .before .before .args in let r = c .before .before .before .before .before .before .before .pre .1 in let k = stands-here (r .0) (a .s .now) (r .1) (a .n) (r .2) (c .before .before .before .before .part .result .now) (c .before .before .before .before .part .ensures) (c .before .before .before .head-of .result) (c .before .before .before .head-of .ensures) in (omega (arith, k .room, c .loop-test .taken), k .long)
+visit-entry-at-requires t c κs =
+    let at-head-of = c .before .before .before in
+    let at-part = at-head-of .before in
+    let at-start = at-part .before .before .before in
+    let a = at-start .args in let r = at-start .pre .1 in
+    let k = stands-here (r .0) (a .s .now) (r .1) (a .n) (r .2) (at-part .part .result .now) (at-part .part .ensures)
+    (at-head-of .head-of .result) (at-head-of .head-of .ensures) in (omega (arith, k .room, c .loop-test .taken), k .long)
 
 visit-next-requires : (t : ℕ) → visit-lts.Need-next-requires (visit-claims t) (visit-at t) visit.Post visit-Inv-loop visit-μ-loop
-visit-next-requires t c κs = let a = c .before .before .before .before .before .before .before .before .before .args in let r = c .before .before .before .before .before .before .before .before .before .pre .1 in let z = subst FieldsFit (sym (c .before .entry-at .ensures)) (read-sized (c .before .before .before .before .before .before .part .result .now) (128 + 96 * c .before .before .before .loop .i)) in (
-  omega (arith, c .before .before .before .before .before .before .before .before .before .pre .0),
-  (
-    r .0,
-    r .1,
-    leads-here (r .0) (a .s .now) (r .1) (a .n) (r .2) (c .before .before .before .before .before .before .part .result .now) (c .before .before .before .before .before .before .part .ensures) (c .before .before .before .before .before .head-of .result) (c .before .before .before .before .before .head-of .ensures) (c .before .before .before .loop .i) (a .v) (a .up) (c .before .entry-at .result) (r .5) (r .3) (c .before .before .loop-test .taken) (c .before .entry-at .ensures),
-    c .before .before .before .loop .inv .3,
-    omega (arith, c .before .before .before .loop .inv .2, c .before .before .loop-test .taken, few (r .0) (a .s .now) (r .1) (a .n) (r .2) (c .before .before .before .before .before .before .part .result .now) (c .before .before .before .before .before .before .part .ensures) (c .before .before .before .before .before .head-of .result) (c .before .before .before .before .before .head-of .ensures)),
-    z .key,
-    r .5,
-  ),
-)
+visit-next-requires t c κs =
+    let at-entry-at = c .before in
+    let at-test = at-entry-at .before in
+    let at-loop = at-test .before in
+    let at-head-of = at-loop .before .before in
+    let at-part = at-head-of .before in
+    let at-start = at-part .before .before .before in
+    let a = at-start .args in let r = at-start .pre .1 in
+    let z = subst FieldsFit (sym (at-entry-at .entry-at .ensures))
+    (read-sized (at-part .part .result .now) (128 + 96 * at-loop .loop .i)) in (
+      omega (arith, at-start .pre .0),
+      (
+        r .0,
+        r .1,
+        leads-here (r .0) (a .s .now) (r .1) (a .n) (r .2) (at-part .part .result .now) (at-part .part .ensures)
+            (at-head-of .head-of .result) (at-head-of .head-of .ensures) (at-loop .loop .i) (a .v) (a .up) (at-entry-at .entry-at .result)
+            (r .5) (r .3) (at-test .loop-test .taken) (at-entry-at .entry-at .ensures),
+        at-loop .loop .inv .3,
+        omega (
+          arith,
+          at-loop .loop .inv .2,
+          at-test .loop-test .taken,
+          few (r .0) (a .s .now) (r .1) (a .n) (r .2) (at-part .part .result .now) (at-part .part .ensures) (at-head-of .head-of .result)
+              (at-head-of .head-of .ensures),
+        ),
+        z .key,
+        r .5,
+      ),
+    )
 
 visit-same-length : (t : ℕ) → visit-lts.Need-same-length (visit-claims t) (visit-at t) visit.Post visit-Inv-loop visit-μ-loop
-visit-same-length t c = c .before .before .before .before .next .ensures .1 .long ∙ sym (c .before .before .before .before .before .before .before .before .before .before .before .before .before .before .pre .1 .4 .long)
+visit-same-length t c =
+    let at-next = c .before .before .before .before in
+    let at-start = at-next .before .before .before .before .before .before .before .before .before .before in
+    at-next .next .ensures .1 .long ∙ sym (at-start .pre .1 .4 .long)
 
 visit-returns : (t : ℕ) → visit-lts.Need-returns (visit-claims t) (visit-at t) visit.Post visit-Inv-loop visit-μ-loop
-visit-returns t c = let a = c .before .before .before .before .before .before .before .before .before .before .before .before .before .before .args in let r = c .before .before .before .before .before .before .before .before .before .before .before .before .before .before .pre .1 in (sym (c .before .before .before .before .before .before .before .before .loop .inv .4 ∙ row-stops (a .l .least) (a .up) (a .v) (decode (a .l .least) (a .s .now) .pages) (c .before .before .before .before .before .before .before .before .loop .x) (c .before .before .before .before .next .result) (c .before .before .before .before .before .before .entry-at .result) (c .before .before .before .before .before .before .before .before .before .before .before .part .result .now) (c .before .before .before .before .before .before .before .before .loop .i) (c .before .before .before .before .before .before .before .before .before .before .head-of .result .count) (c .before .before .before .before .before .before .entry-at .ensures) (c .before .before .before .before .next .ensures .0) (c .before .before .before .before .before .before .before .loop-test .taken) (c .before .before .before .before .before .before .before .before .loop .inv .1) (not-true (c .before .before .before .before .next .result .keys) (c .if1 .taken))), c .before .before .before .before .next .ensures .1)
+visit-returns t c =
+    let at-next = c .before .before .before .before in
+    let at-entry-at = at-next .before .before in
+    let at-test = at-entry-at .before in
+    let at-loop = at-test .before in
+    let at-head-of = at-loop .before .before in
+    let at-part = at-head-of .before in
+    let at-start = at-part .before .before .before in
+    let a = at-start .args in let r = at-start .pre .1 in (
+      sym (at-loop .loop .inv .4 ∙ row-stops (a .l .least) (a .up) (a .v) (decode (a .l .least) (a .s .now) .pages) (at-loop .loop .x)
+          (at-next .next .result) (at-entry-at .entry-at .result) (at-part .part .result .now) (at-loop .loop .i)
+          (at-head-of .head-of .result .count) (at-entry-at .entry-at .ensures) (at-next .next .ensures .0) (at-test .loop-test .taken)
+          (at-loop .loop .inv .1) (not-true (at-next .next .result .keys) (c .if1 .taken))),
+      at-next .next .ensures .1,
+    )
 
 visit-add-i : (t : ℕ) → visit-lts.Need-add-i (visit-claims t) (visit-at t) visit.Post visit-Inv-loop visit-μ-loop
-visit-add-i t c = let a = c .before .before .before .before .before .before .before .before .before .before .before .before .before .before .args in let r = c .before .before .before .before .before .before .before .before .before .before .before .before .before .before .pre .1 in omega (arith, c .before .before .before .before .before .before .before .loop-test .taken, few (r .0) (a .s .now) (r .1) (a .n) (r .2) (c .before .before .before .before .before .before .before .before .before .before .before .part .result .now) (c .before .before .before .before .before .before .before .before .before .before .before .part .ensures) (c .before .before .before .before .before .before .before .before .before .before .head-of .result) (c .before .before .before .before .before .before .before .before .before .before .head-of .ensures))
+visit-add-i t c =
+    let at-test = c .before .before .before .before .before .before .before in
+    let at-head-of = at-test .before .before .before in
+    let at-part = at-head-of .before in
+    let at-start = at-part .before .before .before in
+    let a = at-start .args in let r = at-start .pre .1 in
+    omega (
+      arith,
+      at-test .loop-test .taken,
+      few (r .0) (a .s .now) (r .1) (a .n) (r .2) (at-part .part .result .now)
+          (at-part .part .ensures) (at-head-of .head-of .result) (at-head-of .head-of .ensures),
+    )
 
 visit-loop-less : (t : ℕ) → visit-lts.Need-loop-less (visit-claims t) (visit-at t) visit.Post visit-Inv-loop visit-μ-loop
-visit-loop-less t c = omega (arith, c .before .before .before .before .before .before .before .loop-test .taken)
+visit-loop-less t c =
+    let at-test = c .before .before .before .before .before .before .before in
+    omega (arith, at-test .loop-test .taken)
 
 visit-loop-again : (t : ℕ) → visit-lts.Need-loop-again (visit-claims t) (visit-at t) visit.Post visit-Inv-loop visit-μ-loop
-visit-loop-again t c = let a = c .before .before .before .before .before .before .before .before .before .before .before .before .before .before .args in let r = c .before .before .before .before .before .before .before .before .before .before .before .before .before .before .pre .1 in (
-  omega (arith, c .before .before .before .before .before .before .before .loop-test .taken),
-  not-false (c .before .before .before .before .next .result .keys) (c .if1 .left),
-  live-next (a .l .least) (a .up) (a .v) (decode (a .l .least) (a .s .now) .pages) (c .before .before .before .before .before .before .before .before .loop .x) (c .before .before .before .before .next .result) (c .before .before .before .before .before .before .entry-at .result) (c .before .before .before .before .before .before .before .before .before .before .before .part .result .now) (c .before .before .before .before .before .before .before .before .loop .i) (c .before .before .before .before .before .before .before .before .before .before .head-of .result .count) (c .before .before .before .before .before .before .entry-at .ensures) (c .before .before .before .before .next .ensures .0) (c .before .before .before .before .before .before .before .before .loop .inv .2),
-  c .before .before .before .before .next .ensures .1,
-  c .before .before .before .before .before .before .before .before .loop .inv .4 ∙ row-next (a .l .least) (a .up) (a .v) (decode (a .l .least) (a .s .now) .pages) (c .before .before .before .before .before .before .before .before .loop .x) (c .before .before .before .before .next .result) (c .before .before .before .before .before .before .entry-at .result) (c .before .before .before .before .before .before .before .before .before .before .before .part .result .now) (c .before .before .before .before .before .before .before .before .loop .i) (c .before .before .before .before .before .before .before .before .before .before .head-of .result .count) (c .before .before .before .before .before .before .entry-at .ensures) (c .before .before .before .before .next .ensures .0) (c .before .before .before .before .before .before .before .loop-test .taken),
-)
+visit-loop-again t c =
+    let at-next = c .before .before .before .before in
+    let at-entry-at = at-next .before .before in
+    let at-test = at-entry-at .before in
+    let at-loop = at-test .before in
+    let at-head-of = at-loop .before .before in
+    let at-part = at-head-of .before in
+    let at-start = at-part .before .before .before in
+    let a = at-start .args in let r = at-start .pre .1 in (
+      omega (arith, at-test .loop-test .taken),
+      not-false (at-next .next .result .keys) (c .if1 .left),
+      live-next (a .l .least) (a .up) (a .v) (decode (a .l .least) (a .s .now) .pages) (at-loop .loop .x) (at-next .next .result)
+          (at-entry-at .entry-at .result) (at-part .part .result .now) (at-loop .loop .i) (at-head-of .head-of .result .count)
+          (at-entry-at .entry-at .ensures) (at-next .next .ensures .0) (at-loop .loop .inv .2),
+      at-next .next .ensures .1,
+      at-loop .loop .inv .4 ∙ row-next (a .l .least) (a .up) (a .v) (decode (a .l .least) (a .s .now) .pages) (at-loop .loop .x)
+          (at-next .next .result) (at-entry-at .entry-at .result) (at-part .part .result .now) (at-loop .loop .i)
+          (at-head-of .head-of .result .count) (at-entry-at .entry-at .ensures) (at-next .next .ensures .0) (at-test .loop-test .taken),
+    )
 
 visit-put-requires : (t : ℕ) → visit-lts.Need-put-requires (visit-claims t) (visit-at t) visit.Post visit-Inv-loop visit-μ-loop
-visit-put-requires t c κs = let a = c .before .before .before .before .before .before .before .before .args in let r = c .before .before .before .before .before .before .before .before .pre .1 in (omega (arith, r .2 .1, r .1 .most), c .before .before .loop .inv .3 .long)
+visit-put-requires t c κs =
+    let at-start = c .before .before .before .before .before .before .before .before in
+    let a = at-start .args in let r = at-start .pre .1 in (omega (arith, r .2 .1, r .1 .most), c .before .before .loop .inv .3 .long)
 
 visit-same-length-2 : (t : ℕ) → visit-lts.Need-same-length-2 (visit-claims t) (visit-at t) visit.Post visit-Inv-loop visit-μ-loop
-visit-same-length-2 t c = c .before .before .put .kept .0 ∙ c .before .before .before .before .before .loop .inv .3 .long ∙ sym (c .before .before .before .before .before .before .before .before .before .before .before .pre .1 .4 .long)
+visit-same-length-2 t c =
+    let at-loop = c .before .before .before .before .before in
+    let at-start = at-loop .before .before .before .before .before .before in
+    c .before .before .put .kept .0 ∙ at-loop .loop .inv .3 .long ∙ sym (at-start .pre .1 .4 .long)
 
 visit-returns-2 : (t : ℕ) → visit-lts.Need-returns-2 (visit-claims t) (visit-at t) visit.Post visit-Inv-loop visit-μ-loop
-visit-returns-2 t c = let a = c .before .before .before .before .before .before .before .before .before .before .before .args in let r = c .before .before .before .before .before .before .before .before .before .before .before .pre .1 in let e = (sym (c .before .before .before .before .before .loop .inv .4 ∙ row-end (a .l .least) (a .up) (a .v) (kidsAt (a .l .least) (a .up) (decode (a .l .least) (a .s .now) .pages) (a .v)) (c .before .before .before .before .before .loop .x) (c .before .before .before .before .before .before .before .before .part .result .now) (c .before .before .before .before .before .loop .i) (c .before .before .before .before .before .before .before .head-of .result .count) (c .before .before .before .before .loop-test .left))) in
-    (e, kept-after (a .l .least) (a .up) (decode (a .l .least) (a .s .now) .pages) (a .v) (a .n) (c .before .before .before .before .before .loop .x) (c .before .before .before .before .before .loop .notes) (c .before .before .put .last .0) (c .before .before .before .before .before .loop .inv .3) (omega (arith, r .2 .1, r .1 .most)) (height-here (a .l .least) (a .s .now) (a .n) (r .2) (a .up) (r .3)) (c .before .before .before .before .before .loop .inv .1) e (c .before .before .put .ensures))
+visit-returns-2 t c =
+    let at-put = c .before .before in
+    let at-test = at-put .before .before in
+    let at-loop = at-test .before in
+    let at-head-of = at-loop .before .before in
+    let at-part = at-head-of .before in
+    let at-start = at-part .before .before .before in
+    let a = at-start .args in let r = at-start .pre .1 in
+    let e = (sym (at-loop .loop .inv .4 ∙ row-end (a .l .least) (a .up) (a .v)
+    (kidsAt (a .l .least) (a .up) (decode (a .l .least) (a .s .now) .pages) (a .v)) (at-loop .loop .x) (at-part .part .result .now)
+    (at-loop .loop .i) (at-head-of .head-of .result .count) (at-test .loop-test .left))) in (
+      e,
+      kept-after (a .l .least) (a .up) (decode (a .l .least) (a .s .now) .pages) (a .v) (a .n) (at-loop .loop .x) (at-loop .loop .notes)
+          (at-put .put .last .0) (at-loop .loop .inv .3) (omega (arith, r .2 .1, r .1 .most))
+          (height-here (a .l .least) (a .s .now) (a .n) (r .2) (a .up) (r .3)) (at-loop .loop .inv .1) e (at-put .put .ensures),
+    )
 
 pub +next+visit-spec : {M : Type 1} → statement M
 +next+visit-spec = close μ-next μ-visit (λ t. next-lts.spec (next-claims t)

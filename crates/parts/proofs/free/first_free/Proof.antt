@@ -18,12 +18,22 @@ loop-holds : tie.Need-loop-holds Inv-loop μ-loop
 loop-holds c = (omega arith, c .before .pre .2, refl)
 
 level-of-requires : tie.Need-level-of-requires Inv-loop μ-loop
-level-of-requires c κs = (c .before .before .before .pre .0, record { low = omega (arith, c .before .before .before .pre .1, c .before .loop .inv .0); high = omega (arith, c .before .before .before .pre .3) })
+level-of-requires c κs =
+    let at-start = c .before .before .before in
+    (at-start .pre .0, record { low = omega (arith, at-start .pre .1, c .before .loop .inv .0); high = omega (arith, at-start .pre .3) })
 
 returns : tie.Need-returns Inv-loop μ-loop
 returns c =
-    let e = c .before .before .before .loop .inv .2 ∙ free-here (pagesOf (c .before .before .before .before .before .args .l) (c .before .before .before .before .before .args .s .now)) (c .before .before .before .loop .i) (omega (arith, c .before .before .before .before .before .pre .3)) (sym (c .before .level-of .ensures) ∙ c .if1 .taken) in
-    record { low = c .before .before .before .loop .inv .0; high = omega arith; some = λ h. e; none = λ (h : c .before .before .before .before .before .args .size ≤ c .before .before .before .loop .i). absurd (omega arith) }
+    let e = c .before .before .before .loop .inv .2
+    ∙ free-here (pagesOf (c .before .before .before .before .before .args .l) (c .before .before .before .before .before .args .s .now))
+    (c .before .before .before .loop .i) (omega (arith, c .before .before .before .before .before .pre .3))
+    (sym (c .before .level-of .ensures) ∙ c .if1 .taken) in
+    record {
+      low = c .before .before .before .loop .inv .0;
+      high = omega arith;
+      some = λ h. e;
+      none = λ (h : c .before .before .before .before .before .args .size ≤ c .before .before .before .loop .i). absurd (omega arith);
+    }
 
 add-i : tie.Need-add-i Inv-loop μ-loop
 add-i c = search needs
@@ -33,12 +43,25 @@ loop-less c = search needs
 
 loop-again : tie.Need-loop-again Inv-loop μ-loop
 loop-again c =
-    (omega arith, omega arith, c .before .before .before .loop .inv .2 ∙ free-not (pagesOf (c .before .before .before .before .before .args .l) (c .before .before .before .before .before .args .s .now)) (c .before .before .before .loop .i) (omega (arith, c .before .before .before .before .before .pre .3)) (λ e. c .if1 .left (c .before .level-of .ensures ∙ e)))
+    let at-loop = c .before .before .before in
+    let at-start = at-loop .before .before in (
+      omega arith,
+      omega arith,
+      at-loop .loop .inv .2
+          ∙ free-not (pagesOf (at-start .args .l) (at-start .args .s .now)) (at-loop .loop .i) (omega (arith, at-start .pre .3))
+          (λ e. c .if1 .left (c .before .level-of .ensures ∙ e)),
+    )
 
 returns-2 : tie.Need-returns-2 Inv-loop μ-loop
 returns-2 c =
-    let e = c .before .loop .inv .2 ∙ free-none (pagesOf (c .before .before .before .args .l) (c .before .before .before .args .s .now)) (c .before .loop .i) (omega (arith, c .before .before .before .pre .3)) in
-    record { low = c .before .loop .inv .0; high = omega arith; some = λ (h : c .before .loop .i < c .before .before .before .args .size). absurd (omega arith); none = λ h. e }
+    let e = c .before .loop .inv .2 ∙ free-none (pagesOf (c .before .before .before .args .l) (c .before .before .before .args .s .now))
+    (c .before .loop .i) (omega (arith, c .before .before .before .pre .3)) in
+    record {
+      low = c .before .loop .inv .0;
+      high = omega arith;
+      some = λ (h : c .before .loop .i < c .before .before .before .args .size). absurd (omega arith);
+      none = λ h. e;
+    }
 
 pub first-free-spec : {M : Type 1} → statement M
 first-free-spec =

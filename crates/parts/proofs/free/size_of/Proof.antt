@@ -12,7 +12,10 @@ size-requires : tie.Need-size-requires
 size-requires c κs = search needs
 
 returns : tie.Need-returns
-returns c = c .size .ensures ∙ size-is (c .before .before .args .l .least) (length (pagesOf (c .before .before .args .l) (c .before .before .args .s .now))) (c .before .before .args .s .now) (omega (arith, c .before .before .pre .edition .four)) (long (c .before .before .pre))
+returns c =
+    let at-start = c .before .before in
+    c .size .ensures ∙ size-is (at-start .args .l .least) (length (pagesOf (at-start .args .l) (at-start .args .s .now)))
+    (at-start .args .s .now) (omega (arith, at-start .pre .edition .four)) (long (at-start .pre))
 
 pub size-of-spec : {M : Type 1} → statement M
 size-of-spec = tie.close (tie.spec size-requires returns)

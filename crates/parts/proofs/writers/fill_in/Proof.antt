@@ -15,10 +15,20 @@ use Rattle.parts.proofs.writers.fill_in.Statement.{statement}
 use Rattle.parts.proofs.writers.fill_in.Tie as tie
 
 offset-requires : tie.Need-offset-requires
-offset-requires c κs = (c .before .pre .0 .edition, omega (arith, part-in (c .before .pre .0) (c .before .pre .1), short (c .before .pre .0)))
+offset-requires c κs =
+    let at-start = c .before in
+    (at-start .pre .0 .edition, omega (arith, part-in (at-start .pre .0) (at-start .pre .1), short (at-start .pre .0)))
 
 add-fill : tie.Need-add-fill
-add-fill c = omega (arith, part-in (c .before .before .before .before .pre .0) (c .before .before .before .before .pre .1), short (c .before .before .before .before .pre .0), bytes-is (c .before .before .before .before .pre .0 .edition), c .before .before .offset .ensures)
+add-fill c =
+    let at-start = c .before .before .before .before in
+    omega (
+      arith,
+      part-in (at-start .pre .0) (at-start .pre .1),
+      short (at-start .pre .0),
+      bytes-is (at-start .pre .0 .edition),
+      c .before .before .offset .ensures,
+    )
 
 sub-fill : tie.Need-sub-fill
 sub-fill c = search needs
@@ -27,25 +37,49 @@ part-fill-start : tie.Need-part-fill-start
 part-fill-start c = search needs
 
 part-fill-end : tie.Need-part-fill-end
-part-fill-end c = omega (arith, part-in (c .before .before .before .before .pre .0) (c .before .before .before .before .pre .1), bytes-is (c .before .before .before .before .pre .0 .edition), c .before .before .offset .ensures)
+part-fill-end c =
+    let at-start = c .before .before .before .before in
+    omega (arith, part-in (at-start .pre .0) (at-start .pre .1), bytes-is (at-start .pre .0 .edition), c .before .before .offset .ensures)
 
 sub-fill-2 : tie.Need-sub-fill-2
-sub-fill-2 c = omega (arith, c .before .before .before .before .before .pre .5)
+sub-fill-2 c =
+    let at-start = c .before .before .before .before .before in
+    omega (arith, at-start .pre .5)
 
 fill-requires : tie.Need-fill-requires
 fill-requires c κs =
-    let p = part-page (c .before .before .before .before .before .args .l .least) (c .before .before .before .before .before .args .s .now) (c .before .before .before .before .before .args .n) (c .before .before .before .offset .result) (c .before .before .before .before .before .args .l .bytes) (c .before .before .before .offset .ensures) (bytes-is (c .before .before .before .before .before .pre .0 .edition)) in
-    (c .before .before .before .before .before .pre .0 .edition, rw p (exact (c .before .before .before .before .before .pre .0) (c .before .before .before .before .before .pre .1) .size), c .before .before .before .before .before .pre .2, c .before .before .before .before .before .pre .3, c .before .before .before .before .before .pre .7, omega (arith, c .before .before .before .before .before .pre .5, c .before .before .before .before .before .pre .6, c .before .before .before .before .before .pre .4 .room), c .before .before .before .before .before .pre .4 .fits)
+    let at-offset = c .before .before .before in
+    let at-start = at-offset .before .before in
+    let p = part-page (at-start .args .l .least) (at-start .args .s .now) (at-start .args .n) (at-offset .offset .result)
+    (at-start .args .l .bytes) (at-offset .offset .ensures) (bytes-is (at-start .pre .0 .edition)) in (
+      at-start .pre .0 .edition,
+      rw p (exact (at-start .pre .0) (at-start .pre .1) .size),
+      at-start .pre .2,
+      at-start .pre .3,
+      at-start .pre .7,
+      omega (arith, at-start .pre .5, at-start .pre .6, at-start .pre .4 .room),
+      at-start .pre .4 .fits,
+    )
 
 same-length : tie.Need-same-length
 same-length c = search needs
 
 returns : tie.Need-returns
 returns c =
-    let xs : List Pair = take (c .before .before .before .before .before .before .before .before .args .to - c .before .before .before .before .before .before .before .before .args .from) (drop (c .before .before .before .before .before .before .before .before .args .from) (c .before .before .before .before .before .before .before .before .args .g .list)) in
-    let v = valid-filled (c .before .before .before .before .before .before .before .before .args .l .least) (c .before .before .before .before .before .before .before .before .args .w) (c .before .before .before .before .before .before .before .before .args .level) xs (c .before .before .before .before .before .before .before .before .pre .3) (c .before .before .before .before .before .before .before .before .pre .2) (omega (arith, length-take (c .before .before .before .before .before .before .before .before .args .to - c .before .before .before .before .before .before .before .before .args .from) (drop (c .before .before .before .before .before .before .before .before .args .from) (c .before .before .before .before .before .before .before .before .args .g .list)), c .before .before .before .before .before .before .before .before .pre .7)) (fitting-part (c .before .before .before .before .before .before .before .before .args .g) (c .before .before .before .before .before .before .before .before .pre .4) (c .before .before .before .before .before .before .before .before .args .from) (c .before .before .before .before .before .before .before .before .args .to - c .before .before .before .before .before .before .before .before .args .from)) in
-    rw (part-pairs (c .before .before .before .before .before .before .before .before .args .g) (c .before .before .before .before .before .before .before .before .args .from) (c .before .before .before .before .before .before .before .before .args .to) (c .before .before .before .before .before .before .before .before .pre .5) (c .before .before .before .before .before .before .before .before .pre .6))
-    (lent (c .before .before .before .before .before .before .before .before .pre .0) (c .before .before .before .before .before .before .before .before .pre .1) (filled (c .before .before .before .before .before .before .before .before .args .w) (c .before .before .before .before .before .before .before .before .args .level) xs) v (c .before .before .before .before .before .before .offset .result) (c .before .before .before .before .before .before .before .before .args .l .bytes) (c .before .before .fill .last .0) (c .before .before .before .before .before .before .offset .ensures) (bytes-is (c .before .before .before .before .before .before .before .before .pre .0 .edition)) (c .before .before .fill .ensures))
+    let at-fill = c .before .before in
+    let at-offset = at-fill .before .before .before .before in
+    let at-start = at-offset .before .before in
+    let xs : List Pair = take (at-start .args .to - at-start .args .from) (drop (at-start .args .from) (at-start .args .g .list)) in
+    let v = valid-filled (at-start .args .l .least) (at-start .args .w) (at-start .args .level) xs (at-start .pre .3) (at-start .pre .2)
+    (omega (
+      arith,
+      length-take (at-start .args .to - at-start .args .from) (drop (at-start .args .from) (at-start .args .g .list)),
+      at-start .pre .7,
+    )) (fitting-part (at-start .args .g) (at-start .pre .4) (at-start .args .from) (at-start .args .to - at-start .args .from)) in
+    rw (part-pairs (at-start .args .g) (at-start .args .from) (at-start .args .to) (at-start .pre .5) (at-start .pre .6))
+    (lent (at-start .pre .0) (at-start .pre .1) (filled (at-start .args .w) (at-start .args .level) xs) v (at-offset .offset .result)
+    (at-start .args .l .bytes) (at-fill .fill .last .0) (at-offset .offset .ensures) (bytes-is (at-start .pre .0 .edition))
+    (at-fill .fill .ensures))
 
 pub fill-in-spec : {M : Type 1} → statement M
 fill-in-spec =

@@ -13,10 +13,20 @@ use Rattle.parts.proofs.writers.go_in.Statement.{statement}
 use Rattle.parts.proofs.writers.go_in.Tie as tie
 
 offset-requires : tie.Need-offset-requires
-offset-requires c κs = (c .before .pre .0 .edition, omega (arith, part-in (c .before .pre .0) (c .before .pre .1), short (c .before .pre .0)))
+offset-requires c κs =
+    let at-start = c .before in
+    (at-start .pre .0 .edition, omega (arith, part-in (at-start .pre .0) (at-start .pre .1), short (at-start .pre .0)))
 
 add-go : tie.Need-add-go
-add-go c = omega (arith, part-in (c .before .before .before .pre .0) (c .before .before .before .pre .1), short (c .before .before .before .pre .0), bytes-is (c .before .before .before .pre .0 .edition), c .before .offset .ensures)
+add-go c =
+    let at-start = c .before .before .before in
+    omega (
+      arith,
+      part-in (at-start .pre .0) (at-start .pre .1),
+      short (at-start .pre .0),
+      bytes-is (at-start .pre .0 .edition),
+      c .before .offset .ensures,
+    )
 
 sub-go : tie.Need-sub-go
 sub-go c = search needs
@@ -25,22 +35,34 @@ part-go-start : tie.Need-part-go-start
 part-go-start c = search needs
 
 part-go-end : tie.Need-part-go-end
-part-go-end c = omega (arith, part-in (c .before .before .before .pre .0) (c .before .before .before .pre .1), bytes-is (c .before .before .before .pre .0 .edition), c .before .offset .ensures)
+part-go-end c =
+    let at-start = c .before .before .before in
+    omega (arith, part-in (at-start .pre .0) (at-start .pre .1), bytes-is (at-start .pre .0 .edition), c .before .offset .ensures)
 
 go-requires : tie.Need-go-requires
 go-requires c κs =
-    let p = part-page (c .before .before .before .before .args .l .least) (c .before .before .before .before .args .s .now) (c .before .before .before .before .args .n) (c .before .before .offset .result) (c .before .before .before .before .args .l .bytes) (c .before .before .offset .ensures) (bytes-is (c .before .before .before .before .pre .0 .edition)) in
-    (c .before .before .before .before .pre .0 .edition, rw p (exact (c .before .before .before .before .pre .0) (c .before .before .before .before .pre .1)), c .before .before .before .before .pre .2)
+    let at-offset = c .before .before in
+    let at-start = at-offset .before .before in
+    let p = part-page (at-start .args .l .least) (at-start .args .s .now) (at-start .args .n) (at-offset .offset .result)
+    (at-start .args .l .bytes) (at-offset .offset .ensures) (bytes-is (at-start .pre .0 .edition)) in
+    (at-start .pre .0 .edition, rw p (exact (at-start .pre .0) (at-start .pre .1)), at-start .pre .2)
 
 same-length : tie.Need-same-length
 same-length c = search needs
 
 returns : tie.Need-returns
 returns c =
-    let p = part-page (c .before .before .before .before .before .before .before .args .l .least) (c .before .before .before .before .before .before .before .args .s .now) (c .before .before .before .before .before .before .before .args .n) (c .before .before .before .before .before .offset .result) (c .before .before .before .before .before .before .before .args .l .bytes) (c .before .before .before .before .before .offset .ensures) (bytes-is (c .before .before .before .before .before .before .before .pre .0 .edition)) in
-    let q = page (pagesOf (c .before .before .before .before .before .before .before .args .l) (c .before .before .before .before .before .before .before .args .s .now)) (c .before .before .before .before .before .before .before .args .n) in
-    lent (c .before .before .before .before .before .before .before .pre .0) (c .before .before .before .before .before .before .before .pre .1) (gone (c .before .before .before .before .before .before .before .args .w) q) (valid-gone (c .before .before .before .before .before .before .before .args .l .least) (c .before .before .before .before .before .before .before .args .w) q (c .before .before .before .before .before .before .before .pre .2) (valid (c .before .before .before .before .before .before .before .pre .0) (c .before .before .before .before .before .before .before .pre .1))) (c .before .before .before .before .before .offset .result) (c .before .before .before .before .before .before .before .args .l .bytes) (c .before .before .go .last .0) (c .before .before .before .before .before .offset .ensures) (bytes-is (c .before .before .before .before .before .before .before .pre .0 .edition))
-    (c .before .before .go .ensures ∙ rw (p, shown (c .before .before .before .before .before .before .before .pre .0) (c .before .before .before .before .before .before .before .pre .1)))
+    let at-go = c .before .before in
+    let at-offset = at-go .before .before .before in
+    let at-start = at-offset .before .before in
+    let p = part-page (at-start .args .l .least) (at-start .args .s .now) (at-start .args .n) (at-offset .offset .result)
+    (at-start .args .l .bytes) (at-offset .offset .ensures) (bytes-is (at-start .pre .0 .edition)) in
+    let q = page (pagesOf (at-start .args .l) (at-start .args .s .now)) (at-start .args .n) in
+    lent (at-start .pre .0) (at-start .pre .1) (gone (at-start .args .w) q)
+    (valid-gone (at-start .args .l .least) (at-start .args .w) q (at-start .pre .2) (valid (at-start .pre .0) (at-start .pre .1)))
+    (at-offset .offset .result) (at-start .args .l .bytes) (at-go .go .last .0) (at-offset .offset .ensures)
+    (bytes-is (at-start .pre .0 .edition))
+    (at-go .go .ensures ∙ rw (p, shown (at-start .pre .0) (at-start .pre .1)))
 
 pub go-in-spec : {M : Type 1} → statement M
 go-in-spec =

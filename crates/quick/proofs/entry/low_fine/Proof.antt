@@ -10,7 +10,9 @@ returns : tie.Need-returns
 returns c = rw (← c .before .meets .ensures, not-true (c .before .meets .result) (c .if1 .taken))
 
 returns-2 : tie.Need-returns-2
-returns-2 c = rw (← c .before .before .meets .ensures, not-false (c .before .before .meets .result) (c .before .if1 .left))
+returns-2 c =
+    let at-meets = c .before .before in
+    rw (← at-meets .meets .ensures, not-false (at-meets .meets .result) (c .before .if1 .left))
 
 pub low-fine-spec : {M : Type 1} → statement M
 low-fine-spec = tie.close (tie.spec meets-requires returns returns-2)

@@ -8,19 +8,34 @@ use Rattle.quick.proofs.part.end_fine.Statement.{statement}
 use Rattle.quick.proofs.part.end_fine.Tie as tie
 
 entry-at-requires : tie.Need-entry-at-requires
-entry-at-requires c κs = (omega (arith, c .before .pre .0 .room, c .before .pre .1), c .before .pre .0 .long)
+entry-at-requires c κs =
+    let at-start = c .before in
+    (omega (arith, at-start .pre .0 .room, at-start .pre .1), at-start .pre .0 .long)
 
 ends-in-requires : tie.Need-ends-in-requires
 ends-in-requires c κs = search needs
 
 returns : tie.Need-returns
-returns c = rw (← c .before .before .entry-at .ensures, ← c .before .ends-in .ensures, not-true (c .before .ends-in .result) (c .if1 .taken))
+returns c =
+    rw (← c .before .before .entry-at .ensures, ← c .before .ends-in .ensures, not-true (c .before .ends-in .result) (c .if1 .taken))
 
 live-count-requires : tie.Need-live-count-requires
-live-count-requires c κs = c .before .before .before .before .pre .0
+live-count-requires c κs =
+    let at-start = c .before .before .before .before in
+    at-start .pre .0
 
 returns-2 : tie.Need-returns-2
-returns-2 c = rw (← c .before .before .before .entry-at .ensures, ← c .before .before .ends-in .ensures, not-false (c .before .before .ends-in .result) (c .before .if1 .left), c .live-count .ensures) (leb-min (c .before .before .before .before .before .args .m) (liveCount (c .before .before .before .entry-at .result .end) (readEntries (c .before .before .before .before .before .args .page .now) 128 (c .before .before .before .before .before .args .n))))
+returns-2 c =
+    let at-ends-in = c .before .before in
+    let at-entry-at = at-ends-in .before in
+    let at-start = at-entry-at .before .before in
+    rw (
+      ← at-entry-at .entry-at .ensures,
+      ← at-ends-in .ends-in .ensures,
+      not-false (at-ends-in .ends-in .result) (c .before .if1 .left),
+      c .live-count .ensures,
+    ) (leb-min (at-start .args .m)
+    (liveCount (at-entry-at .entry-at .result .end) (readEntries (at-start .args .page .now) 128 (at-start .args .n))))
 
 pub end-fine-spec : {M : Type 1} → statement M
 end-fine-spec =

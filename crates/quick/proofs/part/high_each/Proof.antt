@@ -24,33 +24,51 @@ loop-holds : tie.Need-loop-holds Inv-loop μ-loop
 loop-holds c = (omega arith, rw sub-zero refl)
 
 entry-at-requires : tie.Need-entry-at-requires Inv-loop μ-loop
-entry-at-requires c κs = (omega (arith, c .before .before .before .pre .room, c .loop-test .taken), c .before .before .before .pre .long)
+entry-at-requires c κs =
+    let at-start = c .before .before .before in
+    (omega (arith, at-start .pre .room, c .loop-test .taken), at-start .pre .long)
 
 high-fine-requires : tie.Need-high-fine-requires Inv-loop μ-loop
 high-fine-requires c κs = search needs
 
 returns : tie.Need-returns Inv-loop μ-loop
 returns c =
-    let a = c .before .before .before .before .before .before .args in let k = c .before .before .before .before .loop in
-    sym (k .inv .1 ∙ all-entries-step (λ (e : Entry). not (meets (a .a) (a .b) e) || ltb (e .key) (a .h)) (a .page .now) (k .i) (a .n) (c .before .before .before .loop-test .taken)
+    let at-loop = c .before .before .before .before in
+    let at-start = at-loop .before .before in
+    let a = at-start .args in let k = at-loop .loop in
+    sym (k .inv .1 ∙ all-entries-step (λ (e : Entry). not (meets (a .a) (a .b) e) || ltb (e .key) (a .h)) (a .page .now) (k .i) (a .n)
+    (c .before .before .before .loop-test .taken)
     ∙ rw (← c .before .before .entry-at .ensures, ← c .before .high-fine .ensures, not-true (c .before .high-fine .result) (c .if1 .taken)))
 
 add-i : tie.Need-add-i Inv-loop μ-loop
-add-i c = omega (arith, c .before .before .before .loop-test .taken, c .before .before .before .before .before .before .pre .room, c .before .before .before .before .before .before .pre .long)
+add-i c =
+    let at-start = c .before .before .before .before .before .before in
+    omega (arith, c .before .before .before .loop-test .taken, at-start .pre .room, at-start .pre .long)
 
 loop-less : tie.Need-loop-less Inv-loop μ-loop
 loop-less c = omega (arith, c .before .before .before .loop-test .taken)
 
 loop-again : tie.Need-loop-again Inv-loop μ-loop
 loop-again c =
-    let a = c .before .before .before .before .before .before .args in let k = c .before .before .before .before .loop in (
-      omega (arith, c .before .before .before .loop-test .taken),
-      k .inv .1 ∙ all-entries-step (λ (e : Entry). not (meets (a .a) (a .b) e) || ltb (e .key) (a .h)) (a .page .now) (k .i) (a .n) (c .before .before .before .loop-test .taken)
-          ∙ rw (← c .before .before .entry-at .ensures, ← c .before .high-fine .ensures, not-false (c .before .high-fine .result) (c .if1 .left)),
+    let at-test = c .before .before .before in
+    let at-loop = at-test .before in
+    let at-start = at-loop .before .before in
+    let a = at-start .args in let k = at-loop .loop in (
+      omega (arith, at-test .loop-test .taken),
+      k .inv .1 ∙ all-entries-step (λ (e : Entry). not (meets (a .a) (a .b) e) || ltb (e .key) (a .h)) (a .page .now) (k .i) (a .n)
+          (at-test .loop-test .taken)
+          ∙ rw (
+            ← c .before .before .entry-at .ensures,
+            ← c .before .high-fine .ensures,
+            not-false (c .before .high-fine .result) (c .if1 .left),
+          ),
     )
 
 returns-2 : tie.Need-returns-2 Inv-loop μ-loop
-returns-2 c = let a = c .before .before .before .args in let k = c .before .loop in sym (k .inv .1 ∙ all-entries-end (λ (e : Entry). not (meets (a .a) (a .b) e) || ltb (e .key) (a .h)) (a .page .now) (k .i) (a .n) (c .loop-test .left))
+returns-2 c =
+    let a = c .before .before .before .args in let k = c .before .loop in
+    sym (k .inv .1 ∙ all-entries-end (λ (e : Entry). not (meets (a .a) (a .b) e) || ltb (e .key) (a .h)) (a .page .now) (k .i) (a .n)
+    (c .loop-test .left))
 
 pub high-each-spec : {M : Type 1} → statement M
 high-each-spec =

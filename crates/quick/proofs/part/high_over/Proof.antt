@@ -11,13 +11,21 @@ sub-entry-at : tie.Need-sub-entry-at
 sub-entry-at c = omega (arith, c .if1 .left)
 
 entry-at-requires : tie.Need-entry-at-requires
-entry-at-requires c κs = (omega (arith, c .before .before .pre .0 .room, c .if1 .left), c .before .before .pre .0 .long)
+entry-at-requires c κs =
+    let at-start = c .before .before in
+    (omega (arith, at-start .pre .0 .room, c .if1 .left), at-start .pre .0 .long)
 
 returns-2 : tie.Need-returns-2
-returns-2 c = let a = c .before .before .before .before .before .args in sym (high-last (a .page .now) (a .n) (c .before .before .before .before .before .pre .1) (a .h) (a .a) (a .b) (omega (arith, c .before .before .before .if1 .left)) (rw (← c .before .before .entry-at .ensures) (c .if2 .taken)))
+returns-2 c =
+    let at-start = c .before .before .before .before .before in
+    let a = at-start .args in
+    sym (high-last (a .page .now) (a .n) (at-start .pre .1) (a .h) (a .a) (a .b) (omega (arith, c .before .before .before .if1 .left))
+    (rw (← c .before .before .entry-at .ensures) (c .if2 .taken)))
 
 high-each-requires : tie.Need-high-each-requires
-high-each-requires c κs = c .before .before .before .before .before .pre .0
+high-each-requires c κs =
+    let at-start = c .before .before .before .before .before in
+    at-start .pre .0
 
 returns-3 : tie.Need-returns-3
 returns-3 c = c .high-each .ensures

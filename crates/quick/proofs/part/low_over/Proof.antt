@@ -5,16 +5,26 @@ use Rattle.quick.proofs.part.low_over.Statement.{statement}
 use Rattle.quick.proofs.part.low_over.Tie as tie
 
 returns : tie.Need-returns
-returns c = let a = c .before .before .args in sym (low-none (a .page .now) (a .n) (c .before .before .pre .1) (a .a) (a .b) (a .low) (c .if1 .taken))
+returns c =
+    let at-start = c .before .before in
+    let a = at-start .args in sym (low-none (a .page .now) (a .n) (at-start .pre .1) (a .a) (a .b) (a .low) (c .if1 .taken))
 
 entry-at-requires : tie.Need-entry-at-requires
-entry-at-requires c κs = (omega (arith, c .before .before .pre .0 .room, c .if1 .left), c .before .before .pre .0 .long)
+entry-at-requires c κs =
+    let at-start = c .before .before in
+    (omega (arith, at-start .pre .0 .room, c .if1 .left), at-start .pre .0 .long)
 
 returns-2 : tie.Need-returns-2
-returns-2 c = let a = c .before .before .before .before .before .args in sym (low-first (a .page .now) (a .n) (c .before .before .before .before .before .pre .1) (a .a) (a .b) (a .low) (omega (arith, c .before .before .before .if1 .left)) (rw (← c .before .before .entry-at .ensures) (c .if2 .taken)))
+returns-2 c =
+    let at-start = c .before .before .before .before .before in
+    let a = at-start .args in
+    sym (low-first (a .page .now) (a .n) (at-start .pre .1) (a .a) (a .b) (a .low) (omega (arith, c .before .before .before .if1 .left))
+    (rw (← c .before .before .entry-at .ensures) (c .if2 .taken)))
 
 low-each-requires : tie.Need-low-each-requires
-low-each-requires c κs = c .before .before .before .before .before .pre .0
+low-each-requires c κs =
+    let at-start = c .before .before .before .before .before in
+    at-start .pre .0
 
 returns-3 : tie.Need-returns-3
 returns-3 c = c .low-each .ensures

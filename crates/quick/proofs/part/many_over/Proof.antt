@@ -12,19 +12,31 @@ through-count-requires : tie.Need-through-count-requires
 through-count-requires c κs = search needs
 
 returns : tie.Need-returns
-returns c = let a = c .before .before .before .before .args in sym (many-through (a .m) (a .a) (a .b) (readEntries (a .page .now) 128 (a .n)) (c .before .before .if1 .taken) (omega (arith, c .before .through-count .ensures, c .if2 .taken)))
+returns c =
+    let at-start = c .before .before .before .before in
+    let a = at-start .args in
+    sym (many-through (a .m) (a .a) (a .b) (readEntries (a .page .now) 128 (a .n)) (c .before .before .if1 .taken)
+    (omega (arith, c .before .through-count .ensures, c .if2 .taken)))
 
 live-count-requires : tie.Need-live-count-requires
 live-count-requires c κs = search needs
 
 returns-2 : tie.Need-returns-2
-returns-2 c = let a = c .before .before .before .before .args in sym (rw (lt-leb (a .m) (liveCount (a .a) (readEntries (a .page .now) 128 (a .n))) (omega (arith, c .before .live-count .ensures, c .if3 .taken))))
+returns-2 c =
+    let at-start = c .before .before .before .before in
+    let a = at-start .args in
+    sym (rw (lt-leb (a .m) (liveCount (a .a) (readEntries (a .page .now) 128 (a .n)))
+    (omega (arith, c .before .live-count .ensures, c .if3 .taken))))
 
 ends-over-requires : tie.Need-ends-over-requires
 ends-over-requires c κs = search needs
 
 returns-3 : tie.Need-returns-3
-returns-3 c = let a = c .before .before .before .before .before .args in c .ends-over .ensures ∙ sym (rw (le-leb (a .m) (liveCount (a .a) (readEntries (a .page .now) 128 (a .n))) (omega (arith, c .before .before .live-count .ensures, c .before .if3 .left))))
+returns-3 c =
+    let at-start = c .before .before .before .before .before in
+    let a = at-start .args in c .ends-over .ensures
+    ∙ sym (rw (le-leb (a .m) (liveCount (a .a) (readEntries (a .page .now) 128 (a .n)))
+    (omega (arith, c .before .before .live-count .ensures, c .before .if3 .left))))
 
 pub many-over-spec : {M : Type 1} → statement M
 many-over-spec =

@@ -20,8 +20,12 @@ under-requires c κs =
 
 returns : tie.Need-returns
 returns c =
-    let a = c .before .before .before .before .args in let x = c .before .before .larger .result in let y = c .before .smaller .result in
-    rw (← c .before .before .larger .ensures, ← c .before .smaller .ensures) (taken (a .left) (ltb x y) (underOf (a .up) (decode (a .l .least) (a .s .now) .pages) (a .e .key) x y (a .m)) (c .under .result) (c .under .ensures))
+    let at-larger = c .before .before in
+    let at-start = at-larger .before .before in
+    let a = at-start .args in let x = at-larger .larger .result in let y = c .before .smaller .result in
+    rw (← at-larger .larger .ensures, ← c .before .smaller .ensures)
+    (taken (a .left) (ltb x y) (underOf (a .up) (decode (a .l .least) (a .s .now) .pages) (a .e .key) x y (a .m)) (c .under .result)
+    (c .under .ensures))
 
 pub next-fine-spec : {M : Type 1} → statement M
 next-fine-spec = tie.close (tie.spec larger-requires smaller-requires under-requires returns)

@@ -22,33 +22,73 @@ size-requires : tie.Need-size-requires Inv-loop μ-loop
 size-requires c κs = c .before .before .pre .0
 
 loop-holds : tie.Need-loop-holds Inv-loop μ-loop
-loop-holds c = (omega arith, c .size .ensures, fewer (c .before .before .before .args .sums .now) (c .before .before .before .pre .2) (omega arith), ap (addPages (c .before .before .before .args .old) (c .before .before .before .args .sums .now)) (behind (c .before .before .before .args .l .least) (c .before .before .before .args .s .now)) ∙ rw (c .size .ensures))
+loop-holds c =
+    let at-start = c .before .before .before in (
+      omega arith,
+      c .size .ensures,
+      fewer (at-start .args .sums .now) (at-start .pre .2) (omega arith),
+      ap (addPages (at-start .args .old) (at-start .args .sums .now)) (behind (at-start .args .l .least) (at-start .args .s .now))
+          ∙ rw (c .size .ensures),
+    )
 
 add-page-requires : tie.Need-add-page-requires Inv-loop μ-loop
-add-page-requires c κs = (c .before .before .before .before .before .before .pre .0, c .before .before .before .before .before .before .pre .1, (c .before .before .loop .inv .0, omega (arith, c .before .loop-test .taken, c .before .before .loop .inv .1)), fewer (c .before .before .loop .sums) (c .before .before .loop .inv .2) (omega (arith, c .before .loop-test .taken, c .before .before .loop .inv .1, c .before .before .before .before .before .before .pre .1 .linked .most)))
+add-page-requires c κs =
+    let at-loop = c .before .before in
+    let at-start = at-loop .before .before .before .before in (
+      at-start .pre .0,
+      at-start .pre .1,
+      (at-loop .loop .inv .0, omega (arith, c .before .loop-test .taken, at-loop .loop .inv .1)),
+      fewer (at-loop .loop .sums) (at-loop .loop .inv .2)
+          (omega (arith, c .before .loop-test .taken, at-loop .loop .inv .1, at-start .pre .1 .linked .most)),
+    )
 
 add-n : tie.Need-add-n Inv-loop μ-loop
-add-n c = omega (arith, c .before .before .before .before .loop-test .taken, c .before .before .before .before .before .loop .inv .1, c .before .before .before .before .before .before .before .before .before .pre .1 .linked .most)
+add-n c =
+    let at-test = c .before .before .before .before in
+    let at-loop = at-test .before in
+    let at-start = at-loop .before .before .before .before in
+    omega (arith, at-test .loop-test .taken, at-loop .loop .inv .1, at-start .pre .1 .linked .most)
 
 loop-less : tie.Need-loop-less Inv-loop μ-loop
-loop-less c = omega (arith, c .before .before .before .before .loop-test .taken)
+loop-less c =
+    let at-test = c .before .before .before .before in
+    omega (arith, at-test .loop-test .taken)
 
 loop-again : tie.Need-loop-again Inv-loop μ-loop
 loop-again c =
-    let a = c .before .before .before .before .before .before .before .before .before .args in let k = c .before .before .before .before .before .loop in
+    let at-add-page = c .before .before in
+    let at-test = at-add-page .before .before in
+    let at-loop = at-test .before in
+    let at-size = at-loop .before in
+    let at-start = at-size .before .before .before in
+    let a = at-start .args in let k = at-loop .loop in
     let p = pageOf (a .l .least) (a .s .now) (k .n) in
-    let f : readHead (a .l .least) p .count ≤ 40 = omega (arith, c .before .before .before .before .before .before .before .before .before .pre .1 .linked .room (k .n) (k .inv .0, omega (arith, c .before .before .before .before .loop-test .taken, k .inv .1)), c .before .before .before .before .before .before .before .before .before .pre .0 .eight) in (
+    let f : readHead (a .l .least) p .count ≤ 40
+    = omega (
+      arith,
+      at-start .pre .1 .linked .room (k .n) (k .inv .0, omega (arith, at-test .loop-test .taken, k .inv .1)),
+      at-start .pre .0 .eight,
+    ) in (
       omega (arith, k .inv .0),
       k .inv .1,
-      rw (c .before .before .add-page .ensures) (fewer (addPage (a .old) (k .sums) (decodePage (a .l .least) p)) (page-more (a .old) (k .sums) (a .l .least) p f (k .inv .2)) (omega arith)),
-      k .inv .3 ∙ add-pages-step (a .old) (k .sums) (a .l .least) (a .s .now) (k .n) (c .before .before .before .before .before .before .size .result) (c .before .before .before .before .loop-test .taken) ∙ rw (c .before .before .add-page .ensures),
+      rw (at-add-page .add-page .ensures)
+          (fewer (addPage (a .old) (k .sums) (decodePage (a .l .least) p)) (page-more (a .old) (k .sums) (a .l .least) p f (k .inv .2))
+          (omega arith)),
+      k .inv .3 ∙ add-pages-step (a .old) (k .sums) (a .l .least) (a .s .now) (k .n) (at-size .size .result) (at-test .loop-test .taken)
+          ∙ rw (at-add-page .add-page .ensures),
     )
 
 same-length : tie.Need-same-length Inv-loop μ-loop
-same-length c = c .before .loop .inv .2 .all ∙ sym (c .before .before .before .before .before .pre .2 .all)
+same-length c =
+    let at-start = c .before .before .before .before .before in
+    c .before .loop .inv .2 .all ∙ sym (at-start .pre .2 .all)
 
 returns : tie.Need-returns Inv-loop μ-loop
-returns c = sym (c .before .loop .inv .3 ∙ add-pages-end (c .before .before .before .before .before .args .old) (c .before .loop .sums) (c .before .before .before .before .before .args .l .least) (c .before .before .before .before .before .args .s .now) (c .before .loop .n) (c .before .before .size .result) (c .loop-test .left))
+returns c =
+    let at-loop = c .before in
+    let at-start = at-loop .before .before .before .before in
+    sym (at-loop .loop .inv .3 ∙ add-pages-end (at-start .args .old) (at-loop .loop .sums) (at-start .args .l .least)
+    (at-start .args .s .now) (at-loop .loop .n) (at-loop .before .size .result) (c .loop-test .left))
 
 pub add-pages-spec : {M : Type 1} → statement M
 add-pages-spec =

@@ -24,38 +24,52 @@ slice-aggregate-add-pages c = search needs
 
 -- the oldest version, as it was read
 old-is : (c : tie.After-header) → let a = c .before .before .args in c .header .result .oldest ≡ decode (a .l .least) (a .s .now) .oldest
-old-is c = let a = c .before .before .args in ap (λ (x : Header). x .oldest) (c .header .ensures) ∙ sym (oldest-of (a .l .least) (a .s .now))
+old-is c =
+    let a = c .before .before .args in ap (λ (x : Header). x .oldest) (c .header .ensures) ∙ sym (oldest-of (a .l .least) (a .s .now))
 
 add-pages-requires : tie.Need-add-pages-requires
 add-pages-requires c κs =
-    let at-header = c .before .before .before .before in
-    let b = at-header .before .before in
-    let a = b .args in
-    let added = c .before .before in
-    (b .pre .0, b .pre .1, slots-in (a .l .least) (a .s .now) (at-header .header .result .oldest) (old-is at-header) (added .add-slots .last .0) (added .add-slots .ensures) (omega (arith, b .pre .2 .roots, b .pre .0 .eight)))
+    let at-add-slots = c .before .before in
+    let at-header = at-add-slots .before .before in
+    let at-start = at-header .before .before in
+    let a = at-start .args in (
+      at-start .pre .0,
+      at-start .pre .1,
+      slots-in (a .l .least) (a .s .now) (at-header .header .result .oldest) (old-is at-header)
+          (at-add-slots .add-slots .last .0) (at-add-slots .add-slots .ensures)
+          (omega (arith, at-start .pre .2 .roots, at-start .pre .0 .eight)),
+    )
 
 slice-aggregate-all-met : tie.Need-slice-aggregate-all-met
 slice-aggregate-all-met c = search needs
 
 all-met-requires : tie.Need-all-met-requires
 all-met-requires c κs =
-    let paged = c .before .before in
-    let added = paged .before .before .before in
-    let at-header = added .before .before in
-    let b = at-header .before .before in
-    let a = b .args in
-    (b .pre .0, b .pre .1, sums-long (a .l .least) (a .s .now) (at-header .header .result .oldest) (old-is at-header) (added .add-slots .last .0) (added .add-slots .ensures) (paged .add-pages .last .0) (paged .add-pages .ensures))
+    let at-add-pages = c .before .before in
+    let at-add-slots = at-add-pages .before .before .before in
+    let at-header = at-add-slots .before .before in
+    let at-start = at-header .before .before in
+    let a = at-start .args in (
+      at-start .pre .0,
+      at-start .pre .1,
+      sums-long (a .l .least) (a .s .now) (at-header .header .result .oldest) (old-is at-header)
+          (at-add-slots .add-slots .last .0) (at-add-slots .add-slots .ensures) (at-add-pages .add-pages .last .0)
+          (at-add-pages .add-pages .ensures),
+    )
 
 returns : tie.Need-returns
 returns c =
-    let paged = c .before .before .before in
-    let added = paged .before .before .before in
-    let at-header = added .before .before in
-    let b = at-header .before .before in
-    let a = b .args in
+    let at-add-pages = c .before .before .before in
+    let at-add-slots = at-add-pages .before .before .before in
+    let at-header = at-add-slots .before .before in
+    let at-start = at-header .before .before in
+    let a = at-start .args in
     c .all-met .ensures
-    ∙ met-all (a .l .least) (a .s .now) (at-header .header .result .oldest) (old-is at-header) (added .add-slots .last .0) (added .add-slots .ensures) (paged .add-pages .last .0) (paged .add-pages .ensures) (b .pre .1 .linked .most)
+    ∙ met-all (a .l .least) (a .s .now) (at-header .header .result .oldest) (old-is at-header) (at-add-slots .add-slots .last .0)
+    (at-add-slots .add-slots .ensures) (at-add-pages .add-pages .last .0) (at-add-pages .add-pages .ensures)
+    (at-start .pre .1 .linked .most)
 
 pub spans-met-spec : {M : Type 1} → statement M
 spans-met-spec =
-    tie.close (tie.spec header-requires slice-aggregate-add-slots add-slots-requires slice-aggregate-add-pages add-pages-requires slice-aggregate-all-met all-met-requires returns)
+    tie.close (tie.spec header-requires slice-aggregate-add-slots add-slots-requires slice-aggregate-add-pages add-pages-requires
+    slice-aggregate-all-met all-met-requires returns)

@@ -5,7 +5,9 @@ use Rattle.quick.proofs.under.way_at.Statement.{statement}
 use Rattle.quick.proofs.under.way_at.Tie as tie
 
 entry-at-requires : tie.Need-entry-at-requires
-entry-at-requires c κs = (omega (arith, c .before .pre .0 .room, c .before .pre .1), c .before .pre .0 .long)
+entry-at-requires c κs =
+    let at-start = c .before in
+    (omega (arith, at-start .pre .0 .room, at-start .pre .1), at-start .pre .0 .long)
 
 meets-requires : tie.Need-meets-requires
 meets-requires c κs = search needs
@@ -20,13 +22,30 @@ smaller-requires : tie.Need-smaller-requires
 smaller-requires c κs = search needs
 
 add-past-behind : tie.Need-add-past-behind
-add-past-behind c = omega (arith, c .before .before .before .before .before .before .pre .0 .room, c .before .before .before .before .before .before .pre .0 .long, c .before .before .before .before .before .before .pre .1)
+add-past-behind c =
+    let at-start = c .before .before .before .before .before .before in
+    omega (arith, at-start .pre .0 .room, at-start .pre .0 .long, at-start .pre .1)
 
 past-behind-requires : tie.Need-past-behind-requires
-past-behind-requires c κs = (c .before .before .before .before .before .before .pre .0, c .before .before .before .before .before .before .pre .1)
+past-behind-requires c κs =
+    let at-start = c .before .before .before .before .before .before in
+    (at-start .pre .0, at-start .pre .1)
 
 returns-2 : tie.Need-returns-2
-returns-2 c = rw (← c .before .before .before .before .before .before .entry-at .ensures, ← c .before .before .before .before .before .meets .ensures, not-false (c .before .before .before .before .before .meets .result) (c .before .before .before .before .if1 .left), c .before .past-behind .ensures, c .before .before .before .larger .ensures, c .before .before .smaller .ensures)
+returns-2 c =
+    let at-if1 = c .before .before .before .before in
+    let at-meets = at-if1 .before in
+    let at-entry-at = at-meets .before in
+    rw (
+      ← at-entry-at .entry-at .ensures,
+      ← at-meets .meets .ensures,
+      not-false (at-meets .meets .result) (at-if1 .if1 .left),
+      c .before .past-behind .ensures,
+      c .before .before .before .larger .ensures,
+      c .before .before .smaller .ensures,
+    )
 
 pub way-at-spec : {M : Type 1} → statement M
-way-at-spec = tie.close (tie.spec entry-at-requires meets-requires returns larger-requires smaller-requires add-past-behind past-behind-requires returns-2)
+way-at-spec =
+    tie.close (tie.spec entry-at-requires meets-requires returns larger-requires smaller-requires add-past-behind past-behind-requires
+    returns-2)

@@ -18,35 +18,58 @@ loop-holds : tie.Need-loop-holds Inv-loop μ-loop
 loop-holds c = (omega arith, c .before .pre .2, refl)
 
 entry-at-requires : tie.Need-entry-at-requires Inv-loop μ-loop
-entry-at-requires c κs = (omega (arith, c .before .before .before .pre .0, c .loop-test .taken), c .before .before .before .pre .1)
+entry-at-requires c κs =
+    let at-start = c .before .before .before in
+    (omega (arith, at-start .pre .0, c .loop-test .taken), at-start .pre .1)
 
 is-live-requires : tie.Need-is-live-requires Inv-loop μ-loop
 is-live-requires c κs = search needs
 
 returns : tie.Need-returns Inv-loop μ-loop
 returns c =
-    let a = c .before .before .before .before .before .before .args in let l = c .before .before .before .before .loop in
+    let at-entry-at = c .before .before in
+    let at-loop = at-entry-at .before .before in
+    let at-start = at-loop .before .before in
+    let a = at-start .args in let l = at-loop .loop in
     record {
       low = l .inv .0;
       high = l .inv .1;
       same = l .inv .2;
-      live = λ h. pairs-live (a .page .now) (a .v) (l .k) (a .n) h (rw (c .before .before .entry-at .ensures) at (sym (c .before .is-live .ensures)) ∙ c .if1 .taken);
-      alive = λ h. rw (c .before .before .entry-at .ensures) at (sym (c .before .is-live .ensures)) ∙ c .if1 .taken;
+      live = λ h. pairs-live (a .page .now) (a .v) (l .k) (a .n) h
+          (rw (at-entry-at .entry-at .ensures) at (sym (c .before .is-live .ensures)) ∙ c .if1 .taken);
+      alive = λ h. rw (at-entry-at .entry-at .ensures) at (sym (c .before .is-live .ensures)) ∙ c .if1 .taken;
     }
 
 add-k : tie.Need-add-k Inv-loop μ-loop
-add-k c = omega (arith, c .before .before .before .loop-test .taken, c .before .before .before .before .before .before .pre .0, c .before .before .before .before .before .before .pre .1)
+add-k c =
+    let at-start = c .before .before .before .before .before .before in
+    omega (arith, c .before .before .before .loop-test .taken, at-start .pre .0, at-start .pre .1)
 
 loop-less : tie.Need-loop-less Inv-loop μ-loop
 loop-less c = omega (arith, c .before .before .before .loop-test .taken)
 
 loop-again : tie.Need-loop-again Inv-loop μ-loop
 loop-again c =
-    let a = c .before .before .before .before .before .before .args in let l = c .before .before .before .before .loop in
-    (omega (arith, l .inv .0), omega (arith, c .before .before .before .loop-test .taken), l .inv .2 ∙ pairs-dead (a .page .now) (a .v) (l .k) (a .n) (c .before .before .before .loop-test .taken) (rw (c .before .before .entry-at .ensures) at (sym (c .before .is-live .ensures)) ∙ c .if1 .left))
+    let at-test = c .before .before .before in
+    let at-loop = at-test .before in
+    let at-start = at-loop .before .before in
+    let a = at-start .args in let l = at-loop .loop in (
+      omega (arith, l .inv .0),
+      omega (arith, at-test .loop-test .taken),
+      l .inv .2 ∙ pairs-dead (a .page .now) (a .v) (l .k) (a .n) (at-test .loop-test .taken)
+          (rw (c .before .before .entry-at .ensures) at (sym (c .before .is-live .ensures)) ∙ c .if1 .left),
+    )
 
 returns-2 : tie.Need-returns-2 Inv-loop μ-loop
-returns-2 c = let l = c .before .loop in record { low = l .inv .0; high = l .inv .1; same = l .inv .2; live = λ h. absurd (omega (arith, c .loop-test .left)); alive = λ h. absurd (omega (arith, c .loop-test .left)) }
+returns-2 c =
+    let l = c .before .loop in
+    record {
+      low = l .inv .0;
+      high = l .inv .1;
+      same = l .inv .2;
+      live = λ h. absurd (omega (arith, c .loop-test .left));
+      alive = λ h. absurd (omega (arith, c .loop-test .left));
+    }
 
 pub next-live-spec : {M : Type 1} → statement M
 next-live-spec =

@@ -5,7 +5,9 @@ use Rattle.reach.proofs.live.upper.Statement.{statement}
 use Rattle.reach.proofs.live.upper.Tie as tie
 
 entry-at-requires : tie.Need-entry-at-requires
-entry-at-requires c κs = (omega (arith, c .before .before .pre .0, c .if1 .taken), c .before .before .pre .1)
+entry-at-requires c κs =
+    let at-start = c .before .before in
+    (omega (arith, at-start .pre .0, c .if1 .taken), at-start .pre .1)
 
 returns : tie.Need-returns
 returns c = rw (lt-ltb _ _ (c .before .if1 .taken), c .entry-at .ensures)

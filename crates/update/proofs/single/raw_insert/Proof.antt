@@ -9,17 +9,27 @@ inserting-requires c κs = c .before .before .pre .key
 
 update-requires : tie.Need-update-requires
 update-requires c κs =
-    let a = c .before .before .before .args in
-    let p = c .before .before .before .pre in
-    (p .edition, p .sound, p .opened, p .key, c .inserting .ensures .1, insert-leaves p (a .value) (search needs) _ (c .inserting .ensures .0))
+    let at-start = c .before .before .before in
+    let a = at-start .args in
+    let p = at-start .pre in (
+      p .edition,
+      p .sound,
+      p .opened,
+      p .key,
+      c .inserting .ensures .1,
+      insert-leaves p (a .value) (search needs) _ (c .inserting .ensures .0),
+    )
 
 same-length : tie.Need-same-length
 same-length c = search needs
 
 returns : tie.Need-returns
 returns c =
-    let a = c .before .before .before .before .before .before .args in
-    comes-to (a .l .least) (a .s .now) (a .key) _ _ (c .before .before .before .inserting .ensures .0) _ _ (c .before .before .update .ensures .0) (c .before .before .update .ensures .1)
+    let at-update = c .before .before in
+    let at-start = at-update .before .before .before .before in
+    let a = at-start .args in
+    comes-to (a .l .least) (a .s .now) (a .key) _ _ (at-update .before .inserting .ensures .0) _ _ (at-update .update .ensures .0)
+    (at-update .update .ensures .1)
 
 pub raw-insert-spec : {M : Type 1} → statement M
 raw-insert-spec = tie.close (tie.spec inserting-requires update-requires same-length returns)

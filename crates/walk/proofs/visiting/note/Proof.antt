@@ -22,20 +22,24 @@ loop-holds : tie.Need-loop-holds Inv-loop μ-loop
 loop-holds c = noting-start (c .before .before .pre .1)
 
 number-requires : tie.Need-number-requires Inv-loop μ-loop
-number-requires c κs = covers-number (c .before .before .before .before .pre .0) _ _ _ (c .before .loop .inv .covers)
+number-requires c κs =
+    let at-start = c .before .before .before .before in
+    covers-number (at-start .pre .0) _ _ _ (c .before .loop .inv .covers)
 
 mul-list : tie.Need-mul-list Inv-loop μ-loop
 mul-list c = search needs
 
 slice-write-list : tie.Need-slice-write-list Inv-loop μ-loop
 slice-write-list c =
+    let at-start = c .before .before .before .before .before in
     let l = c .before .before .loop in
-    omega (arith, l .inv .same, c .before .loop-test .taken, c .before .before .before .before .before .pre .2)
+    omega (arith, l .inv .same, c .before .loop-test .taken, at-start .pre .2)
 
 child-requires : tie.Need-child-requires Inv-loop μ-loop
 child-requires c κs =
-    let r = c .before .before .before .before .before .pre .0 in
-    let a = c .before .before .before .before .before .args in
+    let at-start = c .before .before .before .before .before in
+    let r = at-start .pre .0 in
+    let a = at-start .args in
     let l = c .before .before .loop in
     let k = noting-covers (l .inv) (c .before .loop-test .taken) in (
       r .edition,
@@ -56,15 +60,18 @@ loop-again c =
     rw (c .child .ensures, c .before .number .ensures) (noting-step (l .inv) (c .before .before .loop-test .taken))
 
 number-requires-2 : tie.Need-number-requires-2 Inv-loop μ-loop
-number-requires-2 c κs = covers-number (c .before .before .before .before .pre .0) _ _ _ (c .before .loop .inv .covers)
+number-requires-2 c κs =
+    let at-start = c .before .before .before .before in
+    covers-number (at-start .pre .0) _ _ _ (c .before .loop .inv .covers)
 
 mul-list-2 : tie.Need-mul-list-2 Inv-loop μ-loop
 mul-list-2 c = search needs
 
 slice-write-list-2 : tie.Need-slice-write-list-2 Inv-loop μ-loop
 slice-write-list-2 c =
+    let at-start = c .before .before .before .before .before in
     let l = c .before .before .loop in
-    omega (arith, l .inv .same, l .inv .within, c .before .before .before .before .before .pre .2)
+    omega (arith, l .inv .same, l .inv .within, at-start .pre .2)
 
 same-length : tie.Need-same-length Inv-loop μ-loop
 same-length c = let l = c .before .before .loop in length-set (l .list) (l .i) (c .number2 .result) ∙ l .inv .same
