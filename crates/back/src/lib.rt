@@ -23,7 +23,8 @@ const KEYS: u32 = 16777216;
 // The delete that a difference from the open version w to version v asks for: of what is removed (1) or has another value (2).
 fn end_one(s: &mut [u8], l: Limits, v: u32, w: u32, key: u32, d: Delta) -> u32
     requires { ⌜ Going l (now s) v w × (key ≤ keyLimit) × (d ≡ nextOf l (now s) w v key) ⌝ }
-    ensures { λ r. ⌜ BackStepped l (now (s .entry)) (now (s .exit)) v w (d .key) r (passed false (l .least) (told d) (decode (l .least) (now (s .entry)))) ⌝ }
+    ensures { λ r. ⌜ BackStepped l (now (s .entry)) (now (s .exit)) v w (d .key) r
+        (passed false (l .least) (told d) (decode (l .least) (now (s .entry)))) ⌝ }
 {
     if d.kind == 0 {
         return 0;
@@ -37,7 +38,8 @@ fn end_one(s: &mut [u8], l: Limits, v: u32, w: u32, key: u32, d: Delta) -> u32
 // The insert that it asks for: of what is added (0). A key that has another value is deleted by then, so that 10 is never met.
 fn set_one(s: &mut [u8], l: Limits, v: u32, w: u32, key: u32, d: Delta) -> u32
     requires { ⌜ Going l (now s) v w × (key ≤ keyLimit) × (d ≡ nextOf l (now s) w v key) ⌝ }
-    ensures { λ r. ⌜ BackStepped l (now (s .entry)) (now (s .exit)) v w (d .key) r (passed true (l .least) (told d) (decode (l .least) (now (s .entry)))) ⌝ }
+    ensures { λ r. ⌜ BackStepped l (now (s .entry)) (now (s .exit)) v w (d .key) r
+        (passed true (l .least) (told d) (decode (l .least) (now (s .entry)))) ⌝ }
 {
     if d.kind == 0 {
         return update::raw_insert(s, l, d.key, d.new);
@@ -51,7 +53,8 @@ fn set_one(s: &mut [u8], l: Limits, v: u32, w: u32, key: u32, d: Delta) -> u32
 // One of them.
 fn act(s: &mut [u8], l: Limits, v: u32, w: u32, key: u32, d: Delta, insert: bool) -> u32
     requires { ⌜ Going l (now s) v w × (key ≤ keyLimit) × (d ≡ nextOf l (now s) w v key) ⌝ }
-    ensures { λ r. ⌜ BackStepped l (now (s .entry)) (now (s .exit)) v w (d .key) r (passed insert (l .least) (told d) (decode (l .least) (now (s .entry)))) ⌝ }
+    ensures { λ r. ⌜ BackStepped l (now (s .entry)) (now (s .exit)) v w (d .key) r
+        (passed insert (l .least) (told d) (decode (l .least) (now (s .entry)))) ⌝ }
 {
     if insert {
         return set_one(s, l, v, w, key, d);
@@ -75,7 +78,8 @@ fn onward(s: &[u8], l: Limits, v: u32, w: u32, key: u32, high: u32) -> Gap
 // behind, so there are at most as many as the two have settings, and one.
 fn pass(s: &mut [u8], l: Limits, v: u32, w: u32, insert: bool) -> u32
     requires { ⌜ Going l (now s) v w ⌝ }
-    ensures { λ r. ⌜ BackWent l (now (s .exit)) v w r (passed insert (l .least) (between l (now (s .entry)) w v) (decode (l .least) (now (s .entry)))) ⌝ }
+    ensures { λ r. ⌜ BackWent l (now (s .exit)) v w r
+        (passed insert (l .least) (between l (now (s .entry)) w v) (decode (l .least) (now (s .entry)))) ⌝ }
 {
     let mut key = 0;
     let mut high = 0;
@@ -95,7 +99,8 @@ fn pass(s: &mut [u8], l: Limits, v: u32, w: u32, insert: bool) -> u32
 // Both passes, to the first step that is refused.
 fn carry(s: &mut [u8], l: Limits, v: u32, w: u32) -> u32
     requires { ⌜ Going l (now s) v w ⌝ }
-    ensures { λ r. ⌜ BackWent l (now (s .exit)) v w r (carried (l .least) (between l (now (s .entry)) w v) (decode (l .least) (now (s .entry)))) ⌝ }
+    ensures { λ r. ⌜ BackWent l (now (s .exit)) v w r
+        (carried (l .least) (between l (now (s .entry)) w v) (decode (l .least) (now (s .entry)))) ⌝ }
 {
     let n = pass(s, l, v, w, false);
     if n != 0 {
@@ -108,8 +113,10 @@ fn carry(s: &mut [u8], l: Limits, v: u32, w: u32) -> u32
 // calls included, and the number returned".
 pub fn return_to(s: &mut [u8], l: Limits, v: u32, w: u32) -> u32
     requires { ⌜ Going l (now s) v w ⌝ }
-    ensures number { λ r. ⌜ r ≡ leftBy (l .least) (now (s .entry)) (orAbandoned (carried (l .least) (between l (now (s .entry)) w v) (decode (l .least) (now (s .entry))))) .number ⌝ }
-    ensures bytes { λ _. ⌜ now (s .exit) ≡ leftBy (l .least) (now (s .entry)) (orAbandoned (carried (l .least) (between l (now (s .entry)) w v) (decode (l .least) (now (s .entry))))) .store ⌝ }
+    ensures number { λ r. ⌜ r ≡ leftBy (l .least) (now (s .entry))
+        (orAbandoned (carried (l .least) (between l (now (s .entry)) w v) (decode (l .least) (now (s .entry))))) .number ⌝ }
+    ensures bytes { λ _. ⌜ now (s .exit) ≡ leftBy (l .least) (now (s .entry))
+        (orAbandoned (carried (l .least) (between l (now (s .entry)) w v) (decode (l .least) (now (s .entry))))) .store ⌝ }
 {
     let n = carry(s, l, v, w);
     if n == 0 {

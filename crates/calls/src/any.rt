@@ -6,7 +6,8 @@ use store::edition_lent;
 use walk::Counted;
 ghost use mathlib.Core.Path.{_≡_};
 ghost use Rattle.model.specs.Lent.{leaving};
-ghost use Rattle.model.specs.Any.{openAny, insertAny, deleteAny, commitAny, abandonAny, returnAny, pruneAny, lookupAny, rangeAny, visitsAny, differenceAny, lifeAny, stateAny};
+ghost use Rattle.model.specs.Any.{openAny, insertAny, deleteAny, commitAny, abandonAny, returnAny, pruneAny, lookupAny, rangeAny};
+ghost use Rattle.model.specs.Any.{visitsAny, differenceAny, lifeAny, stateAny};
 ghost use Rattle.walk.specs.Counted.{withList};
 
 // Opens an update.

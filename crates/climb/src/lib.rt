@@ -30,7 +30,8 @@ pub enum Worked {
 // A group is rebuilt, and its parent has the routers to exchange; or a page is lacking.
 fn regroup(s: &mut [u8], l: Limits, w: u32, level: u32, g: Group, size: usize) -> Worked
     requires { ⌜ ExactBytes l (now s) × Grouped l (now s) g × (w < 2 ^ 20) × (level < 2 ^ 4) × (size ≡ length (pagesOf l (now s))) ⌝ }
-    ensures { λ r. ⌜ (workedOf r (pagesOf l (now (s .exit))) ≡ regroup (l .least) w level (pagesOf l (now (s .entry))) (groupOf g)) × Becomes l (now (s .entry)) (now (s .exit)) (pagesOf l (now (s .exit))) × UpFits r ⌝ }
+    ensures { λ r. ⌜ (workedOf r (pagesOf l (now (s .exit))) ≡ regroup (l .least) w level (pagesOf l (now (s .entry))) (groupOf g))
+        × Becomes l (now (s .entry)) (now (s .exit)) (pagesOf l (now (s .exit))) × UpFits r ⌝ }
 {
     let u = group::usable(s, l, w, g.routers, size);
     let all = g.all;
@@ -45,7 +46,8 @@ fn regroup(s: &mut [u8], l: Limits, w: u32, level: u32, g: Group, size: usize) -
 // One page that is not the root.
 pub fn work(s: &mut [u8], l: Limits, w: u32, a: Around, c: Change, size: usize) -> Worked
     requires { ⌜ ExactBytes l (now s) × Placed l (now s) a × Fits c × (w < 2 ^ 20) × (size ≡ length (pagesOf l (now s))) ⌝ }
-    ensures { λ r. ⌜ (workedOf r (pagesOf l (now (s .exit))) ≡ work (l .least) w (pagesOf l (now (s .entry))) (aroundOf a) (changeOf c)) × Becomes l (now (s .entry)) (now (s .exit)) (pagesOf l (now (s .exit))) × UpFits r ⌝ }
+    ensures { λ r. ⌜ (workedOf r (pagesOf l (now (s .exit))) ≡ work (l .least) w (pagesOf l (now (s .entry))) (aroundOf a) (changeOf c))
+        × Becomes l (now (s .entry)) (now (s .exit)) (pagesOf l (now (s .exit))) × UpFits r ⌝ }
 {
     let n = model::wide(a.own.value);
     if group::takes_in_place(s, l, n, w, c) {
@@ -61,7 +63,8 @@ pub fn work(s: &mut [u8], l: Limits, w: u32, a: Around, c: Change, size: usize) 
 // "Work goes from the leaf up", to below the root.
 pub fn climb_up(s: &mut [u8], l: Limits, w: u32, way: Way, c: Change, size: usize) -> Worked
     requires { ⌜ ExactBytes l (now s) × Led l (now s) way × Fits c × (w < 2 ^ 20) × (size ≡ length (pagesOf l (now s))) ⌝ }
-    ensures { λ r. ⌜ (workedOf r (pagesOf l (now (s .exit))) ≡ climbUp (l .least) w (upsOf (way .list) (way .n)) (changeOf c) (pagesOf l (now (s .entry)))) × Becomes l (now (s .entry)) (now (s .exit)) (pagesOf l (now (s .exit))) × UpFits r ⌝ }
+    ensures { λ r. ⌜
+        (workedOf r (pagesOf l (now (s .exit))) ≡ climbUp (l .least) w (upsOf (way .list) (way .n)) (changeOf c) (pagesOf l (now (s .entry)))) × Becomes l (now (s .entry)) (now (s .exit)) (pagesOf l (now (s .exit))) × UpFits r ⌝ }
 {
     let list = way.list;
     let mut k = way.n;

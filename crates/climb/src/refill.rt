@@ -29,8 +29,10 @@ fn retire(s: &mut [u8], l: Limits, w: u32, rs: Routers)
 
 // "Up to 16 gathered entries fill one page".
 fn one_page(s: &mut [u8], l: Limits, w: u32, level: u32, g: Group, to: usize)
-    requires { ⌜ ExactBytes l (now s) × Grouped l (now s) g × (w < 2 ^ 20) × (level < 2 ^ 4) × Inside l (now s) to × (g .all .n ≤ 4 * l .least) ⌝ }
-    ensures { λ _. ⌜ Becomes l (now (s .entry)) (now (s .exit)) (set (retire w (pagesOf l (now (s .entry))) (routersOf (g .routers))) to (filled w level (pairsIn (g .all)))) ⌝ }
+    requires { ⌜ ExactBytes l (now s) × Grouped l (now s) g × (w < 2 ^ 20) × (level < 2 ^ 4) × Inside l (now s) to
+        × (g .all .n ≤ 4 * l .least) ⌝ }
+    ensures { λ _. ⌜ Becomes l (now (s .entry)) (now (s .exit))
+        (set (retire w (pagesOf l (now (s .entry))) (routersOf (g .routers))) to (filled w level (pairsIn (g .all)))) ⌝ }
 {
     retire(s, l, w, g.routers);
     let all = g.all;
@@ -39,8 +41,10 @@ fn one_page(s: &mut [u8], l: Limits, w: u32, level: u32, g: Group, to: usize)
 
 // "more fill two, the lower taking the odd one"
 fn two_pages(s: &mut [u8], l: Limits, w: u32, level: u32, g: Group, to: usize, next: usize)
-    requires { ⌜ ExactBytes l (now s) × Grouped l (now s) g × (w < 2 ^ 20) × (level < 2 ^ 4) × Inside l (now s) to × Inside l (now s) next ⌝ }
-    ensures { λ _. ⌜ Becomes l (now (s .entry)) (now (s .exit)) (set (set (retire w (pagesOf l (now (s .entry))) (routersOf (g .routers))) to (filled w level (take ((g .all .n + 1) / 2) (pairsIn (g .all))))) next (filled w level (drop ((g .all .n + 1) / 2) (pairsIn (g .all))))) ⌝ }
+    requires { ⌜ ExactBytes l (now s) × Grouped l (now s) g × (w < 2 ^ 20) × (level < 2 ^ 4) × Inside l (now s) to
+        × Inside l (now s) next ⌝ }
+    ensures { λ _. ⌜ Becomes l (now (s .entry)) (now (s .exit))
+        (set (set (retire w (pagesOf l (now (s .entry))) (routersOf (g .routers))) to (filled w level (take ((g .all .n + 1) / 2) (pairsIn (g .all))))) next (filled w level (drop ((g .all .n + 1) / 2) (pairsIn (g .all))))) ⌝ }
 {
     retire(s, l, w, g.routers);
     let all = g.all;
@@ -52,8 +56,10 @@ fn two_pages(s: &mut [u8], l: Limits, w: u32, level: u32, g: Group, to: usize, n
 
 // A group is rebuilt into the pages u, of which there are enough.
 pub fn rebuild(s: &mut [u8], l: Limits, w: u32, level: u32, g: Group, u: Numbers)
-    requires { ⌜ ExactBytes l (now s) × Grouped l (now s) g × (w < 2 ^ 20) × (level < 2 ^ 4) × Numbered u (take 2 (usable w (pagesOf l (now s)) (routersOf (g .routers)))) × (fills (l .least) (pairsIn (g .all)) ≤ u .n) ⌝ }
-    ensures { λ _. ⌜ (rebuild (l .least) w level (pagesOf l (now (s .entry))) (groupOf g) ≡ rebuilt (pagesOf l (now (s .exit))) (routersTo (routersOf (g .routers)) (parts (l .least) (pairsIn (g .all))) (u .first) (u .second))) × Becomes l (now (s .entry)) (now (s .exit)) (pagesOf l (now (s .exit))) ⌝ }
+    requires { ⌜ ExactBytes l (now s) × Grouped l (now s) g × (w < 2 ^ 20) × (level < 2 ^ 4)
+        × Numbered u (take 2 (usable w (pagesOf l (now s)) (routersOf (g .routers)))) × (fills (l .least) (pairsIn (g .all)) ≤ u .n) ⌝ }
+    ensures { λ _. ⌜
+        (rebuild (l .least) w level (pagesOf l (now (s .entry))) (groupOf g) ≡ rebuilt (pagesOf l (now (s .exit))) (routersTo (routersOf (g .routers)) (parts (l .least) (pairsIn (g .all))) (u .first) (u .second))) × Becomes l (now (s .entry)) (now (s .exit)) (pagesOf l (now (s .exit))) ⌝ }
 {
     let all = g.all;
     if all.n <= l.full {

@@ -56,7 +56,8 @@ fn obey(
 ) -> Obeyed
     requires { ⌜ (pages ≤ 256) × (length (now bytes) ≡ 65536) × (length (now list) ≡ 10040) × Sure (now bytes) pages ⌝ }
     requires { ⌜ at + 110462 ≤ length (now out) ⌝ }
-    ensures { λ r. ⌜ Obeys (said 4 (storeIn (now (bytes .entry)) pages) command) (now (bytes .exit)) (now (out .entry)) at (now (out .exit)) r ⌝ }
+    ensures { λ r. ⌜ Obeys (said 4 (storeIn (now (bytes .entry)) pages) command) (now (bytes .exit)) (now (out .entry)) at
+        (now (out .exit)) r ⌝ }
 {
     let r = reply(command, pages, bytes, list);
     let answer = r.answer;
@@ -78,7 +79,8 @@ pub(crate) fn answer(
 ) -> Obeyed
     requires { ⌜ (pages ≤ 256) × (length (now bytes) ≡ 65536) × (length (now list) ≡ 10040) × Sure (now bytes) pages ⌝ }
     requires { ⌜ at + 110462 ≤ length (now out) ⌝ }
-    ensures { λ r. ⌜ Obeys (heardSaid (storeIn (now (bytes .entry)) pages) heard) (now (bytes .exit)) (now (out .entry)) at (now (out .exit)) r ⌝ }
+    ensures { λ r. ⌜ Obeys (heardSaid (storeIn (now (bytes .entry)) pages) heard) (now (bytes .exit)) (now (out .entry)) at
+        (now (out .exit)) r ⌝ }
 {
     match heard {
         Heard::Whole(line) => {

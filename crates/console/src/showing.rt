@@ -26,7 +26,8 @@ fn show_settings(list: &[u32], count: usize, out: &mut [u8], at: usize) -> usize
 
 pub(crate) fn show(answer: Answer, list: &[u32], count: usize, out: &mut [u8], at: usize) -> usize
     requires { ⌜ (2 * count ≤ length (now list)) × (at + 110462 ≤ length (now out)) × (count ≤ 5020) ⌝ }
-    ensures { λ r. ⌜ Put (now (out .entry)) at (flatMap textOf (answer ∷ settings (take (2 * count) (now (list .entry))))) (now (out .exit)) r ⌝ }
+    ensures { λ r. ⌜ Put (now (out .entry)) at (flatMap textOf (answer ∷ settings (take (2 * count) (now (list .entry)))))
+        (now (out .exit)) r ⌝ }
     ensures { λ r. ⌜ r ≤ at + 110462 ⌝ }
 {
     let e = lines::say(answer, out, at);

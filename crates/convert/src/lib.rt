@@ -81,8 +81,10 @@ fn onward(s: &[u8], k: Limits, u: u32, v: u32, key: u32, high: u32) -> Gap
 // The deletes, or the inserts, that the source's differences from version u to version v ask of the target, in rising key order, to the
 // first that is refused.
 fn pass(s: &[u8], k: Limits, t: &mut [u8], l: Limits, u: u32, v: u32, insert: bool) -> u32
-    requires { ⌜ Walkable k (now s) u × Walkable k (now s) v × UpdateOpen l (now t) × Due insert (shown l (now t)) (between k (now s) u v) ⌝ }
-    ensures { λ r. ⌜ Went l (now (t .exit)) r (passed insert (l .least) (between k (now (s .entry)) u v) (decode (l .least) (now (t .entry)))) ⌝ }
+    requires { ⌜ Walkable k (now s) u × Walkable k (now s) v × UpdateOpen l (now t)
+        × Due insert (shown l (now t)) (between k (now s) u v) ⌝ }
+    ensures { λ r. ⌜ Went l (now (t .exit)) r
+        (passed insert (l .least) (between k (now (s .entry)) u v) (decode (l .least) (now (t .entry)))) ⌝ }
 {
     let mut key = 0;
     let mut high = 0;
@@ -101,7 +103,8 @@ fn pass(s: &[u8], k: Limits, t: &mut [u8], l: Limits, u: u32, v: u32, insert: bo
 
 // Both passes, to the first step that is refused.
 fn carry(s: &[u8], k: Limits, t: &mut [u8], l: Limits, u: u32, v: u32) -> u32
-    requires { ⌜ Walkable k (now s) u × Walkable k (now s) v × UpdateOpen l (now t) × (shown l (now t) ≡ settings (decode (k .least) (now s)) u) ⌝ }
+    requires { ⌜ Walkable k (now s) u × Walkable k (now s) v × UpdateOpen l (now t)
+        × (shown l (now t) ≡ settings (decode (k .least) (now s)) u) ⌝ }
     ensures { λ r. ⌜ Went l (now (t .exit)) r (carried (l .least) (between k (now (s .entry)) u v) (decode (l .least) (now (t .entry)))) ⌝ }
 {
     let n = pass(s, k, t, l, u, v, false);
@@ -115,7 +118,8 @@ fn carry(s: &[u8], k: Limits, t: &mut [u8], l: Limits, u: u32, v: u32) -> u32
 // from before 2026-05 is replayed as an empty version, not refused."
 fn one_version(s: &[u8], k: Limits, t: &mut [u8], l: Limits, v: u32) -> u32
     requires { ⌜ Replaying k (now s) l (now t) v × (v < decode (k .least) (now s) .current) ⌝ }
-    ensures { λ r. ⌜ Replayed l (now (t .exit)) r (replayed (l .least) (between k (now (s .entry)) v (suc v)) (decode (l .least) (now (t .entry)))) ⌝ }
+    ensures { λ r. ⌜ Replayed l (now (t .exit)) r
+        (replayed (l .least) (between k (now (s .entry)) v (suc v)) (decode (l .least) (now (t .entry)))) ⌝ }
 {
     turn::begin(t, l);
     let n = carry(s, k, t, l, v, v + 1);
@@ -130,7 +134,8 @@ fn one_version(s: &[u8], k: Limits, t: &mut [u8], l: Limits, v: u32) -> u32
 // are passed over in which nothing starts or ends, so there are no more turns than versions at which something does.
 pub fn replay(s: &[u8], k: Limits, t: &mut [u8], l: Limits) -> u32
     requires { ⌜ Replaying k (now s) l (now t) 0 ⌝ }
-    ensures { λ r. ⌜ Replayed l (now (t .exit)) r (replay (l .least) (decode (k .least) (now (s .entry))) 0 (decode (k .least) (now (s .entry)) .current) (decode (l .least) (now (t .entry)))) ⌝ }
+    ensures { λ r. ⌜ Replayed l (now (t .exit)) r
+        (replay (l .least) (decode (k .least) (now (s .entry))) 0 (decode (k .least) (now (s .entry)) .current) (decode (l .least) (now (t .entry)))) ⌝ }
 {
     let h = store::header(s, k);
     let mut v = 0;

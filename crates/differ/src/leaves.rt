@@ -40,7 +40,8 @@ pub struct Side {
 // The next setting from place i on.
 fn side_from(page: &[u8], n: usize, v: u32, low: u32, high: u32, i: usize) -> Side
     requires { ⌜ Stands (now page) n × (i ≤ n) × (rising (rest (now page) n v low high i) ≡ true) ⌝ }
-    ensures { λ r. ⌜ At (now (page .entry)) n v low high r × (rest (now (page .entry)) n v low high (r .place) ≡ rest (now (page .entry)) n v low high i) ⌝ }
+    ensures { λ r. ⌜ At (now (page .entry)) n v low high r
+        × (rest (now (page .entry)) n v low high (r .place) ≡ rest (now (page .entry)) n v low high i) ⌝ }
 {
     let k = walk::next_place(page, n, v, low, high, i);
     if k < n {
@@ -64,7 +65,8 @@ fn side_from(page: &[u8], n: usize, v: u32, low: u32, high: u32, i: usize) -> Si
 // The next setting at or above a key that is at most one above where the side stands.
 fn on(page: &[u8], n: usize, v: u32, low: u32, high: u32, x: Side, key: u32) -> Side
     requires { ⌜ Stands (now page) n × At (now page) n v low high x × (key ≤ x .pair .key + 1) ⌝ }
-    ensures { λ r. ⌜ At (now (page .entry)) n v low high r × (rest (now (page .entry)) n v low high (r .place) ≡ atOrAbove key (rest (now (page .entry)) n v low high (x .place))) ⌝ }
+    ensures { λ r. ⌜ At (now (page .entry)) n v low high r
+        × (rest (now (page .entry)) n v low high (r .place) ≡ atOrAbove key (rest (now (page .entry)) n v low high (x .place))) ⌝ }
 {
     if key <= x.pair.key {
         return x;
@@ -78,8 +80,11 @@ fn on(page: &[u8], n: usize, v: u32, low: u32, high: u32, x: Side, key: u32) -> 
 // What differs from the stretch in the leaf p, of m entries, to that in the leaf q, of n, behind the first `found` of a list; gives how
 // many there are then. Each step leaves an entry of one of the two leaves behind.
 fn merge(p: &[u8], m: usize, q: &[u8], n: usize, a: Ask, list: &mut [u32], found: usize) -> usize
-    requires { ⌜ Stands (now p) m × Stands (now q) n × Ordered (rest (now p) m (a .old) (a .low) (a .high) 0) × Ordered (rest (now q) n (a .new) (a .low) (a .high) 0) × Space deltas (a .write) (now list) found (asked (now p) m (now q) n a) ⌝ }
-    ensures { λ r. ⌜ Gathers deltas (a .write) (now (list .entry)) (now (list .exit)) found r (asked (now (p .entry)) m (now (q .entry)) n a) ⌝ }
+    requires { ⌜ Stands (now p) m × Stands (now q) n × Ordered (rest (now p) m (a .old) (a .low) (a .high) 0)
+        × Ordered (rest (now q) n (a .new) (a .low) (a .high) 0)
+        × Space deltas (a .write) (now list) found (asked (now p) m (now q) n a) ⌝ }
+    ensures { λ r. ⌜ Gathers deltas (a .write) (now (list .entry)) (now (list .exit)) found r
+        (asked (now (p .entry)) m (now (q .entry)) n a) ⌝ }
 {
     let mut sum = found;
     let mut key = 0;
@@ -134,7 +139,8 @@ fn same(page: &[u8], n: usize, a: Ask, x: usize, y: usize) -> bool
 
 // Whether the leaves of a stretch are such a page: nothing differs there.
 pub fn alike(s: &[u8], l: Limits, a: Ask, x: Under, y: Under) -> bool
-    requires { ⌜ Walkable l (now s) (a .old) × Walkable l (now s) (a .new) × Below l (now s) (a .old) 0 (a .low) x × Below l (now s) (a .new) 0 (a .low) y ⌝ }
+    requires { ⌜ Walkable l (now s) (a .old) × Walkable l (now s) (a .new) × Below l (now s) (a .old) 0 (a .low) x
+        × Below l (now s) (a .new) 0 (a .low) y ⌝ }
     ensures { λ r. ⌜ (r ≡ true → inLeaves l (now (s .entry)) a x y ≡ []) ⌝ }
 {
     let p = store::part(s, l, x.page);
@@ -152,7 +158,8 @@ pub fn tell(
     list: &mut [u32],
     found: usize,
 ) -> usize
-    requires { ⌜ Walkable l (now s) (a .old) × Walkable l (now s) (a .new) × Below l (now s) (a .old) 0 (a .low) x × Below l (now s) (a .new) 0 (a .low) y × Space deltas (a .write) (now list) found (inLeaves l (now s) a x y) ⌝ }
+    requires { ⌜ Walkable l (now s) (a .old) × Walkable l (now s) (a .new) × Below l (now s) (a .old) 0 (a .low) x
+        × Below l (now s) (a .new) 0 (a .low) y × Space deltas (a .write) (now list) found (inLeaves l (now s) a x y) ⌝ }
     ensures { λ r. ⌜ Gathers deltas (a .write) (now (list .entry)) (now (list .exit)) found r (inLeaves l (now (s .entry)) a x y) ⌝ }
 {
     let p = store::part(s, l, x.page);

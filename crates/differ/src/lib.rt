@@ -106,7 +106,8 @@ fn tell(s: &[u8], l: Limits, u: u32, v: u32, list: &mut [u32], write: bool) -> u
 // caller's list. They are counted before any is written, so that 14 leaves the list untouched.
 pub fn difference(s: &[u8], l: Limits, u: u32, v: u32, list: &mut [u32]) -> Counted
     requires { ⌜ Walkable l (now s) u × Walkable l (now s) v ⌝ }
-    ensures { λ r. ⌜ withList r (now (list .exit)) ≡ listed (now (list .entry)) (toldBy deltaNumbers 4 0 (length (now (list .entry))) (between l (now (s .entry)) u v)) ⌝ }
+    ensures { λ r. ⌜ withList r (now (list .exit))
+        ≡ listed (now (list .entry)) (toldBy deltaNumbers 4 0 (length (now (list .entry))) (between l (now (s .entry)) u v)) ⌝ }
 {
     let found = tell(s, l, u, v, list, false);
     if list.len() < 4 * found {

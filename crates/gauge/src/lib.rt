@@ -80,7 +80,8 @@ fn fill_fits(len: usize, w: u32, key: u32, n: usize) -> bool
 #[no_mangle]
 pub extern "C" fn gauge_fill(page: &mut [u8], w: u32, key: u32, value: u32, n: usize) -> u32
     ensures number { λ r. ⌜ r ≡ pick (fillFits (length (now (page .entry))) w key n) 1 0 ⌝ }
-    ensures bytes { λ _. ⌜ now (page .exit) ≡ pick (fillFits (length (now (page .entry))) w key n) (filledPage w key value n) (now (page .entry)) ⌝ }
+    ensures bytes { λ _. ⌜ now (page .exit) ≡ pick (fillFits (length (now (page .entry))) w key n) (filledPage w key value n)
+        (now (page .entry)) ⌝ }
 {
     if !fill_fits(page.len(), w, key, n) {
         return 0;

@@ -80,7 +80,8 @@ pub fn goes(s: &[u8], l: Limits, n: usize, live: usize) -> bool
 // parent: the right one, else the left."
 pub fn gathered(s: &[u8], l: Limits, w: u32, a: Around, want: Gather) -> Group
     requires { ⌜ ExactBytes l (now s) × Placed l (now s) a × Good want × (want .n < 7 * l .least) ⌝ }
-    ensures { λ r. ⌜ Grouped l (now (s .entry)) r × (groupOf r ≡ gatherBy (ltb (length (pairsIn want)) (2 * l .least)) w (pagesOf l (now (s .entry))) (aroundOf a) (pairsIn want)) ⌝ }
+    ensures { λ r. ⌜ Grouped l (now (s .entry)) r
+        × (groupOf r ≡ gatherBy (ltb (length (pairsIn want)) (2 * l .least)) w (pagesOf l (now (s .entry))) (aroundOf a) (pairsIn want)) ⌝ }
 {
     let own = a.own;
     if want.n < l.merge {

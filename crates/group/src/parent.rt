@@ -20,7 +20,8 @@ ghost use Rattle.group.specs.Group.{routersOf};
 // The routers that lead to the pages now used. "The first new low key is the lowest old one; the second is the second page's first key."
 pub fn routers_to(g: Group, l: Limits, first: usize, second: usize) -> Routers
     requires { ⌜ Edition l × Good (g .all) × Fitting (g .routers .first) × (first < 2 ^ 32) × (second < 2 ^ 32) ⌝ }
-    ensures { λ r. ⌜ (routersOf r ≡ routersTo (routersOf (g .routers)) (parts (l .least) (pairsIn (g .all))) first second) × Fitting (r .first) × Fitting (r .second) ⌝ }
+    ensures { λ r. ⌜ (routersOf r ≡ routersTo (routersOf (g .routers)) (parts (l .least) (pairsIn (g .all))) first second)
+        × Fitting (r .first) × Fitting (r .second) ⌝ }
 {
     let key = g.routers.first.key;
     let all = g.all;
@@ -112,7 +113,8 @@ fn exchange(olds: Routers, news: Routers) -> Change
 // What the parent of a group has to change when its pages are now these.
 pub fn parent_change(g: Group, l: Limits, u: Numbers) -> Change
     requires { ⌜ Edition l × Good (g .all) × Fitting (g .routers .first) × (u .first < 2 ^ 32) × (u .second < 2 ^ 32) ⌝ }
-    ensures { λ r. ⌜ (changeOf r ≡ exchange (routersOf (g .routers)) (routersTo (routersOf (g .routers)) (parts (l .least) (pairsIn (g .all))) (u .first) (u .second))) × Fits r ⌝ }
+    ensures { λ r. ⌜
+        (changeOf r ≡ exchange (routersOf (g .routers)) (routersTo (routersOf (g .routers)) (parts (l .least) (pairsIn (g .all))) (u .first) (u .second))) × Fits r ⌝ }
 {
     let rs = g.routers;
     exchange(rs, routers_to(g, l, u.first, u.second))

@@ -8,7 +8,8 @@ ghost use Rattle.model.specs.Layout.{bit};
 ghost use Rattle.model.specs.State.{stateNumbers};
 ghost use Rattle.model.specs.Calls.{lookedNumber, lookedFound, lookedValue};
 ghost use Rattle.model.specs.Lent.{leaving, freshLent};
-ghost use Rattle.model.specs.Any.{judgedAny, openAny, insertAny, deleteAny, commitAny, abandonAny, returnAny, pruneAny, lookupAny, rangeAny, lifeAny, differenceAny, visitsAny, stateAny};
+ghost use Rattle.model.specs.Any.{judgedAny, openAny, insertAny, deleteAny, commitAny, abandonAny, returnAny, pruneAny, lookupAny};
+ghost use Rattle.model.specs.Any.{rangeAny, lifeAny, differenceAny, visitsAny, stateAny};
 ghost use Rattle.model.specs.Convert.{convertLent};
 
 // Makes a fresh store of edition 1.
@@ -226,7 +227,8 @@ fn flag(b: bool) -> u32
     if b { 1 } else { 0 }
 }
 
-// What a store tells of itself goes to `state`: page count, current version, 1 if an update is open, roots used, edition, free pages, oldest
+// What a store tells of itself goes to `state`: page count, current version, 1 if an update is open, roots used, edition, free pages,
+// oldest
 // version.
 #[no_mangle]
 pub extern "C" fn rcst_state(store: &[u8], state: &mut [u32; 7]) -> u32

@@ -132,7 +132,8 @@ pub extern "C" fn rcst_view_level(
     ensures number { λ r. ⌜ r ≡ lookedNumber (kindNamed 2 (now (table .entry)) (now (store .entry)) key version) ⌝ }
     ensures alive { λ _. ⌜ now (found .exit) ≡ bit (lookedFound (kindNamed 2 (now (table .entry)) (now (store .entry)) key version)) ⌝ }
     ensures setting { λ _. ⌜ now (bits .exit) ≡ lookedValue (kindNamed 2 (now (table .entry)) (now (store .entry)) key version) ⌝ }
-    ensures float { λ _. ⌜ now (level .exit) ≡ ofBits binary32 (lookedValue (kindNamed 2 (now (table .entry)) (now (store .entry)) key version)) ⌝ }
+    ensures float { λ _. ⌜ now (level .exit) ≡ ofBits binary32
+        (lookedValue (kindNamed 2 (now (table .entry)) (now (store .entry)) key version)) ⌝ }
 {
     let r = named::lookup_kind(store, table, LEVEL, key, version);
     *level = kinds::float_of(crate::value_of(r));
@@ -151,8 +152,10 @@ pub extern "C" fn rcst_view_range(
     count: &mut usize,
 ) -> u32
     ensures number { λ r. ⌜ r ≡ rangeNamed (now (table .entry)) (now (store .entry)) low high version (now (list .entry)) .number ⌝ }
-    ensures settings { λ _. ⌜ now (count .exit) ≡ rangeNamed (now (table .entry)) (now (store .entry)) low high version (now (list .entry)) .count ⌝ }
-    ensures written { λ _. ⌜ now (list .exit) ≡ rangeNamed (now (table .entry)) (now (store .entry)) low high version (now (list .entry)) .list ⌝ }
+    ensures settings { λ _. ⌜ now (count .exit) ≡ rangeNamed (now (table .entry)) (now (store .entry)) low high version
+        (now (list .entry)) .count ⌝ }
+    ensures written { λ _. ⌜ now (list .exit) ≡ rangeNamed (now (table .entry)) (now (store .entry)) low high version
+        (now (list .entry)) .list ⌝ }
 {
     let r = named::range(store, table, low, high, version, list);
     *count = r.count;

@@ -3,7 +3,9 @@
 ghost use mathlib.Core.Path.{_≡_};
 ghost use Rattle.model.specs.Layout.{bit};
 ghost use Rattle.model.specs.Calls.{lookedNumber, lookedFound, lookedValue};
-ghost use Rattle.plain.specs.Guard.{isState, isLent, leftLent, insertGuarded, deleteGuarded, commitGuarded, abandonGuarded, returnGuarded, pruneGuarded, lookupGuarded, rangeGuarded, differenceGuarded, lifeGuarded, OpensGuarded, Spared, StateAgain, LentAgain};
+ghost use Rattle.plain.specs.Guard.{isState, isLent, leftLent, insertGuarded, deleteGuarded, commitGuarded, abandonGuarded, returnGuarded};
+ghost use Rattle.plain.specs.Guard.{pruneGuarded, lookupGuarded, rangeGuarded, differenceGuarded, lifeGuarded, OpensGuarded, Spared};
+ghost use Rattle.plain.specs.Guard.{StateAgain, LentAgain};
 
 // Opens an update.
 #[no_mangle]
@@ -23,7 +25,8 @@ pub extern "C" fn rcst_plain_insert(
     key: u32,
     value: u32,
 ) -> u32
-    ensures given { λ r. ⌜ leftLent r (now (items .exit)) (now (state .exit)) ≡ insertGuarded (now (items .entry)) (now (state .entry)) key value ⌝ }
+    ensures given { λ r. ⌜ leftLent r (now (items .exit)) (now (state .exit))
+        ≡ insertGuarded (now (items .entry)) (now (state .entry)) key value ⌝ }
     ensures spared { λ _. ⌜ Spared (isLent (now (items .entry)) (now (state .entry))) (now (state .entry)) (now (state .exit)) ⌝ }
     ensures untouched { λ _. ⌜ Spared (isLent (now (items .entry)) (now (state .entry))) (now (items .entry)) (now (items .exit)) ⌝ }
     ensures again { λ _. ⌜ LentAgain (now (items .entry)) (now (state .entry)) (now (items .exit)) (now (state .exit)) ⌝ }
@@ -34,7 +37,8 @@ pub extern "C" fn rcst_plain_insert(
 // Deletes a setting in the open update.
 #[no_mangle]
 pub extern "C" fn rcst_plain_delete(items: &mut [u32], state: &mut [u32; 5], key: u32) -> u32
-    ensures given { λ r. ⌜ leftLent r (now (items .exit)) (now (state .exit)) ≡ deleteGuarded (now (items .entry)) (now (state .entry)) key ⌝ }
+    ensures given { λ r. ⌜ leftLent r (now (items .exit)) (now (state .exit))
+        ≡ deleteGuarded (now (items .entry)) (now (state .entry)) key ⌝ }
     ensures spared { λ _. ⌜ Spared (isLent (now (items .entry)) (now (state .entry))) (now (state .entry)) (now (state .exit)) ⌝ }
     ensures untouched { λ _. ⌜ Spared (isLent (now (items .entry)) (now (state .entry))) (now (items .entry)) (now (items .exit)) ⌝ }
     ensures again { λ _. ⌜ LentAgain (now (items .entry)) (now (state .entry)) (now (items .exit)) (now (state .exit)) ⌝ }
@@ -66,7 +70,8 @@ pub extern "C" fn rcst_plain_abandon(items: &mut [u32], state: &mut [u32; 5]) ->
 // Returns to a committed version.
 #[no_mangle]
 pub extern "C" fn rcst_plain_return(items: &mut [u32], state: &mut [u32; 5], version: u32) -> u32
-    ensures given { λ r. ⌜ leftLent r (now (items .exit)) (now (state .exit)) ≡ returnGuarded (now (items .entry)) (now (state .entry)) version ⌝ }
+    ensures given { λ r. ⌜ leftLent r (now (items .exit)) (now (state .exit))
+        ≡ returnGuarded (now (items .entry)) (now (state .entry)) version ⌝ }
     ensures spared { λ _. ⌜ Spared (isLent (now (items .entry)) (now (state .entry))) (now (state .entry)) (now (state .exit)) ⌝ }
     ensures untouched { λ _. ⌜ Spared (isLent (now (items .entry)) (now (state .entry))) (now (items .entry)) (now (items .exit)) ⌝ }
     ensures again { λ _. ⌜ LentAgain (now (items .entry)) (now (state .entry)) (now (items .exit)) (now (state .exit)) ⌝ }
@@ -77,7 +82,8 @@ pub extern "C" fn rcst_plain_return(items: &mut [u32], state: &mut [u32; 5], ver
 // Drops what ended at or before a committed version: the versions below it are not kept.
 #[no_mangle]
 pub extern "C" fn rcst_plain_prune(items: &mut [u32], state: &mut [u32; 5], version: u32) -> u32
-    ensures given { λ r. ⌜ leftLent r (now (items .exit)) (now (state .exit)) ≡ pruneGuarded (now (items .entry)) (now (state .entry)) version ⌝ }
+    ensures given { λ r. ⌜ leftLent r (now (items .exit)) (now (state .exit))
+        ≡ pruneGuarded (now (items .entry)) (now (state .entry)) version ⌝ }
     ensures spared { λ _. ⌜ Spared (isLent (now (items .entry)) (now (state .entry))) (now (state .entry)) (now (state .exit)) ⌝ }
     ensures untouched { λ _. ⌜ Spared (isLent (now (items .entry)) (now (state .entry))) (now (items .entry)) (now (items .exit)) ⌝ }
     ensures again { λ _. ⌜ LentAgain (now (items .entry)) (now (state .entry)) (now (items .exit)) (now (state .exit)) ⌝ }
@@ -117,8 +123,10 @@ pub extern "C" fn rcst_plain_range(
     count: &mut usize,
 ) -> u32
     ensures number { λ r. ⌜ r ≡ rangeGuarded (now (items .entry)) (now (state .entry)) low high version (now (list .entry)) .number ⌝ }
-    ensures found { λ _. ⌜ now (count .exit) ≡ rangeGuarded (now (items .entry)) (now (state .entry)) low high version (now (list .entry)) .count ⌝ }
-    ensures written { λ _. ⌜ now (list .exit) ≡ rangeGuarded (now (items .entry)) (now (state .entry)) low high version (now (list .entry)) .list ⌝ }
+    ensures found { λ _. ⌜ now (count .exit) ≡ rangeGuarded (now (items .entry)) (now (state .entry)) low high version
+        (now (list .entry)) .count ⌝ }
+    ensures written { λ _. ⌜ now (list .exit) ≡ rangeGuarded (now (items .entry)) (now (state .entry)) low high version
+        (now (list .entry)) .list ⌝ }
 {
     let r = plain::lent::range(items, state, low, high, version, list);
     *count = r.count;
@@ -136,8 +144,10 @@ pub extern "C" fn rcst_plain_difference(
     count: &mut usize,
 ) -> u32
     ensures number { λ r. ⌜ r ≡ differenceGuarded (now (items .entry)) (now (state .entry)) old new (now (list .entry)) .number ⌝ }
-    ensures found { λ _. ⌜ now (count .exit) ≡ differenceGuarded (now (items .entry)) (now (state .entry)) old new (now (list .entry)) .count ⌝ }
-    ensures written { λ _. ⌜ now (list .exit) ≡ differenceGuarded (now (items .entry)) (now (state .entry)) old new (now (list .entry)) .list ⌝ }
+    ensures found { λ _. ⌜ now (count .exit) ≡ differenceGuarded (now (items .entry)) (now (state .entry)) old new
+        (now (list .entry)) .count ⌝ }
+    ensures written { λ _. ⌜ now (list .exit) ≡ differenceGuarded (now (items .entry)) (now (state .entry)) old new
+        (now (list .entry)) .list ⌝ }
 {
     let r = plain::lent::difference(items, state, old, new, list);
     *count = r.count;

@@ -26,7 +26,8 @@ fn seventh(s: &[u8], l: Limits, h: Header) -> u32
     7
 }
 
-// The lowest rule from 1 to 7 that the bytes break, or 0. Where `quick` does not find rules 4 to 6 to hold, rules 4 and 5 are named by the notes, in one
+// The lowest rule from 1 to 7 that the bytes break, or 0. Where `quick` does not find rules 4 to 6 to hold, rules 4 and 5 are named by the
+// notes, in one
 // pass. Rule 6 is first looked for at the last version, by the reach walk, and then at every other by the sums and the slots.
 fn lower(s: &[u8], l: Limits, size: usize) -> u32
     requires { ⌜ Edition l × Sized (l .least) (now s) size ⌝ }

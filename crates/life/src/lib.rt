@@ -64,7 +64,8 @@ fn same(a: Looked, b: Looked) -> bool
 
 // The first version behind v at which a lookup answers otherwise than at v, or the first behind c.
 fn change_after(s: &[u8], l: Limits, key: u32, v: u32, c: u32, was: Looked) -> u32
-    requires { ⌜ Walkable l (now s) c × (key < keyLimit) × (decode (l .least) (now s) .oldest ≤ v) × (v ≤ c) × (was ≡ lookedAt (lookup (decode (l .least) (now s)) key v)) ⌝ }
+    requires { ⌜ Walkable l (now s) c × (key < keyLimit) × (decode (l .least) (now s) .oldest ≤ v) × (v ≤ c)
+        × (was ≡ lookedAt (lookup (decode (l .least) (now s)) key v)) ⌝ }
     ensures { λ r. ⌜ Lasts c (lookup (decode (l .least) (now (s .entry))) key) v r ⌝ }
 {
     let mut u = holding::answer_until(s, l, key, v, c + 1);
@@ -121,8 +122,11 @@ fn tell(list: &mut [u32], k: usize, v: u32, e: u32, answer: Looked, write: bool)
 
 // The stretches from version old up to version c, into a list or only counted; gives how many there are.
 fn tell_all(s: &[u8], l: Limits, key: u32, old: u32, c: u32, list: &mut [u32], write: bool) -> usize
-    requires { ⌜ Walkable l (now s) c × (key < keyLimit) × Space stretches write (now list) 0 (lifeOf old c (lookup (decode (l .least) (now s)) key)) × (decode (l .least) (now s) .oldest ≤ old) × (old ≤ c) ⌝ }
-    ensures { λ n. ⌜ Gathers stretches write (now (list .entry)) (now (list .exit)) 0 n (lifeOf old c (lookup (decode (l .least) (now (s .entry))) key)) ⌝ }
+    requires { ⌜ Walkable l (now s) c × (key < keyLimit)
+        × Space stretches write (now list) 0 (lifeOf old c (lookup (decode (l .least) (now s)) key))
+        × (decode (l .least) (now s) .oldest ≤ old) × (old ≤ c) ⌝ }
+    ensures { λ n. ⌜ Gathers stretches write (now (list .entry)) (now (list .exit)) 0 n
+        (lifeOf old c (lookup (decode (l .least) (now (s .entry))) key)) ⌝ }
 {
     let mut found = 0;
     let mut v = old;
@@ -139,7 +143,8 @@ fn tell_all(s: &[u8], l: Limits, key: u32, old: u32, c: u32, list: &mut [u32], w
 // list untouched.
 pub fn life(s: &[u8], l: Limits, key: u32, list: &mut [u32]) -> Counted
     requires { ⌜ Edition l × (isSound (l .least) (now s) ≡ true) × (key < keyLimit) ⌝ }
-    ensures { λ r. ⌜ withList r (now (list .exit)) ≡ listed (now (list .entry)) (toldBy stretchNumbers 3 0 (length (now (list .entry))) (life (decode (l .least) (now (s .entry))) key)) ⌝ }
+    ensures { λ r. ⌜ withList r (now (list .exit))
+        ≡ listed (now (list .entry)) (toldBy stretchNumbers 3 0 (length (now (list .entry))) (life (decode (l .least) (now (s .entry))) key)) ⌝ }
 {
     let h = store::header(s, l);
     let found = tell_all(s, l, key, h.oldest, h.current, list, false);

@@ -29,7 +29,8 @@ pub(crate) fn roots_ok(s: &[u8], l: Limits, roots: usize, size: usize) -> bool
 
 // Rule 1 of lent bytes, which make `size` pages, where the oldest version is right.
 fn first_rest(s: &[u8], l: Limits, size: usize) -> bool
-    requires { ⌜ Edition l × Sized (l .least) (now s) size × (leb (decode (l .least) (now s) .oldest) (pick (leb (l .least) 4) 0 (decode (l .least) (now s) .current)) ≡ true) ⌝ }
+    requires { ⌜ Edition l × Sized (l .least) (now s) size
+        × (leb (decode (l .least) (now s) .oldest) (pick (leb (l .least) 4) 0 (decode (l .least) (now s) .current)) ≡ true) ⌝ }
     ensures { λ r. ⌜ r ≡ clean (l .least) (now (s .entry)) ⌝ }
 {
     let h = store::header(s, l);

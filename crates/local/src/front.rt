@@ -98,7 +98,8 @@ fn slots_right(s: &[u8], l: Limits, roots: usize, old: u32, last: u32, size: usi
 
 // Whether header and slots are right in bytes that make `size` pages, where the oldest version is.
 fn front_rest(s: &[u8], l: Limits, size: usize) -> bool
-    requires { ⌜ Edition l × Sized (l .least) (now s) size × (leb (decode (l .least) (now s) .oldest) (pick (leb (l .least) 4) 0 (decode (l .least) (now s) .current)) ≡ true) ⌝ }
+    requires { ⌜ Edition l × Sized (l .least) (now s) size
+        × (leb (decode (l .least) (now s) .oldest) (pick (leb (l .least) 4) 0 (decode (l .least) (now s) .current)) ≡ true) ⌝ }
     ensures { λ r. ⌜ r ≡ frontRight (l .least) (now (s .entry)) ⌝ }
 {
     let h = store::header(s, l);

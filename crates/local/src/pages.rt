@@ -62,7 +62,8 @@ fn clean_page(page: &[u8], l: Limits) -> bool
 // The entry behind place i, if there is one, stands behind entry i.
 fn in_order(page: &[u8], i: usize, n: usize) -> bool
     requires { ⌜ (16 + 12 * n ≤ length (now page)) × (i < n) × (length (now page) ≤ 2 ^ 40) ⌝ }
-    ensures { λ r. ⌜ r ≡ firstOk before (readEntry (now (page .entry)) (128 + 96 * i)) (readEntries (now (page .entry)) (128 + 96 * (i + 1)) (n - (i + 1))) ⌝ }
+    ensures { λ r. ⌜ r ≡ firstOk before (readEntry (now (page .entry)) (128 + 96 * i))
+        (readEntries (now (page .entry)) (128 + 96 * (i + 1)) (n - (i + 1))) ⌝ }
 {
     if n <= i + 1 {
         return true;

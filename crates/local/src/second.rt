@@ -14,7 +14,8 @@ ghost use Rattle.local.specs.Second.{begun, newer};
 // The slot behind place i, if there is one, has a higher version.
 fn slot_rises(s: &[u8], l: Limits, i: usize, n: usize) -> bool
     requires { ⌜ Edition l × (384 * l .least ≤ length (now s)) × (length (now s) ≤ 2 ^ 21) × (i < n) × (n ≤ 64 * l .least) ⌝ }
-    ensures { λ r. ⌜ r ≡ firstOk sooner (slotAt (l .least) (now (s .entry)) i) (readSlots (now (s .entry)) (512 * l .least + 32 * (i + 1)) (n - (i + 1))) ⌝ }
+    ensures { λ r. ⌜ r ≡ firstOk sooner (slotAt (l .least) (now (s .entry)) i)
+        (readSlots (now (s .entry)) (512 * l .least + 32 * (i + 1)) (n - (i + 1))) ⌝ }
 {
     if n <= i + 1 {
         return true;

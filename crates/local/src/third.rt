@@ -27,7 +27,8 @@ fn lies_in(h: Head, e: Entry) -> bool
 
 // An entry of page n, whose front is h. An index page's leads to a page.
 fn link_ok(s: &[u8], l: Limits, n: usize, h: Head, e: Entry) -> bool
-    requires { ⌜ Edition l × (length (now s) ≤ 2 ^ 21) × (h ≡ headAt (l .least) (now s) n) × ((h .level ≡ 1 → ⊥) → IsPage (l .least) (now s) (e .value)) ⌝ }
+    requires { ⌜ Edition l × (length (now s) ≤ 2 ^ 21) × (h ≡ headAt (l .least) (now s) n)
+        × ((h .level ≡ 1 → ⊥) → IsPage (l .least) (now s) (e .value)) ⌝ }
     ensures { λ r. ⌜ r ≡ linkFull (decode (l .least) (now (s .entry))) (decodePage (l .least) (pageOf (l .least) (now (s .entry)) n)) e ⌝ }
 {
     if !lies_in(h, e) {
@@ -56,7 +57,8 @@ fn skips(level: u32, e: Entry, old: u32) -> bool
 
 // The same; "rule 3 skips routers whose span ended at or before the oldest".
 fn link_fine(s: &[u8], l: Limits, n: usize, h: Head, e: Entry, old: u32) -> bool
-    requires { ⌜ Edition l × (length (now s) ≤ 2 ^ 21) × (h ≡ headAt (l .least) (now s) n) × ((h .level ≡ 1 → ⊥) → IsPage (l .least) (now s) (e .value)) × (old ≡ readHeader (l .least) (now s) .oldest) ⌝ }
+    requires { ⌜ Edition l × (length (now s) ≤ 2 ^ 21) × (h ≡ headAt (l .least) (now s) n)
+        × ((h .level ≡ 1 → ⊥) → IsPage (l .least) (now s) (e .value)) × (old ≡ readHeader (l .least) (now s) .oldest) ⌝ }
     ensures { λ r. ⌜ r ≡ linkOk (decode (l .least) (now (s .entry))) (decodePage (l .least) (pageOf (l .least) (now (s .entry)) n)) e ⌝ }
 {
     if skips(h.level, e, old) {
@@ -67,7 +69,8 @@ fn link_fine(s: &[u8], l: Limits, n: usize, h: Head, e: Entry, old: u32) -> bool
 
 // The entries of page n, unless it is free.
 fn links_ok(s: &[u8], l: Limits, n: usize, old: u32) -> bool
-    requires { ⌜ Edition l × (length (now s) ≤ 2 ^ 21) × Ruled (l .least) (now s) × IsPage (l .least) (now s) n × (old ≡ readHeader (l .least) (now s) .oldest) ⌝ }
+    requires { ⌜ Edition l × (length (now s) ≤ 2 ^ 21) × Ruled (l .least) (now s) × IsPage (l .least) (now s) n
+        × (old ≡ readHeader (l .least) (now s) .oldest) ⌝ }
     ensures { λ r. ⌜ r ≡ linksOk (decode (l .least) (now (s .entry))) (decodePage (l .least) (pageOf (l .least) (now (s .entry)) n)) ⌝ }
 {
     let p = store::part(s, l, n);
@@ -89,7 +92,8 @@ fn links_ok(s: &[u8], l: Limits, n: usize, old: u32) -> bool
 
 fn pages_linked(s: &[u8], l: Limits, h: Header) -> bool
     requires { ⌜ Edition l × Held (l .least) (now s) h ⌝ }
-    ensures { λ r. ⌜ r ≡ all (linksOk (decode (l .least) (now (s .entry)))) (readPages (l .least) (now (s .entry)) 5 (sizeOf (l .least) (now (s .entry)) - 5)) ⌝ }
+    ensures { λ r. ⌜ r ≡ all (linksOk (decode (l .least) (now (s .entry))))
+        (readPages (l .least) (now (s .entry)) 5 (sizeOf (l .least) (now (s .entry)) - 5)) ⌝ }
 {
     let size = model::wide(h.pages);
     let mut n = 5;
@@ -104,7 +108,8 @@ fn pages_linked(s: &[u8], l: Limits, h: Header) -> bool
 
 fn roots_used(s: &[u8], l: Limits, h: Header) -> bool
     requires { ⌜ Edition l × Held (l .least) (now s) h ⌝ }
-    ensures { λ r. ⌜ r ≡ all (rootUsed (decode (l .least) (now (s .entry)))) (readSlots (now (s .entry)) (512 * l .least) (readHeader (l .least) (now (s .entry)) .roots)) ⌝ }
+    ensures { λ r. ⌜ r ≡ all (rootUsed (decode (l .least) (now (s .entry))))
+        (readSlots (now (s .entry)) (512 * l .least) (readHeader (l .least) (now (s .entry)) .roots)) ⌝ }
 {
     let roots = model::wide(h.roots);
     let mut i = 0;

@@ -41,7 +41,8 @@ fn range_in(
     list: &mut [u32],
 ) -> Counted
     requires { ⌜ Edition l ⌝ }
-    ensures { λ r. ⌜ withList r (now (list .exit)) ≡ rangeNamedBy (l .least) (now (table .entry)) (now (s .entry)) low high v (now (list .entry)) ⌝ }
+    ensures { λ r. ⌜ withList r (now (list .exit))
+        ≡ rangeNamedBy (l .least) (now (table .entry)) (now (s .entry)) low high v (now (list .entry)) ⌝ }
 {
     let n = reads::guard_reading(s, l, near::guard::bad_range(low, high), v);
     if n != 0 {

@@ -26,8 +26,10 @@ fn listed_by(
     level: u32,
     list: &mut [u32],
 ) -> Counted
-    requires { ⌜ Edition l × Known (l .least) (now s) (q .size) (q .last) × (length (now s) ≤ 2 ^ 40) × (0 < level) × (level ≤ 7) × Table (l .least) (now s) (q .version) (q .low) (q .high) ((level + 1) * 4096) (now table) ⌝ }
-    ensures { λ r. ⌜ withList r (now (list .exit)) ≡ answered (now (list .entry)) (rangeRight (l .least) (now (s .entry)) (q .version) (pred level) (q .high) (q .low) n) (rangeBelow (pred level) (decode (l .least) (now (s .entry)) .pages) (q .version) (q .low) (q .high) (q .low) n) ⌝ }
+    requires { ⌜ Edition l × Known (l .least) (now s) (q .size) (q .last) × (length (now s) ≤ 2 ^ 40) × (0 < level) × (level ≤ 7)
+        × Table (l .least) (now s) (q .version) (q .low) (q .high) ((level + 1) * 4096) (now table) ⌝ }
+    ensures { λ r. ⌜ withList r (now (list .exit))
+        ≡ answered (now (list .entry)) (rangeRight (l .least) (now (s .entry)) (q .version) (pred level) (q .high) (q .low) n) (rangeBelow (pred level) (decode (l .least) (now (s .entry)) .pages) (q .version) (q .low) (q .high) (q .low) n) ⌝ }
 {
     let w = tabled::down(s, l, q, table, n, level, q.low);
     if w == 0 {
@@ -75,8 +77,10 @@ fn filled(
     level: u32,
     list: &mut [u32],
 ) -> Counted
-    requires { ⌜ Edition l × Known (l .least) (now s) (q .size) (q .last) × (length (now s) ≤ 2 ^ 40) × (0 < level) × (level ≤ 7) × (4096 * (5 * l .least + 1) ≤ length (now table)) ⌝ }
-    ensures { λ r. ⌜ withList r (now (list .exit)) ≡ answered (now (list .entry)) (rangeRight (l .least) (now (s .entry)) (q .version) (pred level) (q .high) (q .low) n) (rangeBelow (pred level) (decode (l .least) (now (s .entry)) .pages) (q .version) (q .low) (q .high) (q .low) n) ⌝ }
+    requires { ⌜ Edition l × Known (l .least) (now s) (q .size) (q .last) × (length (now s) ≤ 2 ^ 40) × (0 < level) × (level ≤ 7)
+        × (4096 * (5 * l .least + 1) ≤ length (now table)) ⌝ }
+    ensures { λ r. ⌜ withList r (now (list .exit))
+        ≡ answered (now (list .entry)) (rangeRight (l .least) (now (s .entry)) (q .version) (pred level) (q .high) (q .low) n) (rangeBelow (pred level) (decode (l .least) (now (s .entry)) .pages) (q .version) (q .low) (q .high) (q .low) n) ⌝ }
 {
     tabled::fill_levels(table, s, l, q, level);
     listed_by(table, s, l, q, n, level, list)
@@ -84,8 +88,10 @@ fn filled(
 
 // 4,096 pages of 20 entries: 688 kB of the stack, which no sound store asks for.
 fn by_small(s: &[u8], l: Limits, q: Asked, n: usize, level: u32, list: &mut [u32]) -> Counted
-    requires { ⌜ Edition l × Known (l .least) (now s) (q .size) (q .last) × (length (now s) ≤ 2 ^ 40) × (0 < level) × (level ≤ 7) × (l .least ≤ 4) ⌝ }
-    ensures { λ r. ⌜ withList r (now (list .exit)) ≡ answered (now (list .entry)) (rangeRight (l .least) (now (s .entry)) (q .version) (pred level) (q .high) (q .low) n) (rangeBelow (pred level) (decode (l .least) (now (s .entry)) .pages) (q .version) (q .low) (q .high) (q .low) n) ⌝ }
+    requires { ⌜ Edition l × Known (l .least) (now s) (q .size) (q .last) × (length (now s) ≤ 2 ^ 40) × (0 < level) × (level ≤ 7)
+        × (l .least ≤ 4) ⌝ }
+    ensures { λ r. ⌜ withList r (now (list .exit))
+        ≡ answered (now (list .entry)) (rangeRight (l .least) (now (s .entry)) (q .version) (pred level) (q .high) (q .low) n) (rangeBelow (pred level) (decode (l .least) (now (s .entry)) .pages) (q .version) (q .low) (q .high) (q .low) n) ⌝ }
 {
     let mut table = [0; 86016];
     filled(&mut table, s, l, q, n, level, list)
@@ -94,7 +100,8 @@ fn by_small(s: &[u8], l: Limits, q: Asked, n: usize, level: u32, list: &mut [u32
 // 4,096 pages of 40 entries: 1.3 MB.
 fn by_large(s: &[u8], l: Limits, q: Asked, n: usize, level: u32, list: &mut [u32]) -> Counted
     requires { ⌜ Edition l × Known (l .least) (now s) (q .size) (q .last) × (length (now s) ≤ 2 ^ 40) × (0 < level) × (level ≤ 7) ⌝ }
-    ensures { λ r. ⌜ withList r (now (list .exit)) ≡ answered (now (list .entry)) (rangeRight (l .least) (now (s .entry)) (q .version) (pred level) (q .high) (q .low) n) (rangeBelow (pred level) (decode (l .least) (now (s .entry)) .pages) (q .version) (q .low) (q .high) (q .low) n) ⌝ }
+    ensures { λ r. ⌜ withList r (now (list .exit))
+        ≡ answered (now (list .entry)) (rangeRight (l .least) (now (s .entry)) (q .version) (pred level) (q .high) (q .low) n) (rangeBelow (pred level) (decode (l .least) (now (s .entry)) .pages) (q .version) (q .low) (q .high) (q .low) n) ⌝ }
 {
     let mut table = [0; 167936];
     filled(&mut table, s, l, q, n, level, list)
@@ -110,7 +117,8 @@ pub(crate) fn by_table(
     list: &mut [u32],
 ) -> Counted
     requires { ⌜ Edition l × Known (l .least) (now s) (q .size) (q .last) × (length (now s) ≤ 2 ^ 40) × (0 < level) ⌝ }
-    ensures { λ r. ⌜ withList r (now (list .exit)) ≡ answered (now (list .entry)) (rangeRight (l .least) (now (s .entry)) (q .version) (pred level) (q .high) (q .low) n) (rangeBelow (pred level) (decode (l .least) (now (s .entry)) .pages) (q .version) (q .low) (q .high) (q .low) n) ⌝ }
+    ensures { λ r. ⌜ withList r (now (list .exit))
+        ≡ answered (now (list .entry)) (rangeRight (l .least) (now (s .entry)) (q .version) (pred level) (q .high) (q .low) n) (rangeBelow (pred level) (decode (l .least) (now (s .entry)) .pages) (q .version) (q .low) (q .high) (q .low) n) ⌝ }
 {
     if 7 < level {
         return Counted {

@@ -39,8 +39,10 @@ fn gather(
     list: &mut [u32],
     found: usize,
 ) -> usize
-    requires { ⌜ Reads l (now s) × (rangeRight (l .least) (now s) (q .version) up (q .high) at n ≡ true) × PairSpace (q .write) (now list) found (rangeBelow up (decode (l .least) (now s) .pages) (q .version) (q .low) (q .high) at n) ⌝ }
-    ensures { λ r. ⌜ PairGathers (q .write) (now (list .entry)) (now (list .exit)) found r (rangeBelow up (decode (l .least) (now (s .entry)) .pages) (q .version) (q .low) (q .high) at n) ⌝ }
+    requires { ⌜ Reads l (now s) × (rangeRight (l .least) (now s) (q .version) up (q .high) at n ≡ true)
+        × PairSpace (q .write) (now list) found (rangeBelow up (decode (l .least) (now s) .pages) (q .version) (q .low) (q .high) at n) ⌝ }
+    ensures { λ r. ⌜ PairGathers (q .write) (now (list .entry)) (now (list .exit)) found r
+        (rangeBelow up (decode (l .least) (now (s .entry)) .pages) (q .version) (q .low) (q .high) at n) ⌝ }
 {
     let p = store::part(s, l, n);
     let h = page::head_of(p, l);
@@ -72,7 +74,8 @@ fn fill(
     list: &mut [u32],
 ) -> Counted
     requires { ⌜ Reads l (now s) × (rangeRight (l .least) (now s) v up high low n ≡ true) ⌝ }
-    ensures { λ r. ⌜ withList r (now (list .exit)) ≡ listed (now (list .entry)) (rangedBy 0 (length (now (list .entry))) (rangeBelow up (decode (l .least) (now (s .entry)) .pages) v low high low n)) ⌝ }
+    ensures { λ r. ⌜ withList r (now (list .exit))
+        ≡ listed (now (list .entry)) (rangedBy 0 (length (now (list .entry))) (rangeBelow up (decode (l .least) (now (s .entry)) .pages) v low high low n)) ⌝ }
 {
     let counting = Query {
         low: low,
@@ -103,7 +106,8 @@ fn fill(
 // A range on a sound store, whose walk is right as it stands.
 pub fn sound_range(s: &[u8], l: Limits, low: u32, high: u32, v: u32, list: &mut [u32]) -> Counted
     requires { ⌜ Walkable l (now s) v × (low < keyLimit) ⌝ }
-    ensures { λ r. ⌜ withList r (now (list .exit)) ≡ listed (now (list .entry)) (rangedBy 0 (length (now (list .entry))) (rangeOf (decode (l .least) (now (s .entry))) low high v)) ⌝ }
+    ensures { λ r. ⌜ withList r (now (list .exit))
+        ≡ listed (now (list .entry)) (rangedBy 0 (length (now (list .entry))) (rangeOf (decode (l .least) (now (s .entry))) low high v)) ⌝ }
 {
     let root = walk::root_at(s, l, v);
     let up = walk::height_of(s, l, root);

@@ -37,8 +37,11 @@ fn both_by(l: Limits, up: usize, x: Note) -> bool
 
 // The versions from a up to, not including, c, which have one root.
 fn both_on(notes: &mut [u32], s: &[u8], l: Limits, root: usize, up: usize, a: u32, c: u32) -> Both
-    requires { ⌜ Edition l × Linked (l .least) (now s) × IsPage (l .least) (now s) root × (levelAt (l .least) (now s) root ≡ up + 1) × (a ≤ c) × (c ≤ 1048575) × Kept (l .least) (decode (l .least) (now s) .pages) a (now notes) × (readHeader (l .least) (now s) .oldest ≤ a) ⌝ }
-    ensures { λ r. ⌜ (r .away ≡ 0 → r .hold ≡ bothOn (l .least) up (decode (l .least) (now (s .entry)) .pages) root a c) × Kept (l .least) (decode (l .least) (now (s .entry)) .pages) c (now (notes .exit)) ⌝ }
+    requires { ⌜ Edition l × Linked (l .least) (now s) × IsPage (l .least) (now s) root × (levelAt (l .least) (now s) root ≡ up + 1)
+        × (a ≤ c) × (c ≤ 1048575) × Kept (l .least) (decode (l .least) (now s) .pages) a (now notes)
+        × (readHeader (l .least) (now s) .oldest ≤ a) ⌝ }
+    ensures { λ r. ⌜ (r .away ≡ 0 → r .hold ≡ bothOn (l .least) up (decode (l .least) (now (s .entry)) .pages) root a c)
+        × Kept (l .least) (decode (l .least) (now (s .entry)) .pages) c (now (notes .exit)) ⌝ }
 {
     let mut v = a;
     while v < c {
@@ -66,7 +69,8 @@ fn both_on(notes: &mut [u32], s: &[u8], l: Limits, root: usize, up: usize, a: u3
 
 fn both_over(notes: &mut [u32], s: &[u8], l: Limits, h: Header) -> Both
     requires { ⌜ Edition l × Ready (l .least) (now s) h × Kept (l .least) (decode (l .least) (now s) .pages) (h .oldest) (now notes) ⌝ }
-    ensures { λ r. ⌜ (r .away ≡ 0 → r .hold ≡ (rule4 (decode (l .least) (now (s .entry))) && rule5 (l .least) (decode (l .least) (now (s .entry))))) ⌝ }
+    ensures { λ r. ⌜
+        (r .away ≡ 0 → r .hold ≡ (rule4 (decode (l .least) (now (s .entry))) && rule5 (l .least) (decode (l .least) (now (s .entry))))) ⌝ }
 {
     let end = h.last() + 1;
     let mut v = h.oldest;
@@ -92,7 +96,8 @@ fn both_over(notes: &mut [u32], s: &[u8], l: Limits, h: Header) -> Both
 // Rules 4 and 5, where rules 1 to 3 hold.
 pub fn both_hold(s: &[u8], l: Limits, h: Header) -> Both
     requires { ⌜ Edition l × Ready (l .least) (now s) h ⌝ }
-    ensures { λ r. ⌜ (r .away ≡ 0 → r .hold ≡ (rule4 (decode (l .least) (now (s .entry))) && rule5 (l .least) (decode (l .least) (now (s .entry))))) ⌝ }
+    ensures { λ r. ⌜
+        (r .away ≡ 0 → r .hold ≡ (rule4 (decode (l .least) (now (s .entry))) && rule5 (l .least) (decode (l .least) (now (s .entry))))) ⌝ }
 {
     let mut notes = [0; 20481];
     both_over(&mut notes, s, l, h)

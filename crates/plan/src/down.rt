@@ -66,7 +66,8 @@ fn around_in(g: Gather, key: u32) -> Around
 // The place of a key among the routers of page n alive at w.
 fn place_below(s: &[u8], l: Limits, n: usize, w: u32, key: u32) -> Around
     requires { ⌜ ExactBytes l (now s) × Inside l (now s) n × (0 < length (pairsAt w (page (pagesOf l (now s)) n))) ⌝ }
-    ensures { λ r. ⌜ (aroundOf r ≡ around key (pairsAt w (page (pagesOf l (now (s .entry))) n))) × Among (pairsAt w (page (pagesOf l (now (s .entry))) n)) r ⌝ }
+    ensures { λ r. ⌜ (aroundOf r ≡ around key (pairsAt w (page (pagesOf l (now (s .entry))) n)))
+        × Among (pairsAt w (page (pagesOf l (now (s .entry))) n)) r ⌝ }
 {
     around_in(parts::live_of(s, l, n, w), key)
 }

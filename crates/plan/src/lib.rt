@@ -61,7 +61,8 @@ fn plan_group(s: &[u8], l: Limits, w: u32, g: Group, left: usize) -> Planned
 // One page that is not the root.
 fn plan_level(s: &[u8], l: Limits, w: u32, a: Around, c: Change, left: usize) -> Planned
     requires { ⌜ ExactBytes l (now s) × Placed l (now s) a × Fits c × (left ≤ 2 ^ 20) ⌝ }
-    ensures { λ r. ⌜ (plannedOf r ≡ planWork (l .least) w (pagesOf l (now (s .entry))) (aroundOf a) (changeOf c) left) × PlannedFits left r ⌝ }
+    ensures { λ r. ⌜ (plannedOf r ≡ planWork (l .least) w (pagesOf l (now (s .entry))) (aroundOf a) (changeOf c) left)
+        × PlannedFits left r ⌝ }
 {
     let n = model::wide(a.own.value);
     if group::takes_in_place(s, l, n, w, c) {
@@ -106,7 +107,8 @@ fn plan_root(s: &[u8], l: Limits, w: u32, n: usize, c: Change, left: usize) -> O
 // "Work goes from the leaf up."
 pub fn plan_up(s: &[u8], l: Limits, w: u32, way: Way, c: Change, left: usize) -> Outlook
     requires { ⌜ ExactBytes l (now s) × Led l (now s) way × Fits c × (left ≤ 4096) ⌝ }
-    ensures { λ r. ⌜ outlookOf r ≡ planUp (l .least) w (pagesOf l (now (s .entry))) (way .root) (upsOf (way .list) (way .n)) (changeOf c) left ⌝ }
+    ensures { λ r. ⌜ outlookOf r ≡ planUp (l .least) w (pagesOf l (now (s .entry))) (way .root) (upsOf (way .list) (way .n))
+        (changeOf c) left ⌝ }
 {
     let list = way.list;
     let mut k = way.n;

@@ -30,8 +30,10 @@ fn drop_ended(page: &mut [u8], l: Limits, v: u32)
 
 // Page n.
 fn prune_page(s: &mut [u8], l: Limits, n: usize, v: u32)
-    requires { ⌜ Edition l × (n * (64 * l .least) + 64 * l .least ≤ length (now s)) × (length (now s) ≤ 2 ^ 40) × Exact (l .least) (pageOf (l .least) (now s) n) ⌝ }
-    ensures { λ _. ⌜ now (s .exit) ≡ withPage (l .least) (now (s .entry)) n (encodePage (l .least) (prunedPage v (decodePage (l .least) (pageOf (l .least) (now (s .entry)) n)))) ⌝ }
+    requires { ⌜ Edition l × (n * (64 * l .least) + 64 * l .least ≤ length (now s)) × (length (now s) ≤ 2 ^ 40)
+        × Exact (l .least) (pageOf (l .least) (now s) n) ⌝ }
+    ensures { λ _. ⌜ now (s .exit) ≡ withPage (l .least) (now (s .entry)) n
+        (encodePage (l .least) (prunedPage v (decodePage (l .least) (pageOf (l .least) (now (s .entry)) n)))) ⌝ }
 {
     let a = store::offset(l, n);
     drop_ended(&mut s[a..a + l.bytes], l, v);
@@ -40,7 +42,8 @@ fn prune_page(s: &mut [u8], l: Limits, n: usize, v: u32)
 // Every page.
 fn prune_pages(s: &mut [u8], l: Limits, size: usize, v: u32)
     requires { ⌜ Edition l × HeadedBytes (l .least) (now s) × (size ≡ length (decode (l .least) (now s) .pages)) ⌝ }
-    ensures { λ _. ⌜ now (s .exit) ≡ encode (l .least) (withPages (decode (l .least) (now (s .entry))) (map (prunedPage v) (decode (l .least) (now (s .entry)) .pages))) ⌝ }
+    ensures { λ _. ⌜ now (s .exit) ≡ encode (l .least)
+        (withPages (decode (l .least) (now (s .entry))) (map (prunedPage v) (decode (l .least) (now (s .entry)) .pages))) ⌝ }
 {
     let mut n = 5;
     while n < size {
@@ -81,8 +84,10 @@ fn slot_at(s: &[u8], l: Limits, roots: u32, j: u32) -> Slot
 
 // Slot i becomes slot i + k.
 fn shift_slot(s: &mut [u8], l: Limits, roots: u32, k: u32, i: u32)
-    requires { ⌜ Edition l × HeadedBytes (l .least) (now s) × (roots ≡ length (decode (l .least) (now s) .slots)) × (k ≤ roots) × (i < roots) ⌝ }
-    ensures { λ _. ⌜ now (s .exit) ≡ encode (l .least) (withSlots (decode (l .least) (now (s .entry))) (set (decode (l .least) (now (s .entry)) .slots) i (getD (decode (l .least) (now (s .entry)) .slots) (i + k) noSlot))) ⌝ }
+    requires { ⌜ Edition l × HeadedBytes (l .least) (now s) × (roots ≡ length (decode (l .least) (now s) .slots)) × (k ≤ roots)
+        × (i < roots) ⌝ }
+    ensures { λ _. ⌜ now (s .exit) ≡ encode (l .least)
+        (withSlots (decode (l .least) (now (s .entry))) (set (decode (l .least) (now (s .entry)) .slots) i (getD (decode (l .least) (now (s .entry)) .slots) (i + k) noSlot))) ⌝ }
 {
     let x = slot_at(s, l, roots, i + k);
     store::put_slot(s, l, model::wide(i), x);
@@ -91,7 +96,8 @@ fn shift_slot(s: &mut [u8], l: Limits, roots: u32, k: u32, i: u32)
 // The slots from place k on move to the front, and unused ones follow them.
 fn shift_slots(s: &mut [u8], l: Limits, roots: u32, k: u32)
     requires { ⌜ Edition l × HeadedBytes (l .least) (now s) × (roots ≡ length (decode (l .least) (now s) .slots)) × (k ≤ roots) ⌝ }
-    ensures { λ _. ⌜ now (s .exit) ≡ encode (l .least) (withSlots (decode (l .least) (now (s .entry))) (shifted k (decode (l .least) (now (s .entry)) .slots))) ⌝ }
+    ensures { λ _. ⌜ now (s .exit) ≡ encode (l .least)
+        (withSlots (decode (l .least) (now (s .entry))) (shifted k (decode (l .least) (now (s .entry)) .slots))) ⌝ }
 {
     let mut i = 0;
     while i < roots {

@@ -33,7 +33,8 @@ ghost use Rattle.quick.specs.Slots.{GoodSlots};
 // The sums and the slots: rule 6, once rules 4 and 5 hold (notes/proofs/laws/Six, `six-by`). Each is one pass over the store.
 pub fn led(s: &[u8], l: Limits) -> bool
     requires { ⌜ Edition l × QuickGood (l .least) (now s) × GoodSlots (l .least) (now s) ⌝ }
-    ensures { λ r. ⌜ r ≡ (spansMet (decode (l .least) (now (s .entry))) 5 (drop 5 (decode (l .least) (now (s .entry)) .pages)) && slotsFine (l .least) (decode (l .least) (now (s .entry)) .oldest) (decode (l .least) (now (s .entry)) .pages) (decode (l .least) (now (s .entry)) .slots)) ⌝ }
+    ensures { λ r. ⌜ r
+        ≡ (spansMet (decode (l .least) (now (s .entry))) 5 (drop 5 (decode (l .least) (now (s .entry)) .pages)) && slotsFine (l .least) (decode (l .least) (now (s .entry)) .oldest) (decode (l .least) (now (s .entry)) .pages) (decode (l .least) (now (s .entry)) .slots)) ⌝ }
 {
     if !sums::spans_met(s, l) {
         return false;
@@ -52,7 +53,8 @@ fn budget(size: usize) -> u32
 // The pages, where the sums and the slots are right: what is found is rules 4 to 6, if something of the budget is left.
 fn pages_within(s: &[u8], l: Limits) -> Within
     requires { ⌜ Edition l × QuickGood (l .least) (now s) × GoodSlots (l .least) (now s) ⌝ }
-    ensures { λ r. ⌜ ((spansMet (decode (l .least) (now (s .entry))) 5 (drop 5 (decode (l .least) (now (s .entry)) .pages)) && slotsFine (l .least) (decode (l .least) (now (s .entry)) .oldest) (decode (l .least) (now (s .entry)) .pages) (decode (l .least) (now (s .entry)) .slots)) ≡ true → 0 < r .left → r .fine ≡ quick (l .least) (decode (l .least) (now (s .entry)))) ⌝ }
+    ensures { λ r. ⌜
+        ((spansMet (decode (l .least) (now (s .entry))) 5 (drop 5 (decode (l .least) (now (s .entry)) .pages)) && slotsFine (l .least) (decode (l .least) (now (s .entry)) .oldest) (decode (l .least) (now (s .entry)) .pages) (decode (l .least) (now (s .entry)) .slots)) ≡ true → 0 < r .left → r .fine ≡ quick (l .least) (decode (l .least) (now (s .entry)))) ⌝ }
 {
     let h = store::header(s, l);
     let size = store::size(s, l);
@@ -62,7 +64,9 @@ fn pages_within(s: &[u8], l: Limits) -> Within
 // Whether rules 4 to 6 are found to hold within the budget; `fit` is what `led` gave. Only `true` tells: `false` stands too where the
 // budget is used up. For check, which asks the notes in either case, and so asks them once.
 pub fn surely(s: &[u8], l: Limits, fit: bool) -> bool
-    requires { ⌜ Edition l × QuickGood (l .least) (now s) × GoodSlots (l .least) (now s) × (fit ≡ (spansMet (decode (l .least) (now s)) 5 (drop 5 (decode (l .least) (now s) .pages)) && slotsFine (l .least) (decode (l .least) (now s) .oldest) (decode (l .least) (now s) .pages) (decode (l .least) (now s) .slots))) ⌝ }
+    requires { ⌜ Edition l × QuickGood (l .least) (now s) × GoodSlots (l .least) (now s)
+        × (fit ≡ (spansMet (decode (l .least) (now s)) 5 (drop 5 (decode (l .least) (now s) .pages))
+        && slotsFine (l .least) (decode (l .least) (now s) .oldest) (decode (l .least) (now s) .pages) (decode (l .least) (now s) .slots))) ⌝ }
     ensures { λ r. ⌜ (r ≡ true → quick (l .least) (decode (l .least) (now (s .entry))) ≡ true) ⌝ }
 {
     if !fit {
@@ -93,7 +97,9 @@ fn missed(s: &[u8], l: Limits, h: Header, v: u32) -> bool
 // of reach, rule 6 is broken there, and the walk finds that out: the last line is never reached (docs/CHECK-COST.md, argued). That the
 // answer is right does not rest on it.
 fn by_notes(s: &[u8], l: Limits, h: Header) -> bool
-    requires { ⌜ Edition l × Ready (l .least) (now s) h × ThreeRules (l .least) (decode (l .least) (now s)) × ((spansMet (decode (l .least) (now s)) 5 (drop 5 (decode (l .least) (now s) .pages)) && slotsFine (l .least) (decode (l .least) (now s) .oldest) (decode (l .least) (now s) .pages) (decode (l .least) (now s) .slots)) ≡ true) ⌝ }
+    requires { ⌜ Edition l × Ready (l .least) (now s) h × ThreeRules (l .least) (decode (l .least) (now s))
+        × ((spansMet (decode (l .least) (now s)) 5 (drop 5 (decode (l .least) (now s) .pages))
+        && slotsFine (l .least) (decode (l .least) (now s) .oldest) (decode (l .least) (now s) .pages) (decode (l .least) (now s) .slots)) ≡ true) ⌝ }
     ensures { λ r. ⌜ r ≡ quick (l .least) (decode (l .least) (now (s .entry))) ⌝ }
 {
     let b = notes::both_hold(s, l, h);
@@ -109,7 +115,8 @@ fn by_notes(s: &[u8], l: Limits, h: Header) -> bool
 // Rules 4 to 6, where rules 1 to 3 hold. Both ways are exact: the pages within the budget, which is quick on what a history leaves, and,
 // where that is used up, the notes, which no bytes can keep busy.
 fn quick(s: &[u8], l: Limits, h: Header) -> bool
-    requires { ⌜ Edition l × QuickGood (l .least) (now s) × GoodSlots (l .least) (now s) × Ready (l .least) (now s) h × ThreeRules (l .least) (decode (l .least) (now s)) ⌝ }
+    requires { ⌜ Edition l × QuickGood (l .least) (now s) × GoodSlots (l .least) (now s) × Ready (l .least) (now s) h
+        × ThreeRules (l .least) (decode (l .least) (now s)) ⌝ }
     ensures { λ r. ⌜ r ≡ quick (l .least) (decode (l .least) (now (s .entry))) ⌝ }
 {
     if !led(s, l) {
@@ -146,7 +153,8 @@ fn rules_hold(s: &[u8], l: Limits, size: usize) -> bool
 // The numbers 1 to 3, or 0.
 pub fn refused(s: &[u8], l: Limits) -> u32
     requires { ⌜ Edition l ⌝ }
-    ensures { λ r. ⌜ r ≡ refusedBy (lengthOk (l .least) (now (s .entry))) (magicOk (now (s .entry))) (editionOk (l .least) (now (s .entry))) ⌝ }
+    ensures { λ r. ⌜ r ≡ refusedBy (lengthOk (l .least) (now (s .entry))) (magicOk (now (s .entry)))
+        (editionOk (l .least) (now (s .entry))) ⌝ }
 {
     if !store::whole(s, l) {
         return 1;

@@ -18,7 +18,8 @@ ghost use Rattle.quick.specs.Within.{QuickRight};
 // Page n. Of a free page nothing is asked.
 fn page_fine(s: &[u8], l: Limits, n: usize, old: u32, left: u32) -> Within
     requires { ⌜ Edition l × QuickGood (l .least) (now s) × IsPage (l .least) (now s) n × (old ≡ readHeader (l .least) (now s) .oldest) ⌝ }
-    ensures { λ r. ⌜ QuickRight left (ownFine (l .least) old (decode (l .least) (now (s .entry)) .pages) (decodePage (l .least) (pageOf (l .least) (now (s .entry)) n))) r ⌝ }
+    ensures { λ r. ⌜ QuickRight left
+        (ownFine (l .least) old (decode (l .least) (now (s .entry)) .pages) (decodePage (l .least) (pageOf (l .least) (now (s .entry)) n))) r ⌝ }
 {
     let p = store::part(s, l, n);
     let f = page::head_of(p, l);
@@ -47,7 +48,8 @@ fn page_fine(s: &[u8], l: Limits, n: usize, old: u32, left: u32) -> Within
 // Page n, if it is of level k.
 fn fine_at(s: &[u8], l: Limits, n: usize, k: u32, old: u32, left: u32) -> Within
     requires { ⌜ Edition l × QuickGood (l .least) (now s) × IsPage (l .least) (now s) n × (old ≡ readHeader (l .least) (now s) .oldest) ⌝ }
-    ensures { λ r. ⌜ QuickRight left (atLevel k (l .least) old (decode (l .least) (now (s .entry)) .pages) (decodePage (l .least) (pageOf (l .least) (now (s .entry)) n))) r ⌝ }
+    ensures { λ r. ⌜ QuickRight left
+        (atLevel k (l .least) old (decode (l .least) (now (s .entry)) .pages) (decodePage (l .least) (pageOf (l .least) (now (s .entry)) n))) r ⌝ }
 {
     let p = store::part(s, l, n);
     let f = page::head_of(p, l);
@@ -63,7 +65,8 @@ fn fine_at(s: &[u8], l: Limits, n: usize, k: u32, old: u32, left: u32) -> Within
 // The pages of level k.
 fn level_fine(s: &[u8], l: Limits, k: u32, old: u32, left: u32) -> Within
     requires { ⌜ Edition l × QuickGood (l .least) (now s) × (old ≡ readHeader (l .least) (now s) .oldest) ⌝ }
-    ensures { λ r. ⌜ QuickRight left (all (atLevel k (l .least) old (decode (l .least) (now (s .entry)) .pages)) (readPages (l .least) (now (s .entry)) 5 (sizeOf (l .least) (now (s .entry)) - 5))) r ⌝ }
+    ensures { λ r. ⌜ QuickRight left
+        (all (atLevel k (l .least) old (decode (l .least) (now (s .entry)) .pages)) (readPages (l .least) (now (s .entry)) 5 (sizeOf (l .least) (now (s .entry)) - 5))) r ⌝ }
 {
     let size = store::size(s, l);
     let mut rest = left;
@@ -86,7 +89,8 @@ fn level_fine(s: &[u8], l: Limits, k: u32, old: u32, left: u32) -> Within
 // the same ones shows before what stands below them is looked at again and again.
 pub(crate) fn pages_fine(s: &[u8], l: Limits, old: u32, left: u32) -> Within
     requires { ⌜ Edition l × QuickGood (l .least) (now s) × (old ≡ readHeader (l .least) (now s) .oldest) ⌝ }
-    ensures { λ r. ⌜ QuickRight left (pagesPass (λ (p : Page). inOrder apart (kept old (p .entries)) && childrenFine (l .least) old (decode (l .least) (now (s .entry)) .pages) (p .level) (kept old (p .entries))) (decode (l .least) (now (s .entry)))) r ⌝ }
+    ensures { λ r. ⌜ QuickRight left
+        (pagesPass (λ (p : Page). inOrder apart (kept old (p .entries)) && childrenFine (l .least) old (decode (l .least) (now (s .entry)) .pages) (p .level) (kept old (p .entries))) (decode (l .least) (now (s .entry)))) r ⌝ }
 {
     let mut rest = left;
     let mut k = 8;

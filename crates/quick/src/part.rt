@@ -192,7 +192,8 @@ fn many_over(page: &[u8], n: usize, m: usize, a: u32, b: u32) -> bool
 
 // A page to which a slot or a router leads throughout the stretch, with that low key.
 pub(crate) fn fine_over(page: &[u8], l: Limits, m: usize, low: u32, a: u32, b: u32) -> bool
-    requires { ⌜ Edition l × (length (now page) ≡ 64 * l .least) × (readHead (l .least) (now page) .count ≤ 5 * l .least) × (inOrder before (readEntries (now page) 128 (readHead (l .least) (now page) .count)) ≡ true) ⌝ }
+    requires { ⌜ Edition l × (length (now page) ≡ 64 * l .least) × (readHead (l .least) (now page) .count ≤ 5 * l .least)
+        × (inOrder before (readEntries (now page) 128 (readHead (l .least) (now page) .count)) ≡ true) ⌝ }
     ensures { λ r. ⌜ r ≡ fineOver m low a b (decodePage (l .least) (now (page .entry))) ⌝ }
 {
     let h = page::head_of(page, l);

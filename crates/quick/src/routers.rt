@@ -25,8 +25,10 @@ fn next_fine(
     e: Entry,
     left: u32,
 ) -> Within
-    requires { ⌜ Edition l × QuickGood (l .least) (now s) × IsPage (l .least) (now s) m × (levelAt (l .least) (now s) m ≡ up + 1) × (readHeader (l .least) (now s) .oldest ≤ a) ⌝ }
-    ensures { λ r. ⌜ QuickRight left (under up (decode (l .least) (now (s .entry)) .pages) (e .key) (max a (e .start)) (min b (e .end)) m) r ⌝ }
+    requires { ⌜ Edition l × QuickGood (l .least) (now s) × IsPage (l .least) (now s) m × (levelAt (l .least) (now s) m ≡ up + 1)
+        × (readHeader (l .least) (now s) .oldest ≤ a) ⌝ }
+    ensures { λ r. ⌜ QuickRight left (under up (decode (l .least) (now (s .entry)) .pages) (e .key) (max a (e .start)) (min b (e .end)) m)
+        r ⌝ }
 {
     let c = crate::entry::larger(a, e.start);
     let d = crate::entry::smaller(b, e.end);
@@ -47,8 +49,10 @@ fn nexts_fine(
     b: u32,
     left: u32,
 ) -> Within
-    requires { ⌜ Edition l × QuickGood (l .least) (now s) × IsPage (l .least) (now s) m × (levelAt (l .least) (now s) m ≡ up + 1) × EntryRoom (now p) n × (i ≤ n) × (readHeader (l .least) (now s) .oldest ≤ a) ⌝ }
-    ensures { λ r. ⌜ QuickRight left (nexts (underPage up (decode (l .least) (now (s .entry)) .pages) m) a b (readEntries (now (p .entry)) (128 + 96 * i) (n - i))) r ⌝ }
+    requires { ⌜ Edition l × QuickGood (l .least) (now s) × IsPage (l .least) (now s) m × (levelAt (l .least) (now s) m ≡ up + 1)
+        × EntryRoom (now p) n × (i ≤ n) × (readHeader (l .least) (now s) .oldest ≤ a) ⌝ }
+    ensures { λ r. ⌜ QuickRight left
+        (nexts (underPage up (decode (l .least) (now (s .entry)) .pages) m) a b (readEntries (now (p .entry)) (128 + 96 * i) (n - i))) r ⌝ }
 {
     let mut rest = left;
     let mut t = a;
@@ -86,8 +90,11 @@ fn router_from(
     a: u32,
     left: u32,
 ) -> Within
-    requires { ⌜ Edition l × QuickGood (l .least) (now s) × EntryRoom (now p) n × (i + 1 ≤ n) × IsPage (l .least) (now s) (readEntry (now p) (128 + 96 * i) .value) × (levelAt (l .least) (now s) (readEntry (now p) (128 + 96 * i) .value) ≡ up + 1) × (readHeader (l .least) (now s) .oldest ≤ a) ⌝ }
-    ensures { λ r. ⌜ QuickRight left (routerFrom (l .least) up (decode (l .least) (now (s .entry)) .pages) a (readEntry (now (p .entry)) (128 + 96 * i)) (readEntries (now (p .entry)) (128 + 96 * (i + 1)) (n - (i + 1)))) r ⌝ }
+    requires { ⌜ Edition l × QuickGood (l .least) (now s) × EntryRoom (now p) n × (i + 1 ≤ n)
+        × IsPage (l .least) (now s) (readEntry (now p) (128 + 96 * i) .value)
+        × (levelAt (l .least) (now s) (readEntry (now p) (128 + 96 * i) .value) ≡ up + 1) × (readHeader (l .least) (now s) .oldest ≤ a) ⌝ }
+    ensures { λ r. ⌜ QuickRight left
+        (routerFrom (l .least) up (decode (l .least) (now (s .entry)) .pages) a (readEntry (now (p .entry)) (128 + 96 * i)) (readEntries (now (p .entry)) (128 + 96 * (i + 1)) (n - (i + 1)))) r ⌝ }
 {
     let e = page::entry_at(p, i);
     let m = model::wide(e.value);
@@ -112,8 +119,11 @@ fn router_fine(
     old: u32,
     left: u32,
 ) -> Within
-    requires { ⌜ Edition l × QuickGood (l .least) (now s) × EntryRoom (now p) n × (i + 1 ≤ n) × (old < readEntry (now p) (128 + 96 * i) .end → IsPage (l .least) (now s) (readEntry (now p) (128 + 96 * i) .value) × (levelAt (l .least) (now s) (readEntry (now p) (128 + 96 * i) .value) ≡ up + 1)) × (old ≡ readHeader (l .least) (now s) .oldest) ⌝ }
-    ensures { λ r. ⌜ QuickRight left (routerFine (l .least) old up (decode (l .least) (now (s .entry)) .pages) (readEntry (now (p .entry)) (128 + 96 * i)) (readEntries (now (p .entry)) (128 + 96 * (i + 1)) (n - (i + 1)))) r ⌝ }
+    requires { ⌜ Edition l × QuickGood (l .least) (now s) × EntryRoom (now p) n × (i + 1 ≤ n)
+        × (old < readEntry (now p) (128 + 96 * i) .end
+        → IsPage (l .least) (now s) (readEntry (now p) (128 + 96 * i) .value) × (levelAt (l .least) (now s) (readEntry (now p) (128 + 96 * i) .value) ≡ up + 1)) × (old ≡ readHeader (l .least) (now s) .oldest) ⌝ }
+    ensures { λ r. ⌜ QuickRight left
+        (routerFine (l .least) old up (decode (l .least) (now (s .entry)) .pages) (readEntry (now (p .entry)) (128 + 96 * i)) (readEntries (now (p .entry)) (128 + 96 * (i + 1)) (n - (i + 1)))) r ⌝ }
 {
     let e = page::entry_at(p, i);
     if e.end <= old {
@@ -128,8 +138,10 @@ fn router_fine(
 
 // The routers of page n, which lead to pages `up` levels above the leaves.
 pub(crate) fn routers_fine(s: &[u8], l: Limits, up: usize, n: usize, old: u32, left: u32) -> Within
-    requires { ⌜ Edition l × QuickGood (l .least) (now s) × IsPage (l .least) (now s) n × (levelAt (l .least) (now s) n ≡ up + 2) × (old ≡ readHeader (l .least) (now s) .oldest) ⌝ }
-    ensures { λ r. ⌜ QuickRight left (routersFine (l .least) old up (decode (l .least) (now (s .entry)) .pages) (kept old (entriesAt (l .least) (now (s .entry)) n))) r ⌝ }
+    requires { ⌜ Edition l × QuickGood (l .least) (now s) × IsPage (l .least) (now s) n × (levelAt (l .least) (now s) n ≡ up + 2)
+        × (old ≡ readHeader (l .least) (now s) .oldest) ⌝ }
+    ensures { λ r. ⌜ QuickRight left
+        (routersFine (l .least) old up (decode (l .least) (now (s .entry)) .pages) (kept old (entriesAt (l .least) (now (s .entry)) n))) r ⌝ }
 {
     let p = store::part(s, l, n);
     let f = page::head_of(p, l);

@@ -40,7 +40,8 @@ fn root_least(level: u32) -> usize
 
 // A page that is the root throughout the stretch.
 fn root_fine(page: &[u8], l: Limits, a: u32, b: u32) -> bool
-    requires { ⌜ Edition l × (length (now page) ≡ 64 * l .least) × (readHead (l .least) (now page) .count ≤ 5 * l .least) × (inOrder before (readEntries (now page) 128 (readHead (l .least) (now page) .count)) ≡ true) ⌝ }
+    requires { ⌜ Edition l × (length (now page) ≡ 64 * l .least) × (readHead (l .least) (now page) .count ≤ 5 * l .least)
+        × (inOrder before (readEntries (now page) 128 (readHead (l .least) (now page) .count)) ≡ true) ⌝ }
     ensures { λ r. ⌜ r ≡ slotFine (l .least) a b (decodePage (l .least) (now (page .entry))) ⌝ }
 {
     let h = page::head_of(page, l);
@@ -55,8 +56,10 @@ fn root_fine(page: &[u8], l: Limits, a: u32, b: u32) -> bool
 }
 
 fn slot_fine(s: &[u8], l: Limits, i: usize, roots: usize, old: u32) -> bool
-    requires { ⌜ Edition l × QuickGood (l .least) (now s) × GoodSlots (l .least) (now s) × (roots ≡ readHeader (l .least) (now s) .roots) × (i + 1 ≤ roots) ⌝ }
-    ensures { λ r. ⌜ r ≡ slotFine (l .least) (max old (slotAt (l .least) (now (s .entry)) i .version)) (upto (readSlots (now (s .entry)) (512 * l .least + 32 * (i + 1)) (roots - (i + 1)))) (page (decode (l .least) (now (s .entry)) .pages) (slotAt (l .least) (now (s .entry)) i .root)) ⌝ }
+    requires { ⌜ Edition l × QuickGood (l .least) (now s) × GoodSlots (l .least) (now s) × (roots ≡ readHeader (l .least) (now s) .roots)
+        × (i + 1 ≤ roots) ⌝ }
+    ensures { λ r. ⌜ r ≡ slotFine (l .least) (max old (slotAt (l .least) (now (s .entry)) i .version))
+        (upto (readSlots (now (s .entry)) (512 * l .least + 32 * (i + 1)) (roots - (i + 1)))) (page (decode (l .least) (now (s .entry)) .pages) (slotAt (l .least) (now (s .entry)) i .root)) ⌝ }
 {
     let x = store::slot(s, l, i);
     let b = upto_at(s, l, i + 1, roots);
@@ -68,7 +71,8 @@ fn slot_fine(s: &[u8], l: Limits, i: usize, roots: usize, old: u32) -> bool
 // Each root of the directory throughout its stretch.
 pub(crate) fn slots_fine(s: &[u8], l: Limits) -> bool
     requires { ⌜ Edition l × QuickGood (l .least) (now s) × GoodSlots (l .least) (now s) ⌝ }
-    ensures { λ r. ⌜ r ≡ slotsFine (l .least) (decode (l .least) (now (s .entry)) .oldest) (decode (l .least) (now (s .entry)) .pages) (decode (l .least) (now (s .entry)) .slots) ⌝ }
+    ensures { λ r. ⌜ r ≡ slotsFine (l .least) (decode (l .least) (now (s .entry)) .oldest) (decode (l .least) (now (s .entry)) .pages)
+        (decode (l .least) (now (s .entry)) .slots) ⌝ }
 {
     let h = store::header(s, l);
     let roots = model::wide(h.roots);

@@ -1,4 +1,5 @@
-// "A used page is reached at every version of its span": the spans of what leads to each page add up to its own, from the oldest version on.
+// "A used page is reached at every version of its span": the spans of what leads to each page add up to its own, from the oldest version
+// on.
 use model::Limits;
 ghost use mathlib.Core.Path.{_≡_};
 ghost use Prim.Native.Nat.{ℕ, _+_, _*_, _^_, _≤_, _<_};
@@ -39,7 +40,8 @@ fn add_slots(sums: &mut [u64], s: &[u8], l: Limits, old: u32)
 
 // Each router's span, at the page that it leads to.
 fn add_entries(sums: &mut [u64], page: &[u8], n: usize, old: u32)
-    requires { ⌜ EntryRoom (now page) n × (n ≤ 40) × Sums 200000 (now sums) × ((i : ℕ) → i < n → readEntry (now page) (128 + 96 * i) .value < 4096) ⌝ }
+    requires { ⌜ EntryRoom (now page) n × (n ≤ 40) × Sums 200000 (now sums)
+        × ((i : ℕ) → i < n → readEntry (now page) (128 + 96 * i) .value < 4096) ⌝ }
     ensures { λ _. ⌜ now (sums .exit) ≡ addEntries old (now (sums .entry)) (readEntries (now (page .entry)) 128 n) ⌝ }
 {
     let mut i = 0;

@@ -24,7 +24,8 @@ pub(crate) struct Way {
 // The way at place i, for keys under h. An entry not alive in the stretch leads nowhere.
 fn way_at(page: &[u8], n: usize, i: usize, h: u32, a: u32, b: u32) -> Way
     requires { ⌜ EntryRoom (now page) n × (i + 1 ≤ n) ⌝ }
-    ensures { λ r. ⌜ r ≡ wayOf h a b (readEntry (now (page .entry)) (128 + 96 * i)) (readEntries (now (page .entry)) (128 + 96 * (i + 1)) (n - (i + 1))) ⌝ }
+    ensures { λ r. ⌜ r ≡ wayOf h a b (readEntry (now (page .entry)) (128 + 96 * i))
+        (readEntries (now (page .entry)) (128 + 96 * (i + 1)) (n - (i + 1))) ⌝ }
 {
     let e = page::entry_at(page, i);
     if !crate::entry::meets(a, b, e) {

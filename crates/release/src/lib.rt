@@ -57,7 +57,8 @@ fn entry_settled(s: &[u8], l: Limits, c: u32, p: &[u8], i: usize) -> bool
 // Whether each entry of the leaf n does: at most as many steps as a page has entries.
 fn entries_settled(s: &[u8], l: Limits, c: u32, n: usize) -> bool
     requires { ⌜ Opened l (now s) c × (page (decode (l .least) (now s) .pages) n .level ≡ 1) ⌝ }
-    ensures { λ r. ⌜ r ≡ all (settled (decode (l .least) (now (s .entry)))) (page (decode (l .least) (now (s .entry)) .pages) n .entries) ⌝ }
+    ensures { λ r. ⌜ r ≡ all (settled (decode (l .least) (now (s .entry))))
+        (page (decode (l .least) (now (s .entry)) .pages) n .entries) ⌝ }
 {
     let p = store::part(s, l, n);
     let h = page::head_of(p, l);
@@ -75,7 +76,8 @@ fn entries_settled(s: &[u8], l: Limits, c: u32, n: usize) -> bool
 // The same by the leaf's front where that tells it: one that ended by version c has nothing of the open version.
 fn leaf_settled(s: &[u8], l: Limits, c: u32, n: usize) -> bool
     requires { ⌜ Opened l (now s) c × (page (decode (l .least) (now s) .pages) n .level ≡ 1) ⌝ }
-    ensures { λ r. ⌜ r ≡ all (settled (decode (l .least) (now (s .entry)))) (page (decode (l .least) (now (s .entry)) .pages) n .entries) ⌝ }
+    ensures { λ r. ⌜ r ≡ all (settled (decode (l .least) (now (s .entry))))
+        (page (decode (l .least) (now (s .entry)) .pages) n .entries) ⌝ }
 {
     let h = page::head_of(store::part(s, l, n), l);
     if h.end <= c {

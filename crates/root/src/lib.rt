@@ -31,7 +31,8 @@ pub enum Rooted {
 // The root goes, and "that child becomes the root": the page of its first wanted router.
 fn give_way(s: &mut [u8], l: Limits, w: u32, n: usize, want: Gather) -> usize
     requires { ⌜ ExactBytes l (now s) × Inside l (now s) n × (w < 2 ^ 20) × Good want × (0 < want .n) ⌝ }
-    ensures { λ r. ⌜ (r ≡ getD (pairsIn want) 0 nil .value) × Becomes l (now (s .entry)) (now (s .exit)) (set (pagesOf l (now (s .entry))) n (gone w (page (pagesOf l (now (s .entry))) n))) ⌝ }
+    ensures { λ r. ⌜ (r ≡ getD (pairsIn want) 0 nil .value)
+        × Becomes l (now (s .entry)) (now (s .exit)) (set (pagesOf l (now (s .entry))) n (gone w (page (pagesOf l (now (s .entry))) n))) ⌝ }
 {
     let list = want.list;
     let x = list[0];
@@ -41,8 +42,10 @@ fn give_way(s: &mut [u8], l: Limits, w: u32, n: usize, want: Gather) -> usize
 
 // "First of all, an index root whose wanted list is one router goes"; else the root takes its change in place, or is rebuilt alone.
 pub fn work_root(s: &mut [u8], l: Limits, w: u32, n: usize, c: Change, size: usize) -> Rooted
-    requires { ⌜ ExactBytes l (now s) × Inside l (now s) n × Fits c × (w < 2 ^ 20) × (size ≡ length (pagesOf l (now s))) × (page (pagesOf l (now s)) n .level < 15) ⌝ }
-    ensures { λ r. ⌜ (rootedOf r (pagesOf l (now (s .exit))) ≡ workRoot (l .least) w (pagesOf l (now (s .entry))) n (changeOf c)) × Becomes l (now (s .entry)) (now (s .exit)) (pagesOf l (now (s .exit))) ⌝ }
+    requires { ⌜ ExactBytes l (now s) × Inside l (now s) n × Fits c × (w < 2 ^ 20) × (size ≡ length (pagesOf l (now s)))
+        × (page (pagesOf l (now s)) n .level < 15) ⌝ }
+    ensures { λ r. ⌜ (rootedOf r (pagesOf l (now (s .exit))) ≡ workRoot (l .least) w (pagesOf l (now (s .entry))) n (changeOf c))
+        × Becomes l (now (s .entry)) (now (s .exit)) (pagesOf l (now (s .exit))) ⌝ }
 {
     let want = parts::wanted_of(s, l, n, w, c);
     if group::goes(s, l, n, want.n) {

@@ -48,8 +48,10 @@ fn both(x: Pair, y: Pair) -> Gather
 
 // "A root that becomes two pages gets a new root one level up, taken after them, with low keys 0 and the second's."
 fn crown(s: &mut [u8], l: Limits, w: u32, level: u32, rs: Routers, size: usize) -> Rooted
-    requires { ⌜ ExactBytes l (now s) × (w < 2 ^ 20) × (level < 15) × Fitting (rs .first) × Fitting (rs .second) × (size ≡ length (pagesOf l (now s))) ⌝ }
-    ensures { λ r. ⌜ (rootedOf r (pagesOf l (now (s .exit))) ≡ newRoot w level (rebuilt (pagesOf l (now (s .entry))) (routersOf rs))) × Becomes l (now (s .entry)) (now (s .exit)) (pagesOf l (now (s .exit))) ⌝ }
+    requires { ⌜ ExactBytes l (now s) × (w < 2 ^ 20) × (level < 15) × Fitting (rs .first) × Fitting (rs .second)
+        × (size ≡ length (pagesOf l (now s))) ⌝ }
+    ensures { λ r. ⌜ (rootedOf r (pagesOf l (now (s .exit))) ≡ newRoot w level (rebuilt (pagesOf l (now (s .entry))) (routersOf rs)))
+        × Becomes l (now (s .entry)) (now (s .exit)) (pagesOf l (now (s .exit))) ⌝ }
 {
     let x = rs.first;
     if !rs.two {
@@ -66,7 +68,8 @@ fn crown(s: &mut [u8], l: Limits, w: u32, level: u32, rs: Routers, size: usize) 
 // A root at a level is rebuilt; nothing is written if there is no page for it.
 pub(crate) fn new_root(s: &mut [u8], l: Limits, w: u32, level: u32, g: Group, size: usize) -> Rooted
     requires { ⌜ ExactBytes l (now s) × Grouped l (now s) g × (w < 2 ^ 20) × (level < 15) × (size ≡ length (pagesOf l (now s))) ⌝ }
-    ensures { λ r. ⌜ (rootedOf r (pagesOf l (now (s .exit))) ≡ newRoot w level (rebuild (l .least) w level (pagesOf l (now (s .entry))) (groupOf g))) × Becomes l (now (s .entry)) (now (s .exit)) (pagesOf l (now (s .exit))) ⌝ }
+    ensures { λ r. ⌜
+        (rootedOf r (pagesOf l (now (s .exit))) ≡ newRoot w level (rebuild (l .least) w level (pagesOf l (now (s .entry))) (groupOf g))) × Becomes l (now (s .entry)) (now (s .exit)) (pagesOf l (now (s .exit))) ⌝ }
 {
     let u = group::usable(s, l, w, g.routers, size);
     let all = g.all;

@@ -35,7 +35,8 @@ pub fn slot_left(s: &[u8], l: Limits) -> bool
 // The open version's slot leads to page n from now on.
 fn replace_slot(s: &mut [u8], l: Limits, n: usize)
     requires { ⌜ ExactBytes l (now s) × Inside l (now s) n × Slotted l (now s) × (hasSlot (decode (l .least) (now s)) ≡ true) ⌝ }
-    ensures { λ _. ⌜ now (s .exit) ≡ encode (l .least) (withSlots (decode (l .least) (now (s .entry))) (putSlot (next (decode (l .least) (now (s .entry)))) n (slotsOf l (now (s .entry))))) ⌝ }
+    ensures { λ _. ⌜ now (s .exit) ≡ encode (l .least)
+        (withSlots (decode (l .least) (now (s .entry))) (putSlot (next (decode (l .least) (now (s .entry)))) n (slotsOf l (now (s .entry))))) ⌝ }
 {
     let h = store::header(s, l);
     store::put_slot(
@@ -51,8 +52,10 @@ fn replace_slot(s: &mut [u8], l: Limits, n: usize)
 
 // The open version takes a slot, which leads to page n.
 fn add_slot(s: &mut [u8], l: Limits, n: usize)
-    requires { ⌜ ExactBytes l (now s) × Inside l (now s) n × Slotted l (now s) × (hasSlot (decode (l .least) (now s)) ≡ false) × (length (slotsOf l (now s)) < 64 * l .least) ⌝ }
-    ensures { λ _. ⌜ now (s .exit) ≡ encode (l .least) (withSlots (decode (l .least) (now (s .entry))) (putSlot (next (decode (l .least) (now (s .entry)))) n (slotsOf l (now (s .entry))))) ⌝ }
+    requires { ⌜ ExactBytes l (now s) × Inside l (now s) n × Slotted l (now s) × (hasSlot (decode (l .least) (now s)) ≡ false)
+        × (length (slotsOf l (now s)) < 64 * l .least) ⌝ }
+    ensures { λ _. ⌜ now (s .exit) ≡ encode (l .least)
+        (withSlots (decode (l .least) (now (s .entry))) (putSlot (next (decode (l .least) (now (s .entry)))) n (slotsOf l (now (s .entry))))) ⌝ }
 {
     let h = store::header(s, l);
     store::put_slot(
@@ -69,8 +72,10 @@ fn add_slot(s: &mut [u8], l: Limits, n: usize)
 
 // "A new root takes the directory slot of the open version, or replaces it there."
 pub fn take_slot(s: &mut [u8], l: Limits, n: usize)
-    requires { ⌜ ExactBytes l (now s) × Inside l (now s) n × Slotted l (now s) × (slotLeft (l .least) (decode (l .least) (now s)) ≡ true) ⌝ }
-    ensures { λ _. ⌜ now (s .exit) ≡ encode (l .least) (withSlots (decode (l .least) (now (s .entry))) (putSlot (next (decode (l .least) (now (s .entry)))) n (slotsOf l (now (s .entry))))) ⌝ }
+    requires { ⌜ ExactBytes l (now s) × Inside l (now s) n × Slotted l (now s)
+        × (slotLeft (l .least) (decode (l .least) (now s)) ≡ true) ⌝ }
+    ensures { λ _. ⌜ now (s .exit) ≡ encode (l .least)
+        (withSlots (decode (l .least) (now (s .entry))) (putSlot (next (decode (l .least) (now (s .entry)))) n (slotsOf l (now (s .entry))))) ⌝ }
 {
     if has_slot(s, l) {
         replace_slot(s, l, n);

@@ -83,8 +83,10 @@ struct Passed {
 }
 
 fn step(s: &[u8], l: Limits, q: Asked, table: &[usize], n: usize, level: u32, at: u32) -> Passed
-    requires { ⌜ Edition l × Known (l .least) (now s) (q .size) (q .last) × (length (now s) ≤ 2 ^ 40) × (1 < level) × Table (l .least) (now s) (q .version) (q .low) (q .high) ((level + 1) * 4096) (now table) ⌝ }
-    ensures { λ r. ⌜ (found (l .least) (now (s .entry)) (q .version) (q .low) (q .high) (pred level) at n ≡ join (r .rest) (found (l .least) (now (s .entry)) (q .version) (q .low) (q .high) (pred (level - 1)) at (r .page))) × (r .rest ≤ 2 ^ 41) ⌝ }
+    requires { ⌜ Edition l × Known (l .least) (now s) (q .size) (q .last) × (length (now s) ≤ 2 ^ 40) × (1 < level)
+        × Table (l .least) (now s) (q .version) (q .low) (q .high) ((level + 1) * 4096) (now table) ⌝ }
+    ensures { λ r. ⌜
+        (found (l .least) (now (s .entry)) (q .version) (q .low) (q .high) (pred level) at n ≡ join (r .rest) (found (l .least) (now (s .entry)) (q .version) (q .low) (q .high) (pred (level - 1)) at (r .page))) × (r .rest ≤ 2 ^ 41) ⌝ }
 {
     if !local::page_right(s, l, q.last, q.size, level, n) {
         return Passed { rest: 0, page: 0 };
@@ -104,7 +106,8 @@ fn step(s: &[u8], l: Limits, q: Asked, table: &[usize], n: usize, level: u32, at
 
 // The walk from page n, which is to have this level and cover the key `at`.
 pub fn down(s: &[u8], l: Limits, q: Asked, table: &[usize], n: usize, level: u32, at: u32) -> usize
-    requires { ⌜ Edition l × Known (l .least) (now s) (q .size) (q .last) × (length (now s) ≤ 2 ^ 40) × (0 < level) × (level ≤ 7) × Table (l .least) (now s) (q .version) (q .low) (q .high) ((level + 1) * 4096) (now table) ⌝ }
+    requires { ⌜ Edition l × Known (l .least) (now s) (q .size) (q .last) × (length (now s) ≤ 2 ^ 40) × (0 < level) × (level ≤ 7)
+        × Table (l .least) (now s) (q .version) (q .low) (q .high) ((level + 1) * 4096) (now table) ⌝ }
     ensures { λ r. ⌜ r ≡ found (l .least) (now (s .entry)) (q .version) (q .low) (q .high) (pred level) at n ⌝ }
 {
     let mut sum = 1;
@@ -121,7 +124,8 @@ pub fn down(s: &[u8], l: Limits, q: Asked, table: &[usize], n: usize, level: u32
 
 // The walk below a router; 1 for one that the range does not follow.
 fn through(s: &[u8], l: Limits, q: Asked, table: &[usize], e: Entry, level: u32) -> usize
-    requires { ⌜ Edition l × Known (l .least) (now s) (q .size) (q .last) × (length (now s) ≤ 2 ^ 40) × (0 < level) × (level ≤ 7) × Table (l .least) (now s) (q .version) (q .low) (q .high) ((level + 1) * 4096) (now table) ⌝ }
+    requires { ⌜ Edition l × Known (l .least) (now s) (q .size) (q .last) × (length (now s) ≤ 2 ^ 40) × (0 < level) × (level ≤ 7)
+        × Table (l .least) (now s) (q .version) (q .low) (q .high) ((level + 1) * 4096) (now table) ⌝ }
     ensures { λ r. ⌜ r ≡ turn (l .least) (now (s .entry)) (q .version) (q .low) (q .high) (pred level) e ⌝ }
 {
     if q.version < e.start {
@@ -138,7 +142,9 @@ fn through(s: &[u8], l: Limits, q: Asked, table: &[usize], e: Entry, level: u32)
 
 // The numbers of page n, which is right and has this level, from its last router on.
 fn fill_page(table: &mut [usize], s: &[u8], l: Limits, q: Asked, n: usize, level: u32)
-    requires { ⌜ Edition l × Known (l .least) (now s) (q .size) (q .last) × (length (now s) ≤ 2 ^ 40) × (1 < level) × (level ≤ 7) × (pageRight (l .least) (now s) level n ≡ true) × Table (l .least) (now s) (q .version) (q .low) (q .high) (level * 4096 + n) (now table) ⌝ }
+    requires { ⌜ Edition l × Known (l .least) (now s) (q .size) (q .last) × (length (now s) ≤ 2 ^ 40) × (1 < level) × (level ≤ 7)
+        × (pageRight (l .least) (now s) level n ≡ true)
+        × Table (l .least) (now s) (q .version) (q .low) (q .high) (level * 4096 + n) (now table) ⌝ }
     ensures { λ _. ⌜ Table (l .least) (now (s .entry)) (q .version) (q .low) (q .high) (level * 4096 + n + 1) (now (table .exit)) ⌝ }
 {
     let p = store::part(s, l, n);
@@ -156,7 +162,8 @@ fn fill_page(table: &mut [usize], s: &[u8], l: Limits, q: Asked, n: usize, level
 
 // Page n, if it is right and has this level.
 fn fill_at(table: &mut [usize], s: &[u8], l: Limits, q: Asked, n: usize, level: u32)
-    requires { ⌜ Edition l × Known (l .least) (now s) (q .size) (q .last) × (length (now s) ≤ 2 ^ 40) × (1 < level) × (level ≤ 7) × (n < 4096) × Table (l .least) (now s) (q .version) (q .low) (q .high) (level * 4096 + n) (now table) ⌝ }
+    requires { ⌜ Edition l × Known (l .least) (now s) (q .size) (q .last) × (length (now s) ≤ 2 ^ 40) × (1 < level) × (level ≤ 7)
+        × (n < 4096) × Table (l .least) (now s) (q .version) (q .low) (q .high) (level * 4096 + n) (now table) ⌝ }
     ensures { λ _. ⌜ Table (l .least) (now (s .entry)) (q .version) (q .low) (q .high) (level * 4096 + n + 1) (now (table .exit)) ⌝ }
 {
     if !local::page_right(s, l, q.last, q.size, level, n) {
@@ -167,7 +174,8 @@ fn fill_at(table: &mut [usize], s: &[u8], l: Limits, q: Asked, n: usize, level: 
 
 // The pages of one level.
 fn fill_level(table: &mut [usize], s: &[u8], l: Limits, q: Asked, level: u32)
-    requires { ⌜ Edition l × Known (l .least) (now s) (q .size) (q .last) × (length (now s) ≤ 2 ^ 40) × (1 < level) × (level ≤ 7) × Table (l .least) (now s) (q .version) (q .low) (q .high) (level * 4096) (now table) ⌝ }
+    requires { ⌜ Edition l × Known (l .least) (now s) (q .size) (q .last) × (length (now s) ≤ 2 ^ 40) × (1 < level) × (level ≤ 7)
+        × Table (l .least) (now s) (q .version) (q .low) (q .high) (level * 4096) (now table) ⌝ }
     ensures { λ _. ⌜ Table (l .least) (now (s .entry)) (q .version) (q .low) (q .high) ((level + 1) * 4096) (now (table .exit)) ⌝ }
 {
     let mut n = 0;
@@ -179,7 +187,8 @@ fn fill_level(table: &mut [usize], s: &[u8], l: Limits, q: Asked, level: u32)
 
 // The pages of each level up to this one, from the lowest up: a walk goes down a level at a time.
 pub fn fill_levels(table: &mut [usize], s: &[u8], l: Limits, q: Asked, level: u32)
-    requires { ⌜ Edition l × Known (l .least) (now s) (q .size) (q .last) × (length (now s) ≤ 2 ^ 40) × (0 < level) × (level ≤ 7) × (4096 * (5 * l .least + 1) ≤ length (now table)) ⌝ }
+    requires { ⌜ Edition l × Known (l .least) (now s) (q .size) (q .last) × (length (now s) ≤ 2 ^ 40) × (0 < level) × (level ≤ 7)
+        × (4096 * (5 * l .least + 1) ≤ length (now table)) ⌝ }
     ensures { λ _. ⌜ Table (l .least) (now (s .entry)) (q .version) (q .low) (q .high) ((level + 1) * 4096) (now (table .exit)) ⌝ }
 {
     let mut k = 2;

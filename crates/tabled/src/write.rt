@@ -18,7 +18,8 @@ ghost use Rattle.tabled.specs.Skips.{Turns, Skips};
 // The place of the next router of page n, from i on, that the range follows and below which it finds a setting; the count if there is none.
 // The page's children stand `up` levels above the leaves.
 fn next_some(table: &[usize], s: &[u8], l: Limits, q: Query, n: usize, up: usize, i: usize) -> usize
-    requires { ⌜ Turns l (now s) (q .version) (q .low) (q .high) up n (now table) × (i ≤ countAt (l .least) (now s) n) × (rightFrom (l .least) (now s) (q .version) (q .high) up (pageOf (l .least) (now s) n) (countAt (l .least) (now s) n) i ≡ true) ⌝ }
+    requires { ⌜ Turns l (now s) (q .version) (q .low) (q .high) up n (now table) × (i ≤ countAt (l .least) (now s) n)
+        × (rightFrom (l .least) (now s) (q .version) (q .high) up (pageOf (l .least) (now s) n) (countAt (l .least) (now s) n) i ≡ true) ⌝ }
     ensures { λ r. ⌜ Skips (l .least) (now (s .entry)) (q .version) (q .low) (q .high) up n i r ⌝ }
 {
     let p = store::part(s, l, n);
@@ -48,8 +49,11 @@ pub fn gather_by(
     list: &mut [u32],
     found: usize,
 ) -> usize
-    requires { ⌜ Reads l (now s) × (rangeRight (l .least) (now s) (q .version) up (q .high) at n ≡ true) × PairSpace (q .write) (now list) found (rangeBelow up (decode (l .least) (now s) .pages) (q .version) (q .low) (q .high) at n) × Table (l .least) (now s) (q .version) (q .low) (q .high) ((up + 2) * 4096) (now table) ⌝ }
-    ensures { λ r. ⌜ PairGathers (q .write) (now (list .entry)) (now (list .exit)) found r (rangeBelow up (decode (l .least) (now (s .entry)) .pages) (q .version) (q .low) (q .high) at n) ⌝ }
+    requires { ⌜ Reads l (now s) × (rangeRight (l .least) (now s) (q .version) up (q .high) at n ≡ true)
+        × PairSpace (q .write) (now list) found (rangeBelow up (decode (l .least) (now s) .pages) (q .version) (q .low) (q .high) at n)
+        × Table (l .least) (now s) (q .version) (q .low) (q .high) ((up + 2) * 4096) (now table) ⌝ }
+    ensures { λ r. ⌜ PairGathers (q .write) (now (list .entry)) (now (list .exit)) found r
+        (rangeBelow up (decode (l .least) (now (s .entry)) .pages) (q .version) (q .low) (q .high) at n) ⌝ }
 {
     let p = store::part(s, l, n);
     let h = page::head_of(p, l);

@@ -115,8 +115,10 @@ fn may_move(page: &[u8], l: Limits, w: u32) -> bool
 
 // What an abandon of version w makes of page n.
 fn undo_page(s: &mut [u8], l: Limits, n: usize, w: u32)
-    requires { ⌜ Edition l × (w < 2 ^ 20) × (n * (64 * l .least) + 64 * l .least ≤ length (now s)) × (length (now s) ≤ 2 ^ 40) × Exact (l .least) (pageOf (l .least) (now s) n) × Past w (decodePage (l .least) (pageOf (l .least) (now s) n)) ⌝ }
-    ensures { λ _. ⌜ now (s .exit) ≡ withPage (l .least) (now (s .entry)) n (encodePage (l .least) (back w (decodePage (l .least) (pageOf (l .least) (now (s .entry)) n)))) ⌝ }
+    requires { ⌜ Edition l × (w < 2 ^ 20) × (n * (64 * l .least) + 64 * l .least ≤ length (now s)) × (length (now s) ≤ 2 ^ 40)
+        × Exact (l .least) (pageOf (l .least) (now s) n) × Past w (decodePage (l .least) (pageOf (l .least) (now s) n)) ⌝ }
+    ensures { λ _. ⌜ now (s .exit) ≡ withPage (l .least) (now (s .entry)) n
+        (encodePage (l .least) (back w (decodePage (l .least) (pageOf (l .least) (now (s .entry)) n)))) ⌝ }
 {
     if !may_move(store::part(s, l, n), l, w) {
         return;
@@ -127,8 +129,10 @@ fn undo_page(s: &mut [u8], l: Limits, n: usize, w: u32)
 
 // What it makes of every page.
 fn undo_pages(s: &mut [u8], l: Limits, size: usize, w: u32)
-    requires { ⌜ Edition l × (0 < w) × (w < 2 ^ 20) × HeadedBytes (l .least) (now s) × (size ≡ length (decode (l .least) (now s) .pages)) × AllPast w (decode (l .least) (now s) .pages) ⌝ }
-    ensures { λ _. ⌜ now (s .exit) ≡ encode (l .least) (withPages (decode (l .least) (now (s .entry))) (map (back w) (decode (l .least) (now (s .entry)) .pages))) ⌝ }
+    requires { ⌜ Edition l × (0 < w) × (w < 2 ^ 20) × HeadedBytes (l .least) (now s) × (size ≡ length (decode (l .least) (now s) .pages))
+        × AllPast w (decode (l .least) (now s) .pages) ⌝ }
+    ensures { λ _. ⌜ now (s .exit) ≡ encode (l .least)
+        (withPages (decode (l .least) (now (s .entry))) (map (back w) (decode (l .least) (now (s .entry)) .pages))) ⌝ }
 {
     let mut n = 5;
     while n < size {

@@ -37,7 +37,8 @@ ghost use Rattle.root.specs.Slotted.{Slotted};
 // The number that a change will come to: 12 "the rules need a page and none is free", 13 "the rules need a 257th slot", else 0.
 fn foresee(s: &[u8], l: Limits, w: u32, way: Way, c: Change, size: usize) -> u32
     requires { ⌜ ExactBytes l (now s) × Led l (now s) way × Fits c × (size ≡ length (pagesOf l (now s))) × Slotted l (now s) ⌝ }
-    ensures { λ r. ⌜ r ≡ outlookNumber (slotLeft (l .least) (decode (l .least) (now (s .entry)))) (planUp (l .least) w (pagesOf l (now (s .entry))) (way .root) (upsOf (way .list) (way .n)) (changeOf c) (length (freeOnes (pagesOf l (now (s .entry)))))) ⌝ }
+    ensures { λ r. ⌜ r ≡ outlookNumber (slotLeft (l .least) (decode (l .least) (now (s .entry))))
+        (planUp (l .least) w (pagesOf l (now (s .entry))) (way .root) (upsOf (way .list) (way .n)) (changeOf c) (length (freeOnes (pagesOf l (now (s .entry)))))) ⌝ }
 {
     match plan::plan_up(s, l, w, way, c, parts::count_free(s, l, size)) {
         Outlook::Keeps => {
@@ -57,7 +58,8 @@ fn foresee(s: &[u8], l: Limits, w: u32, way: Way, c: Change, size: usize) -> u32
 // The root's work, and "the directory slot of the open version" where another page becomes the root.
 fn apply_root(s: &mut [u8], l: Limits, w: u32, n: usize, c: Change, size: usize)
     requires { ⌜ ToRoot l (now s) w n c size ⌝ }
-    ensures { λ _. ⌜ now (s .exit) ≡ left (l .least) (now (s .entry)) (rooted (l .least) (decode (l .least) (now (s .entry))) (workRoot (l .least) w (pagesOf l (now (s .entry))) n (changeOf c))) .store ⌝ }
+    ensures { λ _. ⌜ now (s .exit) ≡ left (l .least) (now (s .entry))
+        (rooted (l .least) (decode (l .least) (now (s .entry))) (workRoot (l .least) w (pagesOf l (now (s .entry))) n (changeOf c))) .store ⌝ }
 {
     match root::work_root(s, l, w, n, c, size) {
         Rooted::Stays => {
@@ -76,7 +78,8 @@ fn apply_root(s: &mut [u8], l: Limits, w: u32, n: usize, c: Change, size: usize)
 // "Work goes from the leaf up."
 fn apply(s: &mut [u8], l: Limits, w: u32, way: Way, c: Change, size: usize)
     requires { ⌜ ToApply l (now s) w way c size ⌝ }
-    ensures { λ _. ⌜ now (s .exit) ≡ left (l .least) (now (s .entry)) (rooted (l .least) (decode (l .least) (now (s .entry))) (climb (l .least) w (way .root) (upsOf (way .list) (way .n)) (changeOf c) (pagesOf l (now (s .entry))))) .store ⌝ }
+    ensures { λ _. ⌜ now (s .exit) ≡ left (l .least) (now (s .entry))
+        (rooted (l .least) (decode (l .least) (now (s .entry))) (climb (l .least) w (way .root) (upsOf (way .list) (way .n)) (changeOf c) (pagesOf l (now (s .entry))))) .store ⌝ }
 {
     match climb::climb_up(s, l, w, way, c, size) {
         Worked::Settled => {
@@ -94,9 +97,13 @@ fn apply(s: &mut [u8], l: Limits, w: u32, way: Way, c: Change, size: usize)
 
 // The change carried out from the leaf up, once its number is foreseen.
 fn rise(s: &mut [u8], l: Limits, w: u32, key: u32, c: Change) -> u32
-    requires { ⌜ Edition l × (isSound (l .least) (now s) ≡ true) × (decode (l .least) (now s) .opened ≡ true) × (key < keyLimit) × Fits c × LeavesSound (l .least) (update (l .least) (decode (l .least) (now s)) key (changeOf c)) × (w ≡ next (decode (l .least) (now s))) ⌝ }
-    ensures number { λ r. ⌜ r ≡ left (l .least) (now (s .entry)) (update (l .least) (decode (l .least) (now (s .entry))) key (changeOf c)) .number ⌝ }
-    ensures bytes { λ _. ⌜ now (s .exit) ≡ left (l .least) (now (s .entry)) (update (l .least) (decode (l .least) (now (s .entry))) key (changeOf c)) .store ⌝ }
+    requires { ⌜ Edition l × (isSound (l .least) (now s) ≡ true) × (decode (l .least) (now s) .opened ≡ true) × (key < keyLimit) × Fits c
+        × LeavesSound (l .least) (update (l .least) (decode (l .least) (now s)) key (changeOf c))
+        × (w ≡ next (decode (l .least) (now s))) ⌝ }
+    ensures number { λ r. ⌜ r ≡ left (l .least) (now (s .entry))
+        (update (l .least) (decode (l .least) (now (s .entry))) key (changeOf c)) .number ⌝ }
+    ensures bytes { λ _. ⌜ now (s .exit) ≡ left (l .least) (now (s .entry))
+        (update (l .least) (decode (l .least) (now (s .entry))) key (changeOf c)) .store ⌝ }
 {
     let way = plan::way_to(s, l, w, key);
     let size = parts::size_of(s, l);
@@ -111,9 +118,13 @@ fn rise(s: &mut [u8], l: Limits, w: u32, key: u32, c: Change) -> u32
 // The change made at the leaf for a key, page n, or the number that speaks against it. Most leaves take it in place: then no page above
 // is asked, and no free one is counted.
 fn update_at(s: &mut [u8], l: Limits, w: u32, n: usize, key: u32, c: Change) -> u32
-    requires { ⌜ Edition l × (isSound (l .least) (now s) ≡ true) × (decode (l .least) (now s) .opened ≡ true) × (key < keyLimit) × Fits c × LeavesSound (l .least) (update (l .least) (decode (l .least) (now s)) key (changeOf c)) × (w ≡ next (decode (l .least) (now s))) × Leaf l (now s) w key n ⌝ }
-    ensures number { λ r. ⌜ r ≡ left (l .least) (now (s .entry)) (update (l .least) (decode (l .least) (now (s .entry))) key (changeOf c)) .number ⌝ }
-    ensures bytes { λ _. ⌜ now (s .exit) ≡ left (l .least) (now (s .entry)) (update (l .least) (decode (l .least) (now (s .entry))) key (changeOf c)) .store ⌝ }
+    requires { ⌜ Edition l × (isSound (l .least) (now s) ≡ true) × (decode (l .least) (now s) .opened ≡ true) × (key < keyLimit) × Fits c
+        × LeavesSound (l .least) (update (l .least) (decode (l .least) (now s)) key (changeOf c)) × (w ≡ next (decode (l .least) (now s)))
+        × Leaf l (now s) w key n ⌝ }
+    ensures number { λ r. ⌜ r ≡ left (l .least) (now (s .entry))
+        (update (l .least) (decode (l .least) (now (s .entry))) key (changeOf c)) .number ⌝ }
+    ensures bytes { λ _. ⌜ now (s .exit) ≡ left (l .least) (now (s .entry))
+        (update (l .least) (decode (l .least) (now (s .entry))) key (changeOf c)) .store ⌝ }
 {
     if group::takes_in_place(s, l, n, w, c) {
         parts::change_in(s, l, n, w, c);
@@ -124,9 +135,12 @@ fn update_at(s: &mut [u8], l: Limits, w: u32, n: usize, key: u32, c: Change) -> 
 
 // The same by the way down to the leaf.
 pub fn update(s: &mut [u8], l: Limits, key: u32, c: Change) -> u32
-    requires { ⌜ Edition l × (isSound (l .least) (now s) ≡ true) × (decode (l .least) (now s) .opened ≡ true) × (key < keyLimit) × Fits c × LeavesSound (l .least) (update (l .least) (decode (l .least) (now s)) key (changeOf c)) ⌝ }
-    ensures number { λ r. ⌜ r ≡ left (l .least) (now (s .entry)) (update (l .least) (decode (l .least) (now (s .entry))) key (changeOf c)) .number ⌝ }
-    ensures bytes { λ _. ⌜ now (s .exit) ≡ left (l .least) (now (s .entry)) (update (l .least) (decode (l .least) (now (s .entry))) key (changeOf c)) .store ⌝ }
+    requires { ⌜ Edition l × (isSound (l .least) (now s) ≡ true) × (decode (l .least) (now s) .opened ≡ true) × (key < keyLimit) × Fits c
+        × LeavesSound (l .least) (update (l .least) (decode (l .least) (now s)) key (changeOf c)) ⌝ }
+    ensures number { λ r. ⌜ r ≡ left (l .least) (now (s .entry))
+        (update (l .least) (decode (l .least) (now (s .entry))) key (changeOf c)) .number ⌝ }
+    ensures bytes { λ _. ⌜ now (s .exit) ≡ left (l .least) (now (s .entry))
+        (update (l .least) (decode (l .least) (now (s .entry))) key (changeOf c)) .store ⌝ }
 {
     let h = store::header(s, l);
     let w = h.current + 1;

@@ -50,8 +50,10 @@ fn deleting(key: u32) -> Change
 // The insert of a key that is not alive, bench keys too.
 pub fn raw_insert(s: &mut [u8], l: Limits, key: u32, value: u32) -> u32
     requires { ⌜ Enters l (now s) key ⌝ }
-    ensures number { λ r. ⌜ r ≡ left (l .least) (now (s .entry)) (rawInsert (l .least) (decode (l .least) (now (s .entry))) key value) .number ⌝ }
-    ensures bytes { λ _. ⌜ now (s .exit) ≡ left (l .least) (now (s .entry)) (rawInsert (l .least) (decode (l .least) (now (s .entry))) key value) .store ⌝ }
+    ensures number { λ r. ⌜ r ≡ left (l .least) (now (s .entry))
+        (rawInsert (l .least) (decode (l .least) (now (s .entry))) key value) .number ⌝ }
+    ensures bytes { λ _. ⌜ now (s .exit) ≡ left (l .least) (now (s .entry))
+        (rawInsert (l .least) (decode (l .least) (now (s .entry))) key value) .store ⌝ }
 {
     crate::update(s, l, key, inserting(key, value))
 }
@@ -59,8 +61,10 @@ pub fn raw_insert(s: &mut [u8], l: Limits, key: u32, value: u32) -> u32
 // The delete of a key that is alive.
 pub fn raw_delete(s: &mut [u8], l: Limits, key: u32) -> u32
     requires { ⌜ Ends l (now s) key ⌝ }
-    ensures number { λ r. ⌜ r ≡ left (l .least) (now (s .entry)) (update (l .least) (decode (l .least) (now (s .entry))) key (deleting key)) .number ⌝ }
-    ensures bytes { λ _. ⌜ now (s .exit) ≡ left (l .least) (now (s .entry)) (update (l .least) (decode (l .least) (now (s .entry))) key (deleting key)) .store ⌝ }
+    ensures number { λ r. ⌜ r ≡ left (l .least) (now (s .entry))
+        (update (l .least) (decode (l .least) (now (s .entry))) key (deleting key)) .number ⌝ }
+    ensures bytes { λ _. ⌜ now (s .exit) ≡ left (l .least) (now (s .entry))
+        (update (l .least) (decode (l .least) (now (s .entry))) key (deleting key)) .store ⌝ }
 {
     crate::update(s, l, key, deleting(key))
 }
@@ -68,8 +72,10 @@ pub fn raw_delete(s: &mut [u8], l: Limits, key: u32) -> u32
 // The same insert where the leaf for its key at the open version w is at hand, page n.
 pub fn insert_at(s: &mut [u8], l: Limits, w: u32, n: usize, key: u32, value: u32) -> u32
     requires { ⌜ Enters l (now s) key × (w ≡ next (decode (l .least) (now s))) × Leaf l (now s) w key n ⌝ }
-    ensures number { λ r. ⌜ r ≡ left (l .least) (now (s .entry)) (rawInsert (l .least) (decode (l .least) (now (s .entry))) key value) .number ⌝ }
-    ensures bytes { λ _. ⌜ now (s .exit) ≡ left (l .least) (now (s .entry)) (rawInsert (l .least) (decode (l .least) (now (s .entry))) key value) .store ⌝ }
+    ensures number { λ r. ⌜ r ≡ left (l .least) (now (s .entry))
+        (rawInsert (l .least) (decode (l .least) (now (s .entry))) key value) .number ⌝ }
+    ensures bytes { λ _. ⌜ now (s .exit) ≡ left (l .least) (now (s .entry))
+        (rawInsert (l .least) (decode (l .least) (now (s .entry))) key value) .store ⌝ }
 {
     crate::update_at(s, l, w, n, key, inserting(key, value))
 }
@@ -77,8 +83,10 @@ pub fn insert_at(s: &mut [u8], l: Limits, w: u32, n: usize, key: u32, value: u32
 // The same delete.
 pub fn delete_at(s: &mut [u8], l: Limits, w: u32, n: usize, key: u32) -> u32
     requires { ⌜ Ends l (now s) key × (w ≡ next (decode (l .least) (now s))) × Leaf l (now s) w key n ⌝ }
-    ensures number { λ r. ⌜ r ≡ left (l .least) (now (s .entry)) (update (l .least) (decode (l .least) (now (s .entry))) key (deleting key)) .number ⌝ }
-    ensures bytes { λ _. ⌜ now (s .exit) ≡ left (l .least) (now (s .entry)) (update (l .least) (decode (l .least) (now (s .entry))) key (deleting key)) .store ⌝ }
+    ensures number { λ r. ⌜ r ≡ left (l .least) (now (s .entry))
+        (update (l .least) (decode (l .least) (now (s .entry))) key (deleting key)) .number ⌝ }
+    ensures bytes { λ _. ⌜ now (s .exit) ≡ left (l .least) (now (s .entry))
+        (update (l .least) (decode (l .least) (now (s .entry))) key (deleting key)) .store ⌝ }
 {
     crate::update_at(s, l, w, n, key, deleting(key))
 }

@@ -163,8 +163,10 @@ fn put(list: &mut [u32], k: usize, e: Entry, write: bool)
 
 // The settings of a leaf that a range asks for, behind the first `found` of a list; gives how many there are then.
 pub fn settings(page: &[u8], n: usize, q: Query, list: &mut [u32], found: usize) -> usize
-    requires { ⌜ Stands (now page) n × PairSpace (q .write) (now list) found (between (q .low) (q .high) (live (q .version) (from (now page) 0 n))) ⌝ }
-    ensures { λ r. ⌜ PairGathers (q .write) (now (list .entry)) (now (list .exit)) found r (between (q .low) (q .high) (live (q .version) (from (now (page .entry)) 0 n))) ⌝ }
+    requires { ⌜ Stands (now page) n × PairSpace (q .write) (now list) found
+        (between (q .low) (q .high) (live (q .version) (from (now page) 0 n))) ⌝ }
+    ensures { λ r. ⌜ PairGathers (q .write) (now (list .entry)) (now (list .exit)) found r
+        (between (q .low) (q .high) (live (q .version) (from (now (page .entry)) 0 n))) ⌝ }
 {
     let mut sum = found;
     let mut i = next_place(page, n, q.version, q.low, q.high, 0);

@@ -45,7 +45,8 @@ fn note(s: &[u8], l: Limits, v: u32, key: u32, n: usize, up: usize, list: &mut [
 // any is written, and 14 leaves the list untouched.
 pub fn visits(s: &[u8], l: Limits, key: u32, v: u32, list: &mut [u32]) -> Counted
     requires { ⌜ Walkable l (now s) v × (key < keyLimit) ⌝ }
-    ensures { λ r. ⌜ withList r (now (list .exit)) ≡ listed (now (list .entry)) (toldBy pageNumber 1 0 (length (now (list .entry))) (lookupVisits (decode (l .least) (now (s .entry))) key v)) ⌝ }
+    ensures { λ r. ⌜ withList r (now (list .exit))
+        ≡ listed (now (list .entry)) (toldBy pageNumber 1 0 (length (now (list .entry))) (lookupVisits (decode (l .least) (now (s .entry))) key v)) ⌝ }
 {
     let root = crate::root_at(s, l, v);
     let up = crate::height_of(s, l, root);

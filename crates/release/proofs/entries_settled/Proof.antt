@@ -17,7 +17,10 @@ use Rattle.release.proofs.entries_settled.Statement.{statement}
 use Rattle.release.proofs.entries_settled.Tie as tie
 
 abbrev Inv-loop : tie.InvT-loop
-Inv-loop s l c n p count i₀ i = (i ≤ count) × (all (settled (decode (l .least) s)) (page (decode (l .least) s .pages) n .entries) ≡ all (settled (decode (l .least) s)) (from p i count))
+Inv-loop s l c n p count i₀ i =
+    (i ≤ count) ×
+    (all (settled (decode (l .least) s)) (page (decode (l .least) s .pages) n .entries)
+    ≡ all (settled (decode (l .least) s)) (from p i count))
 
 abbrev μ-loop : tie.MeasureT-loop
 μ-loop s l c n p count i₀ i = count - i
@@ -35,8 +38,13 @@ loop-holds : tie.Need-loop-holds Inv-loop μ-loop
 loop-holds c =
     let a = c .before .before .before .args in
     let o = c .before .before .before .pre .0 in
-    let e = c .before .before .before .pre .1 in
-    (omega arith, rw (c .head-of .ensures, c .before .part .ensures .0) (ap (all (settled (decode (a .l .least) (a .s .now)))) (entries-are (a .l .least) (a .s .now) (a .n) (five (o .edition) (a .s .now) (o .sound) (a .n) 0 e) (size (o .edition) (a .s .now) (o .sound) (a .n) 0 e))))
+    let e = c .before .before .before .pre .1 in (
+      omega arith,
+      rw (c .head-of .ensures, c .before .part .ensures .0)
+          (ap (all (settled (decode (a .l .least) (a .s .now))))
+          (entries-are (a .l .least) (a .s .now) (a .n) (five (o .edition) (a .s .now) (o .sound) (a .n) 0 e)
+          (size (o .edition) (a .s .now) (o .sound) (a .n) 0 e))),
+    )
 
 entry-settled-requires : tie.Need-entry-settled-requires Inv-loop μ-loop
 entry-settled-requires c κs =
