@@ -6,9 +6,8 @@ use Rattle.back.proofs.set_one.Tie as tie
 
 raw-insert-requires : tie.Need-raw-insert-requires
 raw-insert-requires c κs =
-    let at-start = c .before .before .before .before in
-    let a = at-start .args in
-    let p = at-start .pre in
+    let a = c .before .before .before .before .args in
+    let p = c .before .before .before .before .pre in
     enters (p .0) (a .key) (p .1) (a .d) (p .2) (c .before .if1 .taken)
 
 same-length : tie.Need-same-length
@@ -16,26 +15,20 @@ same-length c = search needs
 
 returns : tie.Need-returns
 returns c =
-    let at-raw-insert = c .before .before in
-    let at-if1 = at-raw-insert .before .before in
-    let at-start = at-if1 .before .before .before in
-    let a = at-start .args in
-    let p = at-start .pre in
-    set-stepped (p .0) (a .key) (p .1) (a .d) (p .2) (at-if1 .if1 .taken) (search needs) _ _ (at-raw-insert .raw-insert .ensures .0)
-    (at-raw-insert .raw-insert .ensures .1)
+    let a = c .before .before .before .before .before .before .before .args in
+    let p = c .before .before .before .before .before .before .before .pre in
+    set-stepped (p .0) (a .key) (p .1) (a .d) (p .2) (c .before .before .before .before .if1 .taken) (search needs) _ _ (c .before .before .raw-insert .ensures .0) (c .before .before .raw-insert .ensures .1)
 
 returns-2 : tie.Need-returns-2
 returns-2 c =
-    let at-start = c .before .before .before .before .before in
-    let a = at-start .args in
-    let p = at-start .pre in
+    let a = c .before .before .before .before .before .args in
+    let p = c .before .before .before .before .before .pre in
     set-refused (p .0) (a .key) (p .1) (a .d) (p .2) (c .if2 .taken)
 
 returns-3 : tie.Need-returns-3
 returns-3 c =
-    let at-start = c .before .before .before .before .before in
-    let a = at-start .args in
-    let p = at-start .pre in
+    let a = c .before .before .before .before .before .args in
+    let p = c .before .before .before .before .before .pre in
     set-none (p .0) (a .key) (p .1) (a .d) (p .2) (c .before .before .if1 .left) (c .if2 .left)
 
 pub set-one-spec : {M : Type 1} → statement M

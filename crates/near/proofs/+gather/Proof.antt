@@ -28,7 +28,7 @@ use Rattle.near.proofs.+gather.Lts-gather as gather-lts
 use Rattle.walk.proofs.next_place.Reads as next-place-reads
 use Rattle.walk.proofs.own_router.Reads as own-router-reads
 use Rattle.walk.proofs.settings.Reads as settings-reads
-use Rattle.tabled.proofs.wide.Reads as wide-reads
+use Rattle.model.proofs.wide.Reads as wide-reads
 use Rattle.near.proofs.+gather.{statement}
 use Rattle.near.proofs.+gather.Tie.{close}
 

@@ -26,7 +26,7 @@ use Rattle.near.proofs.within.+range_right.Lts-range_right as range-rig
 use Rattle.near.proofs.within.found.Reads as found-reads
 use Rattle.local.proofs.page_right.Reads as page-right-reads
 use Rattle.tabled.proofs.starts.Reads as starts-reads
-use Rattle.tabled.proofs.wide.Reads as wide-reads
+use Rattle.model.proofs.wide.Reads as wide-reads
 use Rattle.page.proofs.entry_at.Reads as entry-at-reads
 use Rattle.page.proofs.head_of.Reads as head-of-reads
 use Rattle.store.proofs.part.Reads as part-reads

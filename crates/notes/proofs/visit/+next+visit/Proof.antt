@@ -27,7 +27,7 @@ use Rattle.notes.proofs.keep.put_away.Reads as put-away-reads
 use Rattle.notes.proofs.step.is_live.Reads as is-live-reads
 use Rattle.notes.proofs.step.nothing.Reads as nothing-reads
 use Rattle.notes.proofs.step.step.Reads as step-reads
-use Rattle.notes.proofs.wide.Reads as wide-reads
+use Rattle.model.proofs.wide.Reads as wide-reads
 use Rattle.page.proofs.entry_at.Reads as entry-at-reads
 use Rattle.page.proofs.head_of.Reads as head-of-reads
 use Rattle.store.proofs.part.Reads as part-reads

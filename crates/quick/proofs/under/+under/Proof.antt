@@ -22,7 +22,7 @@ use Rattle.quick.proofs.under.+under.Lts-under as under-lts
 use Rattle.page.proofs.head_of.Reads as head-of-reads
 use Rattle.quick.proofs.part.high_over.Reads as high-over-reads
 use Rattle.quick.proofs.under.way_at.Reads as way-at-reads
-use Rattle.quick.proofs.wide.Reads as wide-reads
+use Rattle.model.proofs.wide.Reads as wide-reads
 use Rattle.store.proofs.part.Reads as part-reads
 use Rattle.quick.proofs.under.+under.{statement}
 use Rattle.quick.proofs.under.+under.Tie.{close}

@@ -33,7 +33,7 @@ use Rattle.tabled.proofs.write.+gather_by.Lts-gather_by as gather-by-lt
 use Rattle.tabled.proofs.write.next_some.Reads as next-some-reads
 use Rattle.walk.proofs.own_router.Reads as own-router-reads
 use Rattle.walk.proofs.settings.Reads as settings-reads
-use Rattle.tabled.proofs.wide.Reads as wide-reads
+use Rattle.model.proofs.wide.Reads as wide-reads
 use Rattle.tabled.proofs.write.+gather_by.{statement}
 use Rattle.tabled.proofs.write.+gather_by.Tie.{close}
 
