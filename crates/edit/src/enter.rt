@@ -35,7 +35,8 @@ fn place(page: &[u8], count: usize, key: u32, start: u32) -> usize
 
 // A pair enters a page at version w.
 pub fn enter(page: &mut [u8], l: Limits, w: u32, x: Pair)
-    requires { ⌜ Edition l × Exact (l .least) (now page) × (countOf (l .least) (now page) < 5 * l .least) × (w < 2 ^ 20) × (x .key < 2 ^ 24) ⌝ }
+    requires { ⌜ Edition l × Exact (l .least) (now page) × (countOf (l .least) (now page) < 5 * l .least) × (w < 2 ^ 20)
+        × (x .key < 2 ^ 24) ⌝ }
     ensures { λ _. ⌜ now (page .exit) ≡ encodePage (l .least) (entered w x (decodePage (l .least) (now (page .entry)))) ⌝ }
 {
     let h = page::head_of(page, l);
@@ -55,7 +56,8 @@ pub fn enter(page: &mut [u8], l: Limits, w: u32, x: Pair)
 
 // The same if `yes`.
 pub fn enter_if(page: &mut [u8], l: Limits, yes: bool, w: u32, x: Pair)
-    requires { ⌜ Edition l × Exact (l .least) (now page) × (countOf (l .least) (now page) + one yes ≤ 5 * l .least) × (w < 2 ^ 20) × (x .key < 2 ^ 24) ⌝ }
+    requires { ⌜ Edition l × Exact (l .least) (now page) × (countOf (l .least) (now page) + one yes ≤ 5 * l .least) × (w < 2 ^ 20)
+        × (x .key < 2 ^ 24) ⌝ }
     ensures { λ _. ⌜ now (page .exit) ≡ encodePage (l .least) (enteredIf yes w x (decodePage (l .least) (now (page .entry)))) ⌝ }
 {
     if yes {

@@ -96,7 +96,8 @@ fn end_dropped(page: &mut [u8], l: Limits, w: u32, c: Change)
 
 // A page takes a change in place.
 pub fn take_change(page: &mut [u8], l: Limits, w: u32, c: Change)
-    requires { ⌜ Edition l × Exact (l .least) (now page) × (w < 2 ^ 20) × (c .take1 .key < 2 ^ 24) × (c .take2 .key < 2 ^ 24) × (length (changed w (changeOf c) (decodePage (l .least) (now page)) .entries) ≤ 5 * l .least) ⌝ }
+    requires { ⌜ Edition l × Exact (l .least) (now page) × (w < 2 ^ 20) × (c .take1 .key < 2 ^ 24) × (c .take2 .key < 2 ^ 24)
+        × (length (changed w (changeOf c) (decodePage (l .least) (now page)) .entries) ≤ 5 * l .least) ⌝ }
     ensures { λ _. ⌜ now (page .exit) ≡ encodePage (l .least) (changed w (changeOf c) (decodePage (l .least) (now (page .entry)))) ⌝ }
 {
     end_dropped(page, l, w, c);
@@ -106,7 +107,8 @@ pub fn take_change(page: &mut [u8], l: Limits, w: u32, c: Change)
 
 // A page of version w that holds n pairs of a list, from place `from` on.
 pub fn fill(page: &mut [u8], l: Limits, level: u32, w: u32, list: [Pair; 56], from: usize, n: usize)
-    requires { ⌜ Edition l × (length (now page) ≡ 64 * l .least) × (level < 2 ^ 4) × (w < 2 ^ 20) × (n ≤ 5 * l .least) × (from + n ≤ 56) × ((k : ℕ) → Fitting (getD list k nil)) ⌝ }
+    requires { ⌜ Edition l × (length (now page) ≡ 64 * l .least) × (level < 2 ^ 4) × (w < 2 ^ 20) × (n ≤ 5 * l .least) × (from + n ≤ 56)
+        × ((k : ℕ) → Fitting (getD list k nil)) ⌝ }
     ensures { λ _. ⌜ now (page .exit) ≡ encodePage (l .least) (filled w level (take n (drop from list))) ⌝ }
 {
     page::clear(page);

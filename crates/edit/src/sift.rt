@@ -122,7 +122,9 @@ fn live_left(f: Fate) -> usize
 // The entries of a page under a rule, closed up; the live ones are counted as they pass.
 fn squeeze(page: &mut [u8], l: Limits, count: usize, rule: Rule, w: u32) -> Kept
     requires { ⌜ Edition l × Exact (l .least) (now page) × (count ≡ countOf (l .least) (now page)) × (w < 2 ^ 20) ⌝ }
-    ensures { λ r. ⌜ (now (page .exit) ≡ staged (l .least) (now (page .entry)) (sifted rule w (entriesIn (l .least) (now (page .entry))))) × (r .count ≡ length (sifted rule w (entriesIn (l .least) (now (page .entry))))) × (r .live ≡ length (those lives (sifted rule w (entriesIn (l .least) (now (page .entry)))))) ⌝ }
+    ensures { λ r. ⌜ (now (page .exit) ≡ staged (l .least) (now (page .entry)) (sifted rule w (entriesIn (l .least) (now (page .entry)))))
+        × (r .count ≡ length (sifted rule w (entriesIn (l .least) (now (page .entry)))))
+        × (r .live ≡ length (those lives (sifted rule w (entriesIn (l .least) (now (page .entry)))))) ⌝ }
 {
     let mut live = 0;
     let mut j = 0;

@@ -196,8 +196,10 @@ pub fn blank(page: &mut [u8], j: usize, n: usize)
 
 // Puts e at place i of a page with room: those from i on move up by one. The live count is left as it was.
 fn slip_in(page: &mut [u8], l: Limits, i: usize, e: Entry)
-    requires { ⌜ Edition l × Exact (l .least) (now page) × (countOf (l .least) (now page) < 5 * l .least) × (i ≤ countOf (l .least) (now page)) × FieldsFit e ⌝ }
-    ensures { λ _. ⌜ now (page .exit) ≡ encodeWith (l .least) (withEntry i e (decodePage (l .least) (now (page .entry)))) (liveOf (l .least) (now (page .entry))) ⌝ }
+    requires { ⌜ Edition l × Exact (l .least) (now page) × (countOf (l .least) (now page) < 5 * l .least)
+        × (i ≤ countOf (l .least) (now page)) × FieldsFit e ⌝ }
+    ensures { λ _. ⌜ now (page .exit) ≡ encodeWith (l .least) (withEntry i e (decodePage (l .least) (now (page .entry))))
+        (liveOf (l .least) (now (page .entry))) ⌝ }
 {
     let h = head_of(page, l);
     let count = h.count;
@@ -225,7 +227,8 @@ fn slip_in(page: &mut [u8], l: Limits, i: usize, e: Entry)
 
 // Inserts e at place i of a page with room, in place.
 pub fn insert_entry(page: &mut [u8], l: Limits, i: usize, e: Entry)
-    requires { ⌜ Edition l × Exact (l .least) (now page) × (countOf (l .least) (now page) < 5 * l .least) × (i ≤ countOf (l .least) (now page)) × FieldsFit e ⌝ }
+    requires { ⌜ Edition l × Exact (l .least) (now page) × (countOf (l .least) (now page) < 5 * l .least)
+        × (i ≤ countOf (l .least) (now page)) × FieldsFit e ⌝ }
     ensures { λ _. ⌜ now (page .exit) ≡ encodePage (l .least) (withEntry i e (decodePage (l .least) (now (page .entry)))) ⌝ }
 {
     let live = live_of(page, l);

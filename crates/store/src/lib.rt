@@ -143,7 +143,8 @@ pub fn put_slot(s: &mut [u8], l: Limits, i: usize, x: Slot)
 // Making fresh, of an edition: 1 for a length that is not 6 to 4,096 whole pages, and then not a byte changes.
 fn fresh_in(s: &mut [u8], l: Limits, edition: u8) -> u32
     requires { ⌜ Edition l × (edition ≡ editionOf (l .least)) ⌝ }
-    ensures { λ r. ⌜ (r ≡ freshLent (l .least) (now (s .entry)) .number) × (now (s .exit) ≡ freshLent (l .least) (now (s .entry)) .store) ⌝ }
+    ensures { λ r. ⌜ (r ≡ freshLent (l .least) (now (s .entry)) .number)
+        × (now (s .exit) ≡ freshLent (l .least) (now (s .entry)) .store) ⌝ }
 {
     if !whole(s, l) {
         return 1;

@@ -31,7 +31,8 @@ fn put_name(s: &mut [u8], edition: u8)
 // Page 5 of a fresh store: a leaf of version 0 with no entry.
 fn put_root(s: &mut [u8], l: Limits)
     requires { ⌜ Edition l × (6 * (64 * l .least) ≤ length (now s)) × (length (now s) ≤ 2 ^ 40) ⌝ }
-    ensures { λ _. ⌜ now (s .exit) ≡ withPage (l .least) (now (s .entry)) 5 (putHead (l .least) (pageOf (l .least) (now (s .entry)) 5) rootHead) ⌝ }
+    ensures { λ _. ⌜ now (s .exit) ≡ withPage (l .least) (now (s .entry)) 5
+        (putHead (l .least) (pageOf (l .least) (now (s .entry)) 5) rootHead) ⌝ }
 {
     let a = crate::offset(l, 5);
     page::put_head(
