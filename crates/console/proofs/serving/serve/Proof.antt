@@ -14,8 +14,7 @@ use Rattle.console.proofs.serving.serve.Tie as tie
 
 abbrev Inv-loop : tie.InvT-loop
 Inv-loop bytes₀ list₀ piece₀ out₀ h₀ p₀ reads₀ well₀ bytes list piece out h p reads well =
-    (length bytes ≡ length bytes₀) × (length list ≡ length list₀) × (length piece ≡ length piece₀) × (length out ≡ length out₀)
-    × (h .len ≤ 81) × (h .before ≤ 65536 * reads) × (p ≤ 256) × (reads ≤ 1099511627776) × Sure bytes p
+    (length bytes ≡ length bytes₀) × (length list ≡ length list₀) × (length piece ≡ length piece₀) × (length out ≡ length out₀) × (h .len ≤ 81) × (h .before ≤ 65536 * reads) × (p ≤ 256) × (reads ≤ 1099511627776) × Sure bytes p
 
 abbrev μ-loop : tie.MeasureT-loop
 μ-loop bytes₀ list₀ piece₀ out₀ h₀ p₀ reads₀ well₀ bytes list piece out h p reads well = 1099511627776 - reads
@@ -24,17 +23,7 @@ start-requires : tie.Need-start-requires Inv-loop μ-loop
 start-requires c κs = search needs
 
 loop-holds : tie.Need-loop-holds Inv-loop μ-loop
-loop-holds c = (
-  refl,
-  refl,
-  refl,
-  refl,
-  c .start .ensures .1,
-  omega (arith, ap (λ (r : Reading). r .before) (c .start .ensures .0)),
-  omega arith,
-  omega arith,
-  λ t. absurd (omega arith),
-)
+loop-holds c = (refl, refl, refl, refl, c .start .ensures .1, omega (arith, ap (λ (r : Reading). r .before) (c .start .ensures .0)), omega arith, omega arith, λ t. absurd (omega arith))
 
 read-requires : tie.Need-read-requires Inv-loop μ-loop
 read-requires c κs = search needs
@@ -50,94 +39,58 @@ slice-aggregate-pass c = search needs
 
 pass-requires : tie.Need-pass-requires Inv-loop μ-loop
 pass-requires c κs =
-    let at-count = c .before .before .before .before .before in
-    let at-piece = at-count .before .before .before in
-    let at-read = at-piece .before in
-    let at-loop = at-read .before .before .before in
-    let at-start = at-loop .before .before .before .before .before .before in
-    let q = at-start .pre in
-    let l = at-loop .loop in
+    let q = c .before .before .before .before .before .before .before .before .before .before .before .before .before .before .before .before .before .before .pre in
+    let l = c .before .before .before .before .before .before .before .before .before .before .before .before .loop in
     let test : l .reads < 1099511627776 = omega arith in
-    let piece : length (at-read .read .last .1 .0) ≡ 65536 = at-piece .piece .given ∙ l .inv .2 ∙ q .2 in
-    let part = part-most (at-count .count .result) (at-read .read .last .1 .0) in
-    let few : l .h .before + length (take (at-count .count .result) (at-read .read .last .1 .0)) + 1 < 18446744073709551616
-    = omega (arith, part, piece, test, l .inv .5) in
+    let piece : length (c .before .before .before .before .before .before .before .before .before .read .last .1 .0) ≡ 65536 = c .before .before .before .before .before .before .before .before .piece .given ∙ l .inv .2 ∙ q .2 in
+    let part = part-most (c .before .before .before .before .before .count .result) (c .before .before .before .before .before .before .before .before .before .read .last .1 .0) in
+    let few : l .h .before + length (take (c .before .before .before .before .before .count .result) (c .before .before .before .before .before .before .before .before .before .read .last .1 .0)) + 1 < 18446744073709551616 = omega (arith, part, piece, test, l .inv .5) in
     let room : 110462 ≤ length (l .out) = omega (arith, l .inv .3, q .3) in
     ((l .inv .6, l .inv .0 ∙ q .0, l .inv .1 ∙ q .1, l .inv .8), ((l .inv .4, few), room))
 
 further-requires : tie.Need-further-requires Inv-loop μ-loop
 further-requires c κs =
-    let at-loop = c .before .before .before .before .before .before .before .before .before .before .before .before .before .before .before .before .before .before .before .before in
-    let test : at-loop .loop .reads < 1099511627776 = omega arith in
+    let test : c .before .before .before .before .before .before .before .before .before .before .before .before .before .before .before .before .before .before .before .before .loop .reads < 1099511627776 = omega arith in
     test
 
 loop-less : tie.Need-loop-less Inv-loop μ-loop
 loop-less c =
-    let at-loop = c .before .before .before .before .before .before .before .before .before .before .before .before .before .before .before .before .before .before .before .before .before in
-    let test : at-loop .loop .reads < 1099511627776 = omega arith in
+    let test : c .before .before .before .before .before .before .before .before .before .before .before .before .before .before .before .before .before .before .before .before .before .loop .reads < 1099511627776 = omega arith in
     omega (arith, test, c .further .ensures .0)
 
 loop-again : tie.Need-loop-again Inv-loop μ-loop
 loop-again c =
-    let at-list = c .before .before .before .before .before in
-    let at-bytes = at-list .before .before in
-    let at-pass = at-bytes .before in
-    let at-count = at-pass .before .before .before .before .before .before in
-    let at-piece = at-count .before .before .before in
-    let at-read = at-piece .before in
-    let at-loop = at-read .before .before .before in
-    let at-start = at-loop .before .before .before .before .before .before in
-    let l = at-loop .loop in
-    let k = at-pass .pass .ensures in
+    let l = c .before .before .before .before .before .before .before .before .before .before .before .before .before .before .before .before .before .before .before .before .before .loop in
+    let k = c .before .before .before .before .before .before .before .before .pass .ensures in
     let test : l .reads < 1099511627776 = omega arith in
-    let piece : length (at-read .read .last .1 .0) ≡ 65536 = at-piece .piece .given ∙ l .inv .2 ∙ at-start .pre .2 in
-    let part = part-most (at-count .count .result) (at-read .read .last .1 .0) in (
-      at-bytes .bytes .given ∙ l .inv .0,
-      at-list .list .given ∙ l .inv .1,
-      at-piece .piece .given ∙ l .inv .2,
-      c .before .before .before .out .given ∙ l .inv .3,
-      k .room,
-      omega (arith, k .few, part, piece, l .inv .5, c .further .ensures .0),
-      k .pages,
-      c .further .ensures .1,
-      k .sure,
-    )
+    let piece : length (c .before .before .before .before .before .before .before .before .before .before .before .before .before .before .before .before .before .before .read .last .1 .0) ≡ 65536 = c .before .before .before .before .before .before .before .before .before .before .before .before .before .before .before .before .before .piece .given ∙ l .inv .2 ∙ c .before .before .before .before .before .before .before .before .before .before .before .before .before .before .before .before .before .before .before .before .before .before .before .before .before .before .before .pre .2 in
+    let part = part-most (c .before .before .before .before .before .before .before .before .before .before .before .before .before .before .count .result) (c .before .before .before .before .before .before .before .before .before .before .before .before .before .before .before .before .before .before .read .last .1 .0) in
+    (c .before .before .before .before .before .before .before .bytes .given ∙ l .inv .0, c .before .before .before .before .before .list .given ∙ l .inv .1, c .before .before .before .before .before .before .before .before .before .before .before .before .before .before .before .before .before .piece .given ∙ l .inv .2, c .before .before .before .out .given ∙ l .inv .3, k .room, omega (arith, k .few, part, piece, l .inv .5, c .further .ensures .0), k .pages, c .further .ensures .1, k .sure)
 
 close-requires : tie.Need-close-requires Inv-loop μ-loop
 close-requires c κs =
-    let at-loop = c .before .before .before .before in
-    let at-start = at-loop .before .before .before .before .before .before in
-    let q = at-start .pre in
-    let l = at-loop .loop in
+    let q = c .before .before .before .before .before .before .before .before .before .before .pre in
+    let l = c .before .before .before .before .loop in
     let few : l .h .before + 1 < 18446744073709551616 = omega (arith, l .inv .5, l .inv .7) in
     let room : 110462 ≤ length (l .out) = omega (arith, l .inv .3, q .3) in
     ((l .inv .6, l .inv .0 ∙ q .0, l .inv .1 ∙ q .1, l .inv .8), ((l .inv .4, few), room))
 
 same-length : tie.Need-same-length Inv-loop μ-loop
-same-length c =
-    let at-bytes2 = c .before .before .before .before .before in
-    let at-loop = at-bytes2 .before .before .before .before .before .before in
-    at-bytes2 .bytes2 .given ∙ at-loop .loop .inv .0
+same-length c = c .before .before .before .before .before .bytes2 .given ∙ c .before .before .before .before .before .before .before .before .before .before .before .loop .inv .0
 
 same-length-2 : tie.Need-same-length-2 Inv-loop μ-loop
-same-length-2 c =
-    let at-loop = c .before .before .before .before .before .before .before .before .before .before .before in
-    c .before .before .before .list2 .given ∙ at-loop .loop .inv .1
+same-length-2 c = c .before .before .before .list2 .given ∙ c .before .before .before .before .before .before .before .before .before .before .before .loop .inv .1
 
 same-length-3 : tie.Need-same-length-3 Inv-loop μ-loop
 same-length-3 c =
-    let at-test = c .before .before .before .before .before .before .before .before .before .before in
-    let at-loop = at-test .before in
-    let l = at-loop .loop in
+    let l = c .before .before .before .before .before .before .before .before .before .before .before .loop in
     ⊎-elim
     (λ w. ap (λ (x : List ℕ). length x) (w .1) ∙ l .inv .2)
     (λ w. ap (λ (x : List ℕ). length x) (w .8) ∙ w .3 .given ∙ l .inv .2)
-    (at-test .loop-test .came)
+    (c .before .before .before .before .before .before .before .before .before .before .loop-test .came)
 
 same-length-4 : tie.Need-same-length-4 Inv-loop μ-loop
-same-length-4 c =
-    let at-loop = c .before .before .before .before .before .before .before .before .before .before .before in
-    c .before .out2 .given ∙ at-loop .loop .inv .3
+same-length-4 c = c .before .out2 .given ∙ c .before .before .before .before .before .before .before .before .before .before .before .loop .inv .3
 
 returns : tie.Need-returns Inv-loop μ-loop
 returns c = tt
