@@ -1,5 +1,6 @@
 pub mod Left
 pub mod Valid
+pub mod Whole
 pub mod Change
 pub mod Fate
 pub mod Fill
