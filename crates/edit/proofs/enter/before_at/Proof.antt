@@ -1,6 +1,6 @@
 -- `edit::enter::before_at` meets its contract: by the first word, and for one of the same key by the second too. Assumes nothing.
 use Prim.Native.Nat.{_+_, _*_}
-use mathlib.Core.Path.{sym, _∙_}
+use mathlib.Core.Path.{sym}
 use native.Mathlib.Omega.{arith}
 use Rattle.bits.proofs.laws.Laws.{field-lt}
 use Rattle.edit.proofs.laws.Whole.{before-no, before-yes, before-same}
