@@ -22,7 +22,7 @@ returns c =
     let at-first = c .before .before in
     let a = at-first .before .before .args in
     sym (before-no (a .page .now) (128 + 96 * a .i) (at-first .first-word .result) (a .key) (a .start) (c .before .wide .result)
-    (at-first .first-word .ensures) (c .before .wide .ensures) (c .if1 .taken))
+    (at-first .first-word .ensures) (c .before .wide .ensures) (omega (arith, c .if1 .taken)))
 
 add-if2 : tie.Need-add-if2
 add-if2 c = search needs
@@ -33,7 +33,7 @@ returns-2 c =
     let at-first = at-wide .before in
     let a = at-first .before .before .args in
     sym (before-yes (a .page .now) (128 + 96 * a .i) (at-first .first-word .result) (a .key) (a .start) (at-wide .wide .result)
-    (at-first .first-word .ensures) (at-wide .wide .ensures) (c .if2 .taken))
+    (at-first .first-word .ensures) (at-wide .wide .ensures) (omega (arith, c .if2 .taken)))
 
 second-word-requires : tie.Need-second-word-requires
 second-word-requires c κs = search needs

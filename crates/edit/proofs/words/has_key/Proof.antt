@@ -20,7 +20,7 @@ returns c =
     let at-first = c .before .before in
     let a = at-first .before .before .args in
     key-below (a .page .now) (128 + 96 * a .i) (at-first .first-word .result) (a .key) (c .before .wide .result)
-    (at-first .first-word .ensures) (c .before .wide .ensures) (c .if1 .taken)
+    (at-first .first-word .ensures) (c .before .wide .ensures) (omega (arith, c .if1 .taken))
 
 add-result : tie.Need-add-result
 add-result c = search needs
