@@ -1,6 +1,5 @@
 -- What becomes of an entry, and of a page's end, under a rule.
 use Prim.Native.Nat.{ℕ, _+_, _*_}
-use mathlib.Core.Path.{_≡_}
 use mathlib.Core.Bool.{Bool, true, false, _&&_, _||_, not}
 use mathlib.Core.List.{List, []}
 use lib.Dec.{leb, eqb}
@@ -49,8 +48,3 @@ laid p j f = pick (f .kept) (lay p (128 + 96 * j) (entryParts (f .entry))) p
 -- the fate of an entry that stays as it is
 abbrev pub stay : Entry → Fate
 stay e = record { kept = true; entry = e }
-
--- an entry that neither starts nor ends at w
-pub record Apart (w : ℕ) (e : Entry) : Type 0 where
-  pub start : e .start ≡ w → ⊥
-  pub end : e .end ≡ w → ⊥

@@ -1,8 +1,8 @@
 // A pair that enters a page, at its place.
-use crate::words;
 use model::Entry;
 use model::Limits;
 use model::Pair;
+use page::words;
 ghost use mathlib.Core.Path.{_≡_};
 ghost use Prim.Native.Nat.{_+_, _*_, _^_, _≤_, _<_};
 ghost use lib.ListN.{length};

@@ -6,7 +6,6 @@ use page::Head;
 
 pub mod enter;
 pub mod sift;
-pub mod words;
 
 ghost use mathlib.Core.Path.{_≡_};
 ghost use mathlib.Core.Bool.{_&&_, _||_};

@@ -1,12 +1,13 @@
 // Entries of a page that meet their fates under a rule, and are closed up.
-use crate::words;
 use model::Entry;
 use model::Limits;
 use page::Head;
+use page::words;
 ghost use mathlib.Core.Path.{_≡_};
 ghost use mathlib.Core.Bool.{true};
 ghost use Prim.Native.Nat.{_+_, _*_, _^_, _≤_, _<_};
 ghost use lib.ListN.{length};
+ghost use lib.Dec.{eqb};
 ghost use Rattle.model.specs.Limits.{Edition, liveShown};
 ghost use Rattle.model.specs.Basic.{those};
 ghost use Rattle.model.specs.Layout.{lives, readEntry, readEntries, countOf, encodePage, decodePage};
@@ -106,14 +107,27 @@ fn end_of(rule: Rule, w: u32, end: u32) -> u32
     }
 }
 
+// Whether entry i of a page has this key.
+pub fn has_key(page: &[u8], i: usize, key: u32) -> bool
+    requires { ⌜ (16 + 12 * i + 12 ≤ length (now page)) × (length (now page) ≤ 2 ^ 40) ⌝ }
+    ensures { λ r. ⌜ r ≡ eqb (readEntry (now (page .entry)) (128 + 96 * i) .key) key ⌝ }
+{
+    let a = words::first_word(page, i);
+    let k = model::wide(key) * 256;
+    if a < k {
+        return false;
+    }
+    a < k + 256
+}
+
 // Whether entry i of a page has a key among the first n of a and b.
 fn named(page: &[u8], i: usize, n: u32, a: u32, b: u32) -> bool
     requires { ⌜ (16 + 12 * i + 12 ≤ length (now page)) × (length (now page) ≤ 2 ^ 40) ⌝ }
     ensures { λ r. ⌜ r ≡ amongOf (readEntry (now (page .entry)) (128 + 96 * i) .key) n a b ⌝ }
 {
     crate::either(
-        crate::both(1 <= n, words::has_key(page, i, a)),
-        crate::both(2 <= n, words::has_key(page, i, b)),
+        crate::both(1 <= n, has_key(page, i, a)),
+        crate::both(2 <= n, has_key(page, i, b)),
     )
 }
 

@@ -1,6 +1,9 @@
 // A page in its part of the store: its front, and its entries.
 use model::Entry;
 use model::Limits;
+
+pub mod words;
+
 ghost use mathlib.Core.Path.{_≡_};
 ghost use Prim.Native.Nat.{_+_, _*_, _-_, _/_, _%_, _^_, _≤_, _<_};
 ghost use lib.ListN.{length};

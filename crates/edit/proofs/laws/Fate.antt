@@ -11,7 +11,8 @@ use Rattle.model.specs.Entry.{liveAt, alive}
 use Rattle.page.specs.Read.{FieldsFit}
 use Rattle.edit.specs.declared.sift.Rule.{Rule}
 use Rattle.edit.specs.declared.sift.Rule.the-variants.{Kill, End, Back}
-use Rattle.edit.specs.Fate.{amongOf, endIf, backIf, fateOf, endOf, stay, Apart}
+use Rattle.page.specs.Apart.{Apart}
+use Rattle.edit.specs.Fate.{amongOf, endIf, backIf, fateOf, endOf, stay}
 
 pub fate-sized : (r : Rule) (w : ℕ) (e : Entry) → FieldsFit e → w < 2 ^ 20 → FieldsFit (fateOf r w e .entry)
 unfolding fateOf

@@ -4,10 +4,9 @@ ghost use mathlib.Core.Path.{_≡_};
 ghost use mathlib.Core.Bool.{false};
 ghost use Prim.Native.Nat.{_+_, _*_, _^_, _≤_, _<_};
 ghost use lib.ListN.{length};
-ghost use lib.Dec.{eqb};
 ghost use Rattle.model.specs.Field.{field, lay};
 ghost use Rattle.model.specs.Layout.{readEntry, entryParts};
-ghost use Rattle.edit.specs.Fate.{Apart};
+ghost use Rattle.page.specs.Apart.{Apart};
 
 // The first word of entry i of a page: its key, and 8 bits of its start.
 pub fn first_word(page: &[u8], i: usize) -> usize
@@ -25,20 +24,7 @@ pub fn second_word(page: &[u8], i: usize) -> usize
     model::wide(bits::field(page, 128 + 96 * i + 32, 32))
 }
 
-// Whether entry i of a page has this key.
-pub fn has_key(page: &[u8], i: usize, key: u32) -> bool
-    requires { ⌜ (16 + 12 * i + 12 ≤ length (now page)) × (length (now page) ≤ 2 ^ 40) ⌝ }
-    ensures { λ r. ⌜ r ≡ eqb (readEntry (now (page .entry)) (128 + 96 * i) .key) key ⌝ }
-{
-    let a = first_word(page, i);
-    let k = model::wide(key) * 256;
-    if a < k {
-        return false;
-    }
-    a < k + 256
-}
-
-// Whether entry i of a page may start or end at w: where the answer is false, it does neither.
+// Whether entry i of a page may start or end at w: where the answer is false, it does neither. One word tells it.
 pub fn may_turn(page: &[u8], i: usize, w: u32) -> bool
     requires { ⌜ (16 + 12 * i + 12 ≤ length (now page)) × (length (now page) ≤ 2 ^ 40) × (w < 2 ^ 20) ⌝ }
     ensures { λ r. ⌜ (r ≡ false → Apart w (readEntry (now (page .entry)) (128 + 96 * i))) ⌝ }
@@ -56,7 +42,7 @@ pub fn may_turn(page: &[u8], i: usize, w: u32) -> bool
 }
 
 // Writes entry i of a page at place j as well.
-fn copy_entry(page: &mut [u8], i: usize, j: usize)
+pub fn copy_entry(page: &mut [u8], i: usize, j: usize)
     requires { ⌜ (16 + 12 * i + 12 ≤ length (now page)) × (16 + 12 * j + 12 ≤ length (now page)) × (length (now page) ≤ 2 ^ 40) ⌝ }
     ensures { λ _. ⌜ now (page .exit)
         ≡ lay (now (page .entry)) (128 + 96 * j) (entryParts (readEntry (now (page .entry)) (128 + 96 * i))) ⌝ }

@@ -1,10 +1,10 @@
--- `edit::words::copy_entry` meets its contract: the three words, put at the other place. Assumes nothing.
+-- `page::words::copy_entry` meets its contract: the three words, put at the other place. Assumes nothing.
 use Prim.Native.Nat.{_+_, _*_}
 use mathlib.Core.Path.{_∙_}
-use Rattle.edit.proofs.laws.Whole.{copy-lay}
+use Rattle.page.proofs.laws.Whole.{copy-lay}
 use borrow.Author.Needs.{needs}
-use Rattle.edit.proofs.words.copy_entry.Statement.{statement}
-use Rattle.edit.proofs.words.copy_entry.Tie as tie
+use Rattle.page.proofs.words.copy_entry.Statement.{statement}
+use Rattle.page.proofs.words.copy_entry.Tie as tie
 
 mul-from : tie.Need-mul-from
 mul-from c = search needs

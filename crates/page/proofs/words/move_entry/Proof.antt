@@ -1,14 +1,14 @@
--- `edit::words::move_entry` meets its contract: at its own place an entry is as it was. Assumes nothing.
+-- `page::words::move_entry` meets its contract: at its own place an entry is as it was. Assumes nothing.
 use Prim.Native.Nat.{ℕ, _+_, _*_}
 use mathlib.Core.Path.{ap, sym, _∙_}
 use mathlib.Core.List.{List}
 use native.Mathlib.Omega.{arith}
 use Rattle.model.specs.Field.{lay}
 use Rattle.model.specs.Layout.{entryParts, readEntry}
-use Rattle.edit.proofs.laws.Whole.{copy-own}
+use Rattle.page.proofs.laws.Whole.{copy-own}
 use borrow.Author.Needs.{needs}
-use Rattle.edit.proofs.words.move_entry.Statement.{statement}
-use Rattle.edit.proofs.words.move_entry.Tie as tie
+use Rattle.page.proofs.words.move_entry.Statement.{statement}
+use Rattle.page.proofs.words.move_entry.Tie as tie
 
 returns : tie.Need-returns
 returns c =

@@ -1,10 +1,10 @@
--- `edit::words::has_key` meets its contract: the first word begins with the key. Assumes nothing.
+-- `edit::sift::has_key` meets its contract: the first word begins with the key. Assumes nothing.
 use Prim.Native.Nat.{_+_, _*_}
 use native.Mathlib.Omega.{arith}
 use Rattle.edit.proofs.laws.Whole.{key-below, key-else}
 use borrow.Author.Needs.{needs}
-use Rattle.edit.proofs.words.has_key.Statement.{statement}
-use Rattle.edit.proofs.words.has_key.Tie as tie
+use Rattle.edit.proofs.sift.has_key.Statement.{statement}
+use Rattle.edit.proofs.sift.has_key.Tie as tie
 
 first-word-requires : tie.Need-first-word-requires
 first-word-requires c κs = search needs
