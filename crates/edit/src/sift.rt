@@ -177,20 +177,6 @@ fn squeeze(page: &mut [u8], l: Limits, count: usize, rule: Rule, w: u32) -> usiz
     j
 }
 
-// How many of the first `count` entries of a page live.
-fn live_among(page: &[u8], count: usize) -> usize
-    requires { ⌜ (16 + 12 * count ≤ length (now page)) × (length (now page) ≤ 2 ^ 40) ⌝ }
-    ensures { λ r. ⌜ r ≡ length (those lives (readEntries (now (page .entry)) 128 count)) ⌝ }
-{
-    let mut live = 0;
-    let mut i = 0;
-    while i < count {
-        live += page::live_one(page::entry_at(page, i));
-        i += 1;
-    }
-    live
-}
-
 // Writes the live count of a page that has `count` entries. They are counted only where the edition has bits for it.
 fn show_live(page: &mut [u8], l: Limits, count: usize)
     requires { ⌜ Edition l × (count < 64) × (16 + 12 * count ≤ length (now page)) × (length (now page) ≤ 2 ^ 40) ⌝ }
@@ -200,7 +186,7 @@ fn show_live(page: &mut [u8], l: Limits, count: usize)
     if l.least <= 4 {
         return;
     }
-    let live = live_among(page, count);
+    let live = page::live_among(page, count);
     page::put_live(page, l, live);
 }
 

@@ -5,6 +5,7 @@ pub mod Front
 pub mod Passes
 pub mod ByWords
 pub mod Whole
+pub mod Live
 pub mod Exact
 pub mod Head
 pub mod Insert

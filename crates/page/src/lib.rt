@@ -8,8 +8,9 @@ ghost use mathlib.Core.Path.{_≡_};
 ghost use Prim.Native.Nat.{_+_, _*_, _-_, _/_, _%_, _^_, _≤_, _<_};
 ghost use lib.ListN.{length};
 ghost use Rattle.model.specs.Limits.{Edition, liveShown};
+ghost use Rattle.model.specs.Basic.{those};
 ghost use Rattle.model.specs.Field.{lay, zeros};
-ghost use Rattle.model.specs.Layout.{entryParts, readEntry, countOf, liveOf, encodePage, decodePage};
+ghost use Rattle.model.specs.Layout.{entryParts, readEntry, readEntries, lives, countOf, liveOf, encodePage, decodePage};
 ghost use Rattle.page.specs.Head.{readHead, putHead, putLive, HeadFits, frontBy, putFront, FrontFits};
 ghost use Rattle.page.specs.Read.{FieldsFit};
 ghost use Rattle.page.specs.Exact.{Exact, encodeWith};
@@ -70,6 +71,32 @@ pub fn live_one(e: Entry) -> usize
         return 1;
     }
     0
+}
+
+// What entry i of a page adds to its live count.
+fn live_at(page: &[u8], i: usize) -> usize
+    requires { ⌜ (16 + 12 * i + 12 ≤ length (now page)) × (length (now page) ≤ 2 ^ 40) ⌝ }
+    ensures { λ r. ⌜ r ≡ liveOne (readEntry (now (page .entry)) (128 + 96 * i)) ⌝ }
+{
+    let end = bits::field(page, 128 + 96 * i + 44, 20);
+    if end == ALIVE {
+        return 1;
+    }
+    0
+}
+
+// How many of the first n entries of a page live.
+pub fn live_among(page: &[u8], n: usize) -> usize
+    requires { ⌜ (16 + 12 * n ≤ length (now page)) × (length (now page) ≤ 2 ^ 40) ⌝ }
+    ensures { λ r. ⌜ r ≡ length (those lives (readEntries (now (page .entry)) 128 n)) ⌝ }
+{
+    let mut live = 0;
+    let mut i = 0;
+    while i < n {
+        live += live_at(page, i);
+        i += 1;
+    }
+    live
 }
 
 // The start of an entry: 8 bits that end its first word, and 12 that begin its second.

@@ -1,8 +1,8 @@
 -- The live entries of a page, counted after a rule has closed it up. Assumes nothing.
-use Prim.Native.Nat.{ℕ, _+_, _*_, _-_, _^_, _<_, _≤_}
+use Prim.Native.Nat.{ℕ, _*_, _-_, _^_, _<_, _≤_}
 use mathlib.Core.Path.{_≡_, ap, sym, _∙_}
-use mathlib.Core.List.{List, [], _∷_}
-use lib.ListN.{length, length-append}
+use mathlib.Core.List.{List}
+use lib.ListN.{length}
 use lib.Seq.{ext-getD}
 use native.Mathlib.Omega.{arith}
 use Rattle.model.specs.declared.Entry.{Entry}
@@ -10,14 +10,11 @@ use Rattle.model.specs.Page.{Page}
 use Rattle.model.specs.Basic.{those}
 use Rattle.model.specs.Limits.{liveShown}
 use Rattle.model.specs.Field.{zeros}
-use Rattle.model.specs.Layout.{lives, liveIn, liveOf, unused, padded, encodePage, decodePage, readEntry, readEntries}
-use Rattle.model.proofs.tree.Local.{those-append}
-use Rattle.model.proofs.needs.Sizes.{few-those}
+use Rattle.model.specs.Layout.{lives, liveIn, liveOf, unused, padded, encodePage, decodePage, readEntries}
 use Rattle.page.specs.Head.{headOf, frontBytes, putLive}
-use Rattle.page.specs.Insert.{liveOne}
 use Rattle.page.specs.Exact.{Valid, Exact, encodeWith}
 use Rattle.page.specs.Stage.{entriesIn}
-use Rattle.page.proofs.laws.Read.{count-of, entries-of, entries-at, entries-step, entries-end, length-entries}
+use Rattle.page.proofs.laws.Read.{count-of, entries-of, entries-at, length-entries}
 use Rattle.page.proofs.laws.Front.{head-length}
 use Rattle.page.proofs.laws.Entries.{entry-get, length-padded, padded-get, padded-sized}
 use Rattle.page.proofs.laws.Exact.{live-right, valid-read}
@@ -26,29 +23,7 @@ use Rattle.edit.specs.Sift.{sifted, siftedPage}
 use Rattle.edit.proofs.laws.Sift.{fewer}
 use Rattle.edit.proofs.laws.Valid.{valid-sifted}
 
--- ---- one by one
-
-abbrev pub livesFrom : List ℕ → ℕ → ℕ → ℕ
-livesFrom p i n = length (those lives (readEntries p (128 + 96 * i) (n - i)))
-
-pub count-start : (p : List ℕ) (n : ℕ) → length (those lives (readEntries p 128 n)) ≡ 0 + livesFrom p 0 n
-count-start p n = let e : n - 0 ≡ n = omega arith in let f : 128 + 96 * 0 ≡ 128 = omega arith in rw (e, f) (omega arith)
-
-pub count-more : (p : List ℕ) (i n : ℕ) → i < n → livesFrom p i n ≡ liveOne (readEntry p (128 + 96 * i)) + livesFrom p (i + 1) n
-count-more p i n h =
-    let e : Entry = readEntry p (128 + 96 * i) in
-    let es : List Entry = readEntries p (128 + 96 * (i + 1)) (n - (i + 1)) in
-    ap (λ (l : List Entry). length (those lives l)) (entries-step p i n h) ∙ ap length (those-append lives (e ∷ []) es)
-    ∙ length-append (those lives (e ∷ [])) (those lives es)
-
-pub count-end : (p : List ℕ) (i n : ℕ) → n ≤ i → livesFrom p i n ≡ 0
-count-end p i n h = rw (entries-end p (128 + 96 * i) i n h)
-
-pub one-most : (e : Entry) → liveOne e ≤ 1
-one-most e = few-those lives (e ∷ [])
-
--- ---- of a page whose live count is yet another's
-
+-- of a page whose live count is yet another's
 module _ (least : ℕ) (four : 4 ≤ least) (eight : least ≤ 8) where
   with-entries : (q : Page) (m : ℕ) → Valid least q → readEntries (encodeWith least q m) 128 (length (q .entries)) ≡ q .entries
   unfolding encodeWith
