@@ -224,7 +224,7 @@ pub fn blank(page: &mut [u8], j: usize, n: usize)
     }
 }
 
-// Puts e at place i of a page with room: those from i on move up by one. The live count is left as it was.
+// Puts e at place i of a page with room: those from i on move up by one, the last of them first. The live count is left as it was.
 fn slip_in(page: &mut [u8], l: Limits, i: usize, e: Entry)
     requires { ⌜ Edition l × Exact (l .least) (now page) × (countOf (l .least) (now page) < 5 * l .least)
         × (i ≤ countOf (l .least) (now page)) × FieldsFit e ⌝ }
@@ -233,15 +233,12 @@ fn slip_in(page: &mut [u8], l: Limits, i: usize, e: Entry)
 {
     let h = head_of(page, l);
     let count = h.count;
-    let mut x = e;
-    let mut k = i;
-    while k < count {
-        let y = entry_at(page, k);
-        put_entry(page, k, x);
-        x = y;
-        k += 1;
+    let mut k = count;
+    while i < k {
+        words::copy_entry(page, k - 1, k);
+        k -= 1;
     }
-    put_entry(page, count, x);
+    put_entry(page, i, e);
     let more = count + 1;
     put_head(
         page,
