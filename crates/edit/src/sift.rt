@@ -108,7 +108,7 @@ fn end_of(rule: Rule, w: u32, end: u32) -> u32
 }
 
 // Whether entry i of a page has this key.
-pub fn has_key(page: &[u8], i: usize, key: u32) -> bool
+fn has_key(page: &[u8], i: usize, key: u32) -> bool
     requires { ⌜ (16 + 12 * i + 12 ≤ length (now page)) × (length (now page) ≤ 2 ^ 40) ⌝ }
     ensures { λ r. ⌜ r ≡ eqb (readEntry (now (page .entry)) (128 + 96 * i) .key) key ⌝ }
 {

@@ -1,5 +1,5 @@
 // Rule 8: a used page's live count is "the number of entries alive at the last version". Where rule 1 holds, these are the entries whose
-// end says alive (model/proofs/sound/Counted), so that one field of each entry is read.
+// end says alive (model/proofs/sound/Counted), so that one field of each entry is read (`page::live_among`).
 use model::Limits;
 ghost use mathlib.Core.Path.{_≡_};
 ghost use mathlib.Core.Bool.{true};
