@@ -34,7 +34,7 @@ pub length-insert : (i : ℕ) (e : Entry) (l : List Entry) → length (insertAt 
 unfolding insertAt
 length-insert i e l = simp (length-append, length-take, length-drop) (omega arith)
 
--- behind all, with none put in
+-- put in behind all
 insert-last : (e : Entry) (l : List Entry) → insertAt (length l) e l ≡ l ++ e ∷ []
 unfolding insertAt
 insert-last e [] = refl
@@ -94,11 +94,11 @@ module _ (least : ℕ) (four : 4 ≤ least) (eight : least ≤ 8) (p : List ℕ)
       ap (λ (e : Entry). lay (moved k) (128 + 96 * k) (entryParts e)) r ∙ insert-put k a y h z
       ∙ ap (staged least p) (ap (λ (j : ℕ). insertAt j y es) s ∙ insert-twice (k - 1) es (omega (arith, n-is)))
 
-  pub insert-end : (i : ℕ) (e : Entry) → i ≤ countOf least p
+  pub insert-end : (i : ℕ) (e : Entry)
       → putHead least (staged least p (insertAt i e (entriesIn least p))) (more (readHead least p))
       ≡ encodeWith least (withEntry i e (decodePage least p)) (liveOf least p)
   unfolding withEntry
-  insert-end i e le =
+  insert-end i e =
       let n : length (insertAt i e es) ≡ countOf least p + 1 = length-insert i e es ∙ ap (λ (k : ℕ). k + 1) n-is in
       let f : HeadFits least (readHead least p) = read-fits least p in
       let g : HeadFits least (more (readHead least p))

@@ -142,7 +142,7 @@ returns c =
     c .before .before .put-head .ensures
     ∙ ap (λ (q : List ℕ). putHead (a .l .least) q (more (at-head-of .head-of .result))) last
     ∙ ap (λ (h : Head). putHead (a .l .least) out (more h)) (at-head-of .head-of .ensures)
-    ∙ insert-end (a .l .least) (d .four) (d .eight) p (at-start .pre .1) (at-start .pre .2) (a .i) (a .e) (at-start .pre .3)
+    ∙ insert-end (a .l .least) (d .four) (d .eight) p (at-start .pre .1) (at-start .pre .2) (a .i) (a .e)
 
 pub slip-in-spec : {M : Type 1} → statement M
 slip-in-spec =
