@@ -48,15 +48,19 @@ fn pushed(g: Gather, x: Pair) -> Gather
     Gather { list: l, n: n + 1 }
 }
 
-// A pair more if `yes`.
+// A pair more if `yes`. It is written behind the others in any case, and counted only if it is meant: a branch that gave back the list as
+// it was would cost a copy of it for each pair.
 fn pushed_if(g: Gather, yes: bool, x: Pair) -> Gather
     requires { ⌜ Good g × (g .n < 56) × Fitting x ⌝ }
     ensures { λ r. ⌜ Lists r (pairsIn g ++ keep yes x []) ⌝ }
 {
-    if yes {
-        return pushed(g, x);
+    let mut l = g.list;
+    let n = g.n;
+    l[n] = x;
+    Gather {
+        list: l,
+        n: n + one(yes),
     }
-    g
 }
 
 // The pairs of b from place `from` up to, not including, place `to` behind those of g.
