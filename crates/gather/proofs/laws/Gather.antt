@@ -77,14 +77,6 @@ module _ (g : Gather) (x : Pair) (z : Good g) (h : g .n < 56) (f : Fitting x) wh
 pub pushed-count : (g r : Gather) (x : Pair) → Good g → Lists r (pairsIn g ++ (x ∷ [])) → r .n ≡ g .n + 1
 pushed-count g r x z w = omega (arith, listed w, length-append (pairsIn g) (x ∷ []), length-pairs g z)
 
--- at the most one more
-pub one-more : (g r : Gather) (b : Bool) (x : Pair) → Good g → Lists r (pairsIn g ++ keep b x []) → r .n ≤ g .n + 1
-one-more g r b x z w = omega (arith, listed w, length-append (pairsIn g) (keep b x []), length-pairs g z, few b)
-  where
-    few : (b : Bool) → length (keep b x []) ≤ 1
-    few true = omega arith
-    few false = omega arith
-
 -- ---- a part of a list, copied
 
 pub part-none : (l : List Pair) (a : ℕ) → take (a - a) (drop a l) ≡ []
