@@ -22,7 +22,7 @@ use Rattle.lines.specs.Words.{until, untilBy}
 use Rattle.lines.specs.Places.{DigitsAt, NumberAt, TwoAt, LineAt}
 use Rattle.lines.proofs.Cutting.{one-word}
 use Rattle.lines.proofs.Numbers.{grows, ten-digits, is-number}
-use Rattle.lines.proofs.Readback.{value-behind, all-behind}
+use Rattle.lines.proofs.Readback.{value-behind, is-digit, all-behind}
 
 -- ---- text without a mark
 
@@ -63,45 +63,39 @@ pub record SoFar (l : List ℕ) (from n i : ℕ) : Type 0 where
   pub run : DigitsAt l from (record { value = n; end = i })
   pub small : n < 10 ^ length (run .text)
 
-pub none-yet : (l : List ℕ) (from : ℕ) → from ≤ length l → SoFar l from 0 from
+pub none-yet : (l : List ℕ) (from : ℕ) → SoFar l from 0 from
 unfolding valueFrom
-none-yet l from h = record {
+none-yet l from = record {
   run = record {
     text = [];
     parts = refl;
     sized = omega arith;
     few = omega arith;
-    within = h;
     digits = refl;
     value = refl;
   };
   small = omega arith;
 }
 
-is-digit : (b : ℕ) → 48 ≤ b → b ≤ 57 → digit b ≡ true
-is-digit b lo hi = rw (le-leb 48 b lo, le-leb b 57 hi)
-
 module _ (l : List ℕ) (from n i : ℕ) (s : SoFar l from n i) where
   pub fits-yet : n < 10000000000
   fits-yet = ten-digits n (length (s .run .text)) (s .run .few) (s .small)
 
-  pub one-more : i < length l → i < from + 10 → 48 ≤ getD l i 0 → getD l i 0 ≤ 57
-      → SoFar l from (10 * n + (getD l i 0 - 48)) (i + 1)
-  one-more h g lo hi =
-      let d = s .run in
-      let t : List ℕ = d .text in
-      let b : ℕ = getD l i 0 in
+  pub one-more : (d : ℕ) → i < length l → i < from + 10 → d < 10 → getD l i 0 ≡ 48 + d → SoFar l from (10 * n + d) (i + 1)
+  one-more d h g small e =
+      let r = s .run in
+      let t : List ℕ = r .text in
+      let back : 48 + d - 48 ≡ d = omega arith in
       record {
         run = record {
-          text = t ++ (b ∷ []);
-          parts = d .parts ∙ rw (add-one, drop-cons l i 0 h) (sym (append-assoc t (b ∷ []) (drop (suc i) l)));
-          sized = rw length-append (omega (arith, d .sized));
-          few = rw length-append (omega (arith, d .sized));
-          within = omega arith;
-          digits = all-behind t b (d .digits) (is-digit b lo hi);
-          value = value-behind 0 t b ∙ ap (λ (m : ℕ). 10 * m + (b - 48)) (d .value);
+          text = t ++ ((48 + d) ∷ []);
+          parts = r .parts ∙ rw (add-one, drop-cons l i 0 h, e) (sym (append-assoc t ((48 + d) ∷ []) (drop (suc i) l)));
+          sized = rw length-append (omega (arith, r .sized));
+          few = rw length-append (omega (arith, r .sized));
+          digits = all-behind t (48 + d) (r .digits) (is-digit d small);
+          value = value-behind 0 t (48 + d) ∙ rw (r .value, back);
         };
-        small = rw length-append (grows n (length t) (b - 48) (s .small) (omega arith));
+        small = rw length-append (grows n (length t) d (s .small) (omega arith));
       }
 
 -- a mark behind them, and they are a number
@@ -112,7 +106,6 @@ number-here l from mark n i d some h e small = record {
   parts = d .parts ∙ rw (add-one, drop-cons l i 0 h, e);
   sized = d .sized;
   few = d .few;
-  within = h;
   digits = d .digits;
   number = is-number (d .text) (omega (arith, d .sized)) (d .few) (d .digits) (omega (arith, d .value)) ∙ ap Is (d .value);
 }

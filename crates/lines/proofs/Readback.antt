@@ -36,7 +36,7 @@ value-within (suc k) n h =
 
 -- ---- the digits
 
-is-digit : (d : ℕ) → d < 10 → digit (48 + d) ≡ true
+pub is-digit : (d : ℕ) → d < 10 → digit (48 + d) ≡ true
 is-digit d h = rw (le-leb 48 (48 + d) (omega arith), le-leb (48 + d) 57 (omega arith))
 
 and-then : (t : Bool) {u v : Bool} → t && u ≡ true → (u ≡ true → v ≡ true) → t && v ≡ true

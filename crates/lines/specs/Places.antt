@@ -20,7 +20,6 @@ pub record DigitsAt (l : List ℕ) (from : ℕ) (d : Digits) : Type 0 where
   pub parts : drop from l ≡ text ++ drop (d .end) l
   pub sized : from + length text ≡ d .end
   pub few : length text ≤ 10
-  pub within : d .end ≤ length l
   pub digits : all digit text ≡ true
   pub value : valueFrom 0 text ≡ d .value
 
@@ -30,7 +29,6 @@ pub record NumberAt (l : List ℕ) (from mark : ℕ) (n : Numeral) : Type 0 wher
   pub parts : drop from l ≡ text ++ mark ∷ drop (n .end + 1) l
   pub sized : from + length text ≡ n .end
   pub few : length text ≤ 10
-  pub within : n .end < length l
   pub digits : all digit text ≡ true
   pub number : numberOf text ≡ Is (n .value)
 

@@ -1,7 +1,6 @@
 // The commonest lines in one pass: `get K V`, `insert K V` and `delete K`, each with its newline, read in the piece where they stand.
 // Of any other line, a bad one too, nothing is known here, and the way by words (gathering, parsing) reads it.
-ghost use mathlib.Core.List.{List};
-ghost use Prim.Native.Nat.{_+_, _<_, _≤_};
+ghost use Prim.Native.Nat.{_+_, _<_};
 ghost use lib.ListN.{length};
 ghost use Rattle.lines.specs.Places.{DigitsAt, NumberAt, TwoAt, LineAt};
 use crate::Command;
@@ -33,30 +32,20 @@ pub(crate) struct Known {
     pub end: usize,
 }
 
-// Ten places on, or the end of the text.
-fn stop(from: usize, len: usize) -> usize
-    requires { ⌜ from ≤ len ⌝ }
-    ensures { λ r. ⌜ (r ≤ from + 10) × (r ≤ len) × (from ≤ r) ⌝ }
-{
-    if len - from < 10 { len } else { from + 10 }
-}
-
+// A byte below 48 wraps to a large number: one test for both sides.
 fn digits_at(s: &[u8], from: usize) -> Digits
-    requires { ⌜ from ≤ length (now s) ⌝ }
+    requires { ⌜ from + 10 < length (now s) ⌝ }
     ensures { λ r. ⌜ DigitsAt (now (s .entry)) from r ⌝ }
 {
-    let last = stop(from, s.len());
+    let last = from + 10;
     let mut value: u64 = 0;
     let mut end = from;
     while end < last {
-        let b = wide(s[end]);
-        if b < 48 {
+        let d = std::num::wrapping_sub_u64(wide(s[end]), 48);
+        if 9 < d {
             return Digits { value, end };
         }
-        if 57 < b {
-            return Digits { value, end };
-        }
-        value = 10 * value + (b - 48);
+        value = 10 * value + d;
         end += 1;
     }
     Digits { value, end }
@@ -64,16 +53,13 @@ fn digits_at(s: &[u8], from: usize) -> Digits
 
 // "a number has 1 to 10 decimal digits and is at most 4,294,967,295"
 fn number_at(s: &[u8], from: usize, mark: u8) -> Numeral
-    requires { ⌜ from ≤ length (now s) ⌝ }
+    requires { ⌜ from + 10 < length (now s) ⌝ }
     ensures { λ r. ⌜ (0 < r .end → NumberAt (now (s .entry)) from mark r) ⌝ }
 {
     let d = digits_at(s, from);
     let end = d.end;
     let value = d.value;
     if end <= from {
-        return Numeral { value: 0, end: 0 };
-    }
-    if s.len() <= end {
         return Numeral { value: 0, end: 0 };
     }
     if s[end] != mark {
@@ -89,7 +75,7 @@ fn number_at(s: &[u8], from: usize, mark: u8) -> Numeral
 }
 
 fn two_at(s: &[u8], from: usize) -> Two
-    requires { ⌜ from ≤ length (now s) ⌝ }
+    requires { ⌜ from + 21 < length (now s) ⌝ }
     ensures { λ r. ⌜ (0 < r .end → TwoAt (now (s .entry)) from r) ⌝ }
 {
     let a = number_at(s, from, b' ');
@@ -109,11 +95,11 @@ fn two_at(s: &[u8], from: usize) -> Two
     }
 }
 
-// The shortest of these lines has 8 bytes with its newline.
+// The longest of these lines has 29 bytes with its newline. A shorter piece is left to the other way, so that no digit asks for its end.
 pub(crate) fn at_once(piece: &[u8]) -> Known
     ensures { λ r. ⌜ (0 < r .end → LineAt (now (piece .entry)) r) ⌝ }
 {
-    if piece.len() < 8 {
+    if piece.len() < 29 {
         return Known {
             command: Command::Bad,
             end: 0,

@@ -1,4 +1,4 @@
--- Digits with the mark behind them, few and small enough, are a number. Assumes nothing.
+-- Digits with the mark behind them, one at least and their number small enough, are a number. Assumes nothing.
 use native.Mathlib.Omega.{arith}
 use borrow.Author.Needs.{needs}
 use Rattle.lines.proofs.LineParts.{number-here}
@@ -11,28 +11,27 @@ digits-at-requires c κs = search needs
 returns : tie.Need-returns
 returns c = λ known. absurd (omega arith)
 
+shared-slice-read-if2 : tie.Need-shared-slice-read-if2
+shared-slice-read-if2 c =
+    let d = c .before .before .digits-at .ensures in omega (arith, d .sized, d .few)
+
 returns-2 : tie.Need-returns-2
 returns-2 c = λ known. absurd (omega arith)
-
-shared-slice-read-if3 : tie.Need-shared-slice-read-if3
-shared-slice-read-if3 c = search needs
 
 returns-3 : tie.Need-returns-3
 returns-3 c = λ known. absurd (omega arith)
 
+cast-t10 : tie.Need-cast-t10
+cast-t10 c = search needs
+
 returns-4 : tie.Need-returns-4
-returns-4 c = λ known. absurd (omega arith)
-
-cast-t11 : tie.Need-cast-t11
-cast-t11 c = search needs
-
-returns-5 : tie.Need-returns-5
-returns-5 c = λ known.
-    let at-digits = c .before .before .before .before .before in
+returns-4 c = λ known.
+    let at-digits = c .before .before .before .before in
     let a = at-digits .before .before .args in
-    let d = at-digits .digits-at .result in
-    number-here (a .s .now) (a .from) (a .mark) (d .value) (d .end) (at-digits .digits-at .ensures)
-    (omega arith) (omega arith) (c .before .if3 .left) (omega arith)
+    let r = at-digits .digits-at .result in
+    let d = at-digits .digits-at .ensures in
+    number-here (a .s .now) (a .from) (a .mark) (r .value) (r .end) d
+    (omega arith) (omega (arith, d .sized, d .few)) (c .before .if2 .left) (omega arith)
 
 pub number-at-spec : {M : Type 1} → statement M
 number-at-spec =
@@ -40,9 +39,8 @@ number-at-spec =
     (tie.spec
     digits-at-requires
     returns
+    shared-slice-read-if2
     returns-2
-    shared-slice-read-if3
     returns-3
-    returns-4
-    cast-t11
-    returns-5)
+    cast-t10
+    returns-4)

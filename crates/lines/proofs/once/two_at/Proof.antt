@@ -11,10 +11,10 @@ returns : tie.Need-returns
 returns c = λ known. absurd (omega arith)
 
 add-number-at : tie.Need-add-number-at
-add-number-at c = omega (arith, c .before .number-at .ensures (omega arith) .within)
+add-number-at c = let one = c .before .number-at .ensures (omega arith) in omega (arith, one .sized, one .few)
 
 number-at-requires-2 : tie.Need-number-at-requires-2
-number-at-requires-2 c κs = omega (arith, c .before .number-at .ensures (omega arith) .within)
+number-at-requires-2 c κs = let one = c .before .number-at .ensures (omega arith) in omega (arith, one .sized, one .few)
 
 returns-2 : tie.Need-returns-2
 returns-2 c = λ known. record {
