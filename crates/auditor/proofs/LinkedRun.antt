@@ -26,22 +26,22 @@ use Rattle.auditor.specs.Engine.{has, Plainly, plainly}
 use Rattle.auditor.specs.SideBySide.{Equal, OneCall, followed, insertsBy, accepted, acceptedIn}
 use Rattle.auditor.specs.Linked.{mayInsert, HasRoom}
 use Rattle.auditor.specs.LinkedRun.{CalledBeside, EachLinked, LinkedRun}
-use Rattle.auditor.proofs.SideBySide.{plainBy, Follows, After, goes, own-room, same-edition, fresh-edition}
+use Rattle.auditor.proofs.SideBySide.{plainBy, Mirrors, MirrorsWithin, goes, own-room, same-edition, fresh-edition}
 use Rattle.auditor.proofs.Linked.{linked}
 
 -- one call beside the tree's, lent a plain store of which all is known, and room
-record Beside-it (x : Beside) (t : Turn) (p : Plain) : Type 0 where
+record OneBeside (x : Beside) (t : Turn) (p : Plain) : Type 0 where
   pub one : OneCall (x .bytes) p t
-  pub after : After (editionOf (leastOf (x .bytes))) (onward x t .machine) (followed (turned (x .bytes) t .number) p t) p (accepted (x .bytes) t)
+  pub after : MirrorsWithin (editionOf (leastOf (x .bytes))) (onward x t .machine) (followed (turned (x .bytes) t .number) p t) p (accepted (x .bytes) t)
   pub room : plainly (t .call) p (t .list) .number ≡ 0 → mayInsert (t .call) p ≤ insertsBy (kindOf (t .call)) (storeOf (x .bytes))
 
-beside-it : (x : Beside) → Agreed x → (t : Turn) → has (t .call) ≡ true → (p : Plain) → Follows (editionOf (leastOf (x .bytes))) (x .machine) p → Beside-it x t p
-beside-it x a t own p follows =
+one-beside : (x : Beside) → Agreed x → (t : Turn) → has (t .call) ≡ true → (p : Plain) → Mirrors (editionOf (leastOf (x .bytes))) (x .machine) p → OneBeside x t p
+one-beside x a t own p follows =
     let now = goes x a (follows .items) (follows .shows) (t .call) own (t .list) in
-    subst (λ (q : Plain). Beside-it x t q) (sym (follows .is))
+    subst (λ (q : Plain). OneBeside x t q) (sym (follows .is))
     (record { one = now .one; after = now .later; room = own-room x a (follows .items) (follows .shows) (t .call) (t .list) })
 
-module _ (x : Beside) (t : Turn) (ns ms : List ℕ) (lent : isLent ns ms ≡ true) (now : Beside-it x t (readPlain ns ms)) where
+module _ (x : Beside) (t : Turn) (ns ms : List ℕ) (lent : isLent ns ms ≡ true) (now : OneBeside x t (readPlain ns ms)) where
   abbrev own : Plain
   own = readPlain ns ms
 
@@ -75,13 +75,13 @@ module _ (x : Beside) (t : Turn) (ns ms : List ℕ) (lent : isLent ns ms ≡ tru
       on ns ms lent refl (sym (ap₂ (λ (b c : Bool). pick b (pick c (abandon own .plain) own) (plainly (t .call) own (t .list) .plain)) e i))
 
 each-linked : (ts : List Turn) → each fitting ts ≡ true → all (λ (t : Turn). has (t .call)) ts ≡ true → (x : Beside) → Agreed x → (ns ms : List ℕ) → isLent ns ms ≡ true
-    → Follows (editionOf (leastOf (x .bytes))) (x .machine) (readPlain ns ms) → (room : ℕ) → length (readPlain ns ms .items) + acceptedIn (x .bytes) ts ≤ room → 4 * room ≤ length ns
+    → Mirrors (editionOf (leastOf (x .bytes))) (x .machine) (readPlain ns ms) → (room : ℕ) → length (readPlain ns ms .items) + acceptedIn (x .bytes) ts ≤ room → 4 * room ≤ length ns
     → EachLinked (x .bytes) ns ms ts
 each-linked [] f h x a ns ms lent follows room fits big = lent
 each-linked (t ∷ ts) f h x a ns ms lent follows room fits big =
     let (fit, fits-on) = all-cons (λ (u : Turn). fitting (kindOf (u .call))) t ts f in
     let (own, own-on) = all-cons (λ (u : Turn). has (u .call)) t ts h in
-    let now = beside-it x a t own (readPlain ns ms) follows in
+    let now = one-beside x a t own (readPlain ns ms) follows in
     let n = turned (x .bytes) t .number in (
       lent,
       called-beside x t ns ms lent now (λ (us vs : List ℕ). EachLinked (turned (x .bytes) t .store) us vs ts) (has-room x t ns ms lent now (acceptedIn (onward x t .bytes) ts) room fits big)
@@ -89,8 +89,8 @@ each-linked (t ∷ ts) f h x a ns ms lent follows room fits big =
           let few = now .after .few in
           let long = ap (λ (q : Plain). length (q .items)) is in
           each-linked ts fits-on own-on (onward x t) (one-turn x a t fit) ns′ ms′ l
-          (subst (λ (q : Plain). Follows (editionOf (leastOf (onward x t .bytes))) (onward x t .machine) q) (sym is)
-          (subst (λ (k : ℕ). Follows (editionOf k) (onward x t .machine) (followed n (readPlain ns ms) t)) (same-edition x a t fit own) (now .after .follows)))
+          (subst (λ (q : Plain). Mirrors (editionOf (leastOf (onward x t .bytes))) (onward x t .machine) q) (sym is)
+          (subst (λ (k : ℕ). Mirrors (editionOf k) (onward x t .machine) (followed n (readPlain ns ms) t)) (same-edition x a t fit own) (now .after .follows)))
           room (omega (arith, few, long, fits)) (omega (arith, same, big)))
           (lacking n) refl (givesUp (kindOf (t .call)) n) refl,
     )

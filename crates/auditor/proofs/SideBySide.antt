@@ -64,7 +64,8 @@ use Rattle.auditor.specs.SideBySide.{Equal, OneCall, followed, insertsBy
 abbrev pub plainBy : ℕ → Machine → List Entry → Plain
 plainBy d m es = record { current = m .current; opened = m .opened; oldest = m .oldest; edition = d; items = es }
 
-pub record Follows (d : ℕ) (m : Machine) (p : Plain) : Type 0 where
+-- p has the numbers of the machine, and items that show what it shows
+pub record Mirrors (d : ℕ) (m : Machine) (p : Plain) : Type 0 where
   pub items : List Entry
   pub is : p ≡ plainBy d m items
   pub shows : ItemsShow m items
@@ -108,22 +109,22 @@ gives-number (suc f) n e l = e
 -- ---- after a call that gave n
 
 -- the machine and the plain store after it, with so many more items at the most
-pub record After (d : ℕ) (m : Machine) (q p : Plain) (more : ℕ) : Type 0 where
-  pub follows : Follows d m q
+pub record MirrorsWithin (d : ℕ) (m : Machine) (q p : Plain) (more : ℕ) : Type 0 where
+  pub follows : Mirrors d m q
   pub few : length (q .items) ≤ length (p .items) + more
 
 abbrev pub Then : ℕ → Kind → Machine → ℕ → Plain → Plain → ℕ → Type 0
-Then d k m n p q cost = After d (whenDone n (stepped k m) (undone k n m)) (pick (lacking n) (pick (givesUp k n) (abandon p .plain) p) q) p (whenDone n cost 0)
+Then d k m n p q cost = MirrorsWithin d (whenDone n (stepped k m) (undone k n m)) (pick (lacking n) (pick (givesUp k n) (abandon p .plain) p) q) p (whenDone n cost 0)
 
-stay : (d : ℕ) (m : Machine) (p : Plain) → Follows d m p → After d m p p 0
+stay : (d : ℕ) (m : Machine) (p : Plain) → Mirrors d m p → MirrorsWithin d m p p 0
 stay d m p a = record { follows = a; few = omega arith }
 
-module _ (d : ℕ) (k : Kind) (m : Machine) (p q : Plain) (cost : ℕ) (a : Follows d m p) where
+module _ (d : ℕ) (k : Kind) (m : Machine) (p q : Plain) (cost : ℕ) (a : Mirrors d m p) where
   -- refused: both stay
   refused : (g : ℕ) → givesUp k (suc g) ≡ false → (n : ℕ) → Gives (suc g) n → Then d k m n p (unless (suc g) p q .plain) cost
   refused g h n e = subst (λ (j : ℕ). Then d k m j p p cost) (sym e) (at (givesUp k (suc g)) h (lacking (suc g)))
     where
-      at : (b : Bool) → b ≡ false → (c : Bool) → After d (pick b (step m abandons) m) (pick c (pick b (abandon p .plain) p) p) p 0
+      at : (b : Bool) → b ≡ false → (c : Bool) → MirrorsWithin d (pick b (step m abandons) m) (pick c (pick b (abandon p .plain) p) p) p 0
       at true i c = absurd (true-false i)
       at false i true = stay d m p a
       at false i false = stay d m p a
@@ -132,18 +133,18 @@ module _ (d : ℕ) (k : Kind) (m : Machine) (p q : Plain) (cost : ℕ) (a : Foll
   left-out : (g : ℕ) → lacking (suc g) ≡ true → givesUp k (suc g) ≡ false → Then d k m (suc g) p q cost
   left-out g l h = at (givesUp k (suc g)) h (lacking (suc g)) l
     where
-      at : (b : Bool) → b ≡ false → (c : Bool) → c ≡ true → After d (pick b (step m abandons) m) (pick c (pick b (abandon p .plain) p) q) p 0
+      at : (b : Bool) → b ≡ false → (c : Bool) → c ≡ true → MirrorsWithin d (pick b (step m abandons) m) (pick c (pick b (abandon p .plain) p) q) p 0
       at true i c j = absurd (true-false i)
       at false i true j = stay d m p a
       at false i false j = absurd (true-false (sym j))
 
   -- done, or 12 or 13
-  done : After d (stepped k m) q p cost → Then d k m 12 p q cost → Then d k m 13 p q cost → (n : ℕ) → Gives 0 n → Then d k m n p (unless 0 p q .plain) cost
+  done : MirrorsWithin d (stepped k m) q p cost → Then d k m 12 p q cost → Then d k m 13 p q cost → (n : ℕ) → Gives 0 n → Then d k m n p (unless 0 p q .plain) cost
   done did twelve thirteen n (inl e) = subst (λ (j : ℕ). Then d k m j p q cost) (sym e) did
   done did twelve thirteen n (inr (inl e)) = subst (λ (j : ℕ). Then d k m j p q cost) (sym e) twelve
   done did twelve thirteen n (inr (inr e)) = subst (λ (j : ℕ). Then d k m j p q cost) (sym e) thirteen
 
-  done-or-out : After d (stepped k m) q p cost → givesUp k 12 ≡ false → givesUp k 13 ≡ false → (n : ℕ) → Gives 0 n → Then d k m n p (unless 0 p q .plain) cost
+  done-or-out : MirrorsWithin d (stepped k m) q p cost → givesUp k 12 ≡ false → givesUp k 13 ≡ false → (n : ℕ) → Gives 0 n → Then d k m n p (unless 0 p q .plain) cost
   done-or-out did g h = done did (left-out 11 refl g) (left-out 12 refl h)
 
 -- ---- what is told where the tests fail, and nothing else
@@ -207,7 +208,7 @@ module _ (x : Beside) (a : Agreed x) (es : List Entry) (s : ItemsShow (x .machin
   says : Answers x
   says = answers x a
 
-  at-p : Follows d m p
+  at-p : Mirrors d m p
   at-p = record { items = es; is = refl; shows = s }
 
   open-last : m .opened ≡ true → lastIn m ≡ w
@@ -221,24 +222,24 @@ module _ (x : Beside) (a : Agreed x) (es : List Entry) (s : ItemsShow (x .machin
       at false = omega arith
 
   -- a version that can be read
-  record Kept (v : ℕ) : Type 0 where
+  record KeptVersion (v : ℕ) : Type 0 where
     pub from : m .oldest ≤ v
     pub upto : v ≤ lastIn m
 
-  kept-by : (v : ℕ) → beyond (lastIn m) (m .oldest) v ≡ false → Kept v
+  kept-by : (v : ℕ) → beyond (lastIn m) (m .oldest) v ≡ false → KeptVersion v
   kept-by v e = let f = either-fails (ltb (lastIn m) v) (ltb v (m .oldest)) e in record { from = ltb-false v (m .oldest) (f .1); upto = ltb-false (lastIn m) v (f .0) }
 
-  current-kept : Kept (m .current)
+  current-kept : KeptVersion (m .current)
   current-kept = record { from = s .old; upto = current-last }
 
-  stands : (v : ℕ) → Kept v → rising (m .shows v) ≡ true
+  stands : (v : ℕ) → KeptVersion v → rising (m .shows v) ≡ true
   stands v h = says .order v (h .from) (h .upto)
 
-  shown : (k v : ℕ) → k < keyLimit → Kept v → valueAt k v es ≡ find k (m .shows v)
+  shown : (k v : ℕ) → k < keyLimit → KeptVersion v → valueAt k v es ≡ find k (m .shows v)
   shown k v low h = s .shows k v low (h .from) (h .upto)
 
   -- the difference of two versions that can be read
-  differ-here : (u v : ℕ) → Kept u → Kept v → differs u v es ≡ differ (m .shows u) (m .shows v)
+  differ-here : (u v : ℕ) → KeptVersion u → KeptVersion v → differs u v es ≡ differ (m .shows u) (m .shows v)
   differ-here u v h i =
       differs-are u v es (m .shows u) (m .shows v) (stands u h) (stands v i) (s .keys-small u (h .upto)) (s .keys-small v (i .upto)) (λ k low. shown k u low h) (λ k low. shown k v low i)
 
@@ -258,7 +259,7 @@ module _ (x : Beside) (a : Agreed x) (es : List Entry) (s : ItemsShow (x .machin
       let n = two-fail 4 5 (leb keyLimit lo || leb keyLimit hi || ltb hi lo) (beyond (lastIn m) (m .oldest) v) e in
       let f = three-fail (leb keyLimit lo) (leb keyLimit hi) (ltb hi lo) (n .0) in
       let high : hi < keyLimit = leb-false keyLimit hi (f .1) in
-      let h : Kept v = kept-by v (n .1) in
+      let h : KeptVersion v = kept-by v (n .1) in
       settings-are lo hi v es (m .shows v) (ltb-false hi lo (f .2)) (stands v h) (λ k i. shown k v (omega arith) h))
 
   difference-same : (u v room : ℕ) → difference p u v room ≡ toldFrom m u v room
@@ -278,7 +279,7 @@ module _ (x : Beside) (a : Agreed x) (es : List Entry) (s : ItemsShow (x .machin
 
   -- ---- calls that change
 
-  at-w : m .opened ≡ true → Kept w
+  at-w : m .opened ≡ true → KeptVersion w
   at-w o = record { from = omega (arith, s .old); upto = omega (arith, open-last o) }
 
   begins-then : (n : ℕ) → Gives (firstOf (openTests (m .opened) (m .current))) n → Then d (changing begins) m n p (begin p .plain) 0
@@ -299,7 +300,7 @@ module _ (x : Beside) (a : Agreed x) (es : List Entry) (s : ItemsShow (x .machin
       (λ f. done-or-out d (changing commits) m p q 0 at-p
       (record { follows = record { items = es; is = refl; shows = shows-commits m es s (not-false (m .opened) (f .0)) }; few = omega arith }) refl refl)
 
-  abandoned-after : m .opened ≡ true → After d (step m abandons) (standing p (m .current) false (restoredEntries w es)) p 0
+  abandoned-after : m .opened ≡ true → MirrorsWithin d (step m abandons) (standing p (m .current) false (restoredEntries w es)) p 0
   abandoned-after o = record { follows = record { items = restoredEntries w es; is = refl; shows = shows-abandons m es s o }; few = omega (arith, restored-shorter w es) }
 
   abandons-then : (n : ℕ) → Gives (firstOf (endTests (m .opened))) n → Then d (changing abandons) m n p (abandon p .plain) 0
@@ -352,7 +353,7 @@ module _ (x : Beside) (a : Agreed x) (es : List Entry) (s : ItemsShow (x .machin
   own-inserts : (v : ℕ) → m .oldest ≤ v → v ≤ m .current → m .opened ≡ true
       → differs w v es ≡ differ (walk.settings (storeOf (x .bytes)) (store.next (storeOf (x .bytes)))) (walk.settings (storeOf (x .bytes)) v)
   own-inserts v f h o =
-      let old : Kept v = record { from = f; upto = omega (arith, open-last o) } in
+      let old : KeptVersion v = record { from = f; upto = omega (arith, open-last o) } in
       differ-here w v (at-w o) old
       ∙ ap₂ differ
       (sym (a .agrees .shows (store.next (storeOf (x .bytes))) (omega (arith, store-last, store-old, a .agrees .current, at-w o .from, at-w o .upto)) ∙ ap (λ (c : ℕ). m .shows (suc c)) (a .agrees .current)))
@@ -372,7 +373,7 @@ module _ (x : Beside) (a : Agreed x) (es : List Entry) (s : ItemsShow (x .machin
       let e = either-fails (ltb (m .current) v) (ltb v (m .oldest)) (f .0) in
       let h : v ≤ m .current = ltb-false (m .current) v (e .0) in
       let i : m .oldest ≤ v = ltb-false v (m .oldest) (e .1) in
-      let up = subst (λ (g : Given). After d (step m abandons) (g .plain) p 0) (sym (abandon-open o)) (abandoned-after o) in
+      let up = subst (λ (g : Given). MirrorsWithin d (step m abandons) (g .plain) p 0) (sym (abandon-open o)) (abandoned-after o) in
       let more = back-few w v (omega arith) (omega (arith, s .low, open-last o)) es in
       done d c m p q cost at-p
       (record {
@@ -431,7 +432,7 @@ module _ (x : Beside) (a : Agreed x) (es : List Entry) (s : ItemsShow (x .machin
   read-later zero = stay d m p at-p
   read-later (suc n) = at (lacking (suc n))
     where
-      at : (b : Bool) → After d m (pick b p p) p 0
+      at : (b : Bool) → MirrorsWithin d m (pick b p p) p 0
       at true = stay d m p at-p
       at false = stay d m p at-p
 
@@ -642,7 +643,7 @@ pub same-edition : (x : Beside) → Agreed x → (t : Turn) → fitting (kindOf 
 same-edition x a t fit own =
     sym (edition-stays (x .bytes) (a .accepted) (t ∷ []) (both-intro (fitting (kindOf (t .call))) true fit refl) (both-intro (notMaking (kindOf (t .call))) true (has-not-making (t .call) own) refl))
 
-each-call : (ts : List Turn) → each fitting ts ≡ true → all (λ (t : Turn). has (t .call)) ts ≡ true → (x : Beside) → Agreed x → (p : Plain) → Follows (editionOf (leastOf (x .bytes))) (x .machine) p
+each-call : (ts : List Turn) → each fitting ts ≡ true → all (λ (t : Turn). has (t .call)) ts ≡ true → (x : Beside) → Agreed x → (p : Plain) → Mirrors (editionOf (leastOf (x .bytes))) (x .machine) p
     → (room : ℕ) → length (p .items) + acceptedIn (x .bytes) ts ≤ room → EachCall room (x .bytes) p ts
 each-call [] f h x a p follows room fits =
     subst (λ (q : Plain). length (q .items) + 0 ≤ room → FitsRoom room q) (sym (follows .is))
@@ -652,10 +653,10 @@ each-call (t ∷ ts) f h x a p follows room fits =
     let (own, own-on) = all-cons (λ (u : Turn). has (u .call)) t ts h in
     subst (λ (q : Plain). length (q .items) + acceptedIn (x .bytes) (t ∷ ts) ≤ room → EachCall room (x .bytes) q (t ∷ ts)) (sym (follows .is))
     (at own (λ q g i.
-    each-call ts fits-on own-on (onward x t) (one-turn x a t fit) q (subst (λ (n : ℕ). Follows (editionOf n) (onward x t .machine) q) (same-edition x a t fit own) g) room i)) fits
+    each-call ts fits-on own-on (onward x t) (one-turn x a t fit) q (subst (λ (n : ℕ). Mirrors (editionOf n) (onward x t .machine) q) (same-edition x a t fit own) g) room i)) fits
   where
     at : has (t .call) ≡ true
-        → ((q : Plain) → Follows (editionOf (leastOf (x .bytes))) (onward x t .machine) q → length (q .items) + acceptedIn (onward x t .bytes) ts ≤ room → EachCall room (onward x t .bytes) q ts)
+        → ((q : Plain) → Mirrors (editionOf (leastOf (x .bytes))) (onward x t .machine) q → length (q .items) + acceptedIn (onward x t .bytes) ts ≤ room → EachCall room (onward x t .bytes) q ts)
         → length (follows .items) + acceptedIn (x .bytes) (t ∷ ts) ≤ room → EachCall room (x .bytes) (plainBy (editionOf (leastOf (x .bytes))) (x .machine) (follows .items)) (t ∷ ts)
     at own rest i =
         let now = goes x a (follows .items) (follows .shows) (t .call) own (t .list) in

@@ -24,6 +24,7 @@ pub mod State
 pub mod Clean
 pub mod Counted
 pub mod Inner
+pub mod Still
 pub mod Judged
 pub mod Near
 pub mod Lent

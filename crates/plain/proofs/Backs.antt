@@ -38,13 +38,13 @@ sum-less g h (k ∷ ks) is = omega (arith, is k, sum-less g h ks is)
 -- ---- one key after the other: what each step does to its own key
 
 module _ (w v : ℕ) where
-  record Step (now : Option ℕ → Option ℕ → Option ℕ) (cost : Option ℕ → Option ℕ → ℕ) (f : ℕ → List Entry → List Entry) : Type 0 where
+  record KeyStep (now : Option ℕ → Option ℕ → Option ℕ) (cost : Option ℕ → Option ℕ → ℕ) (f : ℕ → List Entry → List Entry) : Type 0 where
     pub older : (k j u : ℕ) → u < w → (es : List Entry) → valueAt j u (f k es) ≡ valueAt j u es
     pub other : (k j : ℕ) → (k ≡ j → ⊥) → (es : List Entry) → valueAt j w (f k es) ≡ valueAt j w es
     pub own : (k : ℕ) (es : List Entry) → valueAt k w (f k es) ≡ now (valueAt k w es) (valueAt k v es)
     pub few : (k : ℕ) (es : List Entry) → length (f k es) ≤ length es + cost (valueAt k w es) (valueAt k v es)
 
-  module _ (low : v < w) {now : Option ℕ → Option ℕ → Option ℕ} {cost : Option ℕ → Option ℕ → ℕ} {f : ℕ → List Entry → List Entry} (s : Step now cost f) where
+  module _ (low : v < w) {now : Option ℕ → Option ℕ → Option ℕ} {cost : Option ℕ → Option ℕ → ℕ} {f : ℕ → List Entry → List Entry} (s : KeyStep now cost f) where
     turn-older : (j u : ℕ) → u < w → (ks : List ℕ) (es : List Entry) → valueAt j u (inTurn f ks es) ≡ valueAt j u es
     turn-older j u h [] es = refl
     turn-older j u h (k ∷ ks) es = turn-older j u h ks (f k es) ∙ s .older k j u h es
@@ -83,7 +83,7 @@ kept o a = pick (sameValue o a) o none
 abbrev nothing : Option ℕ → Option ℕ → ℕ
 nothing o a = 0
 
-ending : (w v : ℕ) → v < w → Step w v kept nothing (endOther w v)
+ending : (w v : ℕ) → v < w → KeyStep w v kept nothing (endOther w v)
 ending w v low = record {
   older = λ k j u h es. older k j u h es (sameValue (valueAt k w es) (valueAt k v es));
   other = λ k j n es. other k j n es (sameValue (valueAt k w es) (valueAt k v es));
@@ -114,7 +114,7 @@ wanting none none = 0
 wanting none (some x) = 1
 wanting (some y) a = 0
 
-setting-missing : (w v : ℕ) → v < w → w < alive → Step w v orElse wanting (setMissing w v)
+setting-missing : (w v : ℕ) → v < w → w < alive → KeyStep w v orElse wanting (setMissing w v)
 setting-missing w v low high = record {
   older = λ k j u h es. older k j u h es (valueAt k w es) (valueAt k v es);
   other = λ k j n es. other k j n es (valueAt k w es) (valueAt k v es);

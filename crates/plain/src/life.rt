@@ -17,7 +17,8 @@ ghost use Rattle.model.specs.Inner.{Lasts};
 ghost use Rattle.model.specs.Telling.{written, Space, Gathers};
 ghost use Rattle.plain.specs.Plain.{valueAt};
 ghost use Rattle.plain.specs.Items.{from, foundOf};
-ghost use Rattle.plain.specs.Lived.{stretches, Sooner, ItemStill, Until, shown};
+ghost use Rattle.model.specs.Still.{stretches, Sooner, Until};
+ghost use Rattle.plain.specs.Lived.{ItemStill, shown};
 
 // r, or x where it stands between v and r.
 fn sooner(v: u32, r: u32, x: u32) -> u32

@@ -378,13 +378,14 @@ module _ (least : ℕ) (b : List ℕ) (lo hi v : ℕ) where
   abbrev wrong : Bool
   wrong = leb keyLimit lo || leb keyLimit hi || ltb hi lo
 
-  record Met : Type 0 where
+  -- what holds where nothing bars the call
+  record NotBarred : Type 0 where
     accepts : judged least b .number ≡ 0
     keys : wrong ≡ false
     low : lo < keyLimit
     readable : Readable (decode least b) v
 
-  met : barred least b lo hi v ≡ 0 → Met
+  met : barred least b lo hi v ≡ 0 → NotBarred
   unfolding barred
   met e =
       let (a, c) = first-zero (judged least b .number) (firstOf (rule 5 wrong ∷ rule 6 (unreadable (decode least b) v) ∷ [])) e in
@@ -395,14 +396,14 @@ module _ (least : ℕ) (b : List ℕ) (lo hi v : ℕ) where
       at true y z e = e
       at false y z e = refl
 
-  meets : Met → barred least b lo hi v ≡ 0
+  meets : NotBarred → barred least b lo hi v ≡ 0
   unfolding barred
   meets m = rw (m .accepts, m .keys, of-readable (decode least b) v (m .readable))
 
-  range-met : 4 ≤ least → Met → rangeOf (decode least b) lo hi v ≡ between lo hi (settings (decode least b) v)
+  range-met : 4 ≤ least → NotBarred → rangeOf (decode least b) lo hi v ≡ between lo hi (settings (decode least b) v)
   range-met four m = range-is least (omega arith) (decode least b) (accepted-sound least b (accepted least b (m .accepts))) lo hi v (m .low) (m .readable)
 
-  plain-met : (ns : List ℕ) → Met → listed ns (range (decode least b) lo hi v (length ns)) ≡ listed ns (rangedBy 0 (length ns) (rangeOf (decode least b) lo hi v))
+  plain-met : (ns : List ℕ) → NotBarred → listed ns (range (decode least b) lo hi v (length ns)) ≡ listed ns (rangedBy 0 (length ns) (rangeOf (decode least b) lo hi v))
   unfolding range
   plain-met ns m = rw (m .keys, of-readable (decode least b) v (m .readable))
 
@@ -456,7 +457,7 @@ never-skipped table b lo hi v ns e = by (lentNumber b) refl
     by zero z =
         let go = range-goes table b lo hi v ns z in
         let (w, q, same) = done-is (leastOf b) table b lo hi v ns (sym (ap (λ (r : Listed). r .number) go) ∙ e) in
-        let m : Met (leastOf b) b lo hi v = met (leastOf b) b lo hi v w in
+        let m : NotBarred (leastOf b) b lo hi v = met (leastOf b) b lo hi v w in
         let ok : Accepts b = accepts-by b z (m .accepts) in
         let f : rangeOf (storeOf b) lo hi v ≡ us = range-met (leastOf b) b lo hi v (four b) m in
         let is : rangeNamed table b lo hi v ns ≡ listed ns (rangedBy 0 (length ns) us) = go ∙ same ∙ sym (any-goes b lo hi v ns z) ∙ range-lent b ok lo hi v ns ∙ plain-met (leastOf b) b lo hi v ns m ∙ ap (λ (xs : List Pair). listed ns (rangedBy 0 (length ns) xs)) f in
@@ -484,7 +485,7 @@ never-softer old b ok k x v from h found none-of = record {
     least : ℕ
     least = leastOf b
 
-    around : (lo hi : ℕ) → lo ≤ k → k ≤ hi → hi < keyLimit → Met least b lo hi v
+    around : (lo hi : ℕ) → lo ≤ k → k ≤ hi → hi < keyLimit → NotBarred least b lo hi v
     around lo hi p q t =
         let low : lo < keyLimit = omega arith in
         record { accepts = judged-by b ok; keys = rw (lt-leb keyLimit lo low, lt-leb keyLimit hi t, le-ltb hi lo (omega arith)); low = low; readable = record { from = from; upto = h } }

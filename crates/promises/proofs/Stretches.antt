@@ -15,7 +15,8 @@ use Rattle.model.specs.declared.Stretch.{Stretch}
 use Rattle.model.specs.Entry.{alive}
 use Rattle.model.specs.Life.{touch, join, shownTo, lifeOf}
 use Rattle.model.proofs.lists.Lists.{both-true}
-use Rattle.model.proofs.reading.Lives.{stretch, First, join-touch, runs, front, runs-step, runs-late}
+use Rattle.model.specs.Still.{stretch}
+use Rattle.model.proofs.reading.Lives.{First, join-touch, runs, front, runs-step, runs-late}
 use Rattle.promises.specs.Lives.{Lies, Apart, EndsBy}
 
 -- ---- joined

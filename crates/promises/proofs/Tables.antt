@@ -31,7 +31,7 @@ module _ (table : List ℕ) where
   abbrev key : ℕ → ℕ
   key at = getD table at 0
 
-  record Row (least at : ℕ) : Type 0 where
+  record RightRow (least at : ℕ) : Type 0 where
     low : least ≤ key at
     kind : rightKind (rowAt table at) ≡ true
 
@@ -44,22 +44,22 @@ module _ (table : List ℕ) where
       by true e = (refl, e)
       by false e = absurd (omega arith)
 
-  row-is : (at least : ℕ) → rowRight table at least ≡ true → Row least at
+  row-is : (at least : ℕ) → rowRight table at least ≡ true → RightRow least at
   row-is at least e =
       let (p, r) = right-parts (leb least (key at)) (ltb (key at) keyLimit) (rightKind (rowAt table at)) e in
       record { low = leb-true least (key at) p; kind = r }
 
-  rows-right : (n at least : ℕ) → wrongFrom n table at least ≡ 0 → (i : ℕ) → i < n → Row least (at + 4 * i)
+  rows-right : (n at least : ℕ) → wrongFrom n table at least ≡ 0 → (i : ℕ) → i < n → RightRow least (at + 4 * i)
   rows-right zero at least e i h = absurd (omega arith)
   rows-right (suc n) at least e zero h =
       let here : at ≡ at + 4 * 0 = omega arith in
-      subst (Row least) here (row-is at least (first-right n at least e .0))
+      subst (RightRow least) here (row-is at least (first-right n at least e .0))
   rows-right (suc n) at least e (suc i) h =
       let (right, rest) = first-right n at least e in
-      let later : Row (suc (key at)) (at + 4 + 4 * i) = rows-right n (at + 4) (suc (key at)) rest i (omega arith) in
+      let later : RightRow (suc (key at)) (at + 4 + 4 * i) = rows-right n (at + 4) (suc (key at)) rest i (omega arith) in
       let there : at + 4 + 4 * i ≡ at + 4 * suc i = omega arith in
       let own = row-is at least right in
-      subst (Row least) there (record { low = omega (arith, own .low, later .low); kind = later .kind })
+      subst (RightRow least) there (record { low = omega (arith, own .low, later .low); kind = later .kind })
 
   row-known : (n at least : ℕ) → wrongFrom n table at least ≡ 0 → (i : ℕ) → i < n → knownFrom n table at (key (at + 4 * i)) ≡ rowAt table (at + 4 * i)
   unfolding knownFrom
@@ -70,7 +70,7 @@ module _ (table : List ℕ) where
       (ap (λ (b : Bool). pick b (rowAt table at) (knownFrom n table (at + 4) (key at))) (eq-eqb (key at) (key at) refl))
   row-known (suc n) at least e (suc i) h =
       let rest = first-right n at least e .1 in
-      let later : Row (suc (key at)) (at + 4 + 4 * i) = rows-right n (at + 4) (suc (key at)) rest i (omega arith) in
+      let later : RightRow (suc (key at)) (at + 4 + 4 * i) = rows-right n (at + 4) (suc (key at)) rest i (omega arith) in
       let there : at + 4 + 4 * i ≡ at + 4 * suc i = omega arith in
       subst (λ (p : ℕ). pick (eqb (key at) (key p)) (rowAt table at) (knownFrom n table (at + 4) (key p)) ≡ rowAt table p) there
       (ap (λ (b : Bool). pick b (rowAt table at) (knownFrom n table (at + 4) (key (at + 4 + 4 * i)))) (ne-eqb (key at) (key (at + 4 + 4 * i)) (λ z. omega (arith, later .low, z)))

@@ -1,4 +1,4 @@
--- Laws about life/specs/Still. Assumes nothing.
+-- Laws about model/specs/Still: of the entries of a page, of the root directory. Assumes nothing.
 use Prim.Native.Nat.{ℕ, suc, _+_, _*_, _≤_, _<_}
 use native.Mathlib.Omega.{arith}
 use mathlib.Core.Bool.{Bool, true, false}
@@ -17,7 +17,7 @@ use Rattle.walk.specs.Live.{live}
 use Rattle.walk.specs.Scan.{entry, from}
 use Rattle.walk.proofs.laws.Scan.{from-step, from-end}
 use Rattle.walk.proofs.laws.Down.{root-here, root-before, root-none}
-use Rattle.life.specs.Still.{Until, Sooner}
+use Rattle.model.specs.Still.{Until, Sooner}
 
 pub out-less : (v r q x : ℕ) → q ≤ r → Out v r x → Out v q x
 out-less v r q x h (inl l) = inl l

@@ -8,16 +8,14 @@ use mathlib.Core.Option.{Option, none, some}
 use mathlib.Core.Path.{_≡_, refl, ap, ap₂, sym, _∙_}
 use mathlib.Core.Logic.{_≢_}
 use mathlib.Core.List.{List, [], _∷_, _++_, map}
-use lib.Dec.{eqb}
+use lib.Dec.{eqb, leb}
 use lib.ListN.{length, length-map}
-use borrow.Author.Tests.{eq-eqb, ne-eqb}
+use borrow.Author.Tests.{eq-eqb, ne-eqb, leb-true, leb-false}
 use Rattle.model.specs.Basic.{pick, flatMap, count}
 use Rattle.model.specs.declared.Stretch.{Stretch}
 use Rattle.model.specs.Life.{alone, touch, join, joined, shownTo, lifeOf}
 use Rattle.model.specs.Inner.{Lasts}
-
-abbrev pub stretch : ℕ → ℕ → ℕ → Stretch
-stretch v r x = record { start = v; end = r; value = x }
+use Rattle.model.specs.Still.{stretch}
 
 -- ---- joining
 
@@ -191,3 +189,25 @@ runs-ext f g (suc n) v h = runs-step f v n ∙ ap₂ (front v) (h v (omega arith
 pub life-ext : (old c : ℕ) (f g : ℕ → Option ℕ) → ((v : ℕ) → old ≤ v → v ≤ c → f v ≡ g v) → lifeOf old c f ≡ lifeOf old c g
 unfolding lifeOf
 life-ext old c f g h = ap (map (shownTo c)) (runs-ext f g (suc c - old) old (λ w a b. h w a (omega arith)))
+
+-- ---- the first change behind a version
+
+module _ (c : ℕ) (f : ℕ → Option ℕ) (v : ℕ) where
+  -- so far: from v up to u there is none
+  pub record Lasting (u : ℕ) : Type 0 where
+    pub above : v < u
+    pub below : u ≤ suc c
+    pub same : (w : ℕ) → v ≤ w → w < u → f w ≡ f v
+
+  pub lasts-on : (u q : ℕ) → Lasting u → f u ≡ f v → u < q → q ≤ suc c → ((w : ℕ) → u ≤ w → w < q → f w ≡ f u) → Lasting q
+  lasts-on u q l e up high still = record { above = omega (arith, l .above); below = high; same = λ w a b. at w a b (leb u w) refl }
+    where
+      at : (w : ℕ) → v ≤ w → w < q → (t : Bool) → leb u w ≡ t → f w ≡ f v
+      at w a b true h = still w (leb-true u w h) b ∙ e
+      at w a b false h = l .same w a (leb-false u w h)
+
+  pub lasts-other : (u : ℕ) → Lasting u → f u ≢ f v → Lasts c f v u
+  lasts-other u l h = record { above = l .above; below = l .below; same = l .same; other = λ z. h }
+
+  pub lasts-end : (u : ℕ) → Lasting u → c < u → Lasts c f v u
+  lasts-end u l h = record { above = l .above; below = l .below; same = l .same; other = λ z. absurd (omega arith) }

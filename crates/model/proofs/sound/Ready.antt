@@ -78,23 +78,23 @@ within-of a b v h = let (x, y) = both-true (leb a v) (ltb v b) h in (leb-true a 
 pub of-within : (a b v : ℕ) → a ≤ v → v < b → within a b v ≡ true
 of-within a b v p q = both-intro _ _ (le-leb a v p) (lt-ltb v b q)
 
+-- where a router leads
+pub record Child (ps : List Page) (v l n : ℕ) : Type 0 where
+  pub level : page ps n .level ≡ suc l
+  pub lives : within (page ps n .start) (page ps n .end) v ≡ true
+
 module _ (least : ℕ) (two-or-more : 2 ≤ least) (s : Store) (d : Sound least s) where
   abbrev pub ps : List Page
   ps = s .pages
 
-  -- where a router leads
-  pub record Child (v l : ℕ) (n : ℕ) : Type 0 where
-    pub level : page ps n .level ≡ suc l
-    pub lives : within (page ps n .start) (page ps n .end) v ≡ true
-
-  pub child-of : (v : ℕ) → s .oldest ≤ v → (n l : ℕ) (x : Pair) → page ps n .level ≡ suc (suc l) → In x (pairsAt v (page ps n)) → Child v l (x .value)
+  pub child-of : (v : ℕ) → s .oldest ≤ v → (n l : ℕ) (x : Pair) → page ps n .level ≡ suc (suc l) → In x (pairsAt v (page ps n)) → Child ps v l (x .value)
   child-of v from n l x e i =
       let h = shown-by v (page ps n) x i in
       let g = entry-of least s d n (level-used (page ps n) (suc l) e) (h .entry) (h .is-in) in
       let (a, b) = within-of (h .entry .start) (h .entry .end) v (h .live) in
-      subst (λ (z : Pair). Child v l (z .value)) (sym (h .is)) (at (h .entry) a b (either-true (eqb (page ps n .level) 1 || leb (h .entry .end) (s .oldest)) _ (g .leads)))
+      subst (λ (z : Pair). Child ps v l (z .value)) (sym (h .is)) (at (h .entry) a b (either-true (eqb (page ps n .level) 1 || leb (h .entry .end) (s .oldest)) _ (g .leads)))
     where
-      at : (y : Entry) → y .start ≤ v → v < y .end → ((eqb (page ps n .level) 1 || leb (y .end) (s .oldest)) ≡ true) ⊎ ((inside y (page ps (y .value)) && eqb (suc (page ps (y .value) .level)) (page ps n .level)) ≡ true) → Child v l (y .value)
+      at : (y : Entry) → y .start ≤ v → v < y .end → ((eqb (page ps n .level) 1 || leb (y .end) (s .oldest)) ≡ true) ⊎ ((inside y (page ps (y .value)) && eqb (suc (page ps (y .value) .level)) (page ps n .level)) ≡ true) → Child ps v l (y .value)
       at y a b (inl z) = absurd (by (either-true (eqb (page ps n .level) 1) (leb (y .end) (s .oldest)) z))
         where
           by : (eqb (page ps n .level) 1 ≡ true) ⊎ (leb (y .end) (s .oldest) ≡ true) → ⊥
@@ -271,7 +271,7 @@ module _ (least : ℕ) (two-or-more : 2 ≤ least) (s : Store) (d : Sound least 
         at (inl z) = absurd (omega (arith, last-is, within-of (page ps n .start) (page ps n .end) w h .1))
         at (inr z) = z
 
-    child-good : (l n : ℕ) → Child w l n → LivePage least (s .current) l ps n
+    child-good : (l n : ℕ) → Child ps w l n → LivePage least (s .current) l ps n
     child-good l n c = record { level = c .level; endless = endless n (level-used (page ps n) l (c .level)) (c .lives) }
 
     -- the way down for a key leads over living pages

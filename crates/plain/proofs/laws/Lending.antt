@@ -18,7 +18,7 @@ use Rattle.plain.specs.Calls.{givenBy}
 use Rattle.plain.specs.Tell.{toldAs, toldWith}
 use Rattle.plain.specs.Guard.{stateOf, stateNumbers, isLent, readPlain, leftLent, guarded, Spared, LentAgain, tellsGuarded}
 use Rattle.plain.proofs.Guards.{guarded-none, guarded-some, not-both, own-items, own-fits, own-left}
-use Rattle.plain.proofs.Again.{Stands, lent-again}
+use Rattle.plain.proofs.Again.{NumbersStand, lent-again}
 
 -- what the contract of a call that changes says: behind the test it gives g; what is no plain store it leaves as it is, the state's numbers
 -- and the list's; and of a plain store it leaves one
@@ -52,7 +52,7 @@ module _ (ns ms : List ℕ) (lent : isLent ns ms ≡ true) where
         ∙ sym (ap (λ (b : Bool). pick b (listed us (f (readPlain ns ms) (length us))) (toldWith (toldAs 4 0) us)) lent)
 
     module _ (r : Left) (ns′ : List ℕ) (f : Plain → Given) (does : givenBy r ns′ ≡ f own) where
-      pub leaves : 4 * length (f own .plain .items) ≤ length ns → ((p : Plain) → Stands p → Stands (f p .plain)) → length ns′ ≡ length ns
+      pub leaves : 4 * length (f own .plain .items) ≤ length ns → ((p : Plain) → NumbersStand p → NumbersStand (f p .plain)) → length ns′ ≡ length ns
           → (n : ℕ) (ms′ : List ℕ) → n ≡ r .number → ms′ ≡ stateNumbers (r .state) → (g : Given) → f (readPlain ns ms) ≡ g → Does ns ms g n ns′ ms′
       leaves room stands same n ms′ e h g so =
           let given = own-left ns ms lent s is r ns′ f does n ms′ e h ∙ so ∙ guarded-some (isLent ns ms) (readPlain ns ms) g lent in
@@ -67,6 +67,6 @@ module _ (ns ms : List ℕ) (lent : isLent ns ms ≡ true) where
         pub fits : r .state .count < 2 ^ 32
         fits = own-fits ns ms lent s is r ns′ f does room
 
-        pub leaves-few : ((p : Plain) → Stands p → Stands (f p .plain)) → length ns′ ≡ length ns
+        pub leaves-few : ((p : Plain) → NumbersStand p → NumbersStand (f p .plain)) → length ns′ ≡ length ns
             → (n : ℕ) (ms′ : List ℕ) → n ≡ r .number → ms′ ≡ stateNumbers (r .state) → Does ns ms (f (readPlain ns ms)) n ns′ ms′
         leaves-few stands same n ms′ e h = leaves room stands same n ms′ e h (f (readPlain ns ms)) refl

@@ -5,7 +5,7 @@ use mathlib.Core.Path.{_∙_}
 use Rattle.model.proofs.reading.Telling.{none-room, counted, told-short, second-space, told-all}
 use Rattle.plain.specs.Plain.{valueAt}
 use Rattle.plain.specs.Items.{plainOf, from}
-use Rattle.plain.specs.Lived.{stretches}
+use Rattle.model.specs.Still.{stretches}
 use Rattle.plain.proofs.laws.Lived.{few-stretches, life-five, life-done}
 use borrow.Author.Needs.{needs}
 use Rattle.plain.proofs.life_of.Statement.{statement}

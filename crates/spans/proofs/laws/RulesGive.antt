@@ -11,7 +11,7 @@ use borrow.Author.Tests.{leb-true, eqb-true, eq-eqb, not-true}
 use Rattle.model.specs.Basic.{all}
 use Rattle.model.specs.declared.Pair.{Pair}
 use Rattle.model.specs.declared.Entry.{Entry}
-use Rattle.model.specs.Entry.{alive, within}
+use Rattle.model.specs.Entry.{alive}
 use Rattle.model.specs.Page.{Page, isFree, pairsAt}
 use Rattle.model.specs.Store.{Store, page, last}
 use Rattle.model.specs.Walk.{seen, rootAt, heightOf, keyLimit, settings}
@@ -21,7 +21,7 @@ use Rattle.model.proofs.lists.Members.{either-true, In, all-in, all-by}
 use Rattle.model.proofs.sound.ByRule.{Front, GoodEntry, span-of, livesAt, entry-ok}
 use Rattle.model.proofs.tree.Tree.{Holds}
 use Rattle.model.proofs.sound.Walks.{Reach}
-use Rattle.model.proofs.sound.Ready.{root-is, used-level, level-used, of-within}
+use Rattle.model.proofs.sound.Ready.{root-is, used-level, level-used, of-within, Child}
 use Rattle.model.proofs.tree.Bridge.{passesAt, root-passes}
 use Rattle.spans.proofs.laws.Stretches.{Alive, shows-of}
 
@@ -79,16 +79,12 @@ module _ (least : ℕ) (two : 2 ≤ least) (s : Store) (d : Front least s) where
             sooner = leb-true (e .end) (page ps (e .value) .end) q;
           }
 
-  pub record Child (v up n : ℕ) : Type 0 where
-    pub level : page ps n .level ≡ suc up
-    pub lives : within (page ps n .start) (page ps n .end) v ≡ true
-
-  pub child-at : (v : ℕ) → s .oldest ≤ v → (n up : ℕ) (x : Pair) → page ps n .level ≡ suc (suc up) → In x (pairsAt v (page ps n)) → Child v up (x .value)
+  pub child-at : (v : ℕ) → s .oldest ≤ v → (n up : ℕ) (x : Pair) → page ps n .level ≡ suc (suc up) → In x (pairsAt v (page ps n)) → Child ps v up (x .value)
   child-at v from n up x l i =
       let h = shows-of v (page ps n .entries) x i in
       let e = h .entry in
       let g = leads-of n up e l (h .is-in) (omega (arith, h .live .upto)) in
-      subst (λ (z : Pair). Child v up (z .value)) (sym (h .is))
+      subst (λ (z : Pair). Child ps v up (z .value)) (sym (h .is))
       (record { level = g .level; lives = of-within (page ps (e .value) .start) (page ps (e .value) .end) v (omega (arith, g .later, h .live .from)) (omega (arith, g .sooner, h .live .upto)) })
 
   -- a page with a live entry lives

@@ -4,7 +4,8 @@ use native.Mathlib.Omega.{arith}
 use mathlib.Core.Path.{sym, _∙_}
 use Rattle.plain.specs.Plain.{valueAt}
 use Rattle.plain.specs.Items.{from}
-use Rattle.plain.proofs.laws.Lived.{Lasting, lasts-on, lasts-other, lasts-end}
+use Rattle.model.proofs.reading.Lives.{Lasting, lasts-end}
+use Rattle.plain.proofs.laws.Lived.{lasts-on, lasts-other}
 use borrow.Author.Needs.{needs}
 use Rattle.plain.proofs.life.change_after.Statement.{statement}
 use Rattle.plain.proofs.life.change_after.Tie as tie

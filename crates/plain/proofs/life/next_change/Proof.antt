@@ -4,7 +4,7 @@ use native.Mathlib.Omega.{arith}
 use mathlib.Core.Path.{_≡_, subst}
 use Rattle.plain.specs.Plain.{valueAt}
 use Rattle.plain.specs.Items.{from}
-use Rattle.plain.specs.Lived.{Until}
+use Rattle.model.specs.Still.{Until}
 use Rattle.plain.proofs.laws.Lived.{until-none, until-more}
 use borrow.Author.Needs.{needs}
 use Rattle.plain.proofs.life.next_change.Statement.{statement}

@@ -7,7 +7,7 @@ use mathlib.Core.List.{[], _∷_}
 use lib.ListN.{length-set}
 use Rattle.model.specs.Telling.{written}
 use Rattle.model.proofs.reading.Telling.{write-one, write-not}
-use Rattle.plain.specs.Lived.{stretches}
+use Rattle.model.specs.Still.{stretches}
 use borrow.Author.Needs.{needs}
 use Rattle.plain.proofs.life.put_stretch.Statement.{statement}
 use Rattle.plain.proofs.life.put_stretch.Tie as tie

@@ -8,7 +8,8 @@ use Rattle.model.proofs.reading.Lives.{rest, rest-start, rest-end}
 use Rattle.model.proofs.reading.Telling.{Gathering, space-front, gather-start, gather-same, gather-step, gather-end}
 use Rattle.plain.specs.Plain.{valueAt}
 use Rattle.plain.specs.Items.{from}
-use Rattle.plain.specs.Lived.{stretches, shown}
+use Rattle.model.specs.Still.{stretches}
+use Rattle.plain.specs.Lived.{shown}
 use Rattle.plain.proofs.laws.Lived.{rest-told}
 use borrow.Author.Needs.{needs}
 use Rattle.plain.proofs.life.tell_life.Statement.{statement}

@@ -3,7 +3,7 @@ use native.Mathlib.Omega.{arith}
 use mathlib.Core.Path.{refl, sym, subst}
 use Rattle.model.specs.Telling.{Space}
 use Rattle.model.proofs.reading.Telling.{written-none}
-use Rattle.plain.specs.Lived.{stretches}
+use Rattle.model.specs.Still.{stretches}
 use Rattle.plain.proofs.laws.Lived.{shown-one, shown-none}
 use borrow.Author.Needs.{needs}
 use Rattle.plain.proofs.life.tell_stretch.Statement.{statement}
