@@ -16,6 +16,13 @@ use Rattle.model.specs.Sound.{firstBroken, rule2, rule3, rule4, rule5, r
 use Rattle.model.specs.Layout.{decode}
 use Rattle.model.specs.Clean.{clean}
 
+-- ---- members (laws: proofs/Members)
+
+module _ {A : Type 0} where
+  abbrev pub In : A → List A → Type 0
+  In a [] = ⊥
+  In a (x ∷ xs) = (a ≡ x) ⊎ In a xs
+
 -- ---- neighbours (laws: proofs/Rising)
 
 module _ {A : Type 0} where

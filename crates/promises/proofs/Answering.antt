@@ -30,7 +30,8 @@ use Rattle.model.specs.Histories.{begins, commits, abandons, inserts, deletes, 
 use Rattle.model.specs.Settings.{Machine}
 use Rattle.model.specs.Lent.{listed}
 use Rattle.model.specs.Ended.{toInsert, toDelete, toReturn, toLookup, toRange, toLife, toDifference, ofLooked, ofListed, ended, toState, ofState, Ended}
-use Rattle.model.proofs.sound.ByRule.{Readable, readable-of, old-current}
+use Rattle.model.specs.ByRule.{Readable}
+use Rattle.model.proofs.sound.ByRule.{readable-of, old-current}
 use Rattle.model.proofs.reading.Lives.{life-ext}
 use Rattle.model.proofs.reading.Lookups.{lookup-is, settings-rise}
 use Rattle.model.proofs.reading.Ranges.{range-is}

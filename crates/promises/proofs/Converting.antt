@@ -21,10 +21,10 @@ use Rattle.model.specs.Return.{Ran, reached, stopped, lacking}
 use Rattle.model.specs.Lent.{Outcome, judgedFirst, listed, freshLent, lookupLent, rangeLent, differenceLent, lifeLent}
 use Rattle.model.specs.Any.{judgedAny, lookupAny, rangeAny, differenceAny, lifeAny}
 use Rattle.model.specs.Convert.{convertTests, convertLent}
-use Rattle.model.proofs.sound.ByRule.{Readable}
+use Rattle.model.specs.ByRule.{Readable}
+use Rattle.model.specs.Remade.{Upto}
 use Rattle.model.proofs.kept.Stops.{lacking-is}
 use Rattle.model.proofs.theorems.Editions.{Lends, accepted-lent, goes-at}
-use Rattle.model.proofs.turning.Converted.{Upto}
 use Rattle.model.proofs.turning.Converting.{TestsPassed, is-judged, source-sound, source-whole, lent-by}
 use Rattle.model.proofs.reading.Readings.{get-same, range-same, difference-same, life-same}
 use Rattle.near.proofs.laws.Same.{lookup-same, range-same as range-lent-same}

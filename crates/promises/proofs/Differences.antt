@@ -24,11 +24,12 @@ use Rattle.model.specs.Differ.{differ, saysOf, deltaNumbers, difference}
 use Rattle.model.specs.Lent.{Listed, listed}
 use Rattle.model.specs.Ended.{ofListed}
 use Rattle.model.specs.Inner.{rising}
-use Rattle.model.proofs.sound.ByRule as stands
-use Rattle.model.proofs.sound.ByRule.{Sound, from-tests, of-readable}
+use Rattle.model.specs.ByRule.{Sound}
+use Rattle.model.specs.Tree.{inRange}
+use Rattle.model.specs.ByRule as stands
+use Rattle.model.proofs.sound.ByRule.{from-tests, of-readable}
 use Rattle.model.proofs.lists.Members.{holds-true}
 use Rattle.model.proofs.lists.Lists.{both-true, both-intro, all-cons}
-use Rattle.model.proofs.tree.Local.{inRange}
 use Rattle.model.proofs.reading.Lookups.{lookup-is, settings-rise, settings-low}
 use Rattle.model.proofs.reading.Alike.{alike-settings}
 use Rattle.model.proofs.reading.Differs as lists

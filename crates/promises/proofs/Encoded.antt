@@ -11,9 +11,10 @@ use Rattle.model.specs.Layout.{sizeOf, encode, decode}
 use Rattle.model.specs.Clean.{cleanFront, cleanPages, clean}
 use Rattle.model.specs.Sound.{sound, rule1}
 use Rattle.model.specs.Editions.{leastOf}
+use Rattle.model.specs.ByRule.{Sound}
 use Rattle.model.proofs.lists.Lists.{both-true}
 use Rattle.model.proofs.lists.Members.{holds-true, true-holds}
-use Rattle.model.proofs.sound.ByRule.{Sound, from-tests}
+use Rattle.model.proofs.sound.ByRule.{from-tests}
 use Rattle.model.proofs.sound.Judging.{Accepted}
 use Rattle.model.proofs.theorems.Editions.{edition-four, edition-eight}
 use Rattle.store.proofs.laws.Exactly.{encode-decode}

@@ -20,7 +20,7 @@ use Rattle.model.specs.Differ.{differ}
 use Rattle.model.specs.Return
 use Rattle.model.specs.Return.{goes, comes, setTests, endOne, setOne, Ran, reached, stopped, orStopped, through, andOn, carried, Came, gave, gaveUp, lacking, orAbandoned, returnTests, unless, returned}
 use Rattle.model.specs.Histories.{Call, begins, commits, abandons, inserts, deletes, returns, prunes, callBy}
-use Rattle.model.proofs.sound.ByRule.{Sound, Committed}
+use Rattle.model.specs.ByRule.{Sound, Committed}
 use Rattle.model.proofs.kept.Stops.{lacking-is, Ends, update-ends}
 use Rattle.model.proofs.turning.Returned.{returned-by}
 use Rattle.promises.specs.Runs.{changing, givesUp}

@@ -21,8 +21,9 @@ use Rattle.model.specs.Return.{returnTests}
 use Rattle.model.specs.Histories.{Call, begins, commits, abandons, inserts, deletes, returns, prunes}
 use Rattle.model.specs.Settings.{Machine, start, step, put}
 use Rattle.model.specs.Ended.{Asked, toInsert, toDelete, toReturn, ended}
+use Rattle.model.specs.Inner.{In}
 use Rattle.model.proofs.lists.Lists.{all-cons}
-use Rattle.model.proofs.lists.Members.{In, all-in, all-by, in-those}
+use Rattle.model.proofs.lists.Members.{all-in, all-by, in-those}
 use Rattle.model.proofs.kept.OnePage.{entered-in}
 use Rattle.promises.specs.Accepts.{storeOf}
 use Rattle.promises.specs.Runs.{Turn, Kind, making, changing, reading, kindOf, asks, fitting, givesUp, each}

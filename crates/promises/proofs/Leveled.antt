@@ -19,9 +19,11 @@ use Rattle.model.specs.Page.{Page, free, isFree, pairsAt}
 use Rattle.model.specs.Store.{Store, page, last}
 use Rattle.model.specs.Walk.{Seen, seen, seenAs, settings, rootAt, heightOf, keyLimit}
 use Rattle.model.specs.Sound.{sound, pagesPass, isPage, spanOk, entryOk, pageOk, pageFine, zeroed, firstVersion, inside, leadsWell, skipped, versions, keysOk, reachedWell, rule1, rule2, rule3, rule4, rule5, rule6, rule7}
+use Rattle.model.specs.Inner.{In}
+use Rattle.model.specs.ByRule.{Readable, spansWell, numbers, livesAt, enough}
 use Rattle.model.proofs.lists.Lists.{both-true, both-intro}
-use Rattle.model.proofs.lists.Members.{holds-true, true-holds, either-true, In, all-in, all-by, all-implies, in-has}
-use Rattle.model.proofs.sound.ByRule.{Readable, spansWell, numbers, livesAt, enough, reached-at, front-at, passes-at, version-in}
+use Rattle.model.proofs.lists.Members.{holds-true, true-holds, either-true, all-in, all-by, all-implies, in-has}
+use Rattle.model.proofs.sound.ByRule.{reached-at, front-at, passes-at, version-in}
 use Rattle.model.proofs.sound.Ready.{root-is, used-level, level-used, shown-by, within-of, of-within}
 use Rattle.model.proofs.tree.Shows.{Shows}
 use Rattle.model.proofs.tree.Bridge.{root-passes}

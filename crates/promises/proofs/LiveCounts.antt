@@ -14,7 +14,8 @@ use Rattle.model.specs.Store.{Store, page, last}
 use Rattle.model.specs.Field.{field}
 use Rattle.model.specs.Layout.{lives, liveIn, liveOf, pageOf, sizeOf}
 use Rattle.model.specs.Editions.{leastOf}
-use Rattle.model.proofs.sound.ByRule.{Sound, used-in, high-used}
+use Rattle.model.specs.ByRule.{Sound}
+use Rattle.model.proofs.sound.ByRule.{used-in, high-used}
 use Rattle.model.proofs.sound.Judging.{Accepted, accepted-sound}
 use Rattle.model.proofs.sound.Counted.{those-last, killed-none}
 use Rattle.store.proofs.laws.Read.{page-at, count-pages}

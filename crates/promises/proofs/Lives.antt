@@ -32,8 +32,9 @@ use Rattle.model.specs.Lent.{Listed, listed}
 use Rattle.model.specs.Any.{lookupAny, lifeAny}
 use Rattle.model.specs.Ended.{toCommit, toLife, ofListed, ended}
 use Rattle.model.specs.Telling.{Shape}
+use Rattle.model.specs.ByRule.{Readable}
 use Rattle.model.proofs.lists.Lists.{all-cons, both-intro}
-use Rattle.model.proofs.sound.ByRule.{Readable, of-readable, old-current}
+use Rattle.model.proofs.sound.ByRule.{of-readable, old-current}
 use Rattle.model.proofs.sound.Judging.{accepted-sound}
 use Rattle.model.proofs.reading.Alike.{alike-lookup}
 use Rattle.model.proofs.theorems.History.{many-calls}

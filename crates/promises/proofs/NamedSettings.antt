@@ -34,9 +34,11 @@ use Rattle.model.specs.Histories.{begins, commits, abandons, inserts, deletes}
 use Rattle.model.specs.Ended.{Asked, toFresh, toFreshSecond, toCheck, toOpen, toCommit, toAbandon, toInsert, toDelete, toReturn, toPrune, toLookup, toRange, toVisits, toDifference, toLife, Ended, ended, Untouched, ofOutcome, ofLooked, ofListed, toState}
 use Rattle.model.specs.Kinds.{admits, knownIn, allowed, unknown}
 use Rattle.model.specs.Named.{before, insertNamed, deleteNamed, lookupNamed, allKnown, barred, rangeNamedBy, rangeNamed, ByName, byOpen, byCommit, byAbandon, byInsert, byDelete, byLookup, byRange, endedNamed}
-use Rattle.model.proofs.sound.ByRule.{Readable, readable-of, of-readable}
+use Rattle.model.specs.ByRule.{Readable}
+use Rattle.model.specs.Inner.{In}
+use Rattle.model.proofs.sound.ByRule.{readable-of, of-readable}
 use Rattle.model.proofs.lists.Lists.{all-cons, both-intro}
-use Rattle.model.proofs.lists.Members.{bool-cases, not-both, In, all-in, all-by, in-those, those-in}
+use Rattle.model.proofs.lists.Members.{bool-cases, not-both, all-in, all-by, in-those, those-in}
 use Rattle.model.proofs.kept.OnePage.{entered-in}
 use Rattle.model.proofs.sound.Judging.{accepted, accepted-sound}
 use Rattle.model.proofs.reading.Ranges.{range-is}

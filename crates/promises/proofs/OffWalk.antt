@@ -26,7 +26,7 @@ use Rattle.model.specs.Lent.{Listed, lookupLent, rangeLent}
 use Rattle.model.specs.Any
 use Rattle.model.specs.Any.{lookupAny, rangeAny}
 use Rattle.model.specs.Ended.{ofLooked, ofListed}
-use Rattle.model.proofs.lists.Members.{In}
+use Rattle.model.specs.Inner.{In}
 use Rattle.near.proofs.laws.Off as near
 use Rattle.near.proofs.laws.OffRange as across
 use Rattle.promises.specs.Accepts.{storeOf}

@@ -25,9 +25,11 @@ use Rattle.model.specs.Histories.{begins, prunes, callBy, after}
 use Rattle.model.specs.Lent
 use Rattle.model.specs.Lent.{leftBy, leaving}
 use Rattle.model.specs.Ended.{toOpen, toPrune, toLookup, Ended, ofOutcome, ended}
-use Rattle.model.proofs.lists.Members.{holds-true, not-both, bool-cases, In, has-in, in-has}
+use Rattle.model.specs.Inner.{In}
+use Rattle.model.specs.ByRule.{Sound}
+use Rattle.model.proofs.lists.Members.{holds-true, not-both, bool-cases, has-in, in-has}
 use Rattle.model.proofs.tree.GroupPages.{in-frees}
-use Rattle.model.proofs.sound.ByRule.{kept-of, Sound, from-tests, old-current, used-in, high-used}
+use Rattle.model.proofs.sound.ByRule.{kept-of, from-tests, old-current, used-in, high-used}
 use Rattle.model.proofs.sound.Ready.{numbered-by}
 use Rattle.model.proofs.theorems.Editions.{least-is, ended-goes, ended-refuses}
 use Rattle.promises.specs.Accepts.{Accepts, storeOf}

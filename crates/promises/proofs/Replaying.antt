@@ -25,8 +25,9 @@ use Rattle.model.specs.Table.{history, insertKey, twenty, twentyOne, deleteFrom
 use Rattle.model.specs.Proved.{P1-to-P12, table-sound}
 use Rattle.model.specs.Lent.{Outcome, leftBy}
 use Rattle.model.specs.Ended.{toLookup, Ended, ofOutcome, ofLooked, ended}
+use Rattle.model.specs.Inner.{In}
 use Rattle.model.proofs.lists.Lists.{both-true, all-cons}
-use Rattle.model.proofs.lists.Members.{holds-true, true-holds, In, all-in, in-getD}
+use Rattle.model.proofs.lists.Members.{holds-true, true-holds, all-in, in-getD}
 use Rattle.model.proofs.theorems.Theorems.{call-sound}
 use Rattle.model.proofs.theorems.Editions.{edition-four}
 use Rattle.promises.specs.Accepts.{Accepts, storeOf, OfEdition, Written}

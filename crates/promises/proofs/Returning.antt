@@ -25,8 +25,9 @@ use Rattle.model.specs.Return.{carried, Came, gave, lacking, orAbandoned, unles
 use Rattle.model.specs.Histories.{abandons, returns, after}
 use Rattle.model.specs.Lent.{left, leftBy}
 use Rattle.model.specs.Ended.{toAbandon, toReturn, toDifference, Ended, ofOutcome, ended}
+use Rattle.model.specs.ByRule.{Sound, Committed}
 use Rattle.model.proofs.lists.Members.{holds-true}
-use Rattle.model.proofs.sound.ByRule.{Sound, from-tests, Committed}
+use Rattle.model.proofs.sound.ByRule.{from-tests}
 use Rattle.model.proofs.reading.Lookups.{settings-rise}
 use Rattle.model.proofs.reading.Alike.{alike-settings}
 use Rattle.model.proofs.reading.Differs.{none-differs}

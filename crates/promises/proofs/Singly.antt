@@ -25,13 +25,14 @@ use Rattle.model.specs.Histories.{Call, inserts, deletes, returns, callBy}
 use Rattle.model.specs.Settings
 use Rattle.model.specs.Settings.{Both, together, lent}
 use Rattle.model.specs.Ended.{toReturn, ended}
+use Rattle.model.specs.ByRule.{Sound, Committed}
+use Rattle.model.specs.Remade
+use Rattle.model.specs.Remade.{small}
 use Rattle.model.proofs.lists.Lists.{all-cons, both-true, both-intro}
 use Rattle.model.proofs.lists.Members.{holds-true}
-use Rattle.model.proofs.sound.ByRule.{Sound, from-tests, Committed}
+use Rattle.model.proofs.sound.ByRule.{from-tests}
 use Rattle.model.proofs.reading.Lookups.{settings-rise}
 use Rattle.model.proofs.reading.Differs.{keys-so}
-use Rattle.model.proofs.sound.Small.{small}
-use Rattle.model.proofs.turning.Remade
 use Rattle.model.proofs.turning.Remade.{all-those}
 use Rattle.model.proofs.turning.Returned.{way}
 use Rattle.model.proofs.theorems.Undone.{together-append}

@@ -24,7 +24,8 @@ use Rattle.model.specs.Settings.{lent, together}
 use Rattle.model.specs.Lent.{Listed, listed}
 use Rattle.model.specs.Any.{lookupAny, rangeAny, visitsAny}
 use Rattle.model.specs.Ended.{ofLooked, ofListed}
-use Rattle.model.proofs.sound.ByRule.{Readable, of-readable}
+use Rattle.model.specs.ByRule.{Readable}
+use Rattle.model.proofs.sound.ByRule.{of-readable}
 use Rattle.model.proofs.reading.Alike.{Alike, alike-lookup, alike-visits, alike-range, alike-range-visits}
 use Rattle.model.proofs.reading.Visits.{pages-told}
 use Rattle.model.proofs.theorems.Undone.{lent-agrees}

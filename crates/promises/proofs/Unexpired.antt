@@ -28,9 +28,10 @@ use Rattle.model.specs.Histories.{Call, begins, commits, abandons, inserts, del
 use Rattle.model.specs.Settings
 use Rattle.model.specs.Lent.{Outcome, freshLent}
 use Rattle.model.specs.Ended.{Asked, Ended, ended}
+use Rattle.model.specs.ByRule.{Sound}
 use Rattle.model.proofs.lists.Lists.{all-cons}
 use Rattle.model.proofs.lists.Members.{holds-true, true-holds, not-both, bool-cases}
-use Rattle.model.proofs.sound.ByRule.{Sound, from-tests, to-tests, span-of, old-current, old-last}
+use Rattle.model.proofs.sound.ByRule.{from-tests, to-tests, span-of, old-current, old-last}
 use Rattle.model.proofs.older.Undo.{Undone}
 use Rattle.model.proofs.sound.Ready.{numbered-by, insert-undone, delete-undone}
 use Rattle.model.proofs.turning.Turns.{fresh-sound}

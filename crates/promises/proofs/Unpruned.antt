@@ -20,7 +20,8 @@ use Rattle.model.specs.Clean.{clean}
 use Rattle.model.specs.Judged.{lengthOk, magicOk, editionOk, brokenIn, ruled, verdict, judged}
 use Rattle.model.specs.Editions.{leastOf, lentNumber}
 use Rattle.model.specs.Any.{judgedAny}
-use Rattle.model.proofs.lists.Members.{In, all-in, not-both}
+use Rattle.model.specs.Inner.{In}
+use Rattle.model.proofs.lists.Members.{all-in, not-both}
 use Rattle.model.proofs.sound.ByRule.{Front, front-of, entry-ok, GoodEntry, Young, rule7-by}
 use Rattle.model.proofs.sound.Judging.{clean-first}
 use Rattle.store.proofs.laws.Read.{oldest-lt}

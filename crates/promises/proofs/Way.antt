@@ -23,8 +23,9 @@ use Rattle.model.specs.Histories.{Call, begins, commits, abandons, inserts, del
 use Rattle.model.specs.Settings.{Machine, put, step}
 use Rattle.model.specs.Lent.{Outcome, freshLent}
 use Rattle.model.specs.Ended.{Asked, toFresh, toFreshSecond, toCheck, toOpen, toCommit, toAbandon, toInsert, toDelete, toReturn, toPrune, toLookup, toRange, toVisits, toDifference, toLife, ended, toState}
+use Rattle.model.specs.Inner.{In}
 use Rattle.model.proofs.lists.Lists.{all-cons}
-use Rattle.model.proofs.lists.Members.{true-holds, either-left, either-right, bool-cases, In, all-by}
+use Rattle.model.proofs.lists.Members.{true-holds, either-left, either-right, bool-cases, all-by}
 use Rattle.model.proofs.sound.ByRule.{to-tests}
 use Rattle.model.proofs.turning.Turns.{fresh-sound}
 use Rattle.model.proofs.theorems.Editions.{edition-four}

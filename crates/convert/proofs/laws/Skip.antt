@@ -23,14 +23,15 @@ use Rattle.model.specs.Differ.{differ}
 use Rattle.model.specs.Return.{reached, andOn, through, carried}
 use Rattle.model.specs.Convert.{replayed, replay}
 use Rattle.model.proofs.lists.Members.{bool-cases}
-use Rattle.model.proofs.sound.ByRule.{Sound}
 use Rattle.model.proofs.reading.Lookups.{settings-rise}
 use Rattle.model.proofs.reading.Differs.{none-differs}
 use Rattle.model.proofs.reading.Alike.{alike-settings}
 use Rattle.model.specs.Inner.{Out}
+use Rattle.model.specs.ByRule.{Sound}
+use Rattle.model.specs.Remade.{Upto}
 use Rattle.model.proofs.sound.Quiet.{root-still}
 use Rattle.model.proofs.turning.Returned.{Runs}
-use Rattle.model.proofs.turning.Converted.{begun, current-last, Upto, runs, one-more, replayed-is}
+use Rattle.model.proofs.turning.Converted.{begun, current-last, runs, one-more, replayed-is}
 use Rattle.page.specs.Head.{readHead}
 use Rattle.page.proofs.laws.Read.{entries-of, length-entries}
 use Rattle.store.specs.Header.{putHeader}

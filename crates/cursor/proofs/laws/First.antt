@@ -10,8 +10,9 @@ use Rattle.model.specs.Basic.{keep}
 use Rattle.model.specs.declared.Pair.{Pair}
 use Rattle.model.specs.Entry.{within}
 use Rattle.model.specs.Walk.{between, keyLimit}
+use Rattle.model.specs.Tree.{inRange}
 use Rattle.model.proofs.lists.Lists.{both-true, both-intro, all-cons}
-use Rattle.model.proofs.tree.Local.{inRange, those-append}
+use Rattle.model.proofs.tree.Local.{those-append}
 use Rattle.cursor.specs.First.{atOrAbove, leads}
 
 -- ---- laws

@@ -16,8 +16,9 @@ use Rattle.model.specs.Page.{Page, pairsAt}
 use Rattle.model.specs.Store.{page}
 use Rattle.model.specs.Walk.{between}
 use Rattle.model.specs.Inner.{rising}
+use Rattle.model.specs.Tree.{inRange}
 use Rattle.model.proofs.lists.Lists.{both-true, all-cons}
-use Rattle.model.proofs.tree.Local.{inRange, those-append}
+use Rattle.model.proofs.tree.Local.{those-append}
 use Rattle.model.proofs.lists.Merging.{above, above-lower}
 use Rattle.walk.proofs.laws.Ends.{between-above}
 use Rattle.cursor.specs.First.{atOrAbove}

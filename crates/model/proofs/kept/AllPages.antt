@@ -16,12 +16,13 @@ use Rattle.model.specs.declared.Pair.{Pair}
 use Rattle.model.specs.Entry.{pair, alive, within, liveAt, born, endThose, endedAt}
 use Rattle.model.specs.Page.{Page, Change, free, isFree, active, goneIf, gone, pairsAt, changed, wanted, killed, filled}
 use Rattle.model.specs.Store.{page}
+use Rattle.model.specs.Inner.{In}
+use Rattle.model.specs.ByRule.{livesAt}
 use Rattle.model.proofs.lists.Lists.{both-true, both-intro}
-use Rattle.model.proofs.lists.Members.{not-both, In, in-left, in-right, in-append, in-map, map-in}
+use Rattle.model.proofs.lists.Members.{not-both, in-left, in-right, in-append, in-map, map-in}
 use Rattle.model.proofs.tree.Place.{byKey, show-changed, show-filled}
 use Rattle.model.proofs.tree.Edit.{lt}
 use Rattle.model.proofs.tree.Shows.{same?, in-list}
-use Rattle.model.proofs.sound.ByRule.{livesAt}
 use Rattle.model.proofs.kept.OnePage.{kindOk, PageFit, in-born, Since, stayed, ended, in-end, changed-fit, killed-fit, filled-fit}
 use Rattle.model.proofs.tree.GroupPages.{values, page-set-at, Fill, unused, member, Now, same, went, came, InNew, Redone}
 

@@ -20,9 +20,10 @@ use Rattle.model.specs.Rules
 use Rattle.model.specs.Rules.{Worked, upward, parts, roomy, work}
 use Rattle.model.specs.Needs.{goes, groupAt, inserting, deleting}
 use Rattle.model.specs.Gathered.{Filled, rootLow, Gathers, GathersWell}
+use Rattle.model.specs.ByRule.{Sound}
 use Rattle.model.proofs.lists.Lists.{both-intro}
 use Rattle.model.proofs.lists.Members.{holds-true}
-use Rattle.model.proofs.sound.ByRule.{Sound, from-tests}
+use Rattle.model.proofs.sound.ByRule.{from-tests}
 use Rattle.model.proofs.sound.Ready.{fit-insert, fit-delete}
 use Rattle.model.proofs.kept.OnePage.{kindOk}
 use Rattle.model.proofs.tree.Shows.{Some, Top}

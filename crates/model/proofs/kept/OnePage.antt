@@ -15,8 +15,9 @@ use Rattle.model.specs.declared.Pair.{Pair}
 use Rattle.model.specs.Entry.{pairOf, alive, liveAt, born, before, placed, enter, enterPair, endOne, endThose, endedAt}
 use Rattle.model.specs.Page.{Page, Change, bornAll, enterAll, pairsAt, changed, wanted, killed, filled}
 use Rattle.model.specs.Walk.{keyLimit}
+use Rattle.model.specs.Inner.{In}
 use Rattle.model.proofs.lists.Lists.{both-true, both-intro, all-enter, all-end, shorter}
-use Rattle.model.proofs.lists.Members.{not-both, either-true, either-left, either-right, bool-cases, In, all-in, all-by, in-map, map-in, in-those, those-in}
+use Rattle.model.proofs.lists.Members.{not-both, either-true, either-left, either-right, bool-cases, all-in, all-by, in-map, map-in, in-those, those-in}
 use Rattle.model.proofs.tree.Place.{byKey, shown, show-enter, show-end, born-live}
 use Rattle.model.proofs.tree.Edit.{lt}
 use Rattle.model.proofs.sound.ByRule.{Span, Spoken, Young}

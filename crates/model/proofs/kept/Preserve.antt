@@ -22,9 +22,10 @@ use Rattle.model.specs.Sound.{isPage, inside}
 use Rattle.model.specs.Climb
 use Rattle.model.specs.Climb.{Rooted, stays, moves, lacks, Result, done, refused, climb, update}
 use Rattle.model.specs.Calls.{rawInsert, insert, delete}
+use Rattle.model.specs.ByRule.{Readable, Sound}
 use Rattle.model.proofs.lists.Lists.{both-true, both-intro}
 use Rattle.model.proofs.lists.Members.{not-both, either-true, bool-cases, all-in}
-use Rattle.model.proofs.sound.ByRule.{Readable, Sound, GoodEntry, Span, span-of, entry-of, Young, young-of, used-in, high-used}
+use Rattle.model.proofs.sound.ByRule.{GoodEntry, Span, span-of, entry-of, Young, young-of, used-in, high-used}
 use Rattle.model.proofs.sound.Walks.{Self, Above, last-step}
 use Rattle.model.proofs.tree.Local.{applied}
 use Rattle.model.proofs.older.Undo.{climb-fine, RootedFine}

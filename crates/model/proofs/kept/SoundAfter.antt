@@ -19,11 +19,13 @@ use Rattle.model.specs.Store.{Store, page, next, last}
 use Rattle.model.specs.Walk.{rootAt, heightOf, Seen, seenUnder, seenBelow, seen, keyLimit}
 use Rattle.model.specs.Sound.{isPage, entryOk, liesWell, keysOk, firstVersion}
 use Rattle.model.specs.Calls.{back}
+use Rattle.model.specs.Inner.{In}
+use Rattle.model.specs.ByRule.{Readable, Sound, GoodPage, spansWell, numbers, livesAt, enough}
+use Rattle.model.specs.Tree.{Holds}
 use Rattle.model.proofs.lists.Lists.{both-true, both-intro}
-use Rattle.model.proofs.lists.Members.{not-both, either-left, either-right, bool-cases, In, all-in, all-by, all-implies, in-map, map-in, those-in, has-in, in-has}
-use Rattle.model.proofs.sound.ByRule.{Readable, old-current, Sound, GoodPage, GoodEntry, Span, of-span, ok-entry, leadsIfSpoken, rule7-by, spansWell, numbers, livesAt, enough, used-in}
+use Rattle.model.proofs.lists.Members.{not-both, either-left, either-right, bool-cases, all-in, all-by, all-implies, in-map, map-in, those-in, has-in, in-has}
+use Rattle.model.proofs.sound.ByRule.{old-current, GoodEntry, Span, of-span, ok-entry, leadsIfSpoken, rule7-by, used-in}
 use Rattle.model.proofs.sound.Walks.{Reach, Self, reach-self, reach-on, seen-reached, IsSeen, reached-under}
-use Rattle.model.proofs.tree.Tree.{Holds}
 use Rattle.model.proofs.tree.Shows.{Shows, RootFair, same?}
 use Rattle.model.proofs.tree.UpdateChanges.{height-is}
 use Rattle.model.proofs.tree.Bridge.{passesAt}

@@ -23,9 +23,11 @@ use Rattle.model.specs.Rules
 use Rattle.model.specs.Climb
 use Rattle.model.specs.Rules.{Group, one, Rebuilt, rebuilt, short, lowKey, exchange, samePair, Worked, settled, upward, lacking, roomy, work, usable}
 use Rattle.model.specs.Climb.{Rooted, stays, moves, lacks, goOn, climb, workRoot}
+use Rattle.model.specs.Inner.{In}
+use Rattle.model.specs.Tree.{Says, Row, Holds}
 use Rattle.model.proofs.lists.Lists.{both-true, both-intro, all-cons}
-use Rattle.model.proofs.lists.Members.{not-both, bool-cases, In, in-left, in-right, in-those, all-in, all-by}
-use Rattle.model.proofs.tree.Tree.{Says, Row, Holds, Tree, row-keys}
+use Rattle.model.proofs.lists.Members.{not-both, bool-cases, in-left, in-right, in-those, all-in, all-by}
+use Rattle.model.proofs.tree.Tree.{Tree, row-keys}
 use Rattle.model.proofs.tree.Local.{all-left, all-right, all-append}
 use Rattle.model.proofs.tree.Edit.{lt}
 use Rattle.model.proofs.tree.Shows.{Touched, spare, Tidy, Top, Some, in-list}

@@ -20,7 +20,8 @@ use Rattle.model.specs.Rules
 use Rattle.model.specs.Rules.{retire, usable, Parts, one, two, routersTo, Rebuilt, rebuilt, short}
 use Rattle.model.specs.Needs.{fills, actives}
 use Rattle.model.specs.Layout.{bit}
-use Rattle.model.proofs.lists.Members.{In, in-append, in-those}
+use Rattle.model.specs.Inner.{In}
+use Rattle.model.proofs.lists.Members.{in-append, in-those}
 use Rattle.model.proofs.tree.Shows.{same?, in-list}
 use Rattle.model.proofs.tree.GroupShows.{Apart}
 use Rattle.model.proofs.tree.GroupPages.{values, in-frees}

@@ -18,8 +18,8 @@ use Rattle.model.specs.Walk.{Around, around, rootAt, heightOf, wayDown, 
 use Rattle.model.specs.Rules
 use Rattle.model.specs.Rules.{Parts, one, two, samePair, routersTo, exchange}
 use Rattle.model.specs.Needs.{actives, groupAt}
+use Rattle.model.specs.ByRule.{Sound}
 use Rattle.model.proofs.tree.Edit.{length-enter}
-use Rattle.model.proofs.sound.ByRule.{Sound}
 use Rattle.model.proofs.sound.Ready.{root-used, root-level}
 
 pub few-those : {A : Type 0} (f : A → Bool) (xs : List A) → length (those f xs) ≤ length xs

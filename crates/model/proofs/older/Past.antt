@@ -18,9 +18,10 @@ use Rattle.model.specs.Walk.{rootFrom, rootAt}
 use Rattle.model.specs.Sound.{firstVersion}
 use Rattle.model.specs.Climb
 use Rattle.model.specs.Calls.{revivedEnd, backBy, back}
+use Rattle.model.specs.Inner.{In}
+use Rattle.model.specs.ByRule.{livesAt}
 use Rattle.model.proofs.lists.Lists.{both-true, both-intro, all-cons}
-use Rattle.model.proofs.lists.Members.{not-both, In, all-in, all-by, in-those, in-append}
-use Rattle.model.proofs.sound.ByRule.{livesAt}
+use Rattle.model.proofs.lists.Members.{not-both, all-in, all-by, in-those, in-append}
 use Rattle.model.proofs.tree.Local.{all-append}
 
 module _ (v w : ℕ) (old : v < w) (lim : w < alive) where

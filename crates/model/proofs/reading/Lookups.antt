@@ -17,13 +17,15 @@ use Rattle.model.specs.Store.{Store, page}
 use Rattle.model.specs.Walk.{Around, around, find, lookup, settings, rootAt, heightOf, wayDown, leafOf, keyLimit}
 use Rattle.model.specs.Sound.{sound}
 use Rattle.model.specs.Inner.{rising}
+use Rattle.model.specs.Tree.{Row, Holds, inRange}
+use Rattle.model.specs.ByRule.{Readable, Sound}
 use Rattle.model.proofs.lists.Lists.{both-true, all-cons}
 use Rattle.model.proofs.lists.Members.{holds-true}
-use Rattle.model.proofs.tree.Tree.{Row, Holds, Tree}
-use Rattle.model.proofs.tree.Local.{inRange, order-append}
+use Rattle.model.proofs.tree.Tree.{Tree}
+use Rattle.model.proofs.tree.Local.{order-append}
 use Rattle.model.proofs.tree.Descend.{found-in}
 use Rattle.model.proofs.tree.UpdateChanges.{row-range, holds-range}
-use Rattle.model.proofs.sound.ByRule.{Readable, Sound, from-tests}
+use Rattle.model.proofs.sound.ByRule.{from-tests}
 use Rattle.model.proofs.sound.Ready.{holds-all}
 
 -- keys elsewhere

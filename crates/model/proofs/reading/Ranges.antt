@@ -16,12 +16,14 @@ use Rattle.model.specs.Store.{Store, page}
 use Rattle.model.specs.Walk.{between, followFrom, followed, rangeBelow, rangeOf, settings, rootAt, heightOf, keyLimit}
 use Rattle.model.specs.Sound.{sound}
 use Rattle.model.specs.Inner.{rising}
+use Rattle.model.specs.Tree.{Row, Holds, inRange}
+use Rattle.model.specs.ByRule.{Readable, Sound}
 use Rattle.model.proofs.lists.Lists.{both-true, all-cons}
 use Rattle.model.proofs.lists.Members.{holds-true}
-use Rattle.model.proofs.tree.Tree.{Row, Holds, Tree}
-use Rattle.model.proofs.tree.Local.{inRange, those-append}
+use Rattle.model.proofs.tree.Tree.{Tree}
+use Rattle.model.proofs.tree.Local.{those-append}
 use Rattle.model.proofs.tree.UpdateChanges.{holds-range}
-use Rattle.model.proofs.sound.ByRule.{Readable, Sound, from-tests}
+use Rattle.model.proofs.sound.ByRule.{from-tests}
 use Rattle.model.proofs.sound.Ready.{holds-all}
 use Rattle.model.proofs.tree.Edit.{rising-those}
 use Rattle.model.proofs.reading.Lookups.{settings-rise}

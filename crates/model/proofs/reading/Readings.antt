@@ -16,8 +16,9 @@ use Rattle.model.specs.Calls.{rule, firstOf, beyond, unreadable, lookedB
 use Rattle.model.specs.Told.{toldBy}
 use Rattle.model.specs.Differ.{differ, deltaNumbers, eitherUnreadable, difference}
 use Rattle.model.specs.Life.{lifeOf, life, stretchNumbers, lived}
+use Rattle.model.specs.ByRule.{Readable, Sound}
 use Rattle.model.proofs.lists.Members.{neither}
-use Rattle.model.proofs.sound.ByRule.{Readable, readable-of, Sound}
+use Rattle.model.proofs.sound.ByRule.{readable-of}
 use Rattle.model.proofs.reading.Lookups.{lookup-is}
 use Rattle.model.proofs.reading.Ranges.{range-is}
 use Rattle.model.proofs.reading.Lives.{life-ext}

@@ -12,7 +12,8 @@ use Rattle.model.specs.Page.{Page, pairsAt}
 use Rattle.model.specs.Store.{Store, page}
 use Rattle.model.specs.Walk.{rootAt, heightOf, Around, around, wayDown, way, pathDown, lookupVisits, between, followed, rangeBelow, rangePath}
 use Rattle.model.specs.Visited.{pageNumber}
-use Rattle.model.proofs.lists.Members.{In, in-left, in-right}
+use Rattle.model.specs.Inner.{In}
+use Rattle.model.proofs.lists.Members.{in-left, in-right}
 
 -- ---- the root, then the way down
 

@@ -5,32 +5,24 @@ use native.Mathlib.Omega.{arith}
 use mathlib.Core.Bool.{Bool, true, false, _&&_, _||_, not}
 use mathlib.Core.Path.{_≡_, refl, ap, sym, _∙_, subst}
 use mathlib.Core.Logic.{_⊎_, inl, inr}
-use mathlib.Core.List.{List, [], _∷_, map}
+use mathlib.Core.List.{List, [], _∷_}
 use lib.Dec.{leb, ltb, eqb}
 use lib.ListN.{length, take, drop, length-drop, List·getD-eq-default}
 use lib.Seq.{getD-drop, getD-take, length-take-le}
 use borrow.Author.Tests.{leb-true, ltb-true, eqb-true, le-leb, lt-ltb, eq-eqb, not-true, ltb-false, le-ltb, lt-leb, leb-false}
 use Rattle.model.specs.Basic.{all, has, isEmpty, pick, inOrder}
 use Rattle.model.specs.declared.Entry.{Entry}
-use Rattle.model.specs.Entry.{alive, within, before}
+use Rattle.model.specs.Entry.{alive, before}
 use Rattle.model.specs.Page.{Page, free, isFree}
 use Rattle.model.specs.declared.Slot.{Slot}
 use Rattle.model.specs.Store.{Store, page, next, lastOf, last}
-use Rattle.model.specs.Walk.{Seen, seen, keyLimit}
-use Rattle.model.specs.Sound.{pagesPass, isPage, spanOk, entryOk, pageOk, zeroed, pageFine, firstVersion, inside, liesWell, versions, keysOk, fewest, same, reachedWell, sound, rule1, rule2, rule3, rule4, rule5, rule6, rule7}
+use Rattle.model.specs.Walk.{seen, keyLimit}
+use Rattle.model.specs.Sound.{pagesPass, isPage, spanOk, entryOk, pageOk, zeroed, pageFine, firstVersion, inside, liesWell, versions, keysOk, same, reachedWell, sound, rule1, rule2, rule3, rule4, rule5, rule6, rule7}
 use Rattle.model.specs.Calls.{beyond, unreadable}
+use Rattle.model.specs.ByRule.{Readable, Committed, GoodPage, spansWell, numbers, livesAt, enough, Sound}
+use Rattle.model.specs.Inner.{In}
 use Rattle.model.proofs.lists.Lists.{both-true, both-intro}
-use Rattle.model.proofs.lists.Members.{not-both, neither, either-true, either-left, either-right, bool-cases, In, all-in, all-by, all-at, all-places, in-count, count-in}
-
--- the versions that rules 4 to 6 speak of
-pub record Readable (s : Store) (v : ℕ) : Type 0 where
-  pub from : s .oldest ≤ v
-  pub upto : v ≤ last s
-
--- the committed ones among them
-pub record Committed (s : Store) (v : ℕ) : Type 0 where
-  pub from : s .oldest ≤ v
-  pub upto : v ≤ s .current
+use Rattle.model.proofs.lists.Members.{not-both, neither, either-true, either-left, either-right, bool-cases, all-in, all-by, all-at, all-places, in-count, count-in}
 
 -- none of them gives 6
 pub readable-of : (s : Store) (v : ℕ) → unreadable s v ≡ false → Readable s v
@@ -41,26 +33,6 @@ of-readable s v r = rw (le-ltb (last s) v (r .upto), le-ltb v (s .oldest) (r .fr
 
 pub kept-of : (s : Store) (v : ℕ) → beyond (s .current) (s .oldest) v ≡ false → Committed s v
 kept-of s v e = let (a, b) = neither (ltb (s .current) v) (ltb v (s .oldest)) e in record { from = ltb-false v (s .oldest) b; upto = ltb-false (s .current) v a }
-
--- a used page as rule 1 has it
-pub record GoodPage (least : ℕ) (s : Store) (p : Page) : Type 0 where
-  pub low : p .level ≤ 7
-  pub few : length (p .entries) ≤ 5 * least
-  pub span : spanOk (last s) (p .start) (p .end) ≡ true
-  pub order : inOrder before (p .entries) ≡ true
-  pub entries : all (entryOk (last s) (length (s .pages)) (p .level)) (p .entries) ≡ true
-
-abbrev pub spansWell : Store → Page → Bool
-spansWell s p = all (liesWell s p) (p .entries)
-
-abbrev pub numbers : Store → ℕ → List ℕ
-numbers s v = map (λ (x : Seen). x .number) (seen s v)
-
-abbrev pub livesAt : ℕ → Page → Bool
-livesAt v p = not (isFree p) && within (p .start) (p .end) v
-
-abbrev pub enough : ℕ → Seen → Bool
-enough least x = leb (fewest least (x .isRoot) (x .up)) (length (x .pairs))
 
 -- rules 1 to 3
 pub record Front (least : ℕ) (s : Store) : Type 0 where
@@ -79,28 +51,6 @@ pub record Front (least : ℕ) (s : Store) : Type 0 where
   pub upto : all (λ (x : Slot). leb (x .version) (last s)) (s .slots) ≡ true
   pub spans : (n : ℕ) → isFree (page (s .pages) n) ≡ false → spansWell s (page (s .pages) n) ≡ true
   pub root-used : all (λ (x : Slot). not (isFree (page (s .pages) (x .root)))) (s .slots) ≡ true
-
--- rules 1 to 7
-pub record Sound (least : ℕ) (s : Store) : Type 0 where
-  pub long : 6 ≤ length (s .pages)
-  pub short : length (s .pages) ≤ 4096
-  pub slots-few : length (s .slots) ≤ 64 * least
-  pub last-low : last s ≤ 1048574
-  pub roots : all (λ (x : Slot). isPage (length (s .pages)) (x .root)) (s .slots) ≡ true
-  pub front : (n : ℕ) → n < 5 → isFree (page (s .pages) n) ≡ true
-  pub zeros : (n : ℕ) → isFree (page (s .pages) n) ≡ true → page (s .pages) n ≡ free
-  pub pages : (n : ℕ) → isFree (page (s .pages) n) ≡ false → GoodPage least s (page (s .pages) n)
-  pub old-low : s .oldest ≤ pick (leb least 4) 0 (s .current)
-  pub begins : firstVersion (s .oldest) (s .slots) ≤ s .oldest
-  pub newer : all (λ (x : Slot). ltb (s .oldest) (x .version)) (drop 1 (s .slots)) ≡ true
-  pub rises : inOrder (λ (x y : Slot). ltb (x .version) (y .version)) (s .slots) ≡ true
-  pub upto : all (λ (x : Slot). leb (x .version) (last s)) (s .slots) ≡ true
-  pub spans : (n : ℕ) → isFree (page (s .pages) n) ≡ false → spansWell s (page (s .pages) n) ≡ true
-  pub root-used : all (λ (x : Slot). not (isFree (page (s .pages) (x .root)))) (s .slots) ≡ true
-  pub keys : (v : ℕ) → Readable s v → all keysOk (seen s v) ≡ true
-  pub counts : (v : ℕ) → Readable s v → all (enough least) (seen s v) ≡ true
-  pub reached : (v : ℕ) → Readable s v → (n : ℕ) → 5 ≤ n → n < length (s .pages) → livesAt v (page (s .pages) n) ≡ has n (numbers s v)
-  pub young : rule7 s ≡ true
 
 same-eq : (a b : Bool) → same a b ≡ true → a ≡ b
 same-eq true b e = sym e

@@ -15,9 +15,10 @@ use Rattle.model.specs.Entry.{within}
 use Rattle.model.specs.Page.{Page, pairsAt}
 use Rattle.model.specs.Store.{page}
 use Rattle.model.specs.Walk.{keyLimit}
+use Rattle.model.specs.Tree.{Row, Holds}
 use Rattle.model.proofs.lists.Lists.{both-true, both-intro}
 use Rattle.model.proofs.lists.Members.{not-both, bool-cases}
-use Rattle.model.proofs.tree.Tree.{Row, Holds, Tree, row-le}
+use Rattle.model.proofs.tree.Tree.{Tree, row-le}
 use Rattle.model.proofs.tree.Shows.{Shows, RootFair, in-list}
 
 -- how many numbers below n pass

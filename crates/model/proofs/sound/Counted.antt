@@ -16,9 +16,10 @@ use Rattle.model.specs.Store.{Store, page, last}
 use Rattle.model.specs.Walk.{keyLimit}
 use Rattle.model.specs.Sound.{isPage, spanOk, entryOk, inside, leadsWell, skipped, liesWell}
 use Rattle.model.specs.Layout.{lives}
+use Rattle.model.specs.ByRule.{Sound}
 use Rattle.model.proofs.lists.Lists.{both-true, all-cons}
 use Rattle.model.proofs.lists.Members.{either-true}
-use Rattle.model.proofs.sound.ByRule.{Span, span-of, old-last, Sound}
+use Rattle.model.proofs.sound.ByRule.{Span, span-of, old-last}
 
 module _ (l size level : ℕ) (low : l ≤ 1048574) where
   pub alive-last : (e : Entry) → entryOk l size level e ≡ true → liveAt l e ≡ lives e

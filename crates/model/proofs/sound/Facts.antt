@@ -16,9 +16,10 @@ use Rattle.model.specs.Entry.{alive, within, liveAt}
 use Rattle.model.specs.Page.{Page, isFree, pairsAt}
 use Rattle.model.specs.Store.{Store, page, last}
 use Rattle.model.specs.Walk.{heightOf, keyLimit, settings}
+use Rattle.model.specs.Inner.{In}
+use Rattle.model.specs.ByRule.{Readable, Sound, livesAt}
 use Rattle.model.proofs.lists.Lists.{both-true}
-use Rattle.model.proofs.lists.Members.{In}
-use Rattle.model.proofs.sound.ByRule.{Readable, Sound, span-of, entry-of, livesAt, used-in, high-used}
+use Rattle.model.proofs.sound.ByRule.{span-of, entry-of, used-in, high-used}
 use Rattle.model.proofs.sound.Walks.{Reach, Self, Above, last-step}
 use Rattle.model.proofs.sound.Ready.{level-used, within-of, shown-by, child-of, root, root-used, root-level, holds-all, lives-by, reached-of, reach-level, many-all}
 use Rattle.model.proofs.tree.Parents.{above-one, reach-height}

@@ -15,8 +15,9 @@ use Rattle.model.specs.Clean.{cleanFront, cleanPages, clean}
 use Rattle.model.specs.Counted.{rule8}
 use Rattle.model.specs.Inner.{lowerIn}
 use Rattle.model.specs.Judged.{lengthOk, magicOk, editionOk, brokenIn, verdict, ruled, judged}
+use Rattle.model.specs.ByRule.{Sound}
 use Rattle.model.proofs.lists.Lists.{both-true}
-use Rattle.model.proofs.sound.ByRule.{Sound, from-tests}
+use Rattle.model.proofs.sound.ByRule.{from-tests}
 
 -- ---- the lowest broken rule
 

@@ -17,9 +17,11 @@ use Rattle.model.specs.Page.{Page, isFree, pairsAt}
 use Rattle.model.specs.Store.{Store, page}
 use Rattle.model.specs.Walk.{settings, rootAt, keyLimit}
 use Rattle.model.specs.Sound.{sound}
+use Rattle.model.specs.ByRule.{Readable, Sound}
+use Rattle.model.specs.Tree.{Row, Holds}
 use Rattle.model.proofs.lists.Members.{holds-true, not-both, bool-cases}
-use Rattle.model.proofs.sound.ByRule.{Readable, Sound, from-tests}
-use Rattle.model.proofs.tree.Tree.{Row, Holds, Tree, row-le}
+use Rattle.model.proofs.sound.ByRule.{from-tests}
+use Rattle.model.proofs.tree.Tree.{Tree, row-le}
 use Rattle.model.proofs.tree.Shows.{Shows}
 use Rattle.model.proofs.sound.Ready.{shows-all}
 use Rattle.model.proofs.sound.Count.{tally, leafIn, leaves, leaves-split, tree-count}

@@ -13,12 +13,14 @@ use Rattle.model.specs.declared.Pair.{Pair}
 use Rattle.model.specs.Page.{Page, pairsAt}
 use Rattle.model.specs.Store.{Store, page}
 use Rattle.model.specs.Walk.{Seen, seenAs, seenUnder, seenBelow, spread, heightOf, keyLimit, settings}
+use Rattle.model.specs.Inner.{In}
+use Rattle.model.specs.Tree.{Row}
+use Rattle.model.specs.ByRule.{Readable, Sound, numbers}
 use Rattle.model.proofs.lists.Lists.{both-true, both-intro}
-use Rattle.model.proofs.lists.Members.{In, in-append, all-by, all-in}
-use Rattle.model.proofs.tree.Tree.{Row, Tree}
+use Rattle.model.proofs.lists.Members.{in-append, all-by, all-in}
+use Rattle.model.proofs.tree.Tree.{Tree}
 use Rattle.model.proofs.sound.Walks.{Reach, reach-self}
 use Rattle.model.proofs.tree.Nodes.{Node, reach-node}
-use Rattle.model.proofs.sound.ByRule.{Readable, Sound, numbers}
 use Rattle.model.proofs.sound.Ready.{root, root-level, root-lives, holds-all}
 use Rattle.model.proofs.tree.Parents.{Mark, mark-apart, row-marks, tree-marks, reach-height}
 

@@ -19,9 +19,9 @@ use Rattle.model.specs.Page.{Page, free, isFree, pairsAt}
 use Rattle.model.specs.Store.{Store, page}
 use Rattle.model.specs.Walk.{Seen, seen, seenAs, seenUnder, seenBelow, spread, rootAt, rootFrom, heightOf, keyLimit}
 use Rattle.model.specs.Sound.{same, reachedWell}
-use Rattle.model.specs.Inner.{Out}
-use Rattle.model.proofs.lists.Members.{In, bool-cases}
-use Rattle.model.proofs.sound.ByRule.{numbers}
+use Rattle.model.specs.Inner.{Out, In}
+use Rattle.model.specs.ByRule.{numbers}
+use Rattle.model.proofs.lists.Members.{bool-cases}
 
 -- nothing starts or ends there: in a page, in the store
 pub record QuietPage (v r : ℕ) (p : Page) : Type 0 where

@@ -20,17 +20,20 @@ use Rattle.model.specs.Store.{Store, page, next, lastOf, last}
 use Rattle.model.specs.Walk.{Around, around, rootFrom, rootAt, heightOf, settings, wayDown, Seen, seenAs, seenUnder, seen, keyLimit, lookup}
 use Rattle.model.specs.Sound.{sound, isPage, inside, keysOk, fewest, firstVersion}
 use Rattle.model.proofs.lists.Lists.{both-true, both-intro, all-cons, shorter}
-use Rattle.model.proofs.lists.Members.{holds-true, not-both, either-true, either-left, either-right, bool-cases, In, in-left, in-right, all-in, all-by, all-implies, in-map, map-in, in-those, has-in, in-has}
-use Rattle.model.proofs.sound.ByRule.{Readable, old-current, Sound, from-tests, GoodEntry, span-of, entry-of, young-of, numbers, livesAt, enough, used-in, high-used}
+use Rattle.model.proofs.lists.Members.{holds-true, not-both, either-true, either-left, either-right, bool-cases, in-left, in-right, all-in, all-by, all-implies, in-map, map-in, in-those, has-in, in-has}
+use Rattle.model.proofs.sound.ByRule.{old-current, from-tests, GoodEntry, span-of, entry-of, young-of, used-in, high-used}
 use Rattle.model.proofs.sound.Walks.{Reach, Self, reach-self, seen-reached, IsSeen, reached-under}
 use Rattle.model.proofs.older.Back.{endsWell}
 use Rattle.model.specs.Climb.{Result, refused, update}
 use Rattle.model.specs.Calls.{Rule, numbered, isSome, benchLimit, insertTests, deleteTests, rawInsert, insert, delete}
+use Rattle.model.specs.Inner.{In}
+use Rattle.model.specs.ByRule.{Readable, Sound, numbers, livesAt, enough}
+use Rattle.model.specs.Tree.{Row, Holds}
 use Rattle.model.proofs.older.Undo.{TamePage, LivePage, Next, AroundLives, WayGood, UndoReady, Undone, update-undone}
 use Rattle.model.proofs.tree.Edit.{leaf-insert, leaf-delete, length-enter, keep-all, dropped-one}
 use Rattle.model.proofs.tree.UpdateChanges.{Fit, leafPairs, Changed, update-changes}
 use Rattle.model.proofs.tree.Place.{byKey}
-use Rattle.model.proofs.tree.Tree.{Row, Holds, Tree, row-split}
+use Rattle.model.proofs.tree.Tree.{Tree, row-split}
 use Rattle.model.proofs.tree.Shows.{Tidy, Shows, Some, Touched, LastIs, HeadIs}
 use Rattle.model.proofs.tree.Climbs.{touched-tree, apart-tree}
 use Rattle.model.proofs.tree.Descend.{RouterPlace, found-in}

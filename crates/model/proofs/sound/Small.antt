@@ -17,15 +17,15 @@ use Rattle.model.specs.Page.{Page, pairsAt}
 use Rattle.model.specs.Store.{Store, page}
 use Rattle.model.specs.Walk.{keyLimit, rootAt, heightOf, settings}
 use Rattle.model.specs.Sound.{isPage}
+use Rattle.model.specs.Remade.{small}
+use Rattle.model.specs.Tree.{Row, Holds}
+use Rattle.model.specs.ByRule.{Readable, Sound}
 use Rattle.model.proofs.lists.Lists.{both-true, both-intro}
 use Rattle.model.proofs.lists.Members.{all-by, in-map, in-those}
 use Rattle.model.proofs.tree.Local.{all-append}
-use Rattle.model.proofs.tree.Tree.{Row, Holds, Tree}
-use Rattle.model.proofs.sound.ByRule.{Readable, Sound, GoodEntry, entry-of}
+use Rattle.model.proofs.tree.Tree.{Tree}
+use Rattle.model.proofs.sound.ByRule.{GoodEntry, entry-of}
 use Rattle.model.proofs.sound.Ready.{level-used, root-level, holds-all}
-
-abbrev pub small : Pair → Bool
-small x = ltb (x .key) keyLimit && ltb (x .value) 4294967296
 
 module _ (least : ℕ) (two : 2 ≤ least) (s : Store) (d : Sound least s) (v : ℕ) (f : Pair → Bool) (entry-so : (p : Page) (e : Entry) → p .level ≡ 1 → GoodEntry s p e → liveAt v e ≡ true → f (pairOf e) ≡ true) where
   abbrev ps : List Page

@@ -10,7 +10,8 @@ use Rattle.model.specs.declared.Pair.{Pair}
 use Rattle.model.specs.Page.{Page, pairsAt}
 use Rattle.model.specs.Store.{page}
 use Rattle.model.specs.Walk.{Seen, seenAs, seenUnder, seenBelow, spread}
-use Rattle.model.proofs.lists.Members.{In, in-left, in-right, in-append}
+use Rattle.model.specs.Inner.{In}
+use Rattle.model.proofs.lists.Members.{in-left, in-right, in-append}
 
 -- what a walk makes of routers, router by router
 pub record Spread {A : Type 0} (f : ℕ → ℕ → ℕ → List A) (a : A) (xs : List Pair) : Type 0 where

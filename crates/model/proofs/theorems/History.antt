@@ -21,10 +21,11 @@ use Rattle.model.specs.Calls.{rule, rawInsert, insert, delete, begin, co
 use Rattle.model.specs.Return.{Came, gave, returned}
 use Rattle.model.specs.Histories.{Call, begins, commits, abandons, inserts, deletes, returns, prunes, callBy}
 use Rattle.model.specs.Settings.{Machine, put, edited, step, Both, onward, together, fits, beginning}
+use Rattle.model.specs.ByRule.{Readable, Committed, Sound}
 use Rattle.model.proofs.lists.Lists.{all-cons}
 use Rattle.model.proofs.lists.Members.{holds-true, true-holds, not-both, bool-cases}
 use Rattle.model.proofs.tree.Local.{applied}
-use Rattle.model.proofs.sound.ByRule.{Readable, Committed, old-current, Sound, to-tests}
+use Rattle.model.proofs.sound.ByRule.{old-current, to-tests}
 use Rattle.model.proofs.tree.UpdateChanges.{Changed}
 use Rattle.model.proofs.tree.Edit.{insert-same, delete-same}
 use Rattle.model.proofs.sound.Ready.{numbered-by, insert-by, delete-by, raw-changes, delete-changes}

@@ -22,9 +22,10 @@ use Rattle.model.specs.Differ.{differ}
 use Rattle.model.specs.Return.{goes, comes, Came, gave}
 use Rattle.model.specs.Histories.{Call, begins, commits, abandons, inserts, deletes, returns, prunes, callBy}
 use Rattle.model.specs.Settings.{Machine, step, Both, onward, together, fits, Tally, nothingYet, putCount, countedBy, tallied, beginning}
+use Rattle.model.specs.ByRule.{Readable, Committed}
 use Rattle.model.proofs.lists.Lists.{all-cons}
 use Rattle.model.proofs.lists.Members.{holds-true, true-holds, not-both, bool-cases}
-use Rattle.model.proofs.sound.ByRule.{Readable, Committed, old-current, to-tests}
+use Rattle.model.proofs.sound.ByRule.{old-current, to-tests}
 use Rattle.model.proofs.sound.Ready.{numbered-by, insert-by, delete-by}
 use Rattle.model.proofs.turning.Returned.{Stepped, way, returned-by}
 use Rattle.model.proofs.turning.Prune.{prune-by}

@@ -22,10 +22,12 @@ use Rattle.model.specs.Calls.{isSome, rawInsert, insert, delete}
 use Rattle.model.specs.Return.{Came, gave, gaveUp}
 use Rattle.model.specs.Histories.{Call, callBy, after}
 use Rattle.model.specs.Settings.{Machine, onward, fits, lent}
+use Rattle.model.specs.Inner.{In}
+use Rattle.model.specs.ByRule.{Readable, Sound}
 use Rattle.model.proofs.lists.Lists.{both-true}
-use Rattle.model.proofs.lists.Members.{holds-true, true-holds, not-both, In}
+use Rattle.model.proofs.lists.Members.{holds-true, true-holds, not-both}
 use Rattle.model.proofs.tree.Edit.{lt, length-enter, keep-all, those-one}
-use Rattle.model.proofs.sound.ByRule.{Readable, old-current, Sound, from-tests, to-tests}
+use Rattle.model.proofs.sound.ByRule.{old-current, from-tests, to-tests}
 use Rattle.model.proofs.tree.UpdateChanges.{Changed, update-changes}
 use Rattle.model.proofs.sound.Walks.{seen-reached}
 use Rattle.model.proofs.sound.Ready.{insert-by, delete-by, raw-changes, fit-delete, count-of}

@@ -21,10 +21,12 @@ use Rattle.model.specs.Calls.{insert, delete, begin, abandon, abandoned,
 use Rattle.model.specs.Return.{Came, gave, gaveUp}
 use Rattle.model.specs.Histories.{Call, begins, commits, abandons, inserts, deletes, returns, prunes, callBy}
 use Rattle.model.specs.Settings.{step, Both, onward, together, fits, staysIn, inside, lent}
+use Rattle.model.specs.Inner.{In}
+use Rattle.model.specs.ByRule.{Sound}
 use Rattle.model.proofs.lists.Lists.{both-true, all-cons}
-use Rattle.model.proofs.lists.Members.{holds-true, true-holds, not-both, bool-cases, In, all-in, all-by}
+use Rattle.model.proofs.lists.Members.{holds-true, true-holds, not-both, bool-cases, all-in, all-by}
 use Rattle.model.proofs.tree.Local.{those-all}
-use Rattle.model.proofs.sound.ByRule.{Sound, from-tests, to-tests, Span, span-of, entry-of}
+use Rattle.model.proofs.sound.ByRule.{from-tests, to-tests, Span, span-of, entry-of}
 use Rattle.model.proofs.older.Undo.{Undone}
 use Rattle.model.proofs.sound.Ready.{insert-undone, delete-undone}
 use Rattle.model.proofs.turning.Turns.{store}

@@ -15,9 +15,10 @@ use Rattle.model.specs.Page.{Page, pairsAt}
 use Rattle.model.specs.Store.{page}
 use Rattle.model.specs.Sound.{keysOk, startsAt, fewest}
 use Rattle.model.specs.Walk.{Seen, seenAs, seenUnder, seenBelow, spread, below, keyLimit}
+use Rattle.model.specs.Tree.{Row, Holds, inRange}
 use Rattle.model.proofs.lists.Lists.{both-true, both-intro, all-cons}
-use Rattle.model.proofs.tree.Tree.{Row, Holds, Tree}
-use Rattle.model.proofs.tree.Local.{inRange, all-left, all-right}
+use Rattle.model.proofs.tree.Tree.{Tree}
+use Rattle.model.proofs.tree.Local.{all-left, all-right}
 use Rattle.model.proofs.tree.Shows.{Some, tree-of}
 
 abbrev pub passesAt : ℕ → Seen → Bool

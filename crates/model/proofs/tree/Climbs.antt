@@ -23,10 +23,11 @@ use Rattle.model.specs.Rules
 use Rattle.model.specs.Climb
 use Rattle.model.specs.Rules.{Group, one, retire, Rebuilt, rebuilt, short, lowKey, exchange, Worked, settled, upward, lacking, roomy, work}
 use Rattle.model.specs.Climb.{Rooted, stays, moves, lacks, goOn, climb, workRoot}
+use Rattle.model.specs.Tree.{Row, Holds, inRange}
 use Rattle.model.proofs.lists.Lists.{both-true, both-intro, all-cons}
 use Rattle.model.proofs.tree.Place.{show-changed, show-filled}
-use Rattle.model.proofs.tree.Tree.{Row, Holds, Tree, Away, unused, frame, frame-row, row-append, row-split, row-keys, row-le}
-use Rattle.model.proofs.tree.Local.{applied, applied-between, inRange, holds-append}
+use Rattle.model.proofs.tree.Tree.{Tree, Away, unused, frame, frame-row, row-append, row-split, row-keys, row-le}
+use Rattle.model.proofs.tree.Local.{applied, applied-between, holds-append}
 use Rattle.model.proofs.tree.Shows.{in-list, Touched, spare, inside, touch-beside, touch-above, LastIs, HeadIs, Company, Tidy, Standing, ParentPlace, Top, Way, way-left, Shows, Some, settle}
 use Rattle.model.proofs.tree.GroupShows.{Olds, lone, twin, Moved, moved-set, moved-under, Raised, Uses, RebuiltShows, raise-by}
 use Rattle.model.proofs.tree.Numbers.{Member, Members, moved-retire, length-retire, uses-usable, apart-usable, Unlike, Frees, frees-all}

@@ -13,7 +13,8 @@ use Rattle.model.specs.declared.Pair.{Pair}
 use Rattle.model.specs.Page.{Page, pairsAt}
 use Rattle.model.specs.Store.{page}
 use Rattle.model.specs.Walk.{Around, aroundFrom, around, wayDown}
-use Rattle.model.proofs.tree.Tree.{Says, Row, LeafHolds, Holds, Tree, row-append}
+use Rattle.model.specs.Tree.{Says, Row, LeafHolds, Holds}
+use Rattle.model.proofs.tree.Tree.{Tree, row-append}
 use Rattle.model.proofs.tree.Shows.{LastIs, HeadIs, Company, Tidy, Standing, Touched, inside, Way, Some}
 
 -- the place of k among routers

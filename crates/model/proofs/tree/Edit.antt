@@ -13,9 +13,9 @@ use Rattle.model.specs.Basic.{all, those, keep, has, pick, inOrder}
 use Rattle.model.specs.declared.Pair.{Pair}
 use Rattle.model.specs.Entry.{pair, within, placed, enterPair}
 use Rattle.model.specs.Walk.{find}
+use Rattle.model.specs.Tree.{LeafHolds, inRange}
 use Rattle.model.proofs.lists.Lists.{both-true, both-intro, all-cons}
-use Rattle.model.proofs.tree.Tree.{LeafHolds}
-use Rattle.model.proofs.tree.Local.{applied, inRange}
+use Rattle.model.proofs.tree.Local.{applied}
 
 all-enterPair : (f : Pair → Bool) (p : Pair) → f p ≡ true → (us : List Pair) → all f us ≡ true → all f (enterPair p us) ≡ true
 all-enterPair f p y [] ok = both-intro (f p) true y refl

@@ -18,8 +18,9 @@ use Rattle.model.specs.Store.{page, freeFrom, freeOnes}
 use Rattle.model.specs.Walk.{keyLimit}
 use Rattle.model.specs.Rules
 use Rattle.model.specs.Rules.{retire, usable, Rebuilt, rebuilt, short, lowKey}
+use Rattle.model.specs.Inner.{In}
 use Rattle.model.proofs.lists.Lists.{both-true, both-intro, all-cons}
-use Rattle.model.proofs.lists.Members.{In, in-append, in-those}
+use Rattle.model.proofs.lists.Members.{in-append, in-those}
 use Rattle.model.proofs.tree.Local.{all-left, all-right}
 use Rattle.model.proofs.tree.Edit.{lt}
 use Rattle.model.proofs.tree.Shows.{same?}

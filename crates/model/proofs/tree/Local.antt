@@ -12,16 +12,14 @@ use Rattle.model.specs.Basic.{all, has, those, keep, inOrder}
 use Rattle.model.specs.declared.Pair.{Pair}
 use Rattle.model.specs.Entry.{within, placed, enterPair}
 use Rattle.model.specs.Page.{Page, Change, enterAll}
+use Rattle.model.specs.Tree.{inRange, Row, Holds}
 use Rattle.model.specs.Rules
 use Rattle.model.specs.Rules.{samePair}
 use Rattle.model.proofs.lists.Lists.{both-true, both-intro, all-cons}
-use Rattle.model.proofs.tree.Tree.{Row, Holds, Tree, widen, row-append, row-split, row-keys}
+use Rattle.model.proofs.tree.Tree.{Tree, widen, row-append, row-split, row-keys}
 
 abbrev pub applied : Change → List Pair → List Pair
 applied c xs = enterAll (c .take) (those (λ (x : Pair). not (has (x .key) (c .drop))) xs)
-
-abbrev pub inRange : ℕ → ℕ → List Pair → Bool
-inRange lo hi xs = all (λ (x : Pair). within lo hi (x .key)) xs
 
 module _ {A : Type 0} where
   pub those-append : (f : A → Bool) (xs ys : List A) → those f (xs ++ ys) ≡ those f xs ++ those f ys

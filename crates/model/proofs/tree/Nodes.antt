@@ -15,9 +15,11 @@ use Rattle.model.specs.Page.{Page, pairsAt}
 use Rattle.model.specs.Store.{page}
 use Rattle.model.specs.Sound.{startsAt, fewest}
 use Rattle.model.specs.Walk.{Seen, seenAs, seenUnder, seenBelow, spread, keyLimit}
+use Rattle.model.specs.Inner.{In}
+use Rattle.model.specs.Tree.{Row, Holds}
 use Rattle.model.proofs.lists.Lists.{both-intro}
-use Rattle.model.proofs.lists.Members.{In, either-left, either-right}
-use Rattle.model.proofs.tree.Tree.{Row, Holds, Tree}
+use Rattle.model.proofs.lists.Members.{either-left, either-right}
+use Rattle.model.proofs.tree.Tree.{Tree}
 use Rattle.model.proofs.tree.Local.{holds-keys, all-append}
 use Rattle.model.proofs.tree.Shows.{RootFair}
 use Rattle.model.proofs.tree.Bridge.{passesAt}

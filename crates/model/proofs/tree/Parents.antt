@@ -8,8 +8,9 @@ use mathlib.Core.List.{List, [], _∷_}
 use Rattle.model.specs.declared.Pair.{Pair}
 use Rattle.model.specs.Page.{Page, pairsAt}
 use Rattle.model.specs.Store.{page}
-use Rattle.model.proofs.lists.Members.{In}
-use Rattle.model.proofs.tree.Tree.{Row, Holds, Tree, row-le}
+use Rattle.model.specs.Inner.{In}
+use Rattle.model.specs.Tree.{Row, Holds}
+use Rattle.model.proofs.tree.Tree.{Tree, row-le}
 use Rattle.model.proofs.sound.Walks.{Reach, Self, Deeper, Above, reach-self, reach-on}
 use Rattle.model.proofs.tree.Nodes.{row-in}
 

@@ -19,10 +19,11 @@ use Rattle.model.specs.Page.{Page, Change, free, pairsAt, wanted, change
 use Rattle.model.specs.Store.{page}
 use Rattle.model.specs.Sound.{fewest}
 use Rattle.model.specs.Walk.{Around, keyLimit}
+use Rattle.model.specs.Tree.{Fair, Row, Holds, inRange}
 use Rattle.model.proofs.lists.Lists.{both-true, all-cons}
 use Rattle.model.proofs.tree.Place.{byKey, show-changed}
-use Rattle.model.proofs.tree.Tree.{Fair, Row, Holds, Tree, Away, unused, higher, elsewhere, Left, frame, frame-row, row-append, row-le}
-use Rattle.model.proofs.tree.Local.{inRange, holds-keys}
+use Rattle.model.proofs.tree.Tree.{Tree, Away, unused, higher, elsewhere, Left, frame, frame-row, row-append, row-le}
+use Rattle.model.proofs.tree.Local.{holds-keys}
 
 -- the page list after a store
 pub in-list : (ps : List Page) (n l : ℕ) → page ps n .level ≡ suc l → n < length ps

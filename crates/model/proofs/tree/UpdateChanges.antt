@@ -18,8 +18,9 @@ use Rattle.model.specs.Walk.{Around, rootFrom, rootAt, below, heightOf, 
 use Rattle.model.specs.Climb
 use Rattle.model.specs.Rules.{roomy}
 use Rattle.model.specs.Climb.{Rooted, stays, moves, lacks, Result, done, refused, update}
-use Rattle.model.proofs.tree.Tree.{Row, LeafHolds, Holds, Tree, widen, row-le, holds-below}
-use Rattle.model.proofs.tree.Local.{applied, applied-between, inRange, all-append}
+use Rattle.model.specs.Tree.{Row, LeafHolds, Holds, inRange}
+use Rattle.model.proofs.tree.Tree.{Tree, widen, row-le, holds-below}
+use Rattle.model.proofs.tree.Local.{applied, applied-between, all-append}
 use Rattle.model.proofs.tree.Shows.{Way, Shows, Some, Tidy}
 use Rattle.model.proofs.tree.Climbs.{Pending, Anchor, RootedShows, climb-shows, standing-lives, nearly-by}
 use Rattle.model.proofs.tree.Descend.{LeadsDown, LeafAnchor, descend}

@@ -19,10 +19,12 @@ use Rattle.model.specs.Store.{Store, page, next, last}
 use Rattle.model.specs.Walk.{rootAt, heightOf, Seen, seen}
 use Rattle.model.specs.Sound.{isPage, entryOk, inside, liesWell, keysOk}
 use Rattle.model.specs.Calls.{revivedEnd, revived, restoredEntries, restored, backBy, back}
+use Rattle.model.specs.Inner.{In}
+use Rattle.model.specs.ByRule.{Readable, Sound, GoodPage, spansWell, livesAt, enough}
 use Rattle.model.proofs.lists.Lists.{both-true, both-intro}
-use Rattle.model.proofs.lists.Members.{not-both, either-true, either-left, either-right, In, all-in, all-by, in-map, in-those}
+use Rattle.model.proofs.lists.Members.{not-both, either-true, either-left, either-right, all-in, all-by, in-map, in-those}
 use Rattle.model.proofs.older.Old.{old-none}
-use Rattle.model.proofs.sound.ByRule.{Readable, old-current, Sound, GoodPage, GoodEntry, Span, span-of, of-span, entry-of, ok-entry, Spoken, leadsIfSpoken, rule7-shut, spansWell, livesAt, enough}
+use Rattle.model.proofs.sound.ByRule.{old-current, GoodEntry, Span, span-of, of-span, entry-of, ok-entry, Spoken, leadsIfSpoken, rule7-shut}
 use Rattle.model.proofs.sound.Ready.{tame-all, limit, last-is, root-used, root-lives}
 use Rattle.model.proofs.older.Past.{back-lives, back-level, stands, root-kept, those-rise, those-all-of, those-first, kept-newer}
 use Rattle.model.proofs.reading.Alike.{Alike, alike-seen}

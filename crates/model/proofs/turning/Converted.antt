@@ -17,10 +17,11 @@ use Rattle.model.specs.Calls.{begin, committed}
 use Rattle.model.specs.Differ.{differ}
 use Rattle.model.specs.Return.{Ran, reached, stopped, orStopped, andOn, carried, Came, gave, gaveUp, lacking}
 use Rattle.model.specs.Convert.{replayed, replay, orFresh, converted}
+use Rattle.model.specs.Remade.{Upto, small}
+use Rattle.model.specs.ByRule.{Sound}
 use Rattle.model.proofs.lists.Members.{bool-cases}
-use Rattle.model.proofs.sound.ByRule.{Sound}
 use Rattle.model.proofs.reading.Lookups.{settings-rise}
-use Rattle.model.proofs.sound.Small.{small, settings-small, none-at-first}
+use Rattle.model.proofs.sound.Small.{settings-small, none-at-first}
 use Rattle.model.proofs.reading.Alike.{alike-settings}
 use Rattle.model.proofs.turning.Turns.{store, commit-sound, begin-sound, begin-shows, fresh-sound, fresh-shows}
 use Rattle.model.proofs.turning.Remade.{Way, the-way}
@@ -36,14 +37,6 @@ current-last s = at (s .opened)
     at : (b : Bool) → s .current ≤ lastOf b (s .current)
     at true = omega arith
     at false = omega arith
-
--- the target when version v of the source is replayed
-pub record Upto (least : ℕ) (s : Store) (v : ℕ) (t : Store) : Type 0 where
-  pub is-sound : Sound least t
-  pub closed : t .opened ≡ false
-  pub current : t .current ≡ v
-  pub oldest : t .oldest ≡ 0
-  pub same : (u : ℕ) → u ≤ v → settings t u ≡ settings s u
 
 -- what a replay up to v comes to
 abbrev pub Replays : ℕ → Store → ℕ → Ran → Type 0

@@ -16,10 +16,11 @@ use Rattle.model.specs.Calls.{rule, firstOf}
 use Rattle.model.specs.Return.{Came, Ran, reached, stopped, lacking}
 use Rattle.model.specs.Lent.{Outcome, judgedFirst, leftBy}
 use Rattle.model.specs.Convert.{replay, converted, convertTests, convertLent}
+use Rattle.model.specs.ByRule.{Sound}
+use Rattle.model.specs.Remade.{Upto}
 use Rattle.model.proofs.lists.Lists.{both-true}
-use Rattle.model.proofs.sound.ByRule.{Sound}
 use Rattle.model.proofs.sound.Judging.{accepted, accepted-sound}
-use Rattle.model.proofs.turning.Converted.{Upto, converted-by}
+use Rattle.model.proofs.turning.Converted.{converted-by}
 
 -- what is known of source and target where no test holds
 pub record TestsPassed (b t : List ℕ) : Type 0 where

@@ -19,9 +19,11 @@ use Rattle.model.specs.Walk.{rootFrom, rootAt, Seen, seen}
 use Rattle.model.specs.Sound.{isPage, entryOk, inside, liesWell, keysOk, firstVersion}
 use Rattle.model.specs.Calls.{rule, pruneTests, prunedPage, needed, pruned, prune}
 use Rattle.model.specs.Climb.{Result, done, refused}
+use Rattle.model.specs.Inner.{In}
+use Rattle.model.specs.ByRule.{Readable, Sound, GoodPage, spansWell, livesAt, enough}
 use Rattle.model.proofs.lists.Lists.{both-true, both-intro}
-use Rattle.model.proofs.lists.Members.{not-both, either-true, either-left, either-right, bool-cases, In, all-in, all-by}
-use Rattle.model.proofs.sound.ByRule.{Readable, kept-of, Sound, GoodPage, GoodEntry, entry-of, ok-entry, Spoken, leadsIfSpoken, rule7-shut, spansWell, livesAt, enough}
+use Rattle.model.proofs.lists.Members.{not-both, either-true, either-left, either-right, bool-cases, all-in, all-by}
+use Rattle.model.proofs.sound.ByRule.{kept-of, GoodEntry, entry-of, ok-entry, Spoken, leadsIfSpoken, rule7-shut}
 use Rattle.model.proofs.sound.Ready.{numbered-by, root-used, root-lives, within-of}
 use Rattle.model.proofs.older.Past.{bySlot, stands}
 use Rattle.model.proofs.reading.Alike.{Alike, alike-seen}

@@ -22,10 +22,13 @@ use Rattle.model.specs.Climb.{Result, done, refused, update}
 use Rattle.model.specs.Calls.{isSome, rule, numbered, firstOf, beyond, rawInsert, delete, abandoned}
 use Rattle.model.specs.Differ.{added, differ}
 use Rattle.model.specs.Return.{goes, comes, endOne, setOne, Ran, reached, stopped, orStopped, through, andOn, carried, Came, gave, gaveUp, lacking, orAbandoned, returnTests, unless, returned}
+use Rattle.model.specs.ByRule.{Readable, Committed, Sound}
+use Rattle.model.specs.Remade
+use Rattle.model.specs.Remade.{small, ended, asked}
 use Rattle.model.proofs.lists.Lists.{both-true}
 use Rattle.model.proofs.lists.Members.{true-holds}
 use Rattle.model.proofs.tree.Local.{applied}
-use Rattle.model.proofs.sound.ByRule.{Readable, Committed, kept-of, old-current, Sound, to-tests}
+use Rattle.model.proofs.sound.ByRule.{kept-of, old-current, to-tests}
 use Rattle.model.proofs.tree.Edit.{insert-same, delete-same}
 use Rattle.model.proofs.older.Undo.{Undone}
 use Rattle.model.proofs.tree.UpdateChanges.{Changed}
@@ -33,10 +36,9 @@ use Rattle.model.proofs.sound.Ready.{raw-undone, raw-changes, delete-un
 use Rattle.model.proofs.reading.Lookups.{lookup-is, settings-rise}
 use Rattle.model.proofs.kept.Preserve.{Sounds, raw-keeps, delete-keeps}
 use Rattle.model.proofs.reading.Alike.{Alike, alike-self, alike-trans, alike-settings}
-use Rattle.model.proofs.sound.Small.{small, settings-small}
+use Rattle.model.proofs.sound.Small.{settings-small}
 use Rattle.model.proofs.kept.Stops.{is-lacking, Ends, update-ends}
-use Rattle.model.proofs.turning.Remade
-use Rattle.model.proofs.turning.Remade.{ended, asked, Way, the-way}
+use Rattle.model.proofs.turning.Remade.{Way, the-way}
 
 module _ (least : ℕ) where
   -- steps at the open version have made t of s, and the open version shows us

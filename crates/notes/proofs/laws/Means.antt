@@ -15,9 +15,9 @@ use Rattle.model.specs.Page.{Page, pairsAt}
 use Rattle.model.specs.Store.{page}
 use Rattle.model.specs.Walk.{Seen, seenUnder, seenBelow, spread}
 use Rattle.model.specs.Sound.{keysOk, startsAt}
+use Rattle.model.specs.ByRule.{enough}
 use Rattle.model.proofs.lists.Lists.{both-true, both-intro, all-cons}
 use Rattle.model.proofs.lists.Rising.{rising, lower, lower-carries, in-order-rising}
-use Rattle.model.proofs.sound.ByRule.{enough}
 use Rattle.notes.specs.declared.Note.{Note}
 use Rattle.notes.specs.Notes.{nothing, lowFine, fits, filled, joinedIf, joins, waits, stepIf, row, noteAt}
 use Rattle.notes.proofs.laws.Laws.{row-bad, wrong}

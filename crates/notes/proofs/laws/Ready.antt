@@ -16,8 +16,7 @@ use Rattle.model.specs.Sound.{versions}
 use Rattle.model.specs.Store.{lastOf}
 use Rattle.model.specs.Walk.{rootAt, rootFrom}
 use Rattle.model.specs.Layout.{readSlot, readSlots, readHeader, decode}
-use Rattle.model.specs.Inner.{Out}
-use Rattle.model.proofs.lists.Members.{In}
+use Rattle.model.specs.Inner.{Out, In}
 use Rattle.model.proofs.sound.Quiet.{root-still}
 use Rattle.store.proofs.laws.Read.{slots-step, slots-end, slots-of, oldest-of}
 use Rattle.local.specs.Local.{slotAt}

@@ -19,10 +19,11 @@ use Rattle.model.specs.Store.{Store, page, last}
 use Rattle.model.specs.Walk.{Seen, seen}
 use Rattle.model.specs.Sound.{pagesPass, versions, keysOk, fewest, reachedWell, rule1, rule2, rule3, rule4, rule5, rule6}
 use Rattle.spans.specs.Quick.{kept, apart, childrenFine, slotsFine, fineOver, ledTo, spansMet, quick}
-use Rattle.model.specs.Inner.{Out}
+use Rattle.model.specs.Inner.{Out, In}
+use Rattle.model.specs.ByRule.{Readable, numbers, livesAt, enough}
 use Rattle.model.proofs.lists.Lists.{both-true, both-intro}
-use Rattle.model.proofs.lists.Members.{bool-cases, In, all-in, all-by}
-use Rattle.model.proofs.sound.ByRule.{Readable, old-last, Front, front-of, span-of, numbers, livesAt, enough, used-in, high-used}
+use Rattle.model.proofs.lists.Members.{bool-cases, all-in, all-by}
+use Rattle.model.proofs.sound.ByRule.{old-last, Front, front-of, span-of, used-in, high-used}
 use Rattle.model.proofs.sound.ByRule.{at-reached, version-in, in-version}
 use Rattle.model.proofs.sound.Quiet.{QuietPage, Quiet, seen-still}
 use Rattle.model.proofs.tree.Bridge.{passesAt}

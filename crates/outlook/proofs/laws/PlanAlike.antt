@@ -20,8 +20,8 @@ use Rattle.model.specs.Walk.{Around}
 use Rattle.model.specs.Rules
 use Rattle.model.specs.Rules.{Group, lowKey, samePair, exchange, routersTo, roomy}
 use Rattle.model.specs.Needs.{fills, takesInPlace, groupAt, goes}
+use Rattle.model.specs.Inner.{In}
 use Rattle.outlook.specs.Plan.{rootFills}
-use Rattle.model.proofs.lists.Members.{In}
 
 abbrev pub keysOf : List Pair → List ℕ
 keysOf xs = map (λ (x : Pair). x .key) xs

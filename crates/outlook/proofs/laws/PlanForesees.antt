@@ -22,9 +22,10 @@ use Rattle.model.specs.Climb
 use Rattle.model.specs.Rules.{Group, Rebuilt, rebuilt, short, usable, routersTo, exchange, roomy, Worked, settled, upward, lacking, work}
 use Rattle.model.specs.Climb.{goOn, workRoot, climb}
 use Rattle.model.specs.Needs.{fills, actives, takesInPlace}
+use Rattle.model.specs.Inner.{In}
 use Rattle.outlook.specs.Plan
 use Rattle.outlook.specs.Plan.{untaken, Planned, settles, rises, fails, planGroup, planWork, Outlook, rootFills, planRoot, planOn, planUp, outlookOf}
-use Rattle.model.proofs.lists.Members.{In, map-in}
+use Rattle.model.proofs.lists.Members.{map-in}
 use Rattle.model.proofs.tree.GroupPages.{in-frees}
 use Rattle.model.proofs.older.Undo.{TamePage, UndoFine, LivePage, Next, AroundLives, WayGood, WorkedFine, work-fine, keep-way}
 use Rattle.model.proofs.needs.FreePages.{frees, Pages, lone, member-at, usable-count, sizeOf, fills-size, Counted, rebuilt-counts, High, Highs, gather-pages}

@@ -19,8 +19,9 @@ use Rattle.outlook.specs.Plan
 use Rattle.model.specs.Needs.{slotLeft}
 use Rattle.outlook.specs.Plan.{outlook, plan, outlookOf, numberOf, outlookNumber}
 use Rattle.model.specs.Sound.{sound}
+use Rattle.model.specs.ByRule.{Sound}
 use Rattle.model.proofs.lists.Members.{holds-true}
-use Rattle.model.proofs.sound.ByRule.{Sound, from-tests, high-used}
+use Rattle.model.proofs.sound.ByRule.{from-tests, high-used}
 use Rattle.model.proofs.sound.Ready.{level-used, ready}
 use Rattle.model.proofs.older.Undo.{LivePage, Next, WayGood}
 use Rattle.outlook.proofs.laws.PlanAlike.{alike-refl}

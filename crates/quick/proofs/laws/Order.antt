@@ -12,9 +12,10 @@ use Rattle.model.specs.declared.Entry.{Entry}
 use Rattle.model.specs.Basic.{all, inOrder}
 use Rattle.model.specs.Entry.{before}
 use Rattle.model.specs.Layout.{readEntry, readEntries}
+use Rattle.model.specs.Inner.{In}
 use Rattle.spans.specs.Quick.{meets, lowOver}
 use Rattle.model.proofs.lists.Lists.{both-true, both-intro}
-use Rattle.model.proofs.lists.Members.{In, either-true, all-in, all-by}
+use Rattle.model.proofs.lists.Members.{either-true, all-in, all-by}
 use Rattle.page.proofs.laws.Read.{entries-step}
 use Rattle.quick.specs.Part.{highOver}
 

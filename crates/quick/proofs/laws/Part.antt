@@ -14,9 +14,9 @@ use Rattle.model.specs.Basic.{all, those, keep, pick, inOrder}
 use Rattle.model.specs.Entry.{before}
 use Rattle.model.specs.Layout.{readEntry, readEntries, decodePage}
 use Rattle.spans.specs.Quick.{past, pastAll, kept, apart, lowOver, keyOver, manyOver, fineOver}
-use Rattle.model.specs.Inner.{firstOk}
+use Rattle.model.specs.Inner.{firstOk, In}
 use Rattle.model.proofs.lists.Lists.{both-true}
-use Rattle.model.proofs.lists.Members.{In, in-those}
+use Rattle.model.proofs.lists.Members.{in-those}
 use Rattle.spans.proofs.laws.Neighbours.{apart-neighbours}
 use Rattle.spans.proofs.laws.Stretches.{kept-order}
 use Rattle.page.specs.declared.Head.{Head}

@@ -9,8 +9,7 @@ use Rattle.model.specs.declared.Entry.{Entry}
 use Rattle.model.specs.Page.{pairsAt}
 use Rattle.model.specs.Store.{page}
 use Rattle.model.specs.Layout.{readEntry, readEntries, pageOf, decodePage, decode}
-use Rattle.model.specs.Inner.{Out}
-use Rattle.model.proofs.lists.Members.{In}
+use Rattle.model.specs.Inner.{Out, In}
 use Rattle.model.proofs.sound.Quiet.{QuietPage, pairs-still}
 use Rattle.page.specs.Head.{readHead}
 use Rattle.page.proofs.laws.Read.{start-of, end-of, entries-of}

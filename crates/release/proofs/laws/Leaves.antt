@@ -16,12 +16,12 @@ use Rattle.model.specs.Entry.{pair, pairOf, liveAt}
 use Rattle.model.specs.Page.{Page, pairsAt}
 use Rattle.model.specs.Store.{Store, page}
 use Rattle.model.specs.Walk.{find, below, heightOf, rootAt, settings}
-use Rattle.model.specs.Inner.{rising}
+use Rattle.model.specs.Inner.{rising, In}
+use Rattle.model.specs.ByRule.{Readable, Sound}
 use Rattle.model.proofs.lists.Lists.{both-true}
-use Rattle.model.proofs.lists.Members.{In, in-left, in-right, those-in, map-in, all-in}
+use Rattle.model.proofs.lists.Members.{in-left, in-right, those-in, map-in, all-in}
 use Rattle.model.proofs.sound.Once.{in-flat}
 use Rattle.model.proofs.sound.Walks.{Reach}
-use Rattle.model.proofs.sound.ByRule.{Readable, Sound}
 use Rattle.model.proofs.sound.Ready.{level-used, shown-by, root-level, lives-by, reached-of, reach-level}
 use Rattle.model.proofs.reading.Lookups.{settings-rise}
 

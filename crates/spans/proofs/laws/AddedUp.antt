@@ -17,10 +17,12 @@ use Rattle.model.specs.Entry.{alive, within}
 use Rattle.model.specs.Page.{Page, free, isFree}
 use Rattle.model.specs.Store.{Store, page}
 use Rattle.model.specs.Walk.{Seen, seen, seenUnder, keyLimit}
+use Rattle.model.specs.Inner.{In}
+use Rattle.model.specs.ByRule.{livesAt, numbers}
 use Rattle.spans.specs.Quick.{upto, slotFine, slotsFine, ledTo, spansMet}
 use Rattle.model.proofs.lists.Lists.{both-true, both-intro}
-use Rattle.model.proofs.lists.Members.{not-both, either-true, either-left, either-right, bool-cases, In, in-map, map-in, has-in, in-has}
-use Rattle.model.proofs.sound.ByRule.{Front, livesAt, numbers}
+use Rattle.model.proofs.lists.Members.{not-both, either-true, either-left, either-right, bool-cases, in-map, map-in, has-in, in-has}
+use Rattle.model.proofs.sound.ByRule.{Front}
 use Rattle.model.proofs.sound.Walks.{Reach, Self, Above, reach-self, last-step, seen-reached, IsSeen, reached-under}
 use Rattle.model.proofs.tree.Bridge.{passesAt}
 use Rattle.model.proofs.sound.Ready.{level-used, within-of}

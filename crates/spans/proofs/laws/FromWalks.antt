@@ -18,13 +18,15 @@ use Rattle.model.specs.Page.{Page, isFree, pairsAt}
 use Rattle.model.specs.Store.{Store, page, last}
 use Rattle.model.specs.Walk.{Seen, seen, seenAs, seenUnder, rootAt, rootFrom, keyLimit, settings}
 use Rattle.model.specs.Sound.{keysOk, fewest}
-use Rattle.model.specs.Inner.{sooner}
+use Rattle.model.specs.Inner.{sooner, In}
+use Rattle.model.specs.ByRule.{livesAt}
+use Rattle.model.specs.Tree.{Row, Holds, inRange}
 use Rattle.spans.specs.Quick.{kept, apart, keyOver, fineOver, under, routersFine, childrenFine, upto, slotFine, slotsFine, ledTo}
 use Rattle.model.proofs.lists.Lists.{both-true, both-intro, all-cons}
-use Rattle.model.proofs.lists.Members.{either-left, either-right, In, all-in}
-use Rattle.model.proofs.sound.ByRule.{Front, old-last, livesAt, used-in, high-used}
-use Rattle.model.proofs.tree.Tree.{Row, Holds, Tree, row-keys, row-le}
-use Rattle.model.proofs.tree.Local.{inRange, holds-keys}
+use Rattle.model.proofs.lists.Members.{either-left, either-right, all-in}
+use Rattle.model.proofs.sound.ByRule.{Front, old-last, used-in, high-used}
+use Rattle.model.proofs.tree.Tree.{Tree, row-keys, row-le}
+use Rattle.model.proofs.tree.Local.{holds-keys}
 use Rattle.model.proofs.tree.Nodes.{Node, reach-node}
 use Rattle.model.proofs.kept.WayUp.{holds-order}
 use Rattle.model.proofs.tree.Bridge.{passesAt}

@@ -14,9 +14,10 @@ use Rattle.model.specs.declared.Entry.{Entry}
 use Rattle.model.specs.Entry.{pairOf, liveAt}
 use Rattle.model.specs.Page.{Page, pairsAt}
 use Rattle.model.specs.Store.{page}
+use Rattle.model.specs.Inner.{In}
 use Rattle.spans.specs.Quick.{past, pastAll, lastFine, lasts, under, nextFine, nexts}
 use Rattle.model.proofs.lists.Lists.{both-true, both-intro}
-use Rattle.model.proofs.lists.Members.{either-true, either-right, bool-cases, In}
+use Rattle.model.proofs.lists.Members.{either-true, either-right, bool-cases}
 use Rattle.spans.proofs.laws.Stretches.{livePairs, Alive, alive-of, shows-of, of-shows, given-meets, to-meets, past-more, past-all-more, past-not, past-all-live}
 
 abbrev pub AllUnder : ℕ → List Pair → Type 0

@@ -19,10 +19,11 @@ use Rattle.model.specs.Store.{Store, page}
 use Rattle.model.specs.Walk.{seen, rootAt, rootFrom, keyLimit, settings}
 use Rattle.model.specs.Sound.{firstVersion}
 use Rattle.spans.specs.Quick.{upto}
-use Rattle.model.specs.Inner.{sooner}
+use Rattle.model.specs.Inner.{sooner, In}
+use Rattle.model.specs.ByRule.{livesAt}
 use Rattle.model.proofs.lists.Lists.{both-true}
-use Rattle.model.proofs.lists.Members.{bool-cases, In}
-use Rattle.model.proofs.sound.ByRule.{Front, livesAt}
+use Rattle.model.proofs.lists.Members.{bool-cases}
+use Rattle.model.proofs.sound.ByRule.{Front}
 use Rattle.model.proofs.sound.Walks.{Reach, Self, Above, reach-on, last-step}
 use Rattle.model.proofs.tree.Nodes.{reach-node}
 use Rattle.model.proofs.kept.WayUp.{holds-order}

@@ -18,10 +18,11 @@ use Rattle.model.specs.Store.{Store, page, last}
 use Rattle.model.specs.Walk.{Seen, seen}
 use Rattle.model.specs.Sound.{pagesPass, versions, keysOk, reachedWell, sound, rule1, rule2, rule3, rule4, rule5, rule6, rule7}
 use Rattle.spans.specs.Quick.{kept, apart, childrenFine, slotsFine, ledTo, spansMet, quick, quickSound}
-use Rattle.model.specs.Inner.{Out}
+use Rattle.model.specs.Inner.{Out, In}
+use Rattle.model.specs.ByRule.{numbers, livesAt, enough, Readable}
 use Rattle.model.proofs.lists.Lists.{both-true, both-intro}
-use Rattle.model.proofs.lists.Members.{bool-cases, In, all-in, all-by, all-implies}
-use Rattle.model.proofs.sound.ByRule.{Front, front-of, span-of, numbers, livesAt, enough, used-in, high-used, passes-at, at-passes, reached-at, at-reached, Readable, old-last, version-in, in-version}
+use Rattle.model.proofs.lists.Members.{bool-cases, all-in, all-by, all-implies}
+use Rattle.model.proofs.sound.ByRule.{Front, front-of, span-of, used-in, high-used, passes-at, at-passes, reached-at, at-reached, old-last, version-in, in-version}
 use Rattle.model.proofs.sound.Quiet.{QuietPage, Quiet, seen-still, reached-still}
 use Rattle.model.proofs.tree.Bridge.{passesAt}
 use Rattle.model.proofs.sound.Walks.{reach-self}

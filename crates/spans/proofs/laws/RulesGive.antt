@@ -16,10 +16,12 @@ use Rattle.model.specs.Page.{Page, isFree, pairsAt}
 use Rattle.model.specs.Store.{Store, page, last}
 use Rattle.model.specs.Walk.{seen, rootAt, heightOf, keyLimit, settings}
 use Rattle.model.specs.Sound.{inside, liesWell}
+use Rattle.model.specs.Inner.{In}
+use Rattle.model.specs.ByRule.{livesAt}
+use Rattle.model.specs.Tree.{Holds}
 use Rattle.model.proofs.lists.Lists.{both-true, both-intro}
-use Rattle.model.proofs.lists.Members.{either-true, In, all-in, all-by}
-use Rattle.model.proofs.sound.ByRule.{Front, GoodEntry, span-of, livesAt, entry-ok}
-use Rattle.model.proofs.tree.Tree.{Holds}
+use Rattle.model.proofs.lists.Members.{either-true, all-in, all-by}
+use Rattle.model.proofs.sound.ByRule.{Front, GoodEntry, span-of, entry-ok}
 use Rattle.model.proofs.sound.Walks.{Reach}
 use Rattle.model.proofs.sound.Ready.{root-is, used-level, level-used, of-within, Child}
 use Rattle.model.proofs.tree.Bridge.{passesAt, root-passes}

@@ -19,8 +19,9 @@ use Rattle.model.specs.Page.{Page, isFree, pairsAt}
 use Rattle.model.specs.Store.{Store, page}
 use Rattle.model.specs.Walk.{seen, seenAs, seenUnder, seenBelow, spread, keyLimit}
 use Rattle.model.specs.Sound.{keysOk, startsAt}
+use Rattle.model.specs.Inner.{In}
 use Rattle.model.proofs.lists.Lists.{both-true, both-intro, all-cons}
-use Rattle.model.proofs.lists.Members.{In, bool-cases, not-both}
+use Rattle.model.proofs.lists.Members.{bool-cases, not-both}
 use Rattle.model.proofs.tree.Local.{all-left, all-right}
 use Rattle.model.proofs.sound.ByRule.{Front}
 use Rattle.model.proofs.tree.Shows.{in-list}

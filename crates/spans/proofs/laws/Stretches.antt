@@ -13,10 +13,11 @@ use Rattle.model.specs.Basic.{all, those, keep, pick, inOrder}
 use Rattle.model.specs.declared.Pair.{Pair}
 use Rattle.model.specs.declared.Entry.{Entry}
 use Rattle.model.specs.Entry.{pairOf, liveAt, before}
+use Rattle.model.specs.Inner.{In}
 use Rattle.spans.specs.Quick.{meets, past, pastAll, kept, apart, lowOver, keyOver, liveCount, manyOver}
 use Rattle.model.proofs.lists.Lists.{both-true, both-intro}
 use Rattle.model.proofs.lists.Rising.{lower}
-use Rattle.model.proofs.lists.Members.{not-both, either-true, either-left, either-right, bool-cases, In, all-in, all-by, in-those, those-in, in-map, map-in}
+use Rattle.model.proofs.lists.Members.{not-both, either-true, either-left, either-right, bool-cases, all-in, all-by, in-those, those-in, in-map, map-in}
 
 -- the pairs alive at v
 abbrev pub livePairs : ℕ → List Entry → List Pair

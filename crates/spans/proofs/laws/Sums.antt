@@ -15,9 +15,10 @@ use Rattle.model.specs.declared.Entry.{Entry}
 use Rattle.model.specs.declared.Slot.{Slot}
 use Rattle.model.specs.Entry.{within, liveAt, pairOf}
 use Rattle.model.specs.Page.{Page, pairsAt}
+use Rattle.model.specs.Inner.{In}
 use Rattle.spans.specs.Quick.{upto, routed, routedAll, rooted}
 use Rattle.model.proofs.lists.Lists.{both-true}
-use Rattle.model.proofs.lists.Members.{bool-cases, In, all-in}
+use Rattle.model.proofs.lists.Members.{bool-cases, all-in}
 use Rattle.spans.proofs.laws.Stretches.{livePairs, rising}
 
 -- f added up over k versions from a on

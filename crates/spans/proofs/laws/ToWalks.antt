@@ -18,10 +18,10 @@ use Rattle.model.specs.Page.{Page, isFree, pairsAt}
 use Rattle.model.specs.Store.{Store, page}
 use Rattle.model.specs.Walk.{Seen, seen, seenAs, seenUnder, seenBelow, spread, rootAt, rootFrom, keyLimit}
 use Rattle.model.specs.Sound.{startsAt, fewest, firstVersion}
-use Rattle.model.specs.Inner.{sooner}
+use Rattle.model.specs.Inner.{sooner, In}
 use Rattle.spans.specs.Quick.{lowOver, keyOver, manyOver, fineOver, under, nexts, routersFine, childrenFine, upto, slotFine, slotsFine, apart, kept}
 use Rattle.model.proofs.lists.Lists.{both-true, both-intro}
-use Rattle.model.proofs.lists.Members.{either-true, either-left, either-right, In, all-in, all-by}
+use Rattle.model.proofs.lists.Members.{either-true, either-left, either-right, all-in, all-by}
 use Rattle.model.proofs.sound.ByRule.{Front}
 use Rattle.model.proofs.tree.Local.{all-append}
 use Rattle.model.proofs.tree.Bridge.{passesAt}

@@ -23,8 +23,9 @@ use Rattle.model.specs.Clean.{clean}
 use Rattle.model.specs.Sound.{sound, rule1, rule2, rule3, rule4, rule5, rule6, rule7}
 use Rattle.model.specs.declared.Verdict.{Verdict}
 use Rattle.model.specs.Judged.{lengthOk, magicOk, editionOk, judged}
+use Rattle.model.specs.ByRule.{Sound}
 use Rattle.model.proofs.lists.Lists.{both-intro}
-use Rattle.model.proofs.sound.ByRule.{Sound, to-tests}
+use Rattle.model.proofs.sound.ByRule.{to-tests}
 use Rattle.model.proofs.sound.Judging.{Accepted, judged-accepted}
 use Rattle.page.proofs.laws.Editions.{root-bits, oldest-bits}
 use Rattle.store.proofs.laws.Header.{header-length}
