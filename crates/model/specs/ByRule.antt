@@ -1,5 +1,5 @@
--- What soundness says, rule by rule, in the form that proofs use. Words of contracts inside the code, as Inner: that they say the same as the
--- tests of Sound is proved in proofs/ByRule.
+-- What soundness says, rule by rule, in the form that proofs use. Words of contracts inside the code, as Inner: that they say the same as
+-- the tests of Sound is proved in proofs/ByRule.
 -- Assumes nothing.
 use Prim.Native.Nat.{ℕ, _*_, _≤_, _<_}
 use mathlib.Core.Bool.{Bool, true, false, _&&_, not}

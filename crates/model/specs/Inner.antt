@@ -40,7 +40,8 @@ rising us = inOrder (λ (x y : Pair). ltb (x .key) (y .key)) us
 
 -- ---- stretches of versions
 
--- entries alive throughout the stretch are alive at each version of it: where they suffice no end needs a look (laws: spans/proofs/laws/Neighbours)
+-- entries alive throughout the stretch are alive at each version of it: where they suffice no end needs a look (laws:
+-- spans/proofs/laws/Neighbours)
 abbrev pub throughout : ℕ → ℕ → Entry → Bool
 throughout a b e = leb (e .start) a && leb b (e .end)
 

@@ -1,5 +1,5 @@
--- One version's settings made of another's, one delete or insert after the other, and how far a replay has come. Words of contracts inside the
--- code, as Inner; the laws stand in proofs/Remade, Small and Converted.
+-- One version's settings made of another's, one delete or insert after the other, and how far a replay has come. Words of contracts inside
+-- the code, as Inner; the laws stand in proofs/Remade, Small and Converted.
 -- Assumes nothing.
 use Prim.Native.Nat.{ℕ, _≤_}
 use mathlib.Core.Bool.{Bool, true, false, _&&_, not}

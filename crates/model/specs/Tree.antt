@@ -1,5 +1,5 @@
--- The tree below a page at version w, by recursion on the level: what a page holds and what it shows. Words of contracts inside the code, as
--- Inner: that a tree shows what the walk gives is proved in proofs/tree.
+-- The tree below a page at version w, by recursion on the level: what a page holds and what it shows. Words of contracts inside the code,
+-- as Inner: that a tree shows what the walk gives is proved in proofs/tree.
 -- Assumes nothing.
 use Prim.Native.Nat.{ℕ, zero, suc, _≤_, _<_}
 use mathlib.Core.Bool.{Bool, true}

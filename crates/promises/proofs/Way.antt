@@ -22,7 +22,8 @@ use Rattle.model.specs.Editions.{leastOf}
 use Rattle.model.specs.Histories.{Call, begins, commits, abandons, inserts, deletes, returns, prunes, callBy, after}
 use Rattle.model.specs.Settings.{Machine, put, step}
 use Rattle.model.specs.Lent.{Outcome, freshLent}
-use Rattle.model.specs.Ended.{Asked, toFresh, toFreshSecond, toCheck, toOpen, toCommit, toAbandon, toInsert, toDelete, toReturn, toPrune, toLookup, toRange, toVisits, toDifference, toLife, ended, toState}
+use Rattle.model.specs.Ended.{Asked, toFresh, toFreshSecond, toCheck, toOpen, toCommit, toAbandon, toInsert, toDelete, toReturn, toPrune}
+use Rattle.model.specs.Ended.{toLookup, toRange, toVisits, toDifference, toLife, ended, toState}
 use Rattle.model.specs.Inner.{In}
 use Rattle.model.proofs.lists.Lists.{all-cons}
 use Rattle.model.proofs.lists.Members.{true-holds, either-left, either-right, bool-cases, all-by}
@@ -60,7 +61,9 @@ balanced-in r low sure v from h =
     at x i (inl e) = either-left (isRoot x) (enough x) e
     at x i (inr e) =
         either-right (isRoot x) (enough x)
-        (le-leb (r .least) (live x) (stores.balanced (r .least) (omega arith) s sure v (record { from = from; upto = h }) x i (eqb-false (x .number) (rootAt (s .slots) v) e)))
+        (le-leb (r .least) (live x)
+        (stores.balanced (r .least) (omega arith) s sure v (record { from = from; upto = h }) x i
+        (eqb-false (x .number) (rootAt (s .slots) v) e)))
 
 -- ---- version 0
 
@@ -87,7 +90,8 @@ none-at-first k (suc n) m h = at (givesUp k (suc n))
 
 -- what each call hands on gives what is said of each state
 each-state : (P I : Beside → EditionStore → Type 0) → ((x : Beside) (r : EditionStore) → I x r → P x r)
-    → ((x : Beside) (r : EditionStore) (t : Turn) → fitting (kindOf (t .call)) ≡ true → I x r → I (onward x t) (ruledBy (x .bytes) r (t .call)))
+    → ((x : Beside) (r : EditionStore) (t : Turn) → fitting (kindOf (t .call)) ≡ true → I x r
+    → I (onward x t) (ruledBy (x .bytes) r (t .call)))
     → (ts : List Turn) → each fitting ts ≡ true → (x : Beside) (r : EditionStore) → I x r → EachState P x r ts
 each-state P I says hands [] f x r i = says x r i
 each-state P I says hands (t ∷ ts) f x r i =
@@ -111,7 +115,8 @@ module _ (b : List ℕ) (r : EditionStore) (ok : Accepts b) (i : HoldsRuled b r)
   remade : (least : ℕ) → OfEdition least → HoldsRuled (freshLent least b .store) (remadeBy least b r)
   remade least e = at (lengthOk least b) refl
     where
-      at : (t : Bool) → lengthOk least b ≡ t → HoldsRuled (freshLent least b .store) (pick t (record { least = least; store = fresh (sizeOf least b) }) r)
+      at : (t : Bool) → lengthOk least b ≡ t → HoldsRuled (freshLent least b .store)
+          (pick t (record { least = least; store = fresh (sizeOf least b) }) r)
       at true h = let l = fresh-leaves least e b h in record { edition = l .edition; holds = l .holds }
       at false h = subst (λ (o : Outcome). HoldsRuled (o .store) r) (sym (made-wrong least b h)) i
 
@@ -140,7 +145,8 @@ record StandsRuled (b : List ℕ) (x : Beside) (r : EditionStore) : Type 0 where
   pub bytes : Bytes b → Bytes (x .bytes)
 
 module _ (b : List ℕ) where
-  stands-on : (x : Beside) (r : EditionStore) (t : Turn) → fitting (kindOf (t .call)) ≡ true → StandsRuled b x r → StandsRuled b (onward x t) (ruledBy (x .bytes) r (t .call))
+  stands-on : (x : Beside) (r : EditionStore) (t : Turn) → fitting (kindOf (t .call)) ≡ true → StandsRuled b x r
+      → StandsRuled b (onward x t) (ruledBy (x .bytes) r (t .call))
   stands-on x r t f i = record {
     agreed = one-turn x (i .agreed) t f;
     holds = holds-on (x .bytes) r (i .agreed .accepted) (i .holds) (t .call) f (t .list);
@@ -150,22 +156,31 @@ module _ (b : List ℕ) where
   in-balance : (x : Beside) (r : EditionStore) → StandsRuled b x r → BalancedIn r
   in-balance x r i =
       balanced-in r (subst (λ (n : ℕ). 4 ≤ n) (i .holds .edition) (four (x .bytes)))
-      (subst (λ (n : ℕ). T (sound n (r .store))) (i .holds .edition) (subst (λ (s : Store). T (sound (leastOf (x .bytes)) s)) (i .holds .holds) (held-sound (x .bytes) (i .agreed .accepted))))
+      (subst (λ (n : ℕ). T (sound n (r .store))) (i .holds .edition)
+      (subst (λ (s : Store). T (sound (leastOf (x .bytes)) s)) (i .holds .holds) (held-sound (x .bytes) (i .agreed .accepted))))
 
   by-rules : (x : Beside) (r : EditionStore) → StandsRuled b x r → Bytes b → x .bytes ≡ encode (r .least) (r .store)
   by-rules x r i h = sym (accepted (x .bytes) (i .bytes h) (i .agreed .accepted) .same) ∙ ap₂ encode (i .holds .edition) (i .holds .holds)
 
   pub lent-way : Accepts b → (ts : List Turn) → each fitting ts ≡ true → EachState (LentState b) (fromLent b) (ruledOf b) ts
   lent-way ok ts f =
-      each-state (LentState b) (StandsRuled b) (λ x r i. record { answers = answers x (i .agreed); bytes = by-rules x r i; balanced = in-balance x r i }) stands-on ts f (fromLent b) (ruledOf b)
+      each-state (LentState b) (StandsRuled b)
+      (λ x r i. record { answers = answers x (i .agreed); bytes = by-rules x r i; balanced = in-balance x r i }) stands-on ts f (fromLent b)
+      (ruledOf b)
       (record { agreed = lent-agreed b ok; holds = record { edition = refl; holds = refl }; bytes = λ h. h })
 
 pub fresh-way : (least : ℕ) → OfEdition least → (n : ℕ) → 6 ≤ n → n ≤ 4096 → (ts : List Turn) → each fitting ts ≡ true
     → EachState FreshState (fromFresh least n) (record { least = least; store = fresh n }) ts
 fresh-way least e n six most ts f =
     each-state FreshState (λ x r. StandsRuled b x r × (x .machine .shows 0 ≡ []))
-    (λ x r i. record { answers = answers x (i .0 .agreed); bytes = by-rules b x r (i .0) (w .bytes); balanced = in-balance b x r (i .0); empty = i .1 })
-    (λ x r t g i. (stands-on b x r t g (i .0), none-at-first (kindOf (t .call)) (ended (t .call) (x .bytes) (t .list) .number) (x .machine) (i .1)))
+    (λ x r i. record {
+      answers = answers x (i .0 .agreed);
+      bytes = by-rules b x r (i .0) (w .bytes);
+      balanced = in-balance b x r (i .0);
+      empty = i .1;
+    })
+    (λ x r t g i.
+    (stands-on b x r t g (i .0), none-at-first (kindOf (t .call)) (ended (t .call) (x .bytes) (t .list) .number) (x .machine) (i .1)))
     ts f (fromFresh least n) (record { least = least; store = fresh n })
     (record { agreed = fresh-agreed least e n six most; holds = record { edition = w .edition; holds = w .held }; bytes = λ h. h }, refl)
   where
@@ -173,4 +188,7 @@ fresh-way least e n six most ts f =
     b = encode least (fresh n)
 
     w : Written least (fresh n)
-    w = encoded-sound least e (fresh n) (true-holds (sound least (fresh n)) (to-tests least (fresh n) (fresh-sound least (let low : 4 ≤ least = edition-four least e in omega arith) n six most)))
+    w =
+        encoded-sound least e (fresh n)
+        (true-holds (sound least (fresh n))
+        (to-tests least (fresh n) (fresh-sound least (let low : 4 ≤ least = edition-four least e in omega arith) n six most)))

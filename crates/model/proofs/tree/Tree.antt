@@ -32,12 +32,14 @@ module _ (least w : ℕ) where
   tree-below ps zero lo hi n xs t = t .holds .same
   tree-below ps (suc l) lo hi n xs t = row-below ps l hi (pairsAt w (page ps n)) (tree-below ps l) lo xs (t .holds)
 
-  pub holds-below : (ps : List Page) (l lo hi n : ℕ) (zs : List Pair) → Holds least w l ps lo hi (pairsAt w (page ps n)) zs → below l ps w n ≡ zs
+  pub holds-below : (ps : List Page) (l lo hi n : ℕ) (zs : List Pair) → Holds least w l ps lo hi (pairsAt w (page ps n)) zs
+      → below l ps w n ≡ zs
   holds-below ps zero lo hi n zs h = h .same
   holds-below ps (suc l) lo hi n zs h = row-below ps l hi (pairsAt w (page ps n)) (tree-below ps l) lo zs h
 
 -- rows put together and taken apart
-pub row-append : (S : Says) (hi mid : ℕ) (rs qs : List Pair) (lo : ℕ) (xs ys : List Pair) → Row S mid rs lo xs → Row S hi qs mid ys → Row S hi (rs ++ qs) lo (xs ++ ys)
+pub row-append : (S : Says) (hi mid : ℕ) (rs qs : List Pair) (lo : ℕ) (xs ys : List Pair) → Row S mid rs lo xs → Row S hi qs mid ys
+    → Row S hi (rs ++ qs) lo (xs ++ ys)
 row-append S hi mid [] qs lo xs ys a b = rw (a .met, a .nothing) b
 row-append S hi mid (r ∷ rs) qs lo xs ys a b = record {
   mid = a .mid;
@@ -59,14 +61,24 @@ pub record Split (S : Says) (hi : ℕ) (rs qs : List Pair) (lo : ℕ) (zs : List
   pub both : zs ≡ first ++ second
 
 pub row-split : (S : Says) (hi : ℕ) (rs qs : List Pair) (lo : ℕ) (zs : List Pair) → Row S hi (rs ++ qs) lo zs → Split S hi rs qs lo zs
-row-split S hi [] qs lo zs t = record { mid = lo; first = []; second = zs; one = record { met = refl; nothing = refl }; two = t; both = refl }
+row-split S hi [] qs lo zs t =
+    record { mid = lo; first = []; second = zs; one = record { met = refl; nothing = refl }; two = t; both = refl }
 row-split S hi (r ∷ rs) qs lo zs t =
     let s = row-split S hi rs qs (t .mid) (t .others) (t .rest) in
     record {
       mid = s .mid;
       first = t .mine ++ s .first;
       second = s .second;
-      one = record { mid = t .mid; mine = t .mine; others = s .first; low = t .low; room = t .room; here = t .here; rest = s .one; all-of = refl };
+      one = record {
+        mid = t .mid;
+        mine = t .mine;
+        others = s .first;
+        low = t .low;
+        room = t .room;
+        here = t .here;
+        rest = s .one;
+        all-of = refl;
+      };
       two = s .two;
       both = t .all-of ∙ ap (λ (ys : List Pair). t .mine ++ ys) (s .both) ∙ sym (append-assoc (t .mine) (s .first) (s .second));
     }
@@ -90,16 +102,20 @@ row-map S R hi (r ∷ rs) lo zs f t = record {
 }
 
 -- a wider range
-pub widen : (a b c d : ℕ) (xs : List Pair) → c ≤ a → b ≤ d → all (λ (x : Pair). within a b (x .key)) xs ≡ true → all (λ (x : Pair). within c d (x .key)) xs ≡ true
+pub widen : (a b c d : ℕ) (xs : List Pair) → c ≤ a → b ≤ d → all (λ (x : Pair). within a b (x .key)) xs ≡ true
+    → all (λ (x : Pair). within c d (x .key)) xs ≡ true
 widen a b c d [] p q h = refl
 widen a b c d (x ∷ xs) p q h =
     let (here, more) = all-cons (λ (y : Pair). within a b (y .key)) x xs h in
     let (low, high) = both-true (leb a (x .key)) (ltb (x .key) b) here in
-    both-intro _ _ (both-intro _ _ (le-leb c (x .key) (omega (arith, leb-true a (x .key) low))) (lt-ltb (x .key) d (omega (arith, ltb-true (x .key) b high))))
+    both-intro _ _
+    (both-intro _ _ (le-leb c (x .key) (omega (arith, leb-true a (x .key) low)))
+    (lt-ltb (x .key) d (omega (arith, ltb-true (x .key) b high))))
     (widen a b c d xs p q more)
 
 -- the routers' keys
-pub row-keys : (S : Says) (hi : ℕ) (rs : List Pair) (lo : ℕ) (zs : List Pair) → Row S hi rs lo zs → all (λ (x : Pair). within lo hi (x .key)) rs ≡ true
+pub row-keys : (S : Says) (hi : ℕ) (rs : List Pair) (lo : ℕ) (zs : List Pair) → Row S hi rs lo zs
+    → all (λ (x : Pair). within lo hi (x .key)) rs ≡ true
 row-keys S hi [] lo zs t = refl
 row-keys S hi (r ∷ rs) lo zs t =
     let more : t .mid ≤ hi = row-le S hi rs (t .mid) (t .others) (t .rest) in
@@ -140,7 +156,8 @@ module _ (least w : ℕ) (ps qs : List Page) where
       omega (arith, ap (λ (y : Pair). y .key) same, t .first-high)
 
   -- what is left alone shows what it showed
-  frame-by : (l : ℕ) → ((lo hi : ℕ) (want zs : List Pair) → Left l lo hi → Holds least w l ps lo hi want zs → Holds least w l qs lo hi want zs)
+  frame-by : (l : ℕ)
+      → ((lo hi : ℕ) (want zs : List Pair) → Left l lo hi → Holds least w l ps lo hi want zs → Holds least w l qs lo hi want zs)
       → (lo hi n : ℕ) (xs : List Pair) → Left (suc l) lo hi → Tree least w l ps lo hi n xs → Tree least w l qs lo hi n xs
   frame-by l ih lo hi n xs f t = at (f n)
     where
@@ -168,5 +185,6 @@ module _ (least w : ℕ) (ps qs : List Page) where
   pub frame-tree : (l lo hi n : ℕ) (xs : List Pair) → Left (suc l) lo hi → Tree least w l ps lo hi n xs → Tree least w l qs lo hi n xs
   frame-tree l lo hi n xs f t = frame-by l (frame l) lo hi n xs f t
 
-  pub frame-row : (l lo hi : ℕ) (rs zs : List Pair) → Left (suc l) lo hi → Row (Tree least w l ps) hi rs lo zs → Row (Tree least w l qs) hi rs lo zs
+  pub frame-row : (l lo hi : ℕ) (rs zs : List Pair) → Left (suc l) lo hi → Row (Tree least w l ps) hi rs lo zs
+      → Row (Tree least w l qs) hi rs lo zs
   frame-row l lo hi rs zs f t = frame (suc l) lo hi rs zs f t
