@@ -14,10 +14,12 @@ use Rattle.model.specs.Calls.{isSome, rule, firstOf, insertTests, deleteTests, 
 use Rattle.model.specs.Return.{returnTests}
 use Rattle.plain.specs.declared.State.{State}
 use Rattle.plain.specs.declared.Left.{Left}
-use Rattle.plain.specs.Plain.{Plain, Given, next, valueAt, differs, unless, standing, holding, setKey, endKey, backTo, pruned, begin, insert, delete, commit, abandon, return, prune}
+use Rattle.plain.specs.Plain.{Plain, Given, next, valueAt, differs, unless, standing, holding, setKey, endKey, backTo, pruned, begin}
+use Rattle.plain.specs.Plain.{insert, delete, commit, abandon, return, prune}
 use Rattle.plain.specs.Items.{plainOf}
 use Rattle.plain.specs.Calls.{givenBy, Opens}
-use Rattle.plain.specs.Guard.{stateOf, stateNumbers, areVersions, isEdition, isState, longest, isLent, readPlain, OpensGuarded, StateAgain, LentAgain}
+use Rattle.plain.specs.Guard.{stateOf, stateNumbers, areVersions, isEdition, isState, longest, isLent, readPlain, OpensGuarded}
+use Rattle.plain.specs.Guard.{StateAgain, LentAgain}
 use Rattle.plain.proofs.laws.Laid.{from-length}
 use Rattle.plain.proofs.Guards.{both, lent-by, lent-fits, guarded-some, begin-few}
 
@@ -49,7 +51,8 @@ bit-low false = refl
 
 pub stands-state : (s : State) (ns : List ℕ) → NumbersStand (plainOf s ns) → isState (stateNumbers s) ≡ true
 stands-state s ns h =
-    ap₂ (λ (a b : Bool). (a && b) && (leb (s .oldest) (s .current) && isEdition (s .edition))) (bit-low (s .opened)) (le-leb (s .current + bit (s .opened)) 1048574 (h .version))
+    ap₂ (λ (a b : Bool). (a && b) && (leb (s .oldest) (s .current) && isEdition (s .edition))) (bit-low (s .opened))
+    (le-leb (s .current + bit (s .opened)) 1048574 (h .version))
     ∙ ap₂ (λ (a b : Bool). a && b) (le-leb (s .oldest) (s .current) (h .old)) (h .edition)
 
 -- ---- the calls
@@ -61,9 +64,12 @@ unless-stands (suc n) p q h i = h
 module _ (p : Plain) (h : NumbersStand p) where
   pub begin-stands : NumbersStand (begin p .plain)
   unfolding begin
-  begin-stands = unless-stands (firstOf (rule 8 (p .opened) ∷ rule 9 (leb 1048574 (p .current)) ∷ [])) p (standing p (p .current) true (p .items)) h (at (p .opened) (leb 1048574 (p .current)) refl)
+  begin-stands =
+      unless-stands (firstOf (rule 8 (p .opened) ∷ rule 9 (leb 1048574 (p .current)) ∷ [])) p (standing p (p .current) true (p .items)) h
+      (at (p .opened) (leb 1048574 (p .current)) refl)
     where
-      at : (a b : Bool) → leb 1048574 (p .current) ≡ b → firstOf (rule 8 a ∷ rule 9 b ∷ []) ≡ 0 → NumbersStand (standing p (p .current) true (p .items))
+      at : (a b : Bool) → leb 1048574 (p .current) ≡ b → firstOf (rule 8 a ∷ rule 9 b ∷ []) ≡ 0
+          → NumbersStand (standing p (p .current) true (p .items))
       at true b e z = absurd (omega (arith, z))
       at false true e z = absurd (omega (arith, z))
       at false false e z = record { version = omega (arith, leb-false 1048574 (p .current) e); old = h .old; edition = h .edition }
@@ -71,22 +77,26 @@ module _ (p : Plain) (h : NumbersStand p) where
   pub insert-stands : (k x : ℕ) → NumbersStand (insert p k x .plain)
   unfolding insert
   insert-stands k x =
-      unless-stands (firstOf (insertTests k (p .opened) (isSome (valueAt k (next p) (p .items))))) p (holding p (setKey (next p) k x (p .items))) h
+      unless-stands (firstOf (insertTests k (p .opened) (isSome (valueAt k (next p) (p .items))))) p
+      (holding p (setKey (next p) k x (p .items))) h
       (λ z. record { version = h .version; old = h .old; edition = h .edition })
 
   pub delete-stands : (k : ℕ) → NumbersStand (delete p k .plain)
   unfolding delete
   delete-stands k =
-      unless-stands (firstOf (deleteTests k (p .opened) (isSome (valueAt k (next p) (p .items))))) p (holding p (endKey (next p) k (p .items))) h
+      unless-stands (firstOf (deleteTests k (p .opened) (isSome (valueAt k (next p) (p .items))))) p
+      (holding p (endKey (next p) k (p .items))) h
       (λ z. record { version = h .version; old = h .old; edition = h .edition })
 
   pub commit-stands : NumbersStand (commit p .plain)
   unfolding commit
   commit-stands =
-      unless-stands (firstOf (rule 7 (not (p .opened)) ∷ rule 15 (isEmpty (differs (p .current) (next p) (p .items))) ∷ [])) p (standing p (next p) false (p .items)) h
+      unless-stands (firstOf (rule 7 (not (p .opened)) ∷ rule 15 (isEmpty (differs (p .current) (next p) (p .items))) ∷ [])) p
+      (standing p (next p) false (p .items)) h
       (at (p .opened) (isEmpty (differs (p .current) (next p) (p .items))) (h .version))
     where
-      at : (a b : Bool) → p .current + bit a ≤ 1048574 → firstOf (rule 7 (not a) ∷ rule 15 b ∷ []) ≡ 0 → NumbersStand (standing p (next p) false (p .items))
+      at : (a b : Bool) → p .current + bit a ≤ 1048574 → firstOf (rule 7 (not a) ∷ rule 15 b ∷ []) ≡ 0
+          → NumbersStand (standing p (next p) false (p .items))
       at false b i z = absurd (omega (arith, z))
       at true b i z = record { version = omega (arith, i); old = omega (arith, h .old); edition = h .edition }
 
@@ -108,17 +118,20 @@ module _ (p : Plain) (h : NumbersStand p) where
       unless-stands (firstOf (rule 3 (eqb (p .edition) 1) ∷ pruneTests (p .oldest) (p .current) (p .opened) v)) p (pruned p v) h
       (at (eqb (p .edition) 1) (ltb (p .current) v) refl (ltb v (p .oldest)) (p .opened))
     where
-      at : (a b : Bool) → ltb (p .current) v ≡ b → (c o : Bool) → firstOf (rule 3 a ∷ rule 6 (b || c) ∷ rule 8 o ∷ []) ≡ 0 → NumbersStand (pruned p v)
+      at : (a b : Bool) → ltb (p .current) v ≡ b → (c o : Bool) → firstOf (rule 3 a ∷ rule 6 (b || c) ∷ rule 8 o ∷ []) ≡ 0
+          → NumbersStand (pruned p v)
       at true b e c o z = absurd (omega (arith, z))
       at false true e c o z = absurd (omega (arith, z))
       at false false e c o z = record { version = h .version; old = ltb-false (p .current) v e; edition = h .edition }
 
 -- ---- on what is lent: s is the state as the code has it
 
-pub state-again : (ms : List ℕ) (s : State) → s ≡ stateOf ms → (r : Left) → Opens s r → (ms′ : List ℕ) → ms′ ≡ stateNumbers (r .state) → StateAgain ms ms′
+pub state-again : (ms : List ℕ) (s : State) → s ≡ stateOf ms → (r : Left) → Opens s r → (ms′ : List ℕ) → ms′ ≡ stateNumbers (r .state)
+    → StateAgain ms ms′
 state-again ms s is r does ms′ f e =
     let own : NumbersStand (plainOf s []) = subst (λ (t : State). NumbersStand (plainOf t [])) (sym is) (state-stands [] ms e) in
-    let left : NumbersStand (plainOf (r .state) []) = subst (λ (g : Given). NumbersStand (g .plain)) (sym (does [])) (begin-stands (plainOf s []) own) in
+    let left : NumbersStand (plainOf (r .state) [])
+    = subst (λ (g : Given). NumbersStand (g .plain)) (sym (does [])) (begin-stands (plainOf s []) own) in
     ap isState f ∙ stands-state (r .state) [] left
 
 module _ (ns ms : List ℕ) (lent : isLent ns ms ≡ true) (s : State) (is : s ≡ stateOf ms) where
@@ -126,9 +139,12 @@ module _ (ns ms : List ℕ) (lent : isLent ns ms ≡ true) (s : State) (is : s �
   own = plainOf s ns
 
   own-stands : NumbersStand own
-  own-stands = subst (λ (t : State). NumbersStand (plainOf t ns)) (sym is) (state-stands ns ms (both (isState ms) (leb (length ns) longest && leb (4 * getD ms 2 0) (length ns)) lent .0))
+  own-stands =
+      subst (λ (t : State). NumbersStand (plainOf t ns)) (sym is)
+      (state-stands ns ms (both (isState ms) (leb (length ns) longest && leb (4 * getD ms 2 0) (length ns)) lent .0))
 
-  pub lent-again : (r : Left) (ns′ : List ℕ) (g : Given) → givenBy r ns′ ≡ g → (NumbersStand own → NumbersStand (g .plain)) → 4 * length (g .plain .items) ≤ length ns → length ns′ ≡ length ns
+  pub lent-again : (r : Left) (ns′ : List ℕ) (g : Given) → givenBy r ns′ ≡ g → (NumbersStand own → NumbersStand (g .plain))
+      → 4 * length (g .plain .items) ≤ length ns → length ns′ ≡ length ns
       → (ms′ : List ℕ) → ms′ ≡ stateNumbers (r .state) → LentAgain ns ms ns′ ms′
   lent-again r ns′ g does stands room same ms′ f e =
       let left : NumbersStand (plainOf (r .state) ns′) = subst (λ (x : Given). NumbersStand (x .plain)) (sym does) (stands own-stands) in
@@ -136,7 +152,8 @@ module _ (ns ms : List ℕ) (lent : isLent ns ms ≡ true) (s : State) (is : s �
       let count = r .state .count in
       let fits : 4 * count ≤ length ns′ = omega (arith, few, from-length ns′ count, room, same) in
       let short : length ns′ ≤ longest = omega (arith, same, lent-fits ns ms lent .0) in (
-        ap (isLent ns′) f ∙ ap (λ (b : Bool). b && (leb (length ns′) longest && leb (4 * count) (length ns′))) (stands-state (r .state) ns′ left)
+        ap (isLent ns′) f ∙ ap (λ (b : Bool). b && (leb (length ns′) longest && leb (4 * count) (length ns′)))
+            (stands-state (r .state) ns′ left)
             ∙ ap₂ (λ (a b : Bool). a && b) (le-leb (length ns′) longest short) (le-leb (4 * count) (length ns′) fits),
         same,
       )
@@ -147,5 +164,6 @@ opens-again ms r ms′ does again ns e =
     let yes = both (isState ms) (leb (length ns) longest && leb (4 * getD ms 2 0) (length ns)) e .0 in
     let p = readPlain [] ms in
     let few = ap (λ (x : Given). length (x .plain .items)) (does [] ∙ sym (guarded-some (isState ms) p (begin p) yes)) in
-    let fits : 4 * getD ms′ 2 0 ≤ length ns = omega (arith, few, from-length [] (getD ms′ 2 0), from-length [] (getD ms 2 0), begin-few p, lent-fits ns ms e .1) in
+    let fits : 4 * getD ms′ 2 0 ≤ length ns
+    = omega (arith, few, from-length [] (getD ms′ 2 0), from-length [] (getD ms 2 0), begin-few p, lent-fits ns ms e .1) in
     (lent-by ns ms′ (again yes) (lent-fits ns ms e .0) ∙ le-leb (4 * getD ms′ 2 0) (length ns) fits, refl)

@@ -125,8 +125,10 @@ pub fn tell_life(
     list: &mut [u32],
     write: bool,
 ) -> usize
-    requires { ⌜ (4 * n ≤ length (now items)) × (c ≤ 1048574) × Space stretches write (now list) 0 (lifeOf old c (λ w. valueAt key w (from (now items) 0 n))) ⌝ }
-    ensures { λ r. ⌜ Gathers stretches write (now (list .entry)) (now (list .exit)) 0 r (lifeOf old c (λ w. valueAt key w (from (now (items .entry)) 0 n))) ⌝ }
+    requires { ⌜ (4 * n ≤ length (now items)) × (c ≤ 1048574)
+        × Space stretches write (now list) 0 (lifeOf old c (λ w. valueAt key w (from (now items) 0 n))) ⌝ }
+    ensures { λ r. ⌜ Gathers stretches write (now (list .entry)) (now (list .exit)) 0 r
+        (lifeOf old c (λ w. valueAt key w (from (now (items .entry)) 0 n))) ⌝ }
 {
     let mut found = 0;
     let mut v = old;

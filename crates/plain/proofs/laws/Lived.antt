@@ -35,7 +35,8 @@ pub change-not : (e : Entry) (k v r : ℕ) → v < r → (e .key ≡ k → ⊥) 
 change-not e k v r h n = record {
   below = omega arith;
   above = h;
-  still = λ w x y. ap (λ (b : Bool). b && liveAt w e) (ne-eqb (e .key) k n) ∙ sym (ap (λ (b : Bool). b && liveAt v e) (ne-eqb (e .key) k n));
+  still = λ w x y. ap (λ (b : Bool). b && liveAt w e) (ne-eqb (e .key) k n)
+      ∙ sym (ap (λ (b : Bool). b && liveAt v e) (ne-eqb (e .key) k n));
 }
 
 pub change-own : (e : Entry) (k v r p q : ℕ) → Sooner v r (e .start) p → Sooner v p (e .end) q → ItemStill e k v r q
@@ -55,17 +56,27 @@ change-own e k v r p q a b = record {
 
 module _ (ns : List ℕ) (n k v r : ℕ) where
   pub until-none : v < r → Until v r (λ (w : ℕ). valueAt k w (from ns n n)) r
-  until-none h = record { below = omega arith; above = h; still = λ w x y. ap (valueAt k w) (from-end ns n n (omega arith)) ∙ sym (ap (valueAt k v) (from-end ns n n (omega arith))) }
+  until-none h =
+      record {
+        below = omega arith;
+        above = h;
+        still = λ w x y. ap (valueAt k w) (from-end ns n n (omega arith))
+            ∙ sym (ap (valueAt k v) (from-end ns n n (omega arith)));
+      }
 
-  pub until-more : (i : ℕ) → i < n → (p : ℕ) → Until v r (λ (w : ℕ). valueAt k w (from ns (i + 1) n)) p → (e : Entry) → e ≡ item ns i → (q : ℕ) → ItemStill e k v p q → Until v r (λ (w : ℕ). valueAt k w (from ns i n)) q
+  pub until-more : (i : ℕ) → i < n → (p : ℕ) → Until v r (λ (w : ℕ). valueAt k w (from ns (i + 1) n)) p → (e : Entry) → e ≡ item ns i
+      → (q : ℕ) → ItemStill e k v p q → Until v r (λ (w : ℕ). valueAt k w (from ns i n)) q
   until-more i h p u e is q c = record {
     below = omega (arith, u .below, c .below);
     above = c .above;
-    still = λ w x y. step w ∙ ap₂ (λ (b : Bool) (o : Option ℕ). pick b (some (e .value)) o) (c .still w x y) (u .still w x (omega (arith, c .below))) ∙ sym (step v);
+    still = λ w x y. step w ∙ ap₂ (λ (b : Bool) (o : Option ℕ). pick b (some (e .value)) o) (c .still w x y)
+        (u .still w x (omega (arith, c .below))) ∙ sym (step v);
   }
     where
       step : (w : ℕ) → valueAt k w (from ns i n) ≡ pick (eqb (e .key) k && liveAt w e) (some (e .value)) (valueAt k w (from ns (i + 1) n))
-      step w = ap (valueAt k w) (from-step ns i n h) ∙ ap (λ (f : Entry). pick (eqb (f .key) k && liveAt w f) (some (f .value)) (valueAt k w (from ns (i + 1) n))) (sym is)
+      step w =
+          ap (valueAt k w) (from-step ns i n h) ∙ ap
+          (λ (f : Entry). pick (eqb (f .key) k && liveAt w f) (some (f .value)) (valueAt k w (from ns (i + 1) n))) (sym is)
 
 -- ---- the first change behind a version
 
@@ -102,7 +113,8 @@ shown-told c v r none = refl
 shown-told c v r (some x) = refl
 
 -- what is told of the versions from v up to r, and the rest behind it
-module _ (c : ℕ) (f : ℕ → Option ℕ) (v r e : ℕ) (a : Found) (l : Lasts c f v r) (p : a ≡ foundOf (f v)) (q : e ≡ pick (ltb c r) alive r) where
+module _ (c : ℕ) (f : ℕ → Option ℕ) (v r e : ℕ) (a : Found) (l : Lasts c f v r) (p : a ≡ foundOf (f v))
+    (q : e ≡ pick (ltb c r) alive r) where
   pub rest-told : rest c f v ≡ shown v e a ++ rest c f r
   rest-told = rest-step c f v r l ∙ ap (λ (xs : List Stretch). xs ++ rest c f r) (sym (ap₂ (shown v) q p ∙ shown-told c v r (f v)))
 
