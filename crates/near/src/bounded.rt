@@ -4,6 +4,7 @@ use tabled::Asked;
 use walk::Counted;
 use walk::Query;
 ghost use mathlib.Core.Path.{_≡_};
+ghost use mathlib.Core.Bool.{true};
 ghost use Prim.Native.Nat.{pred, _+_, _*_, _^_, _≤_, _<_};
 ghost use lib.ListN.{length};
 ghost use Rattle.model.specs.Limits.{Edition};
@@ -11,9 +12,29 @@ ghost use Rattle.model.specs.Walk.{rangeBelow};
 ghost use Rattle.model.specs.Layout.{decode};
 ghost use Rattle.model.specs.Near.{rangeRight};
 ghost use Rattle.local.specs.Right.{Known};
+ghost use Rattle.walk.specs.Written.{written, PairSpace};
 ghost use Rattle.walk.specs.Counted.{withList};
+ghost use Rattle.tabled.specs.Here.{Reads};
 ghost use Rattle.tabled.specs.Cells.{Table};
 ghost use Rattle.near.specs.Crossed.{answered};
+
+// The settings of a range that was found right, written at the start of the caller's list, by the same table.
+fn write_by(table: &[usize], s: &[u8], l: Limits, q: Asked, n: usize, level: u32, list: &mut [u32])
+    requires { ⌜ Reads l (now s) × (0 < level) × (rangeRight (l .least) (now s) (q .version) (pred level) (q .high) (q .low) n ≡ true)
+        × PairSpace true (now list) 0 (rangeBelow (pred level) (decode (l .least) (now s) .pages) (q .version) (q .low) (q .high) (q .low) n)
+        × Table (l .least) (now s) (q .version) (q .low) (q .high) ((level + 1) * 4096) (now table) ⌝ }
+    ensures { λ _. ⌜ now (list .exit) ≡ written true (now (list .entry)) 0
+        (rangeBelow (pred level) (decode (l .least) (now (s .entry)) .pages) (q .version) (q .low) (q .high) (q .low) n) ⌝ }
+{
+    let writing = Query {
+        low: q.low,
+        high: q.high,
+        version: q.version,
+        write: true,
+    };
+    let up = model::wide(level) - 1;
+    tabled::gather_by(table, s, l, writing, n, up, q.low, list, 0);
+}
 
 // What a range gives, and what it leaves in the caller's list, by a table that has the numbers of all pages up to this level. The
 // settings are counted there, so that nothing is written before 14.
@@ -45,23 +66,7 @@ fn listed_by(
             count: found,
         };
     }
-    let writing = Query {
-        low: q.low,
-        high: q.high,
-        version: q.version,
-        write: true,
-    };
-    tabled::gather_by(
-        table,
-        s,
-        l,
-        writing,
-        n,
-        model::wide(level) - 1,
-        q.low,
-        list,
-        0,
-    );
+    write_by(table, s, l, q, n, level, list);
     Counted {
         number: 0,
         count: found,
