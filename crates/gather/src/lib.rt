@@ -48,17 +48,6 @@ fn pushed(g: Gather, x: Pair) -> Gather
     Gather { list: l, n: n + 1 }
 }
 
-// A pair more if `yes`.
-fn pushed_if(g: Gather, yes: bool, x: Pair) -> Gather
-    requires { ⌜ Good g × (g .n < 56) × Fitting x ⌝ }
-    ensures { λ r. ⌜ Lists r (pairsIn g ++ keep yes x []) ⌝ }
-{
-    if yes {
-        return pushed(g, x);
-    }
-    g
-}
-
 // The pairs of b from place `from` up to, not including, place `to` behind those of g.
 fn copied(g: Gather, b: Gather, from: usize, to: usize) -> Gather
     requires { ⌜ Good g × Good b × (from ≤ to) × (to ≤ b .n) × (g .n + (to - from) ≤ 56) ⌝ }
@@ -126,18 +115,20 @@ fn kept_pairs(page: &[u8], l: Limits, w: u32, c: Change) -> Gather
 {
     let h = page::head_of(page, l);
     let count = h.count;
-    let mut g = none();
+    let mut list = [Pair { key: 0, value: 0 }; 56];
+    let mut n = 0;
     let mut i = 0;
     while i < count {
         let e = page::entry_at(page, i);
-        let x = Pair {
+        // Each is written behind those kept so far, and counted if it is one of them: a list by value in a branch would be copied whole.
+        list[n] = Pair {
             key: e.key,
             value: e.value,
         };
-        g = pushed_if(g, edit::both(edit::live(e, w), !dropped(c, e.key)), x);
+        n += one(edit::both(edit::live(e, w), !dropped(c, e.key)));
         i += 1;
     }
-    g
+    Gather { list, n }
 }
 
 // The pairs of a page alive at w.

@@ -1,16 +1,17 @@
 -- Laws about gather/specs/Gather. Assumes nothing.
 use Prim.Native.Nat.{ℕ, zero, suc, _+_, _-_, _<_, _≤_}
-use mathlib.Core.Path.{_≡_, refl, ap, _∙_}
+use mathlib.Core.Path.{_≡_, refl, ap, sym, _∙_}
 use mathlib.Core.Bool.{Bool, true, false}
 use mathlib.Core.List.{List, [], _∷_, _++_, append-nil}
 use mathlib.Core.Logic.{_⊎_, inl, inr, ⊎-elim, _≢_}
 use lib.ListN.{length, getD, take, drop, set, replicate, length-append, length-drop, length-set, length-replicate}
-use lib.Seq.{take-suc, take-suc-set, getD-set-same, getD-set-other, getD-drop, getD-take, length-take-le, take-take}
+use lib.Seq.{take-suc, take-suc-set, take-set-le, getD-set-same, getD-set-other, getD-drop, getD-take, length-take-le, take-take}
 use native.Mathlib.Numerals.{add-one}
 use native.Mathlib.Omega.{arith}
 use Rattle.bits.proofs.laws.Put.{less}
 use Rattle.model.specs.declared.Pair.{Pair}
 use Rattle.model.specs.Basic.{keep}
+use Rattle.edit.specs.Change.{one}
 use Rattle.edit.specs.Fill.{nil, Fitting}
 use Rattle.gather.specs.declared.Gather.{Gather}
 use Rattle.gather.specs.Gather.{pairsIn, Good, Lists}
@@ -62,19 +63,19 @@ module _ (g : Gather) (x : Pair) (z : Good g) (h : g .n < 56) (f : Fitting x) wh
     is = rw add-one (take-suc-set (g .list) (g .n) x (omega (arith, z .size)));
   }
 
-pub lists-same : (g : Gather) (x : Pair) → Good g → Lists g (pairsIn g ++ keep false x [])
-lists-same g x z = let e : pairsIn g ++ [] ≡ pairsIn g = append-nil (pairsIn g) in record { good = z; is = rw e }
+  -- a pair that is not counted leaves the others as they were
+  pub lists-pushed-if : (yes : Bool) → Lists (record { list = set (g .list) (g .n) x; n = g .n + one yes }) (pairsIn g ++ keep yes x [])
+  unfolding pairsIn
+  lists-pushed-if true = lists-pushed
+  lists-pushed-if false =
+      let e : g .n + 0 ≡ g .n = omega arith in
+      record {
+        good = record { size = length-set (g .list) (g .n) x ∙ z .size; room = omega arith; fits = pushed-fits };
+        is = rw e (take-set-le (g .n) (g .list) (g .n) x (omega arith) ∙ sym (append-nil (take (g .n) (g .list))));
+      }
 
 pub pushed-count : (g r : Gather) (x : Pair) → Good g → Lists r (pairsIn g ++ (x ∷ [])) → r .n ≡ g .n + 1
 pushed-count g r x z w = omega (arith, listed w, length-append (pairsIn g) (x ∷ []), length-pairs g z)
-
--- at the most one more
-pub one-more : (g r : Gather) (b : Bool) (x : Pair) → Good g → Lists r (pairsIn g ++ keep b x []) → r .n ≤ g .n + 1
-one-more g r b x z w = omega (arith, listed w, length-append (pairsIn g) (keep b x []), length-pairs g z, few b)
-  where
-    few : (b : Bool) → length (keep b x []) ≤ 1
-    few true = omega arith
-    few false = omega arith
 
 -- ---- a part of a list, copied
 
