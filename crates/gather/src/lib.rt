@@ -54,13 +54,15 @@ fn copied(g: Gather, b: Gather, from: usize, to: usize) -> Gather
     ensures { λ r. ⌜ Lists r (pairsIn g ++ take (to - from) (drop from (pairsIn b))) ⌝ }
 {
     let l = b.list;
-    let mut r = g;
+    let mut list = g.list;
+    let mut n = g.n;
     let mut i = from;
     while i < to {
-        r = pushed(r, l[i]);
+        list[n] = l[i];
+        n += 1;
         i += 1;
     }
-    r
+    Gather { list, n }
 }
 
 // The pairs of b behind those of a.

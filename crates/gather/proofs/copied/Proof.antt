@@ -1,8 +1,9 @@
+use Rattle.gather.specs.declared.Gather.{Gather}
 use Rattle.gather.specs.Gather.{Good, pairsIn}
-use Rattle.gather.proofs.laws.Gather.{listed, length-pairs, part-none, part-more, part-pairs}
+use Rattle.gather.proofs.laws.Gather.{so-far, lists-pushed, part-none, part-more, part-pairs}
 use Rattle.edit.specs.Fill.{nil}
 use Rattle.model.specs.declared.Pair.{Pair}
-use lib.ListN.{getD, take, drop, length-append}
+use lib.ListN.{getD, take, drop}
 use native.Mathlib.Omega.{arith}
 use mathlib.Core.List.{List, [], _∷_, _++_, append-nil, append-assoc}
 use mathlib.Core.Path.{_≡_, sym, _∙_}
@@ -12,30 +13,34 @@ use Rattle.gather.proofs.copied.Statement.{statement}
 use Rattle.gather.proofs.copied.Tie as tie
 
 abbrev Inv-loop : tie.InvT-loop
-Inv-loop from to l r₀ i₀ r i =
-    (from ≤ i) × (i ≤ to) × Good r × (r .n ≡ r₀ .n + (i - from)) × (pairsIn r ≡ pairsIn r₀ ++ take (i - from) (drop from l))
+Inv-loop from to l list₀ n₀ i₀ list n i =
+    (from ≤ i) × (i ≤ to) × Good (so-far list n) × (n ≡ n₀ + (i - from))
+    × (pairsIn (so-far list n) ≡ pairsIn (so-far list₀ n₀) ++ take (i - from) (drop from l))
 
 abbrev μ-loop : tie.MeasureT-loop
-μ-loop from to l r₀ i₀ r i = to - i
+μ-loop from to l list₀ n₀ i₀ list n i = to - i
 
 loop-holds : tie.Need-loop-holds Inv-loop μ-loop
 loop-holds c =
-    let at-start = c .before in
+    let at-start = c .before .before in
     let z : take (at-start .args .from - at-start .args .from) (drop (at-start .args .from) (at-start .args .b .list)) ≡ []
     = part-none (at-start .args .b .list) (at-start .args .from) in
     (omega arith, omega arith, at-start .pre .0, omega arith, rw z (sym (append-nil (pairsIn (at-start .args .g)))))
 
-mul-pushed : tie.Need-mul-pushed Inv-loop μ-loop
-mul-pushed c = search needs
+mul-list : tie.Need-mul-list Inv-loop μ-loop
+mul-list c = search needs
 
-array-copy-out-pushed : tie.Need-array-copy-out-pushed Inv-loop μ-loop
-array-copy-out-pushed c = search needs
+array-copy-out-list : tie.Need-array-copy-out-list Inv-loop μ-loop
+array-copy-out-list c = search needs
 
-pushed-requires : tie.Need-pushed-requires Inv-loop μ-loop
-pushed-requires c κs =
-    let at-loop = c .before .before in
-    let at-start = at-loop .before .before in
-    (at-loop .loop .inv .2, omega (arith, at-loop .loop .inv .3), at-start .pre .1 .fits (at-loop .loop .i))
+mul-list-2 : tie.Need-mul-list-2 Inv-loop μ-loop
+mul-list-2 c = search needs
+
+array-set-from-list : tie.Need-array-set-from-list Inv-loop μ-loop
+array-set-from-list c = search needs
+
+add-n : tie.Need-add-n Inv-loop μ-loop
+add-n c = search needs
 
 add-i : tie.Need-add-i Inv-loop μ-loop
 add-i c = search needs
@@ -45,22 +50,17 @@ loop-less c = search needs
 
 loop-again : tie.Need-loop-again Inv-loop μ-loop
 loop-again c =
-    let at-loop = c .before .before .before in
-    let at-start = at-loop .before .before in
+    let at-loop = c .before .before in
+    let at-start = at-loop .before .before .before in
     let b : List Pair = at-start .args .b .list in
     let from = at-start .args .from in
     let i = at-loop .loop .i in
-    let z = c .pushed .ensures in (
+    let g : Gather = so-far (at-loop .loop .list) (at-loop .loop .n) in
+    let z = lists-pushed g (getD b i nil) (at-loop .loop .inv .2) (omega (arith, at-loop .loop .inv .3)) (at-start .pre .1 .fits i) in (
       omega arith,
       omega arith,
       z .good,
-      omega (
-        arith,
-        listed z,
-        simp length-append at (listed z),
-        length-pairs (at-loop .loop .r) (at-loop .loop .inv .2),
-        at-loop .loop .inv .3,
-      ),
+      omega (arith, at-loop .loop .inv .3),
       z .is ∙ rw (at-loop .loop .inv .4, part-more b from i (omega arith) (omega (arith, at-start .pre .1 .size, at-start .pre .1 .room)))
           (append-assoc (pairsIn (at-start .args .g)) (take (i - from) (drop from b)) (getD b i nil ∷ [])),
     )
@@ -68,7 +68,7 @@ loop-again c =
 returns : tie.Need-returns Inv-loop μ-loop
 returns c =
     let at-loop = c .before in
-    let at-start = at-loop .before .before in
+    let at-start = at-loop .before .before .before in
     let e : at-loop .loop .i ≡ at-start .args .to = omega arith in
     record {
       good = at-loop .loop .inv .2;
@@ -83,9 +83,11 @@ copied-spec =
     Inv-loop
     μ-loop
     loop-holds
-    mul-pushed
-    array-copy-out-pushed
-    pushed-requires
+    mul-list
+    array-copy-out-list
+    mul-list-2
+    array-set-from-list
+    add-n
     add-i
     loop-less
     loop-again

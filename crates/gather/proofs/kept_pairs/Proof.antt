@@ -2,7 +2,7 @@ use Rattle.gather.specs.Kept.{keptPairs}
 use Rattle.gather.proofs.laws.Kept.{kept-step, rest, rest-all, rest-step, rest-none}
 use Rattle.gather.specs.declared.Gather.{Gather}
 use Rattle.gather.specs.Gather.{Good, Lists, pairsIn}
-use Rattle.gather.proofs.laws.Gather.{lists-none, lists-pushed-if}
+use Rattle.gather.proofs.laws.Gather.{so-far, lists-none, lists-pushed-if}
 use Rattle.edit.specs.Change.{one, changeOf}
 use Rattle.page.proofs.laws.Read.{read-sized, count-of}
 use Rattle.model.specs.Layout.{countOf}
@@ -19,10 +19,6 @@ use Prim.Native.Nat.{ℕ, _≤_, _-_, _+_, _*_}
 use borrow.Author.Needs.{needs}
 use Rattle.gather.proofs.kept_pairs.Statement.{statement}
 use Rattle.gather.proofs.kept_pairs.Tie as tie
-
--- the pairs kept so far
-abbrev so-far : List Pair → ℕ → Gather
-so-far list n = record { list = list; n = n }
 
 abbrev Inv-loop : tie.InvT-loop
 Inv-loop page w c count list₀ n₀ i₀ list n i =

@@ -16,6 +16,10 @@ use Rattle.edit.specs.Fill.{nil, Fitting}
 use Rattle.gather.specs.declared.Gather.{Gather}
 use Rattle.gather.specs.Gather.{pairsIn, Good, Lists}
 
+-- a list by value and how many of it count, as a loop carries them
+abbrev pub so-far : List Pair → ℕ → Gather
+so-far list n = record { list = list; n = n }
+
 pub length-pairs : (g : Gather) → Good g → length (pairsIn g) ≡ g .n
 unfolding pairsIn
 length-pairs g z = length-take-le (g .n) (g .list) (omega (arith, z .size, z .room))
