@@ -1,6 +1,8 @@
 pub mod Left
 pub mod Valid
+pub mod Whole
 pub mod Change
+pub mod Counted
 pub mod Fate
 pub mod Fill
 pub mod Place

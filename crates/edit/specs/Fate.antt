@@ -1,11 +1,13 @@
 -- What becomes of an entry, and of a page's end, under a rule.
-use Prim.Native.Nat.{ℕ}
+use Prim.Native.Nat.{ℕ, _+_, _*_}
 use mathlib.Core.Bool.{Bool, true, false, _&&_, _||_, not}
 use mathlib.Core.List.{List, []}
 use lib.Dec.{leb, eqb}
 use Rattle.model.specs.declared.Entry.{Entry}
 use Rattle.model.specs.Basic.{pick, keep}
 use Rattle.model.specs.Entry.{liveAt, alive, endedAt}
+use Rattle.model.specs.Field.{lay}
+use Rattle.model.specs.Layout.{entryParts, readEntry}
 use Rattle.edit.specs.declared.sift.Rule.{Rule}
 use Rattle.edit.specs.declared.sift.Rule.the-variants.{Kill, End, Back}
 use Rattle.edit.specs.declared.sift.Fate.{Fate}
@@ -34,3 +36,15 @@ endOf Back w end = pick (eqb end w) alive end
 -- the entry that is kept, or none
 abbrev pub left : Fate → List Entry
 left f = keep (f .kept) (f .entry) []
+
+-- that of entry i of a page
+abbrev pub fateAt : Rule → ℕ → List ℕ → ℕ → Fate
+fateAt r w p i = fateOf r w (readEntry p (128 + 96 * i))
+
+-- a page with what a fate leaves at place j
+abbrev pub laid : List ℕ → ℕ → Fate → List ℕ
+laid p j f = pick (f .kept) (lay p (128 + 96 * j) (entryParts (f .entry))) p
+
+-- the fate of an entry that stays as it is
+abbrev pub stay : Entry → Fate
+stay e = record { kept = true; entry = e }

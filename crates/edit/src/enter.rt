@@ -2,20 +2,31 @@
 use model::Entry;
 use model::Limits;
 use model::Pair;
+use page::words;
 ghost use mathlib.Core.Path.{_≡_};
 ghost use Prim.Native.Nat.{_+_, _*_, _^_, _≤_, _<_};
 ghost use lib.ListN.{length};
 ghost use Rattle.model.specs.Limits.{Edition};
-ghost use Rattle.model.specs.Layout.{countOf, encodePage, decodePage, readEntries};
+ghost use Rattle.model.specs.Layout.{countOf, encodePage, decodePage, readEntry, readEntries};
 ghost use Rattle.page.specs.Exact.{Exact};
 ghost use Rattle.edit.specs.Place.{beforeOf, placeOf, entered};
 ghost use Rattle.edit.specs.Change.{one, enteredIf};
 
-// By key, then start.
-fn stands_before(key: u32, start: u32, x: Entry) -> bool
-    ensures { λ r. ⌜ r ≡ beforeOf key start x ⌝ }
+// Whether an entry of that key and start stands before entry i of a page: by key, then start.
+fn before_at(page: &[u8], i: usize, key: u32, start: u32) -> bool
+    requires { ⌜ (16 + 12 * i + 12 ≤ length (now page)) × (length (now page) ≤ 2 ^ 40) ⌝ }
+    ensures { λ r. ⌜ r ≡ beforeOf key start (readEntry (now (page .entry)) (128 + 96 * i)) ⌝ }
 {
-    crate::either(key < x.key, crate::both(key == x.key, start < x.start))
+    let a = words::first_word(page, i);
+    let k = model::wide(key) * 256;
+    if a < k {
+        return false;
+    }
+    if k + 256 <= a {
+        return true;
+    }
+    let b = words::second_word(page, i);
+    (model::wide(start) + 1) * 1048576 <= (a - k) * 4294967296 + b
 }
 
 // The place of an entry of that key and start among the first `count` of a page.
@@ -25,7 +36,7 @@ fn place(page: &[u8], count: usize, key: u32, start: u32) -> usize
 {
     let mut i = 0;
     while i < count {
-        if stands_before(key, start, page::entry_at(page, i)) {
+        if before_at(page, i, key, start) {
             return i;
         }
         i += 1;

@@ -2,15 +2,19 @@
 use model::Entry;
 use model::Limits;
 use page::Head;
+use page::words;
 ghost use mathlib.Core.Path.{_≡_};
-ghost use Prim.Native.Nat.{_^_, _<_};
+ghost use mathlib.Core.Bool.{true};
+ghost use Prim.Native.Nat.{_+_, _*_, _^_, _≤_, _<_};
 ghost use lib.ListN.{length};
-ghost use Rattle.model.specs.Limits.{Edition};
+ghost use lib.Dec.{eqb};
+ghost use Rattle.model.specs.Limits.{Edition, liveShown};
 ghost use Rattle.model.specs.Basic.{those};
-ghost use Rattle.model.specs.Layout.{lives, countOf, encodePage, decodePage};
+ghost use Rattle.model.specs.Layout.{lives, readEntry, readEntries, countOf, encodePage, decodePage};
+ghost use Rattle.page.specs.Head.{putLive};
 ghost use Rattle.page.specs.Exact.{Exact};
 ghost use Rattle.page.specs.Stage.{staged, entriesIn};
-ghost use Rattle.edit.specs.Fate.{fateOf, endIf, backIf, amongOf, endOf, left};
+ghost use Rattle.edit.specs.Fate.{fateOf, fateAt, endIf, backIf, amongOf, endOf, left, laid, stay};
 ghost use Rattle.edit.specs.Sift.{sifted, siftedPage};
 
 // Which entries of a page end, or come back, at a version.
@@ -27,12 +31,6 @@ pub enum Rule {
 pub struct Fate {
     pub kept: bool,
     pub entry: Entry,
-}
-
-// What is left of a page's entries: how many, and how many of them live.
-pub struct Kept {
-    pub count: usize,
-    pub live: usize,
 }
 
 // Whether k is among the first n of a and b.
@@ -109,39 +107,87 @@ fn end_of(rule: Rule, w: u32, end: u32) -> u32
     }
 }
 
-// What a fate leaves for the live count.
-fn live_left(f: Fate) -> usize
-    ensures { λ r. ⌜ r ≡ length (those lives (left f)) ⌝ }
+// Whether entry i of a page has this key.
+fn has_key(page: &[u8], i: usize, key: u32) -> bool
+    requires { ⌜ (16 + 12 * i + 12 ≤ length (now page)) × (length (now page) ≤ 2 ^ 40) ⌝ }
+    ensures { λ r. ⌜ r ≡ eqb (readEntry (now (page .entry)) (128 + 96 * i) .key) key ⌝ }
 {
-    if f.kept {
-        return page::live_one(f.entry);
+    let a = words::first_word(page, i);
+    let k = model::wide(key) * 256;
+    if a < k {
+        return false;
     }
-    0
+    a < k + 256
 }
 
-// The entries of a page under a rule, closed up; the live ones are counted as they pass.
-fn squeeze(page: &mut [u8], l: Limits, count: usize, rule: Rule, w: u32) -> Kept
+// Whether entry i of a page has a key among the first n of a and b.
+fn named(page: &[u8], i: usize, n: u32, a: u32, b: u32) -> bool
+    requires { ⌜ (16 + 12 * i + 12 ≤ length (now page)) × (length (now page) ≤ 2 ^ 40) ⌝ }
+    ensures { λ r. ⌜ r ≡ amongOf (readEntry (now (page .entry)) (128 + 96 * i) .key) n a b ⌝ }
+{
+    crate::either(
+        crate::both(1 <= n, has_key(page, i, a)),
+        crate::both(2 <= n, has_key(page, i, b)),
+    )
+}
+
+// Whether entry i of a page surely stays as it is: one word tells it of most.
+fn stays(page: &[u8], i: usize, rule: Rule, w: u32) -> bool
+    requires { ⌜ (16 + 12 * i + 12 ≤ length (now page)) × (length (now page) ≤ 2 ^ 40) × (w < 2 ^ 20) ⌝ }
+    ensures { λ r. ⌜ (r ≡ true → fateAt rule w (now (page .entry)) i ≡ stay (readEntry (now (page .entry)) (128 + 96 * i))) ⌝ }
+{
+    match rule {
+        Rule::Kill => false,
+        Rule::End { n, a, b } => !named(page, i, n, a, b),
+        Rule::Back => !words::may_turn(page, i, w),
+    }
+}
+
+// Entry i of a page meets its fate, and what is left of it is put at place j; gives the place behind it. One that stays as it is moves
+// by whole words.
+fn step(page: &mut [u8], rule: Rule, w: u32, i: usize, j: usize) -> usize
+    requires { ⌜ (j ≤ i) × (16 + 12 * i + 12 ≤ length (now page)) × (length (now page) ≤ 2 ^ 40) × (w < 2 ^ 20) ⌝ }
+    ensures { λ r. ⌜ (now (page .exit) ≡ laid (now (page .entry)) j (fateAt rule w (now (page .entry)) i))
+        × (r ≡ j + length (left (fateAt rule w (now (page .entry)) i))) ⌝ }
+{
+    if stays(page, i, rule, w) {
+        words::move_entry(page, i, j);
+        return j + 1;
+    }
+    let f = meet(rule, w, page::entry_at(page, i));
+    if f.kept {
+        page::put_entry(page, j, f.entry);
+        return j + 1;
+    }
+    j
+}
+
+// The entries of a page under a rule, closed up; gives how many are left.
+fn squeeze(page: &mut [u8], l: Limits, count: usize, rule: Rule, w: u32) -> usize
     requires { ⌜ Edition l × Exact (l .least) (now page) × (count ≡ countOf (l .least) (now page)) × (w < 2 ^ 20) ⌝ }
     ensures { λ r. ⌜ (now (page .exit) ≡ staged (l .least) (now (page .entry)) (sifted rule w (entriesIn (l .least) (now (page .entry)))))
-        × (r .count ≡ length (sifted rule w (entriesIn (l .least) (now (page .entry)))))
-        × (r .live ≡ length (those lives (sifted rule w (entriesIn (l .least) (now (page .entry)))))) ⌝ }
+        × (r ≡ length (sifted rule w (entriesIn (l .least) (now (page .entry))))) ⌝ }
 {
-    let mut live = 0;
     let mut j = 0;
     let mut i = 0;
     while i < count {
-        let f = meet(rule, w, page::entry_at(page, i));
-        live += live_left(f);
-        if f.kept {
-            page::put_entry(page, j, f.entry);
-            j += 1;
-        }
+        j = step(page, rule, w, i, j);
         i += 1;
     }
-    Kept {
-        count: j,
-        live: live,
+    j
+}
+
+// Writes the live count of a page that has `count` entries. They are counted only where the edition has bits for it.
+fn show_live(page: &mut [u8], l: Limits, count: usize)
+    requires { ⌜ Edition l × (count < 64) × (16 + 12 * count ≤ length (now page)) × (length (now page) ≤ 2 ^ 40) ⌝ }
+    ensures { λ _. ⌜ now (page .exit) ≡ putLive (l .least) (now (page .entry))
+        (liveShown (l .least) (length (those lives (readEntries (now (page .entry)) 128 count)))) ⌝ }
+{
+    if l.least <= 4 {
+        return;
     }
+    let live = page::live_among(page, count);
+    page::put_live(page, l, live);
 }
 
 // A page under a rule.
@@ -150,17 +196,17 @@ pub fn sift(page: &mut [u8], l: Limits, rule: Rule, w: u32)
     ensures { λ _. ⌜ now (page .exit) ≡ encodePage (l .least) (siftedPage rule w (decodePage (l .least) (now (page .entry)))) ⌝ }
 {
     let h = page::head_of(page, l);
-    let k = squeeze(page, l, h.count, rule, w);
-    page::blank(page, k.count, h.count);
+    let n = squeeze(page, l, h.count, rule, w);
+    page::blank(page, n, h.count);
     page::put_head(
         page,
         l,
         Head {
             level: h.level,
-            count: k.count,
+            count: n,
             start: h.start,
             end: end_of(rule, w, h.end),
         },
     );
-    page::put_live(page, l, k.live);
+    show_live(page, l, n);
 }

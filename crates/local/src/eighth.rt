@@ -1,45 +1,16 @@
 // Rule 8: a used page's live count is "the number of entries alive at the last version". Where rule 1 holds, these are the entries whose
-// end says alive (model/proofs/sound/Counted), so that one field of each entry is read.
+// end says alive (model/proofs/sound/Counted), so that one field of each entry is read (`page::live_among`).
 use model::Limits;
 ghost use mathlib.Core.Path.{_≡_};
 ghost use mathlib.Core.Bool.{true};
-ghost use Prim.Native.Nat.{_+_, _*_, _^_, _≤_, _<_};
+ghost use Prim.Native.Nat.{_*_, _≤_};
 ghost use lib.ListN.{length};
-ghost use Rattle.model.specs.Basic.{those};
 ghost use Rattle.model.specs.Limits.{Edition};
-ghost use Rattle.model.specs.Layout.{lives, readEntry, readEntries};
 ghost use Rattle.model.specs.Clean.{clean};
 ghost use Rattle.model.specs.Counted.{rule8};
 ghost use Rattle.page.specs.Head.{readHead};
-ghost use Rattle.page.specs.Insert.{liveOne};
 ghost use Rattle.local.specs.Local.{Sized};
 ghost use Rattle.local.specs.Eighth.{countOk};
-
-// What entry i of a page adds to its live count.
-fn live_at(page: &[u8], i: usize) -> usize
-    requires { ⌜ (16 + 12 * i + 12 ≤ length (now page)) × (length (now page) ≤ 2 ^ 40) ⌝ }
-    ensures { λ r. ⌜ r ≡ liveOne (readEntry (now (page .entry)) (128 + 96 * i)) ⌝ }
-{
-    let end = bits::field(page, 128 + 96 * i + 44, 20);
-    if end == page::ALIVE {
-        return 1;
-    }
-    0
-}
-
-// How many of the first n entries of a page live.
-fn live_among(page: &[u8], n: usize) -> usize
-    requires { ⌜ (16 + 12 * n ≤ length (now page)) × (length (now page) ≤ 2 ^ 40) ⌝ }
-    ensures { λ r. ⌜ r ≡ length (those lives (readEntries (now (page .entry)) 128 n)) ⌝ }
-{
-    let mut live = 0;
-    let mut i = 0;
-    while i < n {
-        live += live_at(page, i);
-        i += 1;
-    }
-    live
-}
 
 // Whether the live count of a page is right, in an edition that has one.
 fn counted(page: &[u8], l: Limits) -> bool
@@ -50,7 +21,7 @@ fn counted(page: &[u8], l: Limits) -> bool
     if h.level == 0 {
         return true;
     }
-    let live = live_among(page, h.count);
+    let live = page::live_among(page, h.count);
     page::live_of(page, l) == live
 }
 

@@ -3,7 +3,9 @@ pub mod Editions
 pub mod Entries
 pub mod Front
 pub mod Passes
-pub mod Words
+pub mod ByWords
+pub mod Whole
+pub mod Live
 pub mod Exact
 pub mod Head
 pub mod Insert

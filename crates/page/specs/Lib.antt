@@ -4,3 +4,4 @@ pub mod Exact
 pub mod Over
 pub mod Stage
 pub mod Insert
+pub mod Apart

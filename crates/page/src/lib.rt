@@ -1,12 +1,16 @@
 // A page in its part of the store: its front, and its entries.
 use model::Entry;
 use model::Limits;
+
+pub mod words;
+
 ghost use mathlib.Core.Path.{_≡_};
 ghost use Prim.Native.Nat.{_+_, _*_, _-_, _/_, _%_, _^_, _≤_, _<_};
 ghost use lib.ListN.{length};
 ghost use Rattle.model.specs.Limits.{Edition, liveShown};
+ghost use Rattle.model.specs.Basic.{those};
 ghost use Rattle.model.specs.Field.{lay, zeros};
-ghost use Rattle.model.specs.Layout.{entryParts, readEntry, countOf, liveOf, encodePage, decodePage};
+ghost use Rattle.model.specs.Layout.{entryParts, readEntry, readEntries, lives, countOf, liveOf, encodePage, decodePage};
 ghost use Rattle.page.specs.Head.{readHead, putHead, putLive, HeadFits, frontBy, putFront, FrontFits};
 ghost use Rattle.page.specs.Read.{FieldsFit};
 ghost use Rattle.page.specs.Exact.{Exact, encodeWith};
@@ -67,6 +71,32 @@ pub fn live_one(e: Entry) -> usize
         return 1;
     }
     0
+}
+
+// What entry i of a page adds to its live count.
+fn live_at(page: &[u8], i: usize) -> usize
+    requires { ⌜ (16 + 12 * i + 12 ≤ length (now page)) × (length (now page) ≤ 2 ^ 40) ⌝ }
+    ensures { λ r. ⌜ r ≡ liveOne (readEntry (now (page .entry)) (128 + 96 * i)) ⌝ }
+{
+    let end = bits::field(page, 128 + 96 * i + 44, 20);
+    if end == ALIVE {
+        return 1;
+    }
+    0
+}
+
+// How many of the first n entries of a page live.
+pub fn live_among(page: &[u8], n: usize) -> usize
+    requires { ⌜ (16 + 12 * n ≤ length (now page)) × (length (now page) ≤ 2 ^ 40) ⌝ }
+    ensures { λ r. ⌜ r ≡ length (those lives (readEntries (now (page .entry)) 128 n)) ⌝ }
+{
+    let mut live = 0;
+    let mut i = 0;
+    while i < n {
+        live += live_at(page, i);
+        i += 1;
+    }
+    live
 }
 
 // The start of an entry: 8 bits that end its first word, and 12 that begin its second.
@@ -194,7 +224,7 @@ pub fn blank(page: &mut [u8], j: usize, n: usize)
     }
 }
 
-// Puts e at place i of a page with room: those from i on move up by one. The live count is left as it was.
+// Puts e at place i of a page with room: those from i on move up by one, the last of them first. The live count is left as it was.
 fn slip_in(page: &mut [u8], l: Limits, i: usize, e: Entry)
     requires { ⌜ Edition l × Exact (l .least) (now page) × (countOf (l .least) (now page) < 5 * l .least)
         × (i ≤ countOf (l .least) (now page)) × FieldsFit e ⌝ }
@@ -203,15 +233,12 @@ fn slip_in(page: &mut [u8], l: Limits, i: usize, e: Entry)
 {
     let h = head_of(page, l);
     let count = h.count;
-    let mut x = e;
-    let mut k = i;
-    while k < count {
-        let y = entry_at(page, k);
-        put_entry(page, k, x);
-        x = y;
-        k += 1;
+    let mut k = count;
+    while i < k {
+        words::copy_entry(page, k - 1, k);
+        k -= 1;
     }
-    put_entry(page, count, x);
+    put_entry(page, i, e);
     let more = count + 1;
     put_head(
         page,

@@ -48,7 +48,7 @@ fn entry_settled(s: &[u8], l: Limits, c: u32, p: &[u8], i: usize) -> bool
     requires { ⌜ Opened l (now s) c × (16 + 12 * i + 12 ≤ length (now p)) × (length (now p) ≤ 2 ^ 40) ⌝ }
     ensures { λ r. ⌜ r ≡ settled (decode (l .least) (now (s .entry))) (readEntry (now (p .entry)) (128 + 96 * i)) ⌝ }
 {
-    if !turn::may_turn(p, i, c + 1) {
+    if !page::words::may_turn(p, i, c + 1) {
         return true;
     }
     settled(s, l, c, page::entry_at(p, i))

@@ -5,7 +5,6 @@ use mathlib.Core.Path.{_≡_}
 use mathlib.Core.List.{List}
 use lib.Dec.{leb}
 use Rattle.model.specs.Basic.{pick}
-use Rattle.model.specs.declared.Entry.{Entry}
 use Rattle.model.specs.Entry.{alive}
 use Rattle.model.specs.Page.{Page}
 use Rattle.model.specs.Store.{page}
@@ -17,11 +16,6 @@ pub record Past (w : ℕ) (p : Page) : Type 0 where
 
 pub record AllPast (w : ℕ) (ps : List Page) : Type 0 where
   pub at : (n : ℕ) → Past w (page ps n)
-
--- an entry that neither starts nor ends at w
-pub record Apart (w : ℕ) (e : Entry) : Type 0 where
-  pub start : e .start ≡ w → ⊥
-  pub end : e .end ≡ w → ⊥
 
 -- the least that the 32 bits from bit 32 of a page on can be where its end is w: they begin with the last of its end
 abbrev pub lowEnd : ℕ → ℕ → ℕ

@@ -8,8 +8,7 @@ ghost use mathlib.Core.List.{map};
 ghost use Prim.Native.Nat.{_+_, _*_, _-_, _^_, _≤_, _<_};
 ghost use lib.ListN.{length};
 ghost use Rattle.model.specs.Limits.{Edition};
-ghost use Rattle.model.specs.Field.{field};
-ghost use Rattle.model.specs.Layout.{readEntry, pageOf, withPage, decodePage, encodePage, decode, encode};
+ghost use Rattle.model.specs.Layout.{pageOf, withPage, decodePage, encodePage, decode, encode};
 ghost use Rattle.model.specs.Judged.{isSound};
 ghost use Rattle.model.specs.Calls.{back, committed, abandoned};
 ghost use Rattle.page.specs.Exact.{Exact};
@@ -17,7 +16,7 @@ ghost use Rattle.page.specs.Head.{readHead};
 ghost use Rattle.store.specs.Set.{withPages};
 ghost use Rattle.turn.specs.Turned.{HeadedBytes, begun};
 ghost use Rattle.turn.specs.Slotted.{Cleared};
-ghost use Rattle.turn.specs.Past.{Past, AllPast, Apart, lowEnd};
+ghost use Rattle.turn.specs.Past.{Past, AllPast, lowEnd};
 
 // "The open version is current plus 1."
 pub fn begin(s: &mut [u8], l: Limits)
@@ -38,33 +37,6 @@ pub fn commit(s: &mut [u8], l: Limits)
     store::put_header(s, l, h.with_version(h.current + 1).with_flag(false));
 }
 
-// The second word of entry i of a page: the last 12 bits of its start, and its end.
-fn second_word(page: &[u8], i: usize) -> usize
-    requires { ⌜ (16 + 12 * i + 12 ≤ length (now page)) × (length (now page) ≤ 2 ^ 40) ⌝ }
-    ensures { λ r. ⌜ r ≡ field (now (page .entry)) (128 + 96 * i + 32) 32 ⌝ }
-{
-    let o = 128 + 96 * i;
-    model::wide(bits::field(page, o + 32, 32))
-}
-
-// Whether entry i of a page may start or end at w: where the answer is false, it does neither. One word tells it. Here and in `may_move`
-// the word is compared whole: of one that is taken apart, the compiler loads each byte by itself.
-pub fn may_turn(page: &[u8], i: usize, w: u32) -> bool
-    requires { ⌜ (16 + 12 * i + 12 ≤ length (now page)) × (length (now page) ≤ 2 ^ 40) × (w < 2 ^ 20) ⌝ }
-    ensures { λ r. ⌜ (r ≡ false → Apart w (readEntry (now (page .entry)) (128 + 96 * i))) ⌝ }
-{
-    let b = second_word(page, i);
-    let v = model::wide(w);
-    if (b + (1048576 - v)) % 1048576 == 0 {
-        return true;
-    }
-    let low = v % 4096 * 1048576;
-    if b < low {
-        return false;
-    }
-    b < low + 1048576
-}
-
 // Whether anything of a page starts or ends at w. Where nothing does, an abandon of version w leaves the page as it is.
 fn touched(page: &[u8], l: Limits, w: u32) -> bool
     requires { ⌜ Edition l × Exact (l .least) (now page) × (w < 2 ^ 20) × (readHead (l .least) (now page) .end ≡ w → ⊥) ⌝ }
@@ -77,7 +49,7 @@ fn touched(page: &[u8], l: Limits, w: u32) -> bool
     let count = h.count;
     let mut i = 0;
     while i < count {
-        if may_turn(page, i, w) {
+        if page::words::may_turn(page, i, w) {
             return true;
         }
         i += 1;
@@ -97,7 +69,8 @@ fn low_end(l: Limits, w: u32) -> usize
 }
 
 // Whether an abandon of version w may change a page. One that ended before w has nothing of it, nor has a free one, whose end is 0; the
-// second word of either is below that of a page which ended at w.
+// second word of either is below that of a page which ended at w. The word is compared whole: of one that is taken apart, the compiler
+// loads each byte by itself.
 fn may_move(page: &[u8], l: Limits, w: u32) -> bool
     requires { ⌜ Edition l × Exact (l .least) (now page) × (w < 2 ^ 20) × Past w (decodePage (l .least) (now page)) ⌝ }
     ensures { λ r. ⌜ (r ≡ false → back w (decodePage (l .least) (now (page .entry))) ≡ decodePage (l .least) (now (page .entry))) ⌝ }

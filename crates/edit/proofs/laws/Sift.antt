@@ -9,25 +9,21 @@ use native.Mathlib.Numerals.{add-one}
 use native.Mathlib.Omega.{arith}
 use Rattle.model.specs.declared.Entry.{Entry}
 use Rattle.model.specs.Page.{Page}
-use Rattle.model.specs.Basic.{keep, those}
-use Rattle.model.specs.Limits.{liveShown}
+use Rattle.model.specs.Basic.{keep, pick}
 use Rattle.model.specs.Field.{lay}
-use Rattle.model.specs.Layout.{lives, liveIn, liveOf, unused, entryParts, countOf, encodePage, decodePage, readEntry, readEntries}
-use Rattle.model.proofs.tree.Local.{those-append}
-use Rattle.model.proofs.needs.Sizes.{few-those}
+use Rattle.model.specs.Layout.{liveOf, unused, entryParts, countOf, decodePage, readEntry, readEntries}
 use Rattle.page.specs.declared.Head.{Head}
-use Rattle.page.specs.Head.{readHead, putHead, putLive, HeadFits}
+use Rattle.page.specs.Head.{readHead, putHead, HeadFits}
 use Rattle.page.specs.Read.{FieldsFit}
 use Rattle.page.proofs.laws.Read.{count-of, entries-of, level-of, start-of, end-of, length-entries}
 use Rattle.page.proofs.laws.Front.{read-fits}
 use Rattle.page.proofs.laws.Editions.{count-bits}
 use Rattle.page.specs.Exact.{Exact, encodeWith}
-use Rattle.page.proofs.laws.Exact.{live-right}
 use Rattle.page.specs.Stage.{staged, blanked, entriesIn}
 use Rattle.page.proofs.laws.Stage.{staged-from, staged-put, staged-read, staged-shut}
 use Rattle.edit.specs.declared.sift.Rule.{Rule}
 use Rattle.edit.specs.declared.sift.Fate.{Fate}
-use Rattle.edit.specs.Fate.{fateOf, endOf, left}
+use Rattle.edit.specs.Fate.{fateOf, endOf, left, laid}
 use Rattle.edit.proofs.laws.Fate.{end-fits}
 use Rattle.edit.specs.Sift.{sifted, siftedPage}
 
@@ -55,7 +51,7 @@ sifted-more r w es i h =
       append-nil (left (fateOf r w (getD es i unused))),
     )
 
-length-left : (f : Fate) → length (left f) ≤ 1
+pub length-left : (f : Fate) → length (left f) ≤ 1
 length-left f = go (f .kept)
   where
     go : (b : Bool) → length (keep b (f .entry) []) ≤ 1
@@ -105,31 +101,6 @@ module _ (least : ℕ) (four : 4 ≤ least) (eight : least ≤ 8) (p : List ℕ)
         entries = sifted r w (es i);
       })
 
-  -- with the number of those that live
-  pub sift-live : putLive least (encodeWith least (siftedPage r w (decodePage least p)) (liveOf least p))
-      (liveShown least (length (those lives (sifted r w (entriesIn least p)))))
-      ≡ encodePage least (siftedPage r w (decodePage least p))
-  unfolding siftedPage liveIn
-  sift-live =
-      let q : Page = siftedPage r w (decodePage least p) in
-      let es : entriesIn least p ≡ decodePage least p .entries
-      = sym (entries-of least p ∙ ap (readEntries p 128) (sym (count-of least p))) in
-      ap (λ (l : List Entry). putLive least (encodeWith least q (liveOf least p))
-      (liveShown least (length (those lives (sifted r w l))))) es
-      ∙ live-right least q (liveOf least p) eight (rw (← es) (omega (arith, fewer, x .room)))
-
-  pub sift-low : length (those lives (sifted r w (entriesIn least p))) < 64
-  sift-low = omega (arith, few-those lives (sifted r w (entriesIn least p)), fewer, x .room)
-
--- one fate leaves one at most
-pub live-one-most : (f : Fate) → length (those lives (left f)) ≤ 1
-live-one-most f = omega (arith, few-those lives (left f), length-left f)
-
--- the live ones with one fate more
-pub live-more : (out : List Entry) (f : Fate) → length (those lives (out ++ left f))
-    ≡ length (those lives out) + length (those lives (left f))
-live-more out f = ap length (those-append lives out (left f)) ∙ length-append (those lives out) (those lives (left f))
-
 -- ---- the stages of its loop
 
 -- q is p with these entries first: the limits are not named where the loop runs
@@ -148,8 +119,17 @@ sift-read p q n out i least four eight x e s h lt =
     ∙ ap (λ (k : ℕ). getD (readEntries p 128 k) i unused) (sym e)
 
 -- one that is kept is written
-pub sift-put : (p q : List ℕ) (n : ℕ) (out : List Entry) (e : Entry) → Staged p n out q → length out < n → FieldsFit e
+sift-put : (p q : List ℕ) (n : ℕ) (out : List Entry) (e : Entry) → Staged p n out q → length out < n → FieldsFit e
     → Staged p n (out ++ e ∷ []) (lay q (128 + 96 * length out) (entryParts e))
 sift-put p q n out e s lt z least four eight x c =
     ap (λ (b : List ℕ). lay b (128 + 96 * length out) (entryParts e)) (s least four eight x c)
     ∙ staged-put least four eight p x out e (omega (arith, x .room)) z
+
+-- one fate more
+pub sift-step : (p q : List ℕ) (n : ℕ) (out : List Entry) (f : Fate) → Staged p n out q → length out < n → FieldsFit (f .entry)
+    → Staged p n (out ++ left f) (laid q (length out) f)
+sift-step p q n out f s lt z = go (f .kept)
+  where
+    go : (b : Bool) → Staged p n (out ++ keep b (f .entry) []) (pick b (lay q (128 + 96 * length out) (entryParts (f .entry))) q)
+    go true = sift-put p q n out (f .entry) s lt z
+    go false = λ least four eight x e. s least four eight x e ∙ ap (staged least p) (sym (append-nil out))

@@ -2,54 +2,28 @@
 use Prim.Native.Nat.{ℕ, zero, suc, _+_, _*_, _-_, _<_, _≤_}
 use mathlib.Core.Bool.{Bool, true, false, _&&_, _||_}
 use mathlib.Core.Path.{_≡_, refl, ap, _∙_, subst}
-use mathlib.Core.List.{List, [], _∷_}
+use mathlib.Core.List.{List}
 use native.Mathlib.Omega.{arith}
 use lib.Dec.{leb, eqb}
-use lib.ListN.{length, length-append}
+use lib.ListN.{length}
 use borrow.Author.Tests.{ne-eqb, le-leb, lt-leb}
 use Rattle.model.specs.Basic.{all, those, pick, inOrder}
-use Rattle.model.specs.declared.Entry.{Entry}
 use Rattle.model.specs.Limits.{liveShown}
 use Rattle.model.specs.Field.{field}
 use Rattle.model.specs.Entry.{liveAt, before}
 use Rattle.model.specs.Page.{Page, isFree}
 use Rattle.model.specs.Store.{last}
 use Rattle.model.specs.Sound.{pageFine, pageOk, zeroed, spanOk, entryOk}
-use Rattle.model.specs.Layout.{lives, liveOf, pageOf, readEntry, readEntries, decodePage, decode, sizeOf}
+use Rattle.model.specs.Layout.{lives, liveOf, pageOf, readEntries, decodePage, decode, sizeOf}
 use Rattle.model.specs.Clean.{clean}
 use Rattle.model.specs.Counted.{countedPage, countedPages, rule8}
 use Rattle.model.proofs.lists.Lists.{both-true}
-use Rattle.model.proofs.tree.Local.{those-append}
-use Rattle.model.proofs.needs.Sizes.{few-those}
 use Rattle.model.proofs.sound.Counted.{those-last}
 use Rattle.page.specs.Head.{readHead}
-use Rattle.page.proofs.laws.Read.{level-of, entries-of, entries-step, entries-end}
-use Rattle.page.specs.Insert.{liveOne}
+use Rattle.page.proofs.laws.Read.{level-of, entries-of}
 use Rattle.local.specs.Local.{Sized}
 use Rattle.local.proofs.laws.Ruled.{fine, last-low}
 use Rattle.local.specs.Eighth.{countOk}
-
--- ---- the entries of a page that live, from place i on
-
-abbrev pub liveFrom : List ℕ → ℕ → ℕ → ℕ
-liveFrom p i n = length (those lives (readEntries p (128 + 96 * i) (n - i)))
-
-live-cons : (e : Entry) (es : List Entry) → length (those lives (e ∷ es)) ≡ liveOne e + length (those lives es)
-live-cons e es = ap length (those-append lives (e ∷ []) es) ∙ length-append (those lives (e ∷ [])) (those lives es)
-
-pub live-most : (e : Entry) → liveOne e ≤ 1
-live-most e = few-those lives (e ∷ [])
-
-pub live-start : (p : List ℕ) (n : ℕ) → length (those lives (readEntries p 128 n)) ≡ liveFrom p 0 n
-live-start p n = let e : n - 0 ≡ n = omega arith in let f : 128 + 96 * 0 ≡ 128 = omega arith in rw (e, f)
-
-pub live-step : (p : List ℕ) (i n : ℕ) → i < n → liveFrom p i n ≡ liveOne (readEntry p (128 + 96 * i)) + liveFrom p (i + 1) n
-live-step p i n h =
-    ap (λ (es : List Entry). length (those lives es)) (entries-step p i n h)
-    ∙ live-cons (readEntry p (128 + 96 * i)) (readEntries p (128 + 96 * (i + 1)) (n - (i + 1)))
-
-pub live-end : (p : List ℕ) (i n : ℕ) → n ≤ i → liveFrom p i n ≡ 0
-live-end p i n h = ap (λ (es : List Entry). length (those lives es)) (entries-end p (128 + 96 * i) i n h)
 
 pub count-free : (least : ℕ) (p : List ℕ) → readHead least p .level ≡ 0 → countOk least p ≡ true
 unfolding countOk

@@ -1,6 +1,6 @@
 -- `page::entry_at` meets its contract: the words of the entry are read. Assumes nothing.
 use Prim.Native.Nat.{_+_, _*_}
-use Rattle.page.proofs.laws.Words.{words-entry}
+use Rattle.page.proofs.laws.ByWords.{words-entry}
 use borrow.Author.Needs.{needs}
 use Rattle.page.proofs.entry_at.Statement.{statement}
 use Rattle.page.proofs.entry_at.Tie as tie

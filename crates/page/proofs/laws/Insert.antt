@@ -1,29 +1,29 @@
 -- Laws about page/specs/Insert. Assumes nothing.
-use Prim.Native.Nat.{ℕ, zero, suc, _+_, _*_, _<_, _≤_}
+use Prim.Native.Nat.{ℕ, zero, suc, _+_, _*_, _-_, _<_, _≤_}
 use mathlib.Core.Path.{_≡_, refl, ap, sym, _∙_}
 use mathlib.Core.List.{List, [], _∷_, _++_}
-use native.Mathlib.Numerals.{add-one}
 use native.Mathlib.Omega.{arith}
 use lib.ListN.{length, getD, take, drop, length-append, length-take, length-drop, take-append-drop}
-use lib.Seq.{take-suc, length-take-le, take-all, take-at}
+use lib.ListN.{List·getD-eq-default}
+use lib.Seq.{length-take-le}
 use Rattle.model.specs.declared.Entry.{Entry}
 use Rattle.model.specs.Field.{lay}
 use Rattle.model.specs.Page.{Page}
 use Rattle.model.specs.Basic.{those}
 use Rattle.model.specs.Limits.{liveShown}
-use Rattle.model.specs.Layout.{lives, liveIn, liveOf, entryParts, unused, countOf, decodePage, encodePage, readEntries}
+use Rattle.model.specs.Layout.{lives, liveIn, liveOf, entryParts, unused, countOf, decodePage, encodePage, readEntry, readEntries}
 use Rattle.model.proofs.tree.Local.{those-append}
 use Rattle.model.proofs.needs.Sizes.{few-those}
 use Rattle.page.specs.declared.Head.{Head}
 use Rattle.page.specs.Head.{readHead, putHead, putLive, HeadFits}
 use Rattle.page.specs.Read.{FieldsFit}
-use Rattle.page.proofs.laws.Read.{sized-unused, sized-entries, length-entries, count-of, entries-of, level-of, start-of, end-of}
+use Rattle.page.proofs.laws.Read.{sized-entries, length-entries, count-of, entries-of, level-of, start-of, end-of}
 use Rattle.page.proofs.laws.Editions.{count-bits, shown-add, shown-most}
 use Rattle.page.proofs.laws.Front.{read-fits}
 use Rattle.page.specs.Exact.{Exact, encodeWith}
 use Rattle.page.proofs.laws.Exact.{live-right, exact-live}
 use Rattle.page.specs.Stage.{staged, entriesIn}
-use Rattle.page.proofs.laws.Stage.{staged-from, staged-put, staged-end, count}
+use Rattle.page.proofs.laws.Stage.{staged-unused, staged-set, staged-low, staged-end, count}
 use Rattle.page.specs.Insert.{insertAt, withEntry, liveOne}
 
 -- the front of a page with one entry more
@@ -34,75 +34,84 @@ pub length-insert : (i : ℕ) (e : Entry) (l : List Entry) → length (insertAt 
 unfolding insertAt
 length-insert i e l = simp (length-append, length-take, length-drop) (omega arith)
 
-pub insert-first : (i : ℕ) (e : Entry) (l : List Entry) → i ≤ length l → take i (insertAt i e l) ≡ take i l
+-- behind all, with none put in
+insert-last : (e : Entry) (l : List Entry) → insertAt (length l) e l ≡ l ++ e ∷ []
 unfolding insertAt
-insert-first i e l h = take-at (take i l) (e ∷ drop i l) i (length-take-le i l h)
+insert-last e [] = refl
+insert-last e (x ∷ l) = ap (λ (t : List Entry). x ∷ t) (insert-last e l)
 
-pub insert-here : (i : ℕ) (e : Entry) (l : List Entry) → i ≤ length l → getD (insertAt i e l) i unused ≡ e
+insert-low : (i k : ℕ) (e : Entry) (l : List Entry) → k < i → i ≤ length l → getD (insertAt i e l) k unused ≡ getD l k unused
 unfolding insertAt
-insert-here zero e l h = refl
-insert-here (suc i) e [] h = absurd (omega arith)
-insert-here (suc i) e (x ∷ l) h = insert-here i e l (omega arith)
+insert-low zero k e l h n = absurd (omega arith)
+insert-low (suc i) k e [] h n = absurd (omega arith)
+insert-low (suc i) zero e (x ∷ l) h n = refl
+insert-low (suc i) (suc k) e (x ∷ l) h n = insert-low i k e l (omega arith) (omega arith)
 
-pub insert-next : (i k : ℕ) (e : Entry) (l : List Entry) → i ≤ k → getD (insertAt i e l) (k + 1) unused ≡ getD l k unused
+-- one that stands there twice: before itself and behind itself
+insert-twice : (k : ℕ) (l : List Entry) → k < length l → insertAt (suc k) (getD l k unused) l ≡ insertAt k (getD l k unused) l
 unfolding insertAt
-insert-next zero k e l h = rw (add-one k)
-insert-next (suc i) k e [] h = rw (add-one k)
-insert-next (suc i) zero e (x ∷ l) h = absurd (omega arith)
-insert-next (suc i) (suc k) e (x ∷ l) h = let q : suc k + 1 ≡ suc (k + 1) = omega arith in rw q (insert-next i k e l (omega arith))
+insert-twice k [] h = absurd (omega arith)
+insert-twice zero (x ∷ l) h = refl
+insert-twice (suc k) (x ∷ l) h = ap (λ (t : List Entry). x ∷ t) (insert-twice k l (omega arith))
 
-pub insert-sized : (i : ℕ) (e : Entry) (l : List Entry) → FieldsFit e → ((k : ℕ) → FieldsFit (getD l k unused)) → (k : ℕ)
-    → FieldsFit (getD (insertAt i e l) k unused)
-unfolding insertAt
-insert-sized zero e l z h zero = z
-insert-sized zero e l z h (suc k) = h k
-insert-sized (suc i) e [] z h zero = z
-insert-sized (suc i) e [] z h (suc k) = sized-unused
-insert-sized (suc i) e (x ∷ l) z h zero = h 0
-insert-sized (suc i) e (x ∷ l) z h (suc k) = insert-sized i e l z (λ j. h (suc j)) k
+module _ (least : ℕ) (four : 4 ≤ least) (eight : least ≤ 8) (p : List ℕ) (x : Exact least p) (room : countOf least p < 5 * least) where
+  abbrev es : List Entry
+  es = entriesIn least p
 
-module _ (least : ℕ) (four : 4 ≤ least) (eight : least ≤ 8) (p : List ℕ) (x : Exact least p) (i : ℕ) (e : Entry)
-    (room : countOf least p < 5 * least) (le : i ≤ countOf least p) (z : FieldsFit e) where
-  abbrev pub wanted : List Entry
-  wanted = insertAt i e (entriesIn least p)
+  n-is : length es ≡ countOf least p
+  n-is = count least four eight p x
 
-  pub wanted-length : length wanted ≡ countOf least p + 1
-  wanted-length = length-insert i e (entriesIn least p) ∙ ap (λ (n : ℕ). n + 1) (count least four eight p x)
+  -- those from k on have moved up by one; entry k, still where it was too, is the next that is written over
+  abbrev pub moved : ℕ → List ℕ
+  moved k = staged least p (insertAt k (getD (entriesIn least p) k unused) (entriesIn least p))
 
-  pub wanted-sized : (k : ℕ) → FieldsFit (getD wanted k unused)
-  wanted-sized = insert-sized i e (entriesIn least p) z (sized-entries p 128 (countOf least p))
-
-  pub insert-start : p ≡ staged least p (take i wanted)
+  pub insert-start : p ≡ moved (countOf least p)
   insert-start =
-      staged-from least four eight p x i le ∙ ap (staged least p)
-      (sym (insert-first i e (entriesIn least p) (omega (arith, count least four eight p x))))
+      staged-unused least four eight p x room
+      ∙ ap (staged least p) (sym (insert-last unused es))
+      ∙ ap (λ (e : Entry). staged least p (insertAt (length es) e es)) (sym (List·getD-eq-default es unused (omega arith)))
+      ∙ ap moved n-is
 
-  pub insert-step : (k : ℕ) → k ≤ countOf least p
-      → lay (staged least p (take k wanted)) (128 + 96 * k) (entryParts (getD wanted k unused)) ≡ staged least p (take (k + 1) wanted)
-  insert-step k h =
-      let n : length (take k wanted) ≡ k = length-take-le k wanted (omega (arith, wanted-length)) in
-      let t : take (k + 1) wanted ≡ take k wanted ++ getD wanted k unused ∷ [] = ap (λ (j : ℕ). take j wanted) (add-one k)
-      ∙ take-suc wanted k unused (omega (arith, wanted-length)) in
-      rw t (rw n at (staged-put least four eight p x (take k wanted) (getD wanted k unused) (omega (arith, n)) (wanted-sized k)))
+  pub insert-put : (k : ℕ) (a e : Entry) → k ≤ countOf least p → FieldsFit e
+      → lay (staged least p (insertAt k a (entriesIn least p))) (128 + 96 * k) (entryParts e)
+      ≡ staged least p (insertAt k e (entriesIn least p))
+  unfolding insertAt
+  insert-put k a e h z =
+      let n : length (take k es) ≡ k = length-take-le k es (omega (arith, n-is)) in
+      rw n at (staged-set least four eight p x (take k es) (drop k es) a e (omega (arith, n, n-is, length-drop k es)) z)
 
-  pub insert-end : putHead least (staged least p (take (countOf least p + 1) wanted)) (more (readHead least p))
+  pub insert-step : (k : ℕ) → 0 < k → k ≤ countOf least p
+      → lay (moved k) (128 + 96 * k) (entryParts (readEntry (moved k) (128 + 96 * (k - 1)))) ≡ moved (k - 1)
+  insert-step k pos h =
+      let a : Entry = getD es k unused in
+      let y : Entry = getD es (k - 1) unused in
+      let z : FieldsFit y = sized-entries p 128 (countOf least p) (k - 1) in
+      let g : getD (insertAt k a es) (k - 1) unused ≡ y = insert-low k (k - 1) a es (omega arith) (omega (arith, n-is)) in
+      let r : readEntry (moved k) (128 + 96 * (k - 1)) ≡ y
+      = staged-low least four eight p x (insertAt k a es) (k - 1) (omega (arith, length-insert k a es, n-is))
+      (omega (arith, length-insert k a es, n-is)) (rw g z) ∙ g in
+      let s : k ≡ suc (k - 1) = omega arith in
+      ap (λ (e : Entry). lay (moved k) (128 + 96 * k) (entryParts e)) r ∙ insert-put k a y h z
+      ∙ ap (staged least p) (ap (λ (j : ℕ). insertAt j y es) s ∙ insert-twice (k - 1) es (omega (arith, n-is)))
+
+  pub insert-end : (i : ℕ) (e : Entry) → i ≤ countOf least p
+      → putHead least (staged least p (insertAt i e (entriesIn least p))) (more (readHead least p))
       ≡ encodeWith least (withEntry i e (decodePage least p)) (liveOf least p)
   unfolding withEntry
-  insert-end =
-      let all : take (countOf least p + 1) wanted ≡ wanted = take-all (countOf least p + 1) wanted (omega (arith, wanted-length)) in
+  insert-end i e le =
+      let n : length (insertAt i e es) ≡ countOf least p + 1 = length-insert i e es ∙ ap (λ (k : ℕ). k + 1) n-is in
       let f : HeadFits least (readHead least p) = read-fits least p in
       let g : HeadFits least (more (readHead least p))
       = record { level = f .level; count = omega (arith, count-of least p, count-bits least eight); start = f .start; end = f .end } in
-      let es : entriesIn least p ≡ decodePage least p .entries
-      = sym (entries-of least p ∙ ap (readEntries p 128) (sym (count-of least p))) in
-      rw all (staged-end least four eight p x wanted (more (readHead least p)) (omega (arith, wanted-length))
-      (omega (arith, wanted-length)) g (omega (arith, wanted-length, count-of least p)))
+      let d : es ≡ decodePage least p .entries = sym (entries-of least p ∙ ap (readEntries p 128) (sym (count-of least p))) in
+      staged-end least four eight p x (insertAt i e es) (more (readHead least p)) (omega (arith, n)) (omega (arith, n)) g
+      (omega (arith, n, count-of least p))
       ∙ ap (λ (q : Page). encodeWith least q (liveOf least p))
       (λ j. record {
         level = sym (level-of least p) j;
         start = sym (start-of least p) j;
         end = sym (end-of least p) j;
-        entries = insertAt i e (es j);
+        entries = insertAt i e (d j);
       })
 
 live-insert : (i : ℕ) (e : Entry) (l : List Entry) → length (those lives (insertAt i e l)) ≡ length (those lives l) + liveOne e

@@ -4,7 +4,7 @@ use mathlib.Core.Path.{_≡_, refl, ap, sym, _∙_}
 use mathlib.Core.List.{List, [], _∷_, _++_, append-assoc}
 use native.Mathlib.Omega.{arith}
 use lib.ListN.{length, getD, set, take, drop, replicate, length-append, length-drop, length-replicate, take-append-drop}
-use lib.ListN.{replicate-append-replicate}
+use lib.ListN.{replicate-append-replicate, List·getD-append}
 use lib.Seq.{drop-cons, set-at, getD-append-add, getD-drop, length-take-le, drop-at, drop-drop}
 use Rattle.model.specs.declared.Entry.{Entry}
 use Rattle.model.specs.Layout.{unused, padded}
@@ -20,6 +20,19 @@ over-put out l x h =
     let e : length (out ++ x ∷ []) ≡ suc (length out) = length-append out (x ∷ []) ∙ omega arith in
     rw (e, append-assoc out (x ∷ []) (drop (suc (length out)) l), drop-cons l (length out) unused h)
     (set-at out (getD l (length out) unused) (drop (suc (length out)) l) x (length out) refl)
+
+-- one of those written, written again
+pub over-set : (u v l : List Entry) (a b : Entry) → set (over (u ++ a ∷ v) l) (length u) b ≡ over (u ++ b ∷ v) l
+unfolding over
+over-set u v l a b =
+    let d : List Entry = drop (length (u ++ a ∷ v)) l in
+    let e : length (u ++ a ∷ v) ≡ length (u ++ b ∷ v) = length-append u (a ∷ v) ∙ sym (length-append u (b ∷ v)) in
+    ap (λ (x : List Entry). set x (length u) b) (append-assoc u (a ∷ v) d) ∙ set-at u a (v ++ d) b (length u) refl
+    ∙ sym (append-assoc u (b ∷ v) d) ∙ ap (λ (n : ℕ). (u ++ b ∷ v) ++ drop n l) e
+
+pub over-low : (out l : List Entry) (i : ℕ) → i < length out → getD (over out l) i unused ≡ getD out i unused
+unfolding over
+over-low out l i h = List·getD-append out (drop (length out) l) unused i h
 
 pub over-high : (out l : List Entry) (i : ℕ) → length out ≤ i → getD (over out l) i unused ≡ getD l i unused
 unfolding over

@@ -16,7 +16,7 @@ use Rattle.page.proofs.laws.Read.{sized-unused, sized-entries, length-e
 use Rattle.page.proofs.laws.Entries.{entry-put, entry-get, length-padded, padded-get}
 use Rattle.page.proofs.laws.Front.{head-length, head-put, read-fits}
 use Rattle.page.specs.Over.{over}
-use Rattle.page.proofs.laws.Over.{length-over, over-put, over-high, over-own, over-padded, padded-unused, length-blank}
+use Rattle.page.proofs.laws.Over.{length-over, over-put, over-set, over-low, over-high, over-own, over-padded, padded-unused, length-blank}
 use Rattle.page.specs.Exact.{Exact, bodyBytes, encodeWith}
 use Rattle.page.proofs.laws.Exact.{body-length, encode-is, head-is, exact-live}
 use Rattle.page.specs.Stage.{entriesIn, staged, blanked}
@@ -91,6 +91,35 @@ module _ (least : ℕ) (four : 4 ≤ least) (eight : least ≤ 8) (p : List ℕ)
       entry-put hd (zeros (4 * least - 16)) (over out l) (length out) sixteen
       (omega (arith, full, length-over out l (omega (arith, full)))) e z
       ∙ ap (λ (y : List Entry). hd ++ bodyBytes least y) (over-put out l e (omega (arith, full)))
+
+  -- one of those written, written again
+  pub staged-set : (u v : List Entry) (a b : Entry) → length u + length v < 5 * least → FieldsFit b
+      → lay (staged least p (u ++ a ∷ v)) (128 + 96 * length u) (entryParts b) ≡ staged least p (u ++ b ∷ v)
+  unfolding staged hd
+  staged-set u v a b lt z =
+      let n : length (u ++ a ∷ v) ≡ length u + length v + 1 = length-append u (a ∷ v) ∙ omega arith in
+      entry-put hd (zeros (4 * least - 16)) (over (u ++ a ∷ v) l) (length u) sixteen
+      (omega (arith, n, full, length-over (u ++ a ∷ v) l (omega (arith, n, full)))) b z
+      ∙ ap (λ (y : List Entry). hd ++ bodyBytes least y) (over-set u v l a b)
+
+  -- and read
+  pub staged-low : (out : List Entry) (i : ℕ) → i < length out → length out ≤ 5 * least → FieldsFit (getD out i unused)
+      → readEntry (staged least p out) (128 + 96 * i) ≡ getD out i unused
+  unfolding staged hd
+  staged-low out i h le z =
+      let g : getD (over out l) i unused ≡ getD out i unused = over-low out l i h in
+      entry-get hd (zeros (4 * least - 16)) (over out l) i sixteen (omega (arith, full, length-over out l (omega (arith, full)))) (rw g z)
+      ∙ g
+
+  -- one unused behind those in use changes nothing
+  pub staged-unused : countOf least p < 5 * least → p ≡ staged least p (entriesIn least p ++ unused ∷ [])
+  unfolding staged
+  staged-unused room =
+      let one : length (es ++ unused ∷ []) ≡ countOf least p + 1 = length-append es (unused ∷ []) ∙ omega (arith, count) in
+      staged-from (countOf least p) (omega arith)
+      ∙ ap (λ (y : List Entry). frontBytes least (readHead least p) (liveOf least p) ++ bodyBytes least y)
+      (over-first (countOf least p) (omega arith) ∙ sym (padded-unused least es 1 (omega (arith, count)))
+      ∙ sym (over-padded least (es ++ unused ∷ []) es (omega (arith, count, one)) (omega (arith, one))))
 
   pub staged-read : (out : List Entry) (i : ℕ) → length out ≤ i → i < countOf least p
       → readEntry (staged least p out) (128 + 96 * i) ≡ getD (entriesIn least p) i unused

@@ -1,7 +1,7 @@
 -- `page::put_entry` meets its contract: the words of the entry are laid one after the other. Assumes nothing.
 use Prim.Native.Nat.{ℕ, _+_, _*_, _/_, _%_}
 use mathlib.Core.Path.{ap₂, _∙_}
-use Rattle.page.proofs.laws.Words.{words-lay}
+use Rattle.page.proofs.laws.ByWords.{words-lay}
 use borrow.Author.Needs.{needs}
 use Rattle.page.proofs.put_entry.Statement.{statement}
 use Rattle.page.proofs.put_entry.Tie as tie

@@ -1,33 +1,31 @@
--- `page::slip_in` meets its contract: before turn k the first k entries are those wanted, and x is the next of them. Assumes nothing.
+-- `page::slip_in` meets its contract: before each turn those from k on have moved up by one. Assumes nothing.
+use Prim.Native.Nat.{ℕ, _≤_, _+_, _-_, _*_}
+use mathlib.Core.Path.{_≡_, refl, ap, sym, _∙_}
+use mathlib.Core.List.{List}
+use native.Mathlib.Omega.{arith}
+use lib.ListN.{length, getD}
+use Rattle.model.specs.declared.Entry.{Entry}
+use Rattle.model.specs.Field.{lay}
+use Rattle.model.specs.Layout.{unused, countOf, entryParts, readEntry}
+use Rattle.page.specs.declared.Head.{Head}
+use Rattle.page.specs.Head.{putHead, HeadFits}
 use Rattle.page.specs.Insert.{insertAt}
-use Rattle.page.proofs.laws.Insert.{more, insert-here, insert-next, wanted-sized, wanted-length, insert-start, insert-step}
-use Rattle.page.proofs.laws.Insert.{insert-end}
 use Rattle.page.specs.Stage.{staged, entriesIn}
-use Rattle.page.proofs.laws.Stage.{staged-read, count}
 use Rattle.page.proofs.laws.Editions.{count-bits}
 use Rattle.page.proofs.laws.Front.{read-fits}
 use Rattle.page.proofs.laws.Read.{count-of}
-use Rattle.page.specs.Head.{putHead, HeadFits}
-use Rattle.page.specs.declared.Head.{Head}
-use Rattle.model.specs.Layout.{unused, countOf}
-use Rattle.model.specs.declared.Entry.{Entry}
-use lib.ListN.{length, getD, take}
-use lib.Seq.{length-take-le}
-use native.Mathlib.Omega.{arith}
-use mathlib.Core.List.{List}
-use mathlib.Core.Path.{_≡_, refl, ap, sym, _∙_}
-use Prim.Native.Nat.{ℕ, _≤_, _+_, _-_}
+use Rattle.page.proofs.laws.Insert.{more, insert-start, insert-step, insert-put, insert-end}
 use Rattle.page.proofs.slip_in.Statement.{statement}
 use Rattle.page.proofs.slip_in.Tie as tie
 
 abbrev Inv-loop : tie.InvT-loop
-Inv-loop page₀ l i h count x₀ k₀ page x k =
+Inv-loop page₀ l i e h count k₀ page k =
     (i ≤ k) × (k ≤ count) × (length page ≡ length page₀)
-    × (page ≡ staged (l .least) page₀ (take k (insertAt i x₀ (entriesIn (l .least) page₀))))
-    × (x ≡ getD (insertAt i x₀ (entriesIn (l .least) page₀)) k unused)
+    × (page ≡ staged (l .least) page₀
+    (insertAt k (getD (entriesIn (l .least) page₀) k unused) (entriesIn (l .least) page₀)))
 
 abbrev μ-loop : tie.MeasureT-loop
-μ-loop page₀ l i h count x₀ k₀ page x k = count - k
+μ-loop page₀ l i e h count k₀ page k = k
 
 head-of-requires : tie.Need-head-of-requires Inv-loop μ-loop
 head-of-requires c κs =
@@ -47,86 +45,55 @@ counted c =
 loop-holds : tie.Need-loop-holds Inv-loop μ-loop
 loop-holds c =
     let at-start = c .before .before .before in
-    let a = at-start .args in let d = at-start .pre .0 in
-    let p : List ℕ = a .page .now in
-    let n : c .head-of .result .count ≡ countOf (a .l .least) p = counted ((c)) in (
+    let a = at-start .args in let d = at-start .pre .0 in (
+      omega (arith, at-start .pre .3, counted ((c))),
       omega arith,
-      omega (arith, at-start .pre .3),
       refl,
-      insert-start (a .l .least) (d .four) (d .eight) p (at-start .pre .1) (a .i) (a .e) (at-start .pre .2) (at-start .pre .3)
-          (at-start .pre .4),
-      sym (insert-here (a .i) (a .e) (entriesIn (a .l .least) p)
-          (omega (arith, at-start .pre .3, count (a .l .least) (d .four) (d .eight) p (at-start .pre .1)))),
+      rw (counted ((c))) (insert-start (a .l .least) (d .four) (d .eight) (a .page .now) (at-start .pre .1) (at-start .pre .2)),
     )
 
-entry-at-requires : tie.Need-entry-at-requires Inv-loop μ-loop
-entry-at-requires c κs =
-    let at-start = c .before .before .before .before .before .before in
-    omega (
-      arith,
-      at-start .pre .1 .size,
-      at-start .pre .2,
-      at-start .pre .0 .four,
-      at-start .pre .0 .eight,
-      counted ((c .before .before .before)),
+sub-copy-entry : tie.Need-sub-copy-entry Inv-loop μ-loop
+sub-copy-entry c = omega (arith, c .before .loop-test .taken)
+
+copy-entry-requires : tie.Need-copy-entry-requires Inv-loop μ-loop
+copy-entry-requires c κs =
+    let at-head-of = c .before .before .before in
+    let at-start = at-head-of .before .before .before in
+    let d = at-start .pre .0 in (
+      omega (arith, at-start .pre .1 .size, at-start .pre .2, d .four, d .eight, counted at-head-of, c .before .loop-test .taken),
+      omega (arith, at-start .pre .1 .size, at-start .pre .2, d .four, d .eight, counted at-head-of),
+      omega (arith, at-start .pre .1 .size, d .eight),
+    )
+
+sub-k : tie.Need-sub-k Inv-loop μ-loop
+sub-k c = omega (arith, c .before .before .before .before .loop-test .taken)
+
+loop-less : tie.Need-loop-less Inv-loop μ-loop
+loop-less c = omega (arith, c .before .before .before .before .loop-test .taken)
+
+loop-again : tie.Need-loop-again Inv-loop μ-loop
+loop-again c =
+    let at-copy = c .before .before in
+    let at-test = at-copy .before .before in
+    let at-head-of = at-test .before .before in
+    let at-start = at-head-of .before .before .before in
+    let a = at-start .args in let d = at-start .pre .0 in let l = at-test .before .loop in (
+      omega (arith, at-test .loop-test .taken),
+      omega arith,
+      omega (arith, at-copy .copy-entry .kept .0),
+      at-copy .copy-entry .ensures
+          ∙ ap (λ (q : List ℕ). lay q (128 + 96 * l .k) (entryParts (readEntry q (128 + 96 * (l .k - 1))))) (l .inv .3)
+          ∙ insert-step (a .l .least) (d .four) (d .eight) (a .page .now) (at-start .pre .1) (at-start .pre .2) (l .k)
+          (omega (arith, at-test .loop-test .taken)) (omega (arith, counted at-head-of)),
     )
 
 put-entry-requires : tie.Need-put-entry-requires Inv-loop μ-loop
 put-entry-requires c κs =
-    let at-loop = c .before .before .before .before in
-    let at-head-of = at-loop .before in
-    let at-start = at-head-of .before .before .before in
-    let a = at-start .args in let d = at-start .pre .0 in (
-      omega (arith, at-start .pre .1 .size, at-start .pre .2, d .four, d .eight, counted at-head-of),
+    let at-start = c .before .before .before .before .before .before in
+    let d = at-start .pre .0 in (
+      omega (arith, at-start .pre .1 .size, at-start .pre .2, at-start .pre .3, d .four),
       omega (arith, at-start .pre .1 .size, d .eight),
-      rw (at-loop .loop .inv .4)
-          (wanted-sized (a .l .least) (d .four) (d .eight) (a .page .now) (at-start .pre .1) (a .i) (a .e) (at-start .pre .2)
-          (at-start .pre .3) (at-start .pre .4) (at-loop .loop .k)),
-    )
-
-add-k : tie.Need-add-k Inv-loop μ-loop
-add-k c = omega arith
-
-loop-less : tie.Need-loop-less Inv-loop μ-loop
-loop-less c = omega arith
-
-loop-again : tie.Need-loop-again Inv-loop μ-loop
-loop-again c =
-    let at-put-entry = c .before .before in
-    let at-entry-at = at-put-entry .before .before in
-    let at-loop = at-entry-at .before .before .before in
-    let at-head-of = at-loop .before in
-    let at-start = at-head-of .before .before .before in
-    let a = at-start .args in let d = at-start .pre .0 in let l = at-loop .loop in
-    let p : List ℕ = a .page .now in
-    let es : List Entry = entriesIn (a .l .least) p in
-    let m : List Entry = insertAt (a .i) (a .e) es in
-    let n = counted at-head-of in
-    let w : length m ≡ countOf (a .l .least) p + 1
-    = wanted-length (a .l .least) (d .four) (d .eight) p (at-start .pre .1) (a .i) (a .e) (at-start .pre .2) (at-start .pre .3)
-    (at-start .pre .4) in (
-      omega arith,
-      omega arith,
-      omega (arith, at-put-entry .put-entry .kept .0),
-      at-put-entry .put-entry .ensures ∙ rw (l .inv .3, l .inv .4)
-          (insert-step (a .l .least) (d .four) (d .eight) p (at-start .pre .1) (a .i) (a .e) (at-start .pre .2) (at-start .pre .3)
-          (at-start .pre .4) (l .k) (omega (arith, n))),
-      at-entry-at .entry-at .ensures ∙ rw (l .inv .3)
-          (staged-read (a .l .least) (d .four) (d .eight) p (at-start .pre .1) (take (l .k) m) (l .k)
-          (omega (arith, length-take-le (l .k) m (omega (arith, w, n)))) (omega (arith, n)))
-          ∙ sym (insert-next (a .i) (l .k) (a .e) es (omega arith)),
-    )
-
-put-entry-requires-2 : tie.Need-put-entry-requires-2 Inv-loop μ-loop
-put-entry-requires-2 c κs =
-    let at-loop = c .before .before in
-    let at-start = at-loop .before .before .before .before in
-    let a = at-start .args in let d = at-start .pre .0 in (
-      omega (arith, at-start .pre .1 .size, at-start .pre .2, d .four, d .eight, counted ((at-loop .before))),
-      omega (arith, at-start .pre .1 .size, d .eight),
-      rw (at-loop .loop .inv .4)
-          (wanted-sized (a .l .least) (d .four) (d .eight) (a .page .now) (at-start .pre .1) (a .i) (a .e) (at-start .pre .2)
-          (at-start .pre .3) (at-start .pre .4) (at-loop .loop .k)),
+      at-start .pre .4,
     )
 
 add-more : tie.Need-add-more Inv-loop μ-loop
@@ -137,12 +104,12 @@ add-more c =
 
 put-head-requires : tie.Need-put-head-requires Inv-loop μ-loop
 put-head-requires c κs =
-    let at-put-entry2 = c .before .before .before in
-    let at-head-of = at-put-entry2 .before .before .before .before in
+    let at-put-entry = c .before .before .before in
+    let at-head-of = at-put-entry .before .before .before .before in
     let at-start = at-head-of .before .before .before in
     let a = at-start .args in let d = at-start .pre .0 in
-    let e = at-head-of .head-of .ensures in
-    let f : HeadFits (a .l .least) (at-head-of .head-of .result) = rw e (read-fits (a .l .least) (a .page .now)) in (
+    let f : HeadFits (a .l .least) (at-head-of .head-of .result)
+    = rw (at-head-of .head-of .ensures) (read-fits (a .l .least) (a .page .now)) in (
       d,
       record {
         level = f .level;
@@ -150,8 +117,8 @@ put-head-requires c κs =
         start = f .start;
         end = f .end;
       },
-      omega (arith, at-start .pre .1 .size, d .four, at-put-entry2 .put-entry2 .kept .0),
-      omega (arith, at-start .pre .1 .size, d .eight, at-put-entry2 .put-entry2 .kept .0),
+      omega (arith, at-start .pre .1 .size, d .four, at-put-entry .put-entry .kept .0),
+      omega (arith, at-start .pre .1 .size, d .eight, at-put-entry .put-entry .kept .0),
     )
 
 same-length : tie.Need-same-length Inv-loop μ-loop
@@ -159,25 +126,23 @@ same-length c = omega arith
 
 returns : tie.Need-returns Inv-loop μ-loop
 returns c =
-    let at-put-entry2 = c .before .before .before .before .before .before in
-    let at-loop = at-put-entry2 .before .before .before in
+    let at-put-entry = c .before .before .before .before .before .before in
+    let at-loop = at-put-entry .before .before .before in
     let at-head-of = at-loop .before in
     let at-start = at-head-of .before .before .before in
     let a = at-start .args in let d = at-start .pre .0 in let l = at-loop .loop in
     let p : List ℕ = a .page .now in
-    let m : List Entry = insertAt (a .i) (a .e) (entriesIn (a .l .least) p) in
-    let n = counted at-head-of in
-    let e : l .k ≡ at-head-of .head-of .result .count = omega arith in
-    let out : List ℕ = staged (a .l .least) p (take (countOf (a .l .least) p + 1) m) in
-    let last = _∙_ {c = out} (at-put-entry2 .put-entry2 .ensures)
-    (rw (l .inv .3, l .inv .4, e, n)
-    (insert-step (a .l .least) (d .four) (d .eight) p (at-start .pre .1) (a .i) (a .e) (at-start .pre .2) (at-start .pre .3)
-    (at-start .pre .4) (countOf (a .l .least) p) (omega arith))) in
+    let es : List Entry = entriesIn (a .l .least) p in
+    let k : l .k ≡ a .i = omega (arith, at-put-entry .before .before .loop-test .left) in
+    let out : List ℕ = staged (a .l .least) p (insertAt (a .i) (a .e) es) in
+    let last = _∙_ {c = out} (at-put-entry .put-entry .ensures)
+    (rw (l .inv .3, k)
+    (insert-put (a .l .least) (d .four) (d .eight) p (at-start .pre .1) (at-start .pre .2) (a .i) (getD es (a .i) unused) (a .e)
+    (at-start .pre .3) (at-start .pre .4))) in
     c .before .before .put-head .ensures
     ∙ ap (λ (q : List ℕ). putHead (a .l .least) q (more (at-head-of .head-of .result))) last
     ∙ ap (λ (h : Head). putHead (a .l .least) out (more h)) (at-head-of .head-of .ensures)
-    ∙ insert-end (a .l .least) (d .four) (d .eight) p (at-start .pre .1) (a .i) (a .e) (at-start .pre .2) (at-start .pre .3)
-    (at-start .pre .4)
+    ∙ insert-end (a .l .least) (d .four) (d .eight) p (at-start .pre .1) (at-start .pre .2) (a .i) (a .e) (at-start .pre .3)
 
 pub slip-in-spec : {M : Type 1} → statement M
 slip-in-spec =
@@ -187,12 +152,12 @@ slip-in-spec =
     μ-loop
     head-of-requires
     loop-holds
-    entry-at-requires
-    put-entry-requires
-    add-k
+    sub-copy-entry
+    copy-entry-requires
+    sub-k
     loop-less
     loop-again
-    put-entry-requires-2
+    put-entry-requires
     add-more
     put-head-requires
     same-length

@@ -1,51 +1,18 @@
--- What one word of a page tells without being taken apart: that an entry neither starts nor ends at a version, that a page did not end
--- there.
+-- What one word of a page's front tells without being taken apart: that the page did not end at a version.
 -- Assumes nothing.
-use Prim.Native.Nat.{ℕ, _+_, _*_, _-_, _/_, _%_, _^_, _≤_, _<_}
+use Prim.Native.Nat.{ℕ, _+_, _*_, _%_, _≤_, _<_}
 use native.Mathlib.Omega.{arith}
 use mathlib.Core.Bool.{Bool, true, false}
-use mathlib.Core.Path.{_≡_, refl, ap, sym, _∙_, subst}
-use mathlib.Core.Logic.{_⊎_, inl, inr}
+use mathlib.Core.Path.{_≡_, subst}
 use mathlib.Core.List.{List}
 use lib.Dec.{leb}
 use borrow.Author.Tests.{le-leb, lt-leb}
-use Rattle.model.specs.declared.Entry.{Entry}
 use Rattle.model.specs.Basic.{pick}
 use Rattle.model.specs.Field.{field}
 use Rattle.model.specs.Entry.{alive}
-use Rattle.model.specs.Layout.{readEntry}
 use Rattle.bits.proofs.laws.Laws.{field-lt, field-split}
 use Rattle.page.specs.Head.{readHead}
-use Rattle.page.proofs.laws.Words.{byWords, words-entry}
-use Rattle.turn.specs.Past.{Apart, lowEnd}
-
--- ---- an entry
-
-module _ (p : List ℕ) (o w b v : ℕ) (e : b ≡ field p (o + 32) 32) (q : v ≡ w) where
-  words : byWords p o (field p o 32) b (field p o 32 % 256 * 4096 + b / 1048576) (field p (o + 64) 32) ≡ readEntry p o
-  words = words-entry p o (field p o 32) b (field p o 32 % 256 * 4096 + b / 1048576) (field p (o + 64) 32) refl e refl refl
-
-  start-so : field p o 32 % 256 * 4096 + b / 1048576 ≡ readEntry p o .start
-  start-so = ap (λ (x : Entry). x .start) words
-
-  end-so : b % 1048576 ≡ readEntry p o .end
-  end-so = ap (λ (x : Entry). x .end) words
-
-  short : b < 4294967296
-  short = omega (arith, e, field-lt p (o + 32) 32)
-
-  ends-off : w < 2 ^ 20 → ((b + (1048576 - v)) % 1048576 ≡ 0 → ⊥) → readEntry p o .end ≡ w → ⊥
-  ends-off hw n z = n (omega (arith, hw, q, end-so, z))
-
-  starts-off : (b < v % 4096 * 1048576) ⊎ (v % 4096 * 1048576 + 1048576 ≤ b) → readEntry p o .start ≡ w → ⊥
-  starts-off (inl h) z = omega (arith, start-so, short, q, z, h)
-  starts-off (inr h) z = omega (arith, start-so, short, q, z, h)
-
-  pub apart : w < 2 ^ 20 → ((b + (1048576 - v)) % 1048576 ≡ 0 → ⊥) → (b < v % 4096 * 1048576) ⊎ (v % 4096 * 1048576 + 1048576 ≤ b)
-      → Apart w (readEntry p o)
-  apart hw n h = record { start = starts-off h; end = ends-off hw n }
-
--- ---- the front of a page
+use Rattle.turn.specs.Past.{lowEnd}
 
 pub low-five : (least w v : ℕ) → least ≤ 4 → v ≡ w → v % 131072 * 32768 ≡ lowEnd least w
 low-five least w v h e = rw (le-leb least 4 h, e)

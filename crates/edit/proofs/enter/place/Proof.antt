@@ -1,9 +1,9 @@
 -- `edit::enter::place` meets its contract: the place in the whole is i and the place in what is left. Assumes nothing.
 use Prim.Native.Nat.{_≤_, _-_, _+_, _*_}
-use mathlib.Core.Path.{_≡_, ap, sym, _∙_}
+use mathlib.Core.Path.{_≡_, sym, _∙_}
 use native.Mathlib.Omega.{arith}
 use Rattle.model.specs.Layout.{readEntries}
-use Rattle.edit.specs.Place.{placeOf, beforeOf}
+use Rattle.edit.specs.Place.{placeOf}
 use Rattle.edit.proofs.laws.Place.{place-start, place-here, place-later, place-none}
 use borrow.Author.Needs.{needs}
 use Rattle.edit.proofs.enter.place.Statement.{statement}
@@ -19,23 +19,19 @@ abbrev μ-loop : tie.MeasureT-loop
 loop-holds : tie.Need-loop-holds Inv-loop μ-loop
 loop-holds c = let a = c .before .args in (omega arith, place-start (a .page .now) (a .key) (a .start) (a .count))
 
-entry-at-requires : tie.Need-entry-at-requires Inv-loop μ-loop
-entry-at-requires c κs = search needs
-
-stands-before-requires : tie.Need-stands-before-requires Inv-loop μ-loop
-stands-before-requires c κs = search needs
+before-at-requires : tie.Need-before-at-requires Inv-loop μ-loop
+before-at-requires c κs = search needs
 
 returns : tie.Need-returns Inv-loop μ-loop
 returns c =
-    let at-loop = c .before .before .before .before in
+    let at-loop = c .before .before .before in
     let at-start = at-loop .before .before in
     let l = at-loop .loop in let a = at-start .args in
     omega (
       arith,
       l .inv .1,
       place-here (a .page .now) (a .key) (a .start) (l .i) (a .count) (omega arith)
-          (sym (c .before .stands-before .ensures ∙ ap (beforeOf (a .key) (a .start)) (c .before .before .entry-at .ensures))
-          ∙ c .if1 .taken),
+          (sym (c .before .before-at .ensures) ∙ c .if1 .taken),
     )
 
 add-i : tie.Need-add-i Inv-loop μ-loop
@@ -46,7 +42,7 @@ loop-less c = omega arith
 
 loop-again : tie.Need-loop-again Inv-loop μ-loop
 loop-again c =
-    let at-loop = c .before .before .before .before in
+    let at-loop = c .before .before .before in
     let at-start = at-loop .before .before in
     let l = at-loop .loop in let a = at-start .args in (
       omega arith,
@@ -54,8 +50,7 @@ loop-again c =
         arith,
         l .inv .1,
         place-later (a .page .now) (a .key) (a .start) (l .i) (a .count) (omega arith)
-            (sym (c .before .stands-before .ensures ∙ ap (beforeOf (a .key) (a .start)) (c .before .before .entry-at .ensures))
-            ∙ c .if1 .left),
+            (sym (c .before .before-at .ensures) ∙ c .if1 .left),
       ),
     )
 
@@ -71,8 +66,7 @@ place-spec =
     Inv-loop
     μ-loop
     loop-holds
-    entry-at-requires
-    stands-before-requires
+    before-at-requires
     returns
     add-i
     loop-less

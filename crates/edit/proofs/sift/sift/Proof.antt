@@ -2,13 +2,15 @@
 -- nothing.
 use Rattle.model.specs.Limits.{liveShown}
 use Rattle.edit.specs.Sift.{sifted}
-use Rattle.edit.proofs.laws.Sift.{siftedHead, fewer, head-fits, sift-end, sift-live, sift-low}
+use Rattle.edit.proofs.laws.Sift.{siftedHead, fewer, head-fits, sift-end}
+use Rattle.edit.proofs.laws.Counted.{sift-live, sift-low}
 use Rattle.edit.specs.Fate.{endOf}
 use Rattle.page.specs.Stage.{staged, blanked, entriesIn}
 use Rattle.page.proofs.laws.Read.{count-of}
 use Rattle.page.specs.Head.{readHead, putHead, putLive, HeadFits}
 use Rattle.page.specs.declared.Head.{Head}
-use Rattle.model.specs.Layout.{countOf}
+use Rattle.model.specs.Layout.{lives, countOf, readEntries}
+use Rattle.model.specs.Basic.{those}
 use Rattle.model.specs.declared.Entry.{Entry}
 use lib.ListN.{length}
 use native.Mathlib.Omega.{arith}
@@ -36,7 +38,7 @@ counted c =
 
 few : (c : tie.After-squeeze) →
     let at-start = c .before .before .before .before .before in
-    c .squeeze .result .count ≤ countOf (at-start .args .l .least) (at-start .args .page .now)
+    c .squeeze .result ≤ countOf (at-start .args .l .least) (at-start .args .page .now)
 few c =
     let at-start = c .before .before .before .before .before in
     rw (c .squeeze .ensures .1)
@@ -89,22 +91,24 @@ put-head-requires c κs =
       omega (arith, at-blank .blank .kept .0, at-squeeze .squeeze .kept .0, at-start .pre .1 .size, d .eight),
     )
 
-put-live-requires : tie.Need-put-live-requires
-put-live-requires c κs =
+show-live-requires : tie.Need-show-live-requires
+show-live-requires c κs =
     let at-put-head = c .before .before .before in
     let at-blank = at-put-head .before .before .before .before .before in
     let at-squeeze = at-blank .before .before .before .before in
     let at-start = at-squeeze .before .before .before .before .before in
     let a = at-start .args in let d = at-start .pre .0 in (
       d,
-      rw (at-squeeze .squeeze .ensures .2)
+      rw (at-squeeze .squeeze .ensures .1)
           (sift-low (a .l .least) (d .four) (d .eight) (a .page .now) (at-start .pre .1) (a .rule) (a .w) (at-start .pre .2)),
       omega (
         arith,
         at-put-head .put-head .kept .0,
         at-blank .blank .kept .0,
         at-squeeze .squeeze .kept .0,
+        few at-squeeze,
         at-start .pre .1 .size,
+        at-start .pre .1 .room,
         d .four,
       ),
       omega (
@@ -140,8 +144,8 @@ returns c =
     let front = at-put-head .put-head .ensures
     ∙ (λ i. putHead least (bytes i) (record { level = h i .level; count = k .1 i; start = h i .start; end = end i }))
     ∙ sift-end least (d .four) (d .eight) p (at-start .pre .1) (a .rule) (a .w) (at-start .pre .2) in
-    c .before .before .put-live .ensures
-    ∙ (λ i. putLive least (front i) (liveShown least (k .2 i)))
+    c .before .before .show-live .ensures
+    ∙ (λ i. putLive least (front i) (liveShown least (length (those lives (readEntries (front i) 128 (k .1 i))))))
     ∙ sift-live least (d .four) (d .eight) p (at-start .pre .1) (a .rule) (a .w) (at-start .pre .2)
 
 pub sift-spec : {M : Type 1} → statement M
@@ -153,6 +157,6 @@ sift-spec =
     blank-requires
     end-of-requires
     put-head-requires
-    put-live-requires
+    show-live-requires
     same-length
     returns)

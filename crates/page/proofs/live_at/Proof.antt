@@ -1,10 +1,10 @@
--- `local::eighth::live_at` meets its contract: the entry's end tells. Assumes nothing.
+-- `page::live_at` meets its contract: the entry's end tells. Assumes nothing.
 use mathlib.Core.Path.{sym, _∙_}
 use borrow.Author.Tests.{eq-eqb, ne-eqb}
 use borrow.Author.Needs.{needs}
 use Rattle.model.specs.Layout.{readEntry}
-use Rattle.local.proofs.eighth.live_at.Statement.{statement}
-use Rattle.local.proofs.eighth.live_at.Tie as tie
+use Rattle.page.proofs.live_at.Statement.{statement}
+use Rattle.page.proofs.live_at.Tie as tie
 
 mul-field : tie.Need-mul-field
 mul-field c = search needs

@@ -1,4 +1,4 @@
--- `local::eighth::live_among` meets its contract: those counted and those from i on are all. Assumes nothing.
+-- `page::live_among` meets its contract: those counted and those from i on are all. Assumes nothing.
 use Prim.Native.Nat.{_≤_, _-_, _+_, _*_}
 use mathlib.Core.Path.{_≡_}
 use native.Mathlib.Omega.{arith}
@@ -6,9 +6,9 @@ use lib.ListN.{length}
 use borrow.Author.Needs.{needs}
 use Rattle.model.specs.Basic.{those}
 use Rattle.model.specs.Layout.{lives, readEntry, readEntries}
-use Rattle.local.proofs.laws.Eighth.{liveFrom, live-start, live-step, live-end, live-most}
-use Rattle.local.proofs.eighth.live_among.Statement.{statement}
-use Rattle.local.proofs.eighth.live_among.Tie as tie
+use Rattle.page.proofs.laws.Live.{liveFrom, live-start, live-step, live-end, live-most}
+use Rattle.page.proofs.live_among.Statement.{statement}
+use Rattle.page.proofs.live_among.Tie as tie
 
 abbrev Inv-loop : tie.InvT-loop
 Inv-loop page n live₀ i₀ live i = (i ≤ n) × (live ≤ i) × (length (those lives (readEntries page 128 n)) ≡ live + liveFrom page i n)

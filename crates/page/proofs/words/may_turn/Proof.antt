@@ -1,4 +1,4 @@
--- `may_turn` meets its contract. Assumes nothing.
+-- `page::words::may_turn` meets its contract: what the second word rules out. Assumes nothing.
 use Prim.Native.Nat.{ℕ, _+_, _*_}
 use native.Mathlib.Omega.{arith}
 use mathlib.Core.Path.{_≡_}
@@ -7,9 +7,9 @@ use mathlib.Core.Logic.{inl, inr}
 use borrow.Author.Needs.{needs}
 use borrow.Author.Tests.{ltb-false}
 use Rattle.bits.proofs.laws.Laws.{field-lt}
-use Rattle.turn.proofs.laws.Whole.{apart}
-use Rattle.turn.proofs.may_turn.Statement.{statement}
-use Rattle.turn.proofs.may_turn.Tie as tie
+use Rattle.page.proofs.laws.Whole.{apart}
+use Rattle.page.proofs.words.may_turn.Statement.{statement}
+use Rattle.page.proofs.words.may_turn.Tie as tie
 
 second-word-requires : tie.Need-second-word-requires
 second-word-requires c κs = search needs
