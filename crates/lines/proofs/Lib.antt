@@ -6,3 +6,4 @@ pub mod Streams
 pub mod Steps
 pub mod Laying
 pub mod Readback
+pub mod LineParts

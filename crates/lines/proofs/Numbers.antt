@@ -9,8 +9,9 @@ use lib.Seq.{drop-cons}
 use native.Mathlib.Nat.{pow-suc, pow-le-pow-right}
 use native.Mathlib.Numerals.{add-one}
 use native.Mathlib.Omega.{arith}
-use borrow.Author.Tests.{eq-eqb, ne-eqb, le-leb, lt-leb}
+use borrow.Author.Tests.{eqb-true, eq-eqb, ne-eqb, le-leb, lt-leb}
 use Rattle.model.specs.Basic.{all, eqList}
+use Rattle.model.proofs.lists.Lists.{both-true}
 use Rattle.lines.specs.declared.Number.the-variants.{Is, Nothing}
 use Rattle.lines.specs.Console.{digit, valueFrom, numberOf}
 
@@ -40,6 +41,13 @@ eqList-other a b k h g e = rw (eqList-step a b k h g, ne-eqb (getD a k 0) (getD 
 
 pub eqList-end : (a b : List ℕ) (k : ℕ) → length a ≤ k → length b ≤ k → eqList (drop k a) (drop k b) ≡ true
 eqList-end a b k h g = rw (drop-of-length-le a h, drop-of-length-le b g)
+
+pub eqList-true : (a b : List ℕ) → eqList a b ≡ true → a ≡ b
+eqList-true [] [] e = refl
+eqList-true [] (y ∷ ys) e = cc
+eqList-true (x ∷ xs) [] e = cc
+eqList-true (x ∷ xs) (y ∷ ys) e =
+    let b = both-true (eqb x y) (eqList xs ys) e in rw (eqb-true x y (b .0), eqList-true xs ys (b .1))
 
 -- ---- digits
 

@@ -17,7 +17,7 @@ use Rattle.lines.proofs.Laying.{length-decimal}
 
 -- ---- the value
 
-value-behind : (m : ℕ) (xs : List ℕ) (d : ℕ) → valueFrom m (xs ++ (d ∷ [])) ≡ 10 * valueFrom m xs + (d - 48)
+pub value-behind : (m : ℕ) (xs : List ℕ) (d : ℕ) → valueFrom m (xs ++ (d ∷ [])) ≡ 10 * valueFrom m xs + (d - 48)
 unfolding valueFrom
 value-behind m [] d = refl
 value-behind m (x ∷ xs) d = value-behind (10 * m + (x - 48)) xs d
@@ -36,14 +36,14 @@ value-within (suc k) n h =
 
 -- ---- the digits
 
-is-digit : (d : ℕ) → d < 10 → digit (48 + d) ≡ true
+pub is-digit : (d : ℕ) → d < 10 → digit (48 + d) ≡ true
 is-digit d h = rw (le-leb 48 (48 + d) (omega arith), le-leb (48 + d) 57 (omega arith))
 
 and-then : (t : Bool) {u v : Bool} → t && u ≡ true → (u ≡ true → v ≡ true) → t && v ≡ true
 and-then true e f = f e
 and-then false e f = e
 
-all-behind : (xs : List ℕ) (d : ℕ) → all digit xs ≡ true → digit d ≡ true → all digit (xs ++ (d ∷ [])) ≡ true
+pub all-behind : (xs : List ℕ) (d : ℕ) → all digit xs ≡ true → digit d ≡ true → all digit (xs ++ (d ∷ [])) ≡ true
 all-behind [] d e h = rw h
 all-behind (x ∷ xs) d e h = and-then (digit x) e (λ g. all-behind xs d g h)
 

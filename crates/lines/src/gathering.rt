@@ -7,6 +7,7 @@ use crate::Heard;
 use crate::Held;
 use crate::Line;
 use crate::Taken;
+use crate::once::at_once;
 use crate::parsing::parse;
 use crate::word::find;
 
@@ -82,9 +83,9 @@ fn next(mut held: Held) -> Held
     held
 }
 
-// Up to the first newline of a piece of the input, or to its end. A caller goes on behind the bytes used, until the piece is used up.
-// A line that is whole in the piece is read where it stands; what is kept are bytes of a line that a piece's end cuts.
-pub fn hear(held: Held, piece: &[u8]) -> Taken
+// The way that reads every line. One that is whole in the piece is read where it stands; what is kept are bytes of a line that a
+// piece's end cuts.
+fn gather(held: Held, piece: &[u8]) -> Taken
     requires { ⌜ held .len ≤ 81 ⌝ }
     requires { ⌜ held .before + 1 < 2 ^ 64 ⌝ }
     ensures { λ r. ⌜ Hears held (now (piece .entry)) r ⌝ }
@@ -116,6 +117,31 @@ pub fn hear(held: Held, piece: &[u8]) -> Taken
         used: e,
         heard: Heard::Nothing,
     }
+}
+
+// Up to the first newline of a piece of the input, or to its end. A caller goes on behind the bytes used, until the piece is used up.
+pub fn hear(held: Held, piece: &[u8]) -> Taken
+    requires { ⌜ held .len ≤ 81 ⌝ }
+    requires { ⌜ held .before + 1 < 2 ^ 64 ⌝ }
+    ensures { λ r. ⌜ Hears held (now (piece .entry)) r ⌝ }
+{
+    let len = held.len;
+    if len < 1 {
+        let known = at_once(piece);
+        let e = known.end;
+        if 0 < e {
+            let command = known.command;
+            let number = held.before + 1;
+            let heard = Heard::Whole(Line { number, command });
+            let behind = next(held);
+            return Taken {
+                held: behind,
+                used: e + 1,
+                heard,
+            };
+        }
+    }
+    gather(held, piece)
 }
 
 // The end of the input: "its newline (which the last may lack)".

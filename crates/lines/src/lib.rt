@@ -3,6 +3,7 @@
 // `say` puts each answer into its buffer. The definitions are specs/Console (lines), Reading (pieces) and Answers; that pieces cut
 // anywhere give the input's lines is `streams` (proofs/Streams).
 mod gathering;
+mod once;
 mod parsing;
 mod saying;
 mod word;

@@ -36,7 +36,7 @@ pub(crate) fn same(a: &[u8], b: &[u8]) -> bool
     true
 }
 
-fn wide(x: u8) -> u64
+pub(crate) fn wide(x: u8) -> u64
     ensures { λ r. ⌜ r ≡ x ⌝ }
 {
     x as u64
