@@ -14,7 +14,7 @@ use Rattle.model.specs.Limits.{liveShown}
 use Rattle.model.specs.Field.{lay}
 use Rattle.model.specs.Layout.{lives, liveIn, liveOf, unused, entryParts, countOf, encodePage, decodePage, readEntry, readEntries}
 use Rattle.model.proofs.tree.Local.{those-append}
-use Rattle.model.proofs.needs.Sizes.{few-those}
+use Rattle.model.proofs.lists.Lists.{few-those}
 use Rattle.page.specs.declared.Head.{Head}
 use Rattle.page.specs.Head.{readHead, putHead, putLive, HeadFits}
 use Rattle.page.specs.Read.{FieldsFit}

@@ -1,6 +1,6 @@
 -- Laws about local/specs/Eighth. Assumes nothing.
 use Prim.Native.Nat.{ℕ, zero, suc, _+_, _*_, _-_, _<_, _≤_}
-use mathlib.Core.Bool.{Bool, true, false, _&&_, _||_}
+use mathlib.Core.Bool.{Bool, true, false, _&&_, _||_, or-true}
 use mathlib.Core.Path.{_≡_, refl, ap, _∙_, subst}
 use mathlib.Core.List.{List, [], _∷_}
 use native.Mathlib.Omega.{arith}
@@ -18,9 +18,8 @@ use Rattle.model.specs.Sound.{pageFine, pageOk, zeroed, spanOk, entryOk}
 use Rattle.model.specs.Layout.{lives, liveOf, pageOf, readEntry, readEntries, decodePage, decode, sizeOf}
 use Rattle.model.specs.Clean.{clean}
 use Rattle.model.specs.Counted.{countedPage, countedPages, rule8}
-use Rattle.model.proofs.lists.Lists.{both-true}
+use Rattle.model.proofs.lists.Lists.{both-true, few-those}
 use Rattle.model.proofs.tree.Local.{those-append}
-use Rattle.model.proofs.needs.Sizes.{few-those}
 use Rattle.model.proofs.sound.Counted.{those-last}
 use Rattle.page.specs.Head.{readHead}
 use Rattle.page.proofs.laws.Read.{level-of, entries-of, entries-step, entries-end}
@@ -75,10 +74,6 @@ unfolding countsOk
 counts-end least s n m h = let e : m - n ≡ 0 = omega arith in rw e
 
 -- ---- no bits for it: nothing to be wrong
-
-or-true : (b : Bool) → (b || true) ≡ true
-or-true true = refl
-or-true false = refl
 
 none-page : (least v : ℕ) (p : List ℕ) → least ≤ 4 → countedPage least v p ≡ true
 unfolding countedPage liveOf field
