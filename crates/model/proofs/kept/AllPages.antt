@@ -20,9 +20,10 @@ use Rattle.model.specs.Inner.{In}
 use Rattle.model.specs.ByRule.{livesAt}
 use Rattle.model.proofs.lists.Lists.{both-true, both-intro}
 use Rattle.model.proofs.lists.Members.{not-both, in-left, in-right, in-append, in-map, map-in}
+use Rattle.model.proofs.lists.Bools.{same?}
 use Rattle.model.proofs.tree.Place.{byKey, show-changed, show-filled}
 use Rattle.model.proofs.tree.Edit.{lt}
-use Rattle.model.proofs.tree.Shows.{same?, in-list}
+use Rattle.model.proofs.tree.Shows.{in-list}
 use Rattle.model.proofs.kept.OnePage.{kindOk, PageFit, in-born, Since, stayed, ended, in-end, changed-fit, killed-fit, filled-fit}
 use Rattle.model.proofs.tree.GroupPages.{values, page-set-at, Fill, unused, member, Now, same, went, came, InNew, Redone}
 

@@ -6,14 +6,14 @@ use mathlib.Core.Bool.{Bool, true, false, _&&_, _||_, not}
 use mathlib.Core.Option.{none}
 use mathlib.Core.Path.{_≡_, refl, ap, sym, _∙_, subst}
 use mathlib.Core.Logic.{_⊎_, inl, inr}
-use mathlib.Core.List.{List, [], _∷_, map}
+use mathlib.Core.List.{List, [], _∷_}
 use lib.Dec.{leb, ltb, eqb}
 use lib.ListN.{length}
 use borrow.Author.Tests.{leb-true, eqb-true, le-leb, lt-ltb, eq-eqb}
-use Rattle.model.specs.Basic.{all, has, pick, those, keep}
+use Rattle.model.specs.Basic.{all, has, pick, those}
 use Rattle.model.specs.declared.Pair.{Pair}
 use Rattle.model.specs.declared.Entry.{Entry}
-use Rattle.model.specs.Entry.{pair, alive, pairOf, liveAt}
+use Rattle.model.specs.Entry.{pair, alive}
 use Rattle.model.specs.Page.{Page, Change, isFree, pairsAt, wanted}
 use Rattle.model.specs.declared.Slot.{Slot}
 use Rattle.model.specs.Store.{Store, page, next, last}
@@ -23,7 +23,7 @@ use Rattle.model.specs.Climb
 use Rattle.model.specs.Climb.{Rooted, stays, moves, lacks, Result, done, refused, climb, update}
 use Rattle.model.specs.Calls.{rawInsert, insert, delete}
 use Rattle.model.specs.ByRule.{Readable, Sound}
-use Rattle.model.proofs.lists.Lists.{both-true, both-intro}
+use Rattle.model.proofs.lists.Lists.{both-true, both-intro, few-those}
 use Rattle.model.proofs.lists.Members.{not-both, either-true, bool-cases, all-in}
 use Rattle.model.proofs.sound.ByRule.{GoodEntry, Span, span-of, entry-of, Young, young-of, used-in, high-used}
 use Rattle.model.proofs.sound.Walks.{Self, Above, last-step}
@@ -31,7 +31,7 @@ use Rattle.model.proofs.tree.Local.{applied}
 use Rattle.model.proofs.older.Undo.{climb-fine, RootedFine}
 use Rattle.model.proofs.tree.Climbs.{Pending, RootedShows, climb-shows}
 use Rattle.model.proofs.tree.UpdateChanges.{Fit, pending, root-new}
-use Rattle.model.proofs.tree.Edit.{length-enter}
+use Rattle.model.proofs.tree.Edit.{length-enterPair}
 use Rattle.model.proofs.sound.Ready.{level-used, reached-of, lives-of, reach-level, root-level, ready, fit-insert, fit-delete}
 use Rattle.model.proofs.sound.Ready.{insert-by, delete-by, last-is}
 use Rattle.model.proofs.kept.OnePage.{kindOk, EntryFit, PageFit}
@@ -40,6 +40,7 @@ use Rattle.model.proofs.kept.WayUp.{Keeps, RootedKeeps, climb-keeps}
 use Rattle.model.proofs.reading.Alike.{Alike}
 use Rattle.model.proofs.older.Past.{root-past, put-rise, put-all, put-first, put-newer}
 use Rattle.model.proofs.kept.SoundAfter.{two-of, lim, pos, low-old, SlotsOk, sound-after, steady-past}
+use Rattle.model.proofs.needs.Sizes.{pairs-few}
 
 module _ (least : ℕ) (four : 4 ≤ least) (s : Store) (d : Sound least s) (o : s .opened ≡ true) where
   abbrev two′ : 2 ≤ least
@@ -298,25 +299,8 @@ module _ (least : ℕ) (four : 4 ≤ least) (s : Store) (d : Sound least s) (o :
         (climb-keeps least two′ w lim′ pos′ N old′ low-old′ r (way s w k) 0 c ps total pend keeps)
         (climb-fine least (s .current) 0 r (way s w k) c ps (q .tame) (q .leads))
 
-  few-shown : (es : List Entry) → length (map pairOf (those (liveAt w) es)) ≤ length es
-  few-shown [] = omega arith
-  few-shown (e ∷ es) = at (liveAt w e) (few-shown es)
-    where
-      at : (b : Bool) → length (map pairOf (those (liveAt w) es)) ≤ length es
-          → length (map pairOf (keep b e (those (liveAt w) es))) ≤ suc (length es)
-      at true ih = omega arith
-      at false ih = omega arith
-
-  few-those : (g : Pair → Bool) (us : List Pair) → length (those g us) ≤ length us
-  few-those g [] = omega arith
-  few-those g (u ∷ us) = at (g u) (few-those g us)
-    where
-      at : (b : Bool) → length (those g us) ≤ length us → length (keep b u (those g us)) ≤ suc (length us)
-      at true ih = omega arith
-      at false ih = omega arith
-
   few-page : (n : ℕ) → page ps n .level ≡ 1 → length (pairsAt w (page ps n)) ≤ 5 * least
-  few-page n e = omega (arith, few-shown (page ps n .entries), d .pages n (level-used (page ps n) 0 e) .few)
+  few-page n e = omega (arith, pairs-few w (page ps n), d .pages n (level-used (page ps n) 0 e) .few)
 
   -- a leaf that has taken its change
   pub insert-few : (k x n : ℕ) → page ps n .level ≡ 1
@@ -324,7 +308,7 @@ module _ (least : ℕ) (four : 4 ≤ least) (s : Store) (d : Sound least s) (o :
   insert-few k x n e =
       omega (
         arith,
-        length-enter (pair k x) (those (λ (y : Pair). true) (pairsAt w (page ps n))),
+        length-enterPair (pair k x) (those (λ (y : Pair). true) (pairsAt w (page ps n))),
         few-those (λ (y : Pair). true) (pairsAt w (page ps n)),
         few-page n e,
       )

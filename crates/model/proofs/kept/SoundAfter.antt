@@ -25,9 +25,10 @@ use Rattle.model.specs.Tree.{Holds}
 use Rattle.model.proofs.lists.Lists.{both-true, both-intro}
 use Rattle.model.proofs.lists.Members.{not-both, either-left, either-right, bool-cases, all-in, all-by, all-implies, in-map, map-in}
 use Rattle.model.proofs.lists.Members.{those-in, has-in, in-has}
+use Rattle.model.proofs.lists.Bools.{same?}
 use Rattle.model.proofs.sound.ByRule.{old-current, GoodEntry, Span, of-span, ok-entry, leadsIfSpoken, rule7-by, used-in}
 use Rattle.model.proofs.sound.Walks.{Reach, Self, reach-self, reach-on, seen-reached, IsSeen, reached-under}
-use Rattle.model.proofs.tree.Shows.{Shows, RootFair, same?}
+use Rattle.model.proofs.tree.Shows.{Shows, RootFair}
 use Rattle.model.proofs.tree.UpdateChanges.{height-is}
 use Rattle.model.proofs.tree.Bridge.{passesAt}
 use Rattle.model.proofs.sound.Ready.{used-level, level-used, within-of, of-within, root-lives, last-is, limit, root-used}

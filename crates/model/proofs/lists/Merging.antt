@@ -6,14 +6,16 @@ use mathlib.Core.Bool.{Bool, true, false}
 use mathlib.Core.Option.{Option, none, some}
 use mathlib.Core.Path.{_≡_, refl, ap, ap₂, sym}
 use mathlib.Core.List.{List, [], _∷_, _++_, map}
-use lib.Dec.{ltb}
-use borrow.Author.Tests.{ltb-true, ltb-false, lt-ltb, le-ltb, eq-eqb, ne-eqb}
-use Rattle.model.specs.Basic.{all, those}
+use mathlib.Core.Logic.{inl, inr}
+use lib.Dec.{ltb, eqb}
+use borrow.Author.Tests.{ltb-true, ltb-false, lt-ltb, le-ltb, eq-eqb, ne-eqb, eqb-true}
+use Rattle.model.specs.Basic.{all, those, pick}
 use Rattle.model.specs.declared.Pair.{Pair}
 use Rattle.model.specs.declared.Delta.{Delta}
 use Rattle.model.specs.Walk.{find}
 use Rattle.model.specs.Differ.{added, removed, against, differ}
-use Rattle.model.specs.Inner.{rising}
+use Rattle.model.specs.Inner.{rising, In}
+use Rattle.model.specs.Entry.{pair}
 use Rattle.model.proofs.lists.Lists.{both-true, both-intro, all-cons}
 
 -- each key is above k
@@ -103,3 +105,13 @@ module _ (P : List Pair → List Pair → Type 0) (nothing : P [] [])
   pub by-merge : (us ws : List Pair) → rising us ≡ true → rising ws ≡ true → P us ws
   by-merge [] ws r q = news ws q
   by-merge (x ∷ xs) ws r q = let (a, p) = both-true (above (x .key) xs) (rising xs) r in beside x xs a (λ zs o. by-merge xs zs p o) ws q
+
+-- what a key is found with stands there
+pub find-in : (k x : ℕ) (us : List Pair) → find k us ≡ some x → In (pair k x) us
+find-in k x [] h = absurd (let n : _≡_ {A = ℕ} 0 1 = cc in omega arith)
+find-in k x (u ∷ us) h = at (eqb (u .key) k) refl h (λ g. find-in k x us g)
+  where
+    at : (b : Bool) → eqb (u .key) k ≡ b → pick b (some (u .value)) (find k us) ≡ some x → (find k us ≡ some x → In (pair k x) us)
+        → In (pair k x) (u ∷ us)
+    at true e g ih = let v : u .value ≡ x = cc in inl (λ i. record { key = sym (eqb-true (u .key) k e) i; value = sym v i })
+    at false e g ih = inr (ih g)

@@ -22,7 +22,8 @@ use Rattle.model.specs.Needs.{fills, actives}
 use Rattle.model.specs.Layout.{bit}
 use Rattle.model.specs.Inner.{In}
 use Rattle.model.proofs.lists.Members.{in-append, in-those}
-use Rattle.model.proofs.tree.Shows.{same?, in-list}
+use Rattle.model.proofs.lists.Bools.{same?}
+use Rattle.model.proofs.tree.Shows.{in-list}
 use Rattle.model.proofs.tree.GroupShows.{Apart}
 use Rattle.model.proofs.tree.GroupPages.{values, in-frees}
 use Rattle.model.proofs.tree.Numbers.{frees-all}

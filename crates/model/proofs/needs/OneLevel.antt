@@ -26,7 +26,7 @@ use Rattle.model.specs.Inner.{In}
 use Rattle.model.specs.ByRule.{Sound}
 use Rattle.model.proofs.lists.Lists.{both-true}
 use Rattle.model.proofs.lists.Members.{not-both, either-true, bool-cases, in-append, in-those, those-in, map-in, has-in, in-has}
-use Rattle.model.proofs.tree.Shows.{same?}
+use Rattle.model.proofs.lists.Bools.{same?}
 use Rattle.model.proofs.sound.ByRule.{GoodEntry, entry-of, used-in}
 use Rattle.model.proofs.sound.Ready.{level-used, last-is}
 use Rattle.model.proofs.tree.GroupPages.{values, in-frees}

@@ -19,16 +19,9 @@ use Rattle.model.specs.Rules
 use Rattle.model.specs.Rules.{Parts, one, two, samePair, routersTo, exchange}
 use Rattle.model.specs.Needs.{actives, groupAt}
 use Rattle.model.specs.ByRule.{Sound}
-use Rattle.model.proofs.tree.Edit.{length-enter}
+use Rattle.model.proofs.tree.Edit.{length-enterPair}
 use Rattle.model.proofs.sound.Ready.{root-used, root-level}
-
-pub few-those : {A : Type 0} (f : A → Bool) (xs : List A) → length (those f xs) ≤ length xs
-few-those f [] = omega arith
-few-those f (x ∷ xs) = at (f x) (few-those f xs)
-  where
-    at : (b : Bool) → length (those f xs) ≤ length xs → length (keep b x (those f xs)) ≤ suc (length xs)
-    at true ih = omega arith
-    at false ih = omega arith
+use Rattle.model.proofs.lists.Lists.{few-those}
 
 -- the pairs alive are no more than the entries
 pub pairs-few : (v : ℕ) (p : Page) → length (pairsAt v p) ≤ length (p .entries)
@@ -36,7 +29,7 @@ pairs-few v p = omega (arith, length-map (those (liveAt v) (p .entries)) pairOf,
 
 length-enterAll : (xs ps : List Pair) → length (enterAll xs ps) ≡ length xs + length ps
 length-enterAll [] ps = omega arith
-length-enterAll (x ∷ xs) ps = omega (arith, length-enterAll xs (enterPair x ps), length-enter x ps)
+length-enterAll (x ∷ xs) ps = omega (arith, length-enterAll xs (enterPair x ps), length-enterPair x ps)
 
 -- a wanted list
 pub wanted-few : (w : ℕ) (c : Change) (p : Page) → length (wanted w c p) ≤ length (c .take) + length (p .entries)

@@ -22,16 +22,13 @@ use Rattle.model.specs.Inner.{In}
 use Rattle.model.specs.ByRule.{livesAt}
 use Rattle.model.proofs.lists.Lists.{both-true, both-intro, all-cons}
 use Rattle.model.proofs.lists.Members.{not-both, all-in, all-by, in-those, in-append}
+use Rattle.model.proofs.lists.Bools.{fails-right}
 use Rattle.model.proofs.tree.Local.{all-append}
 
 module _ (v w : ℕ) (old : v < w) (lim : w < alive) where
-  and-false : (b c : Bool) → c ≡ false → (b && c) ≡ false
-  and-false true c e = e
-  and-false false c e = refl
-
   -- a page that starts at w does not live before
   pub young-dead : (p : Page) → p .start ≡ w → livesAt v p ≡ false
-  young-dead p e = and-false (not (isFree p)) (within (p .start) (p .end) v) (rw (lt-leb (p .start) v (omega arith)))
+  young-dead p e = fails-right (not (isFree p)) (within (p .start) (p .end) v) (rw (lt-leb (p .start) v (omega arith)))
 
   revived-within : (n : ℕ) → ltb v (revivedEnd w n) ≡ ltb v n
   revived-within n = at (eqb n w) refl

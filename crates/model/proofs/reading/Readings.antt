@@ -23,6 +23,11 @@ use Rattle.model.proofs.reading.Lookups.{lookup-is}
 use Rattle.model.proofs.reading.Ranges.{range-is}
 use Rattle.model.proofs.reading.Lives.{life-ext}
 
+pub none-holds : (p q : Bool) → firstOf (rule 5 p ∷ rule 6 q ∷ []) ≡ 0 → (p ≡ false) × (q ≡ false)
+none-holds true q e = absurd (omega arith)
+none-holds false true e = absurd (omega arith)
+none-holds false false e = (refl, refl)
+
 -- an answer is asked for only where no test holds
 chain : {A B : Type 0} (f : ℕ → A → B) (x y : A) → ((n : ℕ) → f (suc n) x ≡ f (suc n) y) → (p q : Bool) → (p ≡ false → q ≡ false → x ≡ y)
     → f (firstOf (rule 5 p ∷ rule 6 q ∷ [])) x ≡ f (firstOf (rule 5 p ∷ rule 6 q ∷ [])) y

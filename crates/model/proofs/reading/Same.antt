@@ -4,7 +4,7 @@
 use Prim.Native.Nat.{ℕ}
 use native.Mathlib.Omega.{arith}
 use mathlib.Core.Bool.{Bool, true, false, _&&_, not}
-use mathlib.Core.Option.{none, some}
+use mathlib.Core.Option.{none, some, Option·some-injective}
 use mathlib.Core.Path.{_≡_, refl, ap, ap₂, sym, _∙_}
 use mathlib.Core.List.{List, [], _∷_, _++_}
 use lib.Dec.{ltb, eqb}
@@ -76,9 +76,6 @@ find-tail k x xs n = rw (ne-eqb (x .key) k n)
 not-some : (n : ℕ) → none ≡ some n → ⊥
 not-some n e = let z : _≡_ {A = ℕ} 0 1 = cc in omega arith
 
-value-is : (a b : ℕ) → some a ≡ some b → a ≡ b
-value-is a b e = cc
-
 module _ (f : ℕ → Bool) where
   abbrev Finds : List Pair → List Pair → Type 0
   Finds us ws =
@@ -90,7 +87,7 @@ module _ (f : ℕ → Bool) where
   both-find x xs y ys e a b ih i j h =
       let (g, i′) = all-cons (λ (z : Pair). f (z .key)) x xs i in
       let j′ = all-cons (λ (z : Pair). f (z .key)) y ys j .1 in
-      let v : x .value ≡ y .value = value-is (x .value) (y .value)
+      let v : x .value ≡ y .value = Option·some-injective (x .value) (y .value)
       (sym (find-head x xs) ∙ h (x .key) g ∙ ap (λ (k : ℕ). find k (y ∷ ys)) e ∙ find-head y ys) in
       ap₂ {C = List Pair} (λ (z : Pair) (zs : List Pair). z ∷ zs) (ap₂ (λ (k n : ℕ). record { key = k; value = n }) e v)
       (ih i′ j′ (λ k l. rest k l (eqb (x .key) k) refl))

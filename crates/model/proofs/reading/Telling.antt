@@ -1,29 +1,20 @@
 -- What a call that tells (specs/Told) leaves in the caller's list, for things of any kind: they are counted first, and written in a second
 -- pass, one behind the other.
 -- Assumes nothing.
-use Prim.Native.Nat.{ℕ, suc, _+_, _*_, _^_, _≤_, _<_}
+use Prim.Native.Nat.{ℕ, _+_, _*_, _^_, _≤_, _<_}
 use native.Mathlib.Omega.{arith}
 use native.Mathlib.Nat.{mul-add, mul-suc, mul-zero}
 use mathlib.Core.Bool.{Bool, true, false}
 use mathlib.Core.Path.{_≡_, refl, ap, sym, _∙_}
-use mathlib.Core.List.{List, [], _∷_, _++_, append-assoc, append-nil}
-use lib.ListN.{length, set, drop, length-append}
+use mathlib.Core.List.{List, [], _∷_, _++_, append-nil}
+use lib.ListN.{length, drop, length-append}
 use lib.Seq.{sets, length-sets, sets-eq}
 use borrow.Author.Tests.{lt-ltb, le-ltb}
-use Rattle.model.specs.Basic.{flatMap}
 use Rattle.model.specs.Calls.{rule, firstOf}
 use Rattle.model.specs.Told.{toldIn, toldBy}
 use Rattle.model.specs.Telling.{Shape, allNumbers, written, Space, Gathers}
 use Rattle.model.specs.Lent.{listed}
-
-flat-append : {A B : Type 0} (f : A → List B) (xs ys : List A) → flatMap f (xs ++ ys) ≡ flatMap f xs ++ flatMap f ys
-flat-append f [] ys = refl
-flat-append f (x ∷ xs) ys = ap (λ (zs : List _). f x ++ zs) (flat-append f xs ys) ∙ sym (append-assoc (f x) (flatMap f xs) (flatMap f ys))
-
-sets-append : (ns : List ℕ) (i : ℕ) (us vs : List ℕ) → sets ns i (us ++ vs) ≡ sets (sets ns i us) (i + length us) vs
-sets-append ns i [] vs = let e : i + 0 ≡ i = omega arith in rw e
-sets-append ns i (u ∷ us) vs =
-    let e : i + suc (length us) ≡ suc i + length us = omega arith in rw e (sets-append (set ns i u) (suc i) us vs)
+use Rattle.model.proofs.lists.Lists.{flat-append, sets-append}
 
 module _ {A : Type 0} (t : Shape A) where
   -- what a loop that gathers has: what is left of the whole, behind the first k, with the list as it is now

@@ -58,6 +58,14 @@ pub record Front (least : ℕ) (s : Store) : Type 0 where
   pub spans : (n : ℕ) → isFree (page (s .pages) n) ≡ false → spansWell s (page (s .pages) n) ≡ true
   pub root-used : all (λ (x : Slot). not (isFree (page (s .pages) (x .root)))) (s .slots) ≡ true
 
+pub some-slot : (old : ℕ) (xs : List Slot) → firstVersion old xs ≤ old → 0 < length xs
+some-slot old [] e = absurd (omega arith)
+some-slot old (x ∷ xs) e = omega arith
+
+pub upto-last : (o : Bool) (n : ℕ) → n ≤ lastOf o n
+upto-last true n = omega arith
+upto-last false n = omega arith
+
 same-eq : (a b : Bool) → same a b ≡ true → a ≡ b
 same-eq true b e = sym e
 same-eq false b e = sym (not-true b e)

@@ -4,11 +4,11 @@ use Prim.Native.Nat.{ℕ, zero, suc, _+_, _*_, _≤_, _<_}
 use native.Mathlib.Omega.{arith}
 use mathlib.Core.Bool.{Bool, true, false, _&&_}
 use mathlib.Core.Path.{_≡_, refl, ap, sym, _∙_, subst}
-use mathlib.Core.Logic.{_⊎_, inl, inr}
+use mathlib.Core.Logic.{_⊎_, inl, inr, _≢_}
 use mathlib.Core.List.{List, [], _∷_}
 use lib.Dec.{leb, ltb, eqb}
 use lib.ListN.{length}
-use borrow.Author.Tests.{ltb-true, leb-true, eqb-true, eqb-false, eq-eqb, le-leb, lt-ltb}
+use borrow.Author.Tests.{ltb-true, leb-true, eqb-true, eqb-false, eq-eqb, le-leb, lt-ltb, leb-false}
 use Rattle.model.specs.Basic.{pick}
 use Rattle.model.specs.declared.Pair.{Pair}
 use Rattle.model.specs.Entry.{within}
@@ -18,6 +18,7 @@ use Rattle.model.specs.Walk.{keyLimit}
 use Rattle.model.specs.Tree.{Row, Holds}
 use Rattle.model.proofs.lists.Lists.{both-true, both-intro}
 use Rattle.model.proofs.lists.Members.{not-both, bool-cases}
+use Rattle.model.proofs.lists.Bools.{same?}
 use Rattle.model.proofs.tree.Tree.{Tree, row-le}
 use Rattle.model.proofs.tree.Shows.{Shows, RootFair, in-list}
 
@@ -66,19 +67,13 @@ abbrev pow : ℕ → ℕ → ℕ
 pow base zero = 1
 pow base (suc l) = base * pow base l
 
-four-pos : (l : ℕ) → 1 ≤ pow 4 l
-four-pos zero = omega arith
-four-pos (suc l) = omega (arith, four-pos l)
-
-four-big : (l : ℕ) → 4096 ≤ pow 4 (suc (suc (suc (suc (suc (suc l))))))
-four-big l = omega (arith, four-pos l)
-
-eight-pos : (l : ℕ) → 1 ≤ pow 8 l
-eight-pos zero = omega arith
-eight-pos (suc l) = omega (arith, eight-pos l)
-
-eight-big : (l : ℕ) → 4096 ≤ pow 8 (suc (suc (suc (suc l))))
-eight-big l = omega (arith, eight-pos l)
+pow-more : (base : ℕ) → ((l : ℕ) → pow base l ≤ pow base (suc l)) → (n l : ℕ) → n ≤ l → pow base n ≤ pow base l
+pow-more base up n zero h = let e : n ≡ 0 = omega arith in rw e (omega arith)
+pow-more base up n (suc l) h = at (same? n (suc l)) (λ g. pow-more base up n l g)
+  where
+    at : (n ≡ suc l) ⊎ (n ≢ suc l) → (n ≤ l → pow base n ≤ pow base l) → pow base n ≤ pow base (suc l)
+    at (inl e) ih = rw e (omega arith)
+    at (inr e) ih = omega (arith, up l, ih (omega (arith, h, e)))
 
 module _ (base least : ℕ) (at-least : base ≤ least) (w : ℕ) (ps : List Page) where
   unfoldable pub leafIn : ℕ → ℕ → ℕ → Bool
@@ -155,33 +150,23 @@ module _ (least w : ℕ) (ps : List Page) (r : ℕ) (zs : List Pair) (h : Shows 
   over : (x : ℕ) → 2 * x ≤ length ps → 4096 ≤ x → ⊥
   over x a c = omega arith
 
-  -- "With 4,096 pages rule 5 keeps every root at level 7 or lower"
-  pub root-low : 4 ≤ least → page ps r .level ≤ 7
-  root-low four = at (h .height) (h .level) (h .holds) (h .fair)
+  -- as many leaves as there can be pages, under a root above level suc n
+  low-by : (base n : ℕ) → base ≤ least → ((l : ℕ) → n ≤ l → 4096 ≤ pow base l) → page ps r .level ≤ suc n
+  low-by base n b big = at (h .height) (h .level) (h .holds) (h .fair)
     where
       at : (l : ℕ) → page ps r .level ≡ suc l → Holds least w l ps 0 keyLimit (pairsAt w (page ps r)) zs → RootFair least w l (page ps r)
-          → page ps r .level ≤ 7
+          → page ps r .level ≤ suc n
       at zero e t f = omega arith
-      at (suc zero) e t f = omega arith
-      at (suc (suc zero)) e t f = omega arith
-      at (suc (suc (suc zero))) e t f = omega arith
-      at (suc (suc (suc (suc zero)))) e t f = omega arith
-      at (suc (suc (suc (suc (suc zero))))) e t f = omega arith
-      at (suc (suc (suc (suc (suc (suc zero)))))) e t f = omega arith
-      at (suc (suc (suc (suc (suc (suc (suc l))))))) e t f = absurd
-          (over (pow 4 (suc (suc (suc (suc (suc (suc l))))))) (root-count 4 least four w ps r (suc (suc (suc (suc (suc (suc l)))))) zs t f)
-          (four-big l))
+      at (suc l) e t f = by (bool-cases (leb n l))
+        where
+          by : (leb n l ≡ true) ⊎ (leb n l ≡ false) → page ps r .level ≤ suc n
+          by (inl g) = absurd (over (pow base l) (root-count base least b w ps r l zs t f) (big l (leb-true n l g)))
+          by (inr g) = omega (arith, e, leb-false n l g)
+
+  -- "With 4,096 pages rule 5 keeps every root at level 7 or lower"
+  pub root-low : 4 ≤ least → page ps r .level ≤ 7
+  root-low four = low-by 4 6 four (λ l g. pow-more 4 (λ m. omega arith) 6 l g)
 
   -- with limits twice as large, at level 5 or lower
   pub root-lower : 8 ≤ least → page ps r .level ≤ 5
-  root-lower eight = at (h .height) (h .level) (h .holds) (h .fair)
-    where
-      at : (l : ℕ) → page ps r .level ≡ suc l → Holds least w l ps 0 keyLimit (pairsAt w (page ps r)) zs → RootFair least w l (page ps r)
-          → page ps r .level ≤ 5
-      at zero e t f = omega arith
-      at (suc zero) e t f = omega arith
-      at (suc (suc zero)) e t f = omega arith
-      at (suc (suc (suc zero))) e t f = omega arith
-      at (suc (suc (suc (suc zero)))) e t f = omega arith
-      at (suc (suc (suc (suc (suc l))))) e t f = absurd
-          (over (pow 8 (suc (suc (suc (suc l))))) (root-count 8 least eight w ps r (suc (suc (suc (suc l)))) zs t f) (eight-big l))
+  root-lower eight = low-by 8 4 eight (λ l g. pow-more 8 (λ m. omega arith) 4 l g)

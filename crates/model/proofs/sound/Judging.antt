@@ -14,7 +14,7 @@ use Rattle.model.specs.Layout.{decode, sizeOf}
 use Rattle.model.specs.Clean.{cleanFront, cleanPages, clean}
 use Rattle.model.specs.Counted.{rule8}
 use Rattle.model.specs.Inner.{lowerIn}
-use Rattle.model.specs.Judged.{lengthOk, magicOk, editionOk, brokenIn, verdict, ruled, judged}
+use Rattle.model.specs.Judged.{lengthOk, magicOk, editionOk, brokenIn, verdict, ruled, judged, isSound}
 use Rattle.model.specs.ByRule.{Sound}
 use Rattle.model.proofs.lists.Lists.{both-true}
 use Rattle.model.proofs.sound.ByRule.{from-tests}
@@ -191,3 +191,7 @@ judged-accepted least b a =
 -- the rules by name
 pub accepted-sound : (least : ℕ) (b : List ℕ) → Accepted least b → Sound least (decode least b)
 accepted-sound least b a = from-tests least (decode least b) (a .is-sound)
+
+pub zero-sound : (least : ℕ) (b : List ℕ) → judged least b .number ≡ 0 → isSound least b ≡ true
+unfolding isSound
+zero-sound least b e = eq-eqb (judged least b .number) 0 e

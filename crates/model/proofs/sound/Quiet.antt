@@ -34,6 +34,10 @@ pub record Quiet (v r : ℕ) (s : Store) : Type 0 where
   pub slots : (x : Slot) → In x (s .slots) → Out v r (x .version)
   pub pages : (n : ℕ) → n < length (s .pages) → QuietPage v r (page (s .pages) n)
 
+pub out-less : (v r q x : ℕ) → Out v r x → q ≤ r → Out v q x
+out-less v r q x (inl o) h = inl o
+out-less v r q x (inr o) h = inr (omega (arith, o, h))
+
 module _ (v u r : ℕ) (low : v ≤ u) (high : u < r) where
   leb-still : (x : ℕ) → Out v r x → leb x v ≡ leb x u
   leb-still x (inl l) = le-leb x v l ∙ sym (le-leb x u (omega arith))

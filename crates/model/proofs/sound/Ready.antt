@@ -21,8 +21,9 @@ use Rattle.model.specs.Walk.{Around, around, rootFrom, rootAt, heightOf,
 use Rattle.model.specs.Walk.{lookup}
 use Rattle.model.specs.Sound.{sound, isPage, inside, keysOk, fewest, firstVersion}
 use Rattle.model.proofs.lists.Lists.{both-true, both-intro, all-cons, shorter}
-use Rattle.model.proofs.lists.Members.{holds-true, not-both, either-true, either-left, either-right, bool-cases, in-left, in-right}
+use Rattle.model.proofs.lists.Members.{holds-true, either-true, either-left, either-right, bool-cases, in-left, in-right}
 use Rattle.model.proofs.lists.Members.{all-in, all-by, all-implies, in-map, map-in, in-those, has-in, in-has}
+use Rattle.model.proofs.lists.Bools.{is-none}
 use Rattle.model.proofs.sound.ByRule.{old-current, from-tests, GoodEntry, span-of, entry-of, young-of, used-in, high-used}
 use Rattle.model.proofs.sound.Walks.{Reach, Self, reach-self, seen-reached, IsSeen, reached-under}
 use Rattle.model.proofs.older.Back.{endsWell}
@@ -32,7 +33,7 @@ use Rattle.model.specs.Inner.{In}
 use Rattle.model.specs.ByRule.{Readable, Sound, numbers, livesAt, enough}
 use Rattle.model.specs.Tree.{Row, Holds}
 use Rattle.model.proofs.older.Undo.{TamePage, LivePage, Next, AroundLives, WayGood, UndoReady, Undone, update-undone}
-use Rattle.model.proofs.tree.Edit.{leaf-insert, leaf-delete, length-enter, keep-all, dropped-one}
+use Rattle.model.proofs.tree.Edit.{leaf-insert, leaf-delete, length-enterPair, keep-all, dropped-one}
 use Rattle.model.proofs.tree.UpdateChanges.{Fit, leafPairs, Changed, update-changes}
 use Rattle.model.proofs.tree.Place.{byKey}
 use Rattle.model.proofs.tree.Tree.{Tree, row-split}
@@ -426,7 +427,7 @@ module _ (least : ℕ) (two-or-more : 2 ≤ least) (s : Store) (d : Sound least 
         counted = λ lo hi t.
             omega (
               arith,
-              length-enter (pair k x) (those (λ (y : Pair). true) (leafPairs s k)),
+              length-enterPair (pair k x) (those (λ (y : Pair). true) (leafPairs s k)),
               ap (λ (us : List Pair). length us) (keep-all (leafPairs s k)),
             );
         leaf = λ lo hi p q t. leaf-insert k x lo hi (leafPairs s k) absent p q t;
@@ -466,10 +467,6 @@ numbered-by P (x ∷ xs) r a b = at (x .holds) refl (λ f. numbered-by P xs r a 
         → P (elim c as (λ z. Result) [ true ↦ refused (x .number) | false ↦ numbered xs r ])
     at true e ih = a (x .number)
     at false e ih = ih (λ f. b (e, f))
-
-pub is-none : (o : Option ℕ) → isSome o ≡ false → o ≡ none
-is-none none h = refl
-is-none (some x) h = absurd (not-both true refl h)
 
 is-some : (o : Option ℕ) → not (isSome o) ≡ false → isSome o ≡ true
 is-some o h = not-false (isSome o) h

@@ -26,7 +26,7 @@ use Rattle.model.specs.Inner.{In}
 use Rattle.model.specs.ByRule.{Readable, Sound}
 use Rattle.model.proofs.lists.Lists.{both-true}
 use Rattle.model.proofs.lists.Members.{holds-true, true-holds, not-both}
-use Rattle.model.proofs.tree.Edit.{lt, length-enter, keep-all, those-one}
+use Rattle.model.proofs.tree.Edit.{lt, length-enterPair, keep-all, those-one}
 use Rattle.model.proofs.sound.ByRule.{old-current, from-tests, to-tests}
 use Rattle.model.proofs.tree.UpdateChanges.{Changed, update-changes}
 use Rattle.model.proofs.sound.Walks.{seen-reached}
@@ -107,7 +107,7 @@ module _ (least : ℕ) (two : 2 ≤ least) (s : Store) (sure : T (sound least s)
   more : (k x : ℕ) (r : Result) → Changed s (record { drop = []; take = pair k x ∷ [] }) r → OneMore s r
   more k x (done t) e =
       ap (λ (us : List Pair). length us) (e ∙ ap (enterPair (pair k x)) (keep-all (settings s (next s))))
-      ∙ length-enter (pair k x) (settings s (next s))
+      ∙ length-enterPair (pair k x) (settings s (next s))
   more k x (refused n) e = tt
 
   less : (k : ℕ) (r : Result) → s .opened ≡ true → isSome (find k (settings s (next s))) ≡ true

@@ -106,9 +106,9 @@ dropped-one k (u ∷ us) o =
               (those-one k us (subst (λ (j : ℕ). all (λ (y : Pair). ltb j (y .key)) us ≡ true) (eqb-true (u .key) k e) a)),
         )
 
-pub length-enter : (p : Pair) (us : List Pair) → length (enterPair p us) ≡ suc (length us)
-length-enter p [] = refl
-length-enter p (u ∷ us) = at (ltb (p .key) (u .key)) (length-enter p us)
+pub length-enterPair : (p : Pair) (us : List Pair) → length (enterPair p us) ≡ suc (length us)
+length-enterPair p [] = refl
+length-enterPair p (u ∷ us) = at (ltb (p .key) (u .key)) (length-enterPair p us)
   where
     at : (b : Bool) → length (enterPair p us) ≡ suc (length us) → length (placed b p u us (enterPair p us)) ≡ suc (suc (length us))
     at true ih = refl

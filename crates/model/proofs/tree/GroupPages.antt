@@ -21,9 +21,9 @@ use Rattle.model.specs.Rules.{retire, usable, Rebuilt, rebuilt, short, l
 use Rattle.model.specs.Inner.{In}
 use Rattle.model.proofs.lists.Lists.{both-true, both-intro, all-cons}
 use Rattle.model.proofs.lists.Members.{in-append, in-those}
+use Rattle.model.proofs.lists.Bools.{same?}
 use Rattle.model.proofs.tree.Local.{all-left, all-right}
 use Rattle.model.proofs.tree.Edit.{lt}
-use Rattle.model.proofs.tree.Shows.{same?}
 use Rattle.model.proofs.tree.GroupShows.{Olds, lone, twin, Apart}
 use Rattle.model.proofs.kept.OnePage.{kindOk}
 

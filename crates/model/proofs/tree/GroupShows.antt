@@ -18,10 +18,11 @@ use Rattle.model.specs.Rules
 use Rattle.model.specs.Rules.{retire, one, two, Rebuilt, rebuilt, short, lowKey, exchange}
 use Rattle.model.specs.Tree.{Row, Holds, inRange}
 use Rattle.model.proofs.lists.Lists.{both-true, both-intro, all-cons}
+use Rattle.model.proofs.lists.Bools.{same?}
 use Rattle.model.proofs.tree.Place.{show-filled}
 use Rattle.model.proofs.tree.Tree.{Tree, Left, Away, unused, higher, frame}
 use Rattle.model.proofs.tree.Local.{applied, holds-keys, holds-cut, Cut, exchange-11, exchange-12, exchange-21, exchange-22}
-use Rattle.model.proofs.tree.Shows.{same?, Some, tree-of}
+use Rattle.model.proofs.tree.Shows.{Some, tree-of}
 
 -- one router or two, by key
 pub data Olds : List Pair → Type 0 where

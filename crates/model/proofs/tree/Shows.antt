@@ -2,15 +2,15 @@
 -- Assumes nothing.
 use Prim.Native.Nat.{ℕ, zero, suc, _≤_, _<_}
 use native.Mathlib.Omega.{arith}
-use mathlib.Core.Bool.{Bool, true, false}
+use mathlib.Core.Bool.{true}
 use mathlib.Core.Option.{Option, none, some}
 use mathlib.Core.Path.{_≡_, refl, ap, ap₂, sym, _∙_, subst}
 use mathlib.Core.Logic.{_⊎_, inl, inr, _≢_}
 use mathlib.Core.List.{List, [], _∷_, _++_, append-assoc, append-nil}
-use lib.Dec.{leb, ltb, eqb}
+use lib.Dec.{leb, ltb}
 use lib.ListN.{length, set}
 use lib.Seq.{getD-set-same, getD-set-other}
-use borrow.Author.Tests.{ltb-true, leb-true, eqb-true, eqb-false}
+use borrow.Author.Tests.{ltb-true, leb-true}
 use Rattle.model.specs.Basic.{all, inOrder}
 use Rattle.model.specs.declared.Entry.{Entry}
 use Rattle.model.specs.declared.Pair.{Pair}
@@ -21,6 +21,7 @@ use Rattle.model.specs.Sound.{fewest}
 use Rattle.model.specs.Walk.{Around, keyLimit}
 use Rattle.model.specs.Tree.{Fair, Row, Holds, inRange}
 use Rattle.model.proofs.lists.Lists.{both-true, all-cons}
+use Rattle.model.proofs.lists.Bools.{same?}
 use Rattle.model.proofs.tree.Place.{byKey, show-changed}
 use Rattle.model.proofs.tree.Tree.{Tree, Away, unused, higher, elsewhere, Left, frame, frame-row, row-append, row-le}
 use Rattle.model.proofs.tree.Local.{holds-keys}
@@ -30,13 +31,6 @@ pub in-list : (ps : List Page) (n l : ℕ) → page ps n .level ≡ suc l → n 
 in-list [] n l e = absurd (omega (arith, e))
 in-list (p ∷ ps) zero l e = omega arith
 in-list (p ∷ ps) (suc n) l e = omega (arith, in-list ps n l e)
-
-pub same? : (m n : ℕ) → (m ≡ n) ⊎ (m ≢ n)
-same? m n = at (eqb m n) refl
-  where
-    at : (b : Bool) → eqb m n ≡ b → (m ≡ n) ⊎ (m ≢ n)
-    at true e = inl (eqb-true m n e)
-    at false e = inr (eqb-false m n e)
 
 module _ (least w : ℕ) where
   -- page m is not used, or is of level h and has a key from lo up to hi

@@ -11,7 +11,7 @@ use mathlib.Core.Logic.{_⊎_, inl, inr}
 use lib.Dec.{leb}
 use borrow.Author.Tests.{leb-true, leb-false, lt-leb}
 use Rattle.model.specs.Basic.{pick}
-use Rattle.model.specs.Store.{Store, next, lastOf, last, fresh}
+use Rattle.model.specs.Store.{Store, next, last, fresh}
 use Rattle.model.specs.Walk.{settings}
 use Rattle.model.specs.Climb.{done, refused}
 use Rattle.model.specs.Calls.{begin, committed}
@@ -23,6 +23,7 @@ use Rattle.model.specs.ByRule.{Sound}
 use Rattle.model.proofs.lists.Members.{bool-cases}
 use Rattle.model.proofs.reading.Lookups.{settings-rise}
 use Rattle.model.proofs.sound.Small.{settings-small, none-at-first}
+use Rattle.model.proofs.sound.ByRule.{upto-last}
 use Rattle.model.proofs.reading.Alike.{alike-settings}
 use Rattle.model.proofs.turning.Turns.{store, commit-sound, begin-sound, begin-shows, fresh-sound, fresh-shows}
 use Rattle.model.proofs.turning.Remade.{Way, the-way}
@@ -33,11 +34,7 @@ abbrev pub begun : Store → Store
 begun t = record { current = t .current; opened = true; oldest = t .oldest; slots = t .slots; pages = t .pages }
 
 pub current-last : (s : Store) → s .current ≤ last s
-current-last s = at (s .opened)
-  where
-    at : (b : Bool) → s .current ≤ lastOf b (s .current)
-    at true = omega arith
-    at false = omega arith
+current-last s = upto-last (s .opened) (s .current)
 
 -- what a replay up to v comes to
 abbrev pub Replays : ℕ → Store → ℕ → Ran → Type 0

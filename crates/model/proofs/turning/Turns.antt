@@ -22,8 +22,8 @@ use Rattle.model.specs.Inner.{In}
 use Rattle.model.specs.ByRule.{Readable, Sound, GoodPage, spansWell, numbers, livesAt, enough}
 use Rattle.model.proofs.lists.Lists.{both-intro, all-cons}
 use Rattle.model.proofs.lists.Members.{not-both, either-left, either-right, bool-cases, all-by, all-implies}
+use Rattle.model.proofs.lists.Bools.{same?}
 use Rattle.model.proofs.older.Between.{outside, still, pairs-still, leb-still, ltb-still}
-use Rattle.model.proofs.tree.Shows.{same?}
 use Rattle.model.proofs.sound.ByRule.{old-current, GoodEntry, Span, span-of, of-span, entry-of, ok-entry, rule7-by, rule7-shut}
 use Rattle.model.proofs.reading.Alike.{Alike, alike-seen, alike-settings}
 

@@ -13,7 +13,7 @@ use borrow.Author.Tests.{ne-eqb}
 use Rattle.model.specs.Basic.{keep, those, any, has, pick}
 use Rattle.model.specs.declared.Pair.{Pair}
 use Rattle.model.specs.declared.Entry.{Entry}
-use Rattle.model.specs.Entry.{pair, liveAt, born, before, placed, enter, enterPair, endThose}
+use Rattle.model.specs.Entry.{pair, liveAt, born, placed, enter, enterPair, endThose}
 use Rattle.model.specs.Page.{Page, Change, pairsAt, enterAll, bornAll, wanted, changed}
 use Rattle.model.specs.Store.{page}
 use Rattle.model.specs.Walk.{Around}
@@ -21,6 +21,7 @@ use Rattle.model.specs.Rules
 use Rattle.model.specs.Rules.{Group, lowKey, samePair, exchange, routersTo, roomy}
 use Rattle.model.specs.Needs.{fills, takesInPlace, groupAt, goes}
 use Rattle.model.specs.Inner.{In}
+use Rattle.model.proofs.lists.Lists.{length-enter}
 use Rattle.outlook.specs.Plan.{rootFills}
 
 abbrev pub keysOf : List Pair → List ℕ
@@ -58,14 +59,6 @@ keys-enter p (x ∷ xs) = at (ltb (p .key) (x .key)) (keys-enter p xs)
 keys-enterAll : (xs ps : List Pair) → keysOf (enterAll xs ps) ≡ enterKeys (keysOf xs) (keysOf ps)
 keys-enterAll [] ps = refl
 keys-enterAll (x ∷ xs) ps = keys-enterAll xs (enterPair x ps) ∙ ap (enterKeys (keysOf xs)) (keys-enter x ps)
-
-length-enter : (e : Entry) (es : List Entry) → length (enter e es) ≡ suc (length es)
-length-enter e [] = refl
-length-enter e (x ∷ xs) = at (before e x) (length-enter e xs)
-  where
-    at : (b : Bool) → length (enter e xs) ≡ suc (length xs) → length (placed b e x xs (enter e xs)) ≡ suc (suc (length xs))
-    at true ih = refl
-    at false ih = ap suc ih
 
 length-born : (w : ℕ) (xs : List Pair) (es : List Entry) → length (bornAll w xs es) ≡ length xs + length es
 length-born w [] es = omega arith

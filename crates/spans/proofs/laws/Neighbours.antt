@@ -29,8 +29,8 @@ later-start e f h k = at (either-true (ltb (e .key) (f .key)) (eqb (e .key) (f .
     at (inl x) = absurd (omega (arith, ltb-true (e .key) (f .key) x))
     at (inr x) = ltb-true (e .start) (f .start) (both-true (eqb (e .key) (f .key)) (ltb (e .start) (f .start)) x .1)
 
-later-key : (e f : Entry) → before e f ≡ true → e .key ≤ f .key
-later-key e f h = at (either-true (ltb (e .key) (f .key)) (eqb (e .key) (f .key) && ltb (e .start) (f .start)) h)
+pub before-key : (e f : Entry) → before e f ≡ true → e .key ≤ f .key
+before-key e f h = at (either-true (ltb (e .key) (f .key)) (eqb (e .key) (f .key) && ltb (e .start) (f .start)) h)
   where
     at : (ltb (e .key) (f .key) ≡ true) ⊎ ((eqb (e .key) (f .key) && ltb (e .start) (f .start)) ≡ true) → e .key ≤ f .key
     at (inl x) = omega (arith, ltb-true (e .key) (f .key) x)
@@ -54,8 +54,8 @@ both-carry d e f p q =
     at b a c g false z = refl
     at b a c g true z =
         let k : d .key ≡ f .key = eqb-true (d .key) (f .key) z in
-        let l : d .key ≤ e .key = later-key d e b in
-        let m : e .key ≤ f .key = later-key e f c in
+        let l : d .key ≤ e .key = before-key d e b in
+        let m : e .key ≤ f .key = before-key e f c in
         le-leb (d .end) (f .start) (omega (arith, apart-end d e a (omega arith), later-start e f c (omega arith)))
 
 module _ {A : Type 0} (f g : A → A → Bool) where

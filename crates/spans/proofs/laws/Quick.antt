@@ -22,6 +22,7 @@ use Rattle.model.specs.Inner.{Out, In}
 use Rattle.model.specs.ByRule.{numbers, livesAt, enough, Readable}
 use Rattle.model.proofs.lists.Lists.{both-true, both-intro}
 use Rattle.model.proofs.lists.Members.{bool-cases, all-in, all-by, all-implies}
+use Rattle.model.proofs.lists.Bools.{same-test}
 use Rattle.model.proofs.sound.ByRule.{Front, front-of, span-of, used-in, high-used, passes-at, at-passes, reached-at, at-reached, old-last}
 use Rattle.model.proofs.sound.ByRule.{version-in, in-version}
 use Rattle.model.proofs.sound.Quiet.{QuietPage, Quiet, seen-still, reached-still}
@@ -32,12 +33,6 @@ use Rattle.spans.proofs.laws.FromWalks
 use Rattle.spans.proofs.laws.RulesGive.{entry-at, root, height, root-used}
 use Rattle.spans.proofs.laws.OneWay.{Reached}
 use Rattle.spans.proofs.laws.AddedUp.{reached-number, number-reached, reached-as, met-at, at-met}
-
--- two tests that imply each other are one
-same-test : (a b : Bool) → (a ≡ true → b ≡ true) → (b ≡ true → a ≡ true) → a ≡ b
-same-test true b f g = sym (f refl)
-same-test false true f g = g refl
-same-test false false f g = refl
 
 module _ (least : ℕ) (two : 2 ≤ least) (s : Store) (r1 : rule1 least s ≡ true) (r2 : rule2 s ≡ true) (r3 : rule3 s ≡ true) where
   abbrev ps : List Page
@@ -51,6 +46,29 @@ module _ (least : ℕ) (two : 2 ≤ least) (s : Store) (r1 : rule1 least s ≡ t
 
   behind : (n : ℕ) → isFree (page ps n) ≡ false → page (drop 5 ps) (n - 5) ≡ page ps n
   behind n u = let five : 5 ≤ n = high-used s n (d .front) u in getD-drop 5 ps (n - 5) free ∙ ap (page ps) (omega arith)
+
+  -- from last on nothing starts or ends
+  quiet-page : (n : ℕ) → (isFree (page ps n) ≡ true) ⊎ (isFree (page ps n) ≡ false) → QuietPage (last s) alive (page ps n)
+  quiet-page n (inl e) =
+      rw (d .zeros n e) (record { start = inl (omega arith); end = inl (omega arith); starts = λ x i. absurd i; ends = λ x i. absurd i })
+  quiet-page n (inr e) =
+      let span = span-of (last s) (page ps n .start) (page ps n .end) (d .pages n e .span) in
+      record {
+        start = inl (span .starts);
+        end = out (page ps n .end) (span .ends);
+        starts = λ x i. inl (entry-at least two s d n e x i .span .starts);
+        ends = λ x i. out (x .end) (entry-at least two s d n e x i .span .ends);
+      }
+    where
+      out : (b : ℕ) → (b ≤ last s) ⊎ (b ≡ alive) → Out (last s) alive b
+      out b (inl l) = inl l
+      out b (inr l) = inr (omega arith)
+
+  pub quiet : Quiet (last s) alive s
+  quiet = record {
+    slots = λ x i. inl (leb-true (x .version) (last s) (all-in (λ (y : Slot). leb (y .version) (last s)) x (s .slots) (d .upto) i));
+    pages = λ n l. quiet-page n (bool-cases (isFree (page ps n)));
+  }
 
   -- ---- from the quick tests to the rules
 
@@ -109,29 +127,6 @@ module _ (least : ℕ) (two : 2 ≤ least) (s : Store) (r1 : rule1 least s ≡ t
   -- ---- from the rules to the quick tests
 
   module _ (r4 : rule4 s ≡ true) (r5 : rule5 least s ≡ true) (r6 : rule6 s ≡ true) where
-    -- from last on nothing starts or ends
-    quiet-page : (n : ℕ) → (isFree (page ps n) ≡ true) ⊎ (isFree (page ps n) ≡ false) → QuietPage (last s) alive (page ps n)
-    quiet-page n (inl e) =
-        rw (d .zeros n e) (record { start = inl (omega arith); end = inl (omega arith); starts = λ x i. absurd i; ends = λ x i. absurd i })
-    quiet-page n (inr e) =
-        let span = span-of (last s) (page ps n .start) (page ps n .end) (d .pages n e .span) in
-        record {
-          start = inl (span .starts);
-          end = out (page ps n .end) (span .ends);
-          starts = λ x i. inl (entry-at least two s d n e x i .span .starts);
-          ends = λ x i. out (x .end) (entry-at least two s d n e x i .span .ends);
-        }
-      where
-        out : (b : ℕ) → (b ≤ last s) ⊎ (b ≡ alive) → Out (last s) alive b
-        out b (inl l) = inl l
-        out b (inr l) = inr (omega arith)
-
-    quiet : Quiet (last s) alive s
-    quiet = record {
-      slots = λ x i. inl (leb-true (x .version) (last s) (all-in (λ (y : Slot). leb (y .version) (last s)) x (s .slots) (d .upto) i));
-      pages = λ n l. quiet-page n (bool-cases (isFree (page ps n)));
-    }
-
     newest : Readable s (last s)
     newest = record { from = old-last least s (d .old-low); upto = omega arith }
 

@@ -7,14 +7,13 @@ use native.Mathlib.Nat.{suc-mul}
 use mathlib.Core.Bool.{Bool, true, false, _&&_, _||_}
 use mathlib.Core.Path.{_≡_, refl, ap, sym, subst}
 use mathlib.Core.Logic.{_⊎_, inl, inr}
-use mathlib.Core.List.{List, [], _∷_, map}
+use mathlib.Core.List.{List, [], _∷_}
 use lib.Dec.{leb, ltb, eqb, eqb·suc-zero}
 use lib.ListN.{length, length-append}
 use borrow.Author.Tests.{ltb-true, leb-true, eqb-true, eqb-false, le-leb, lt-ltb}
-use Rattle.model.specs.Basic.{all, pick, inOrder, those, keep}
+use Rattle.model.specs.Basic.{all, pick, inOrder}
 use Rattle.model.specs.declared.Pair.{Pair}
-use Rattle.model.specs.declared.Entry.{Entry}
-use Rattle.model.specs.Entry.{pairOf, within, liveAt}
+use Rattle.model.specs.Entry.{within}
 use Rattle.model.specs.Page.{Page, isFree, pairsAt}
 use Rattle.model.specs.Store.{Store, page}
 use Rattle.model.specs.Walk.{seen, seenAs, seenUnder, seenBelow, spread, keyLimit}
@@ -25,6 +24,7 @@ use Rattle.model.proofs.lists.Members.{bool-cases, not-both}
 use Rattle.model.proofs.tree.Local.{all-left, all-right}
 use Rattle.model.proofs.sound.ByRule.{Front}
 use Rattle.model.proofs.tree.Shows.{in-list}
+use Rattle.model.proofs.needs.Sizes.{pairs-few}
 use Rattle.spans.proofs.laws.RulesGive.{root, height, root-level, child-at}
 
 -- ---- sums over the page numbers below n
@@ -233,18 +233,6 @@ module _ (v : ℕ) (ps : List Page) where
           at true z = z
           at false z = omega arith
 
-pairs-short : (v : ℕ) (p : Page) → length (pairsAt v p) ≤ length (p .entries)
-pairs-short v p = go (p .entries)
-  where
-    go : (es : List Entry) → length (map pairOf (those (liveAt v) es)) ≤ length es
-    go [] = omega arith
-    go (e ∷ es) = at (liveAt v e) (go es)
-      where
-        at : (b : Bool) → length (map pairOf (those (liveAt v) es)) ≤ length es
-            → length (map pairOf (keep b e (those (liveAt v) es))) ≤ suc (length es)
-        at true ih = omega arith
-        at false ih = omega arith
-
 -- The walk at a version at which rule 4 holds sees no more pages than the store has room for entries, and the root.
 pub walk-short : (least : ℕ) → 2 ≤ least → (s : Store) → Front least s → (v : ℕ) → s .oldest ≤ v → all keysOk (seen s v) ≡ true
     → length (seen s v) ≤ 1 + length (s .pages) * (5 * least)
@@ -263,4 +251,4 @@ walk-short least two s d v from h =
       where
         at : (isFree (page (s .pages) i) ≡ true) ⊎ (isFree (page (s .pages) i) ≡ false) → length (pairsAt v (page (s .pages) i)) ≤ 5 * least
         at (inl z) = subst (λ (p : Page). length (pairsAt v p) ≤ 5 * least) (sym (d .zeros i z)) (omega arith)
-        at (inr u) = omega (arith, pairs-short v (page (s .pages) i), d .pages i u .few)
+        at (inr u) = omega (arith, pairs-few v (page (s .pages) i), d .pages i u .few)
