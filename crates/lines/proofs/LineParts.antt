@@ -1,14 +1,14 @@
 -- Laws of a line that stands in a longer text, part by part: a word, one number or two, the newline. Assumes nothing.
 use Prim.Native.Nat.{ℕ, suc, _+_, _*_, _-_, _^_, _<_, _≤_}
 use mathlib.Core.Path.{_≡_, refl, ap, sym, _∙_}
-use mathlib.Core.Bool.{Bool, true, false, _&&_}
+use mathlib.Core.Bool.{Bool, true, false}
 use mathlib.Core.List.{List, [], _∷_, _++_, append-assoc}
 use lib.Dec.{eqb, leb}
 use lib.ListN.{length, getD, take, drop, length-append, take-append-drop}
 use lib.Seq.{drop-cons, take-at}
 use native.Mathlib.Numerals.{add-one}
 use native.Mathlib.Omega.{arith}
-use borrow.Author.Tests.{eq-eqb, ne-eqb, le-leb, leb-true, eqb-true}
+use borrow.Author.Tests.{eq-eqb, ne-eqb, le-leb, leb-true}
 use Rattle.model.specs.Basic.{all, eqList}
 use Rattle.model.proofs.lists.Lists.{both-true}
 use Rattle.lines.specs.declared.Number.the-variants.{Is}
@@ -17,20 +17,21 @@ use Rattle.lines.specs.declared.once.Digits.{Digits}
 use Rattle.lines.specs.declared.once.Numeral.{Numeral}
 use Rattle.lines.specs.declared.once.Two.{Two}
 use Rattle.lines.specs.declared.once.Known.{Known}
-use Rattle.lines.specs.Console.{cut, words, spoken, digit, valueFrom, numberOf, commandOf, withOne, withTwo}
+use Rattle.lines.specs.Console.{cut, words, spoken, digit, valueFrom, commandOf, withOne, withTwo}
 use Rattle.lines.specs.Words.{until, untilBy}
 use Rattle.lines.specs.Places.{DigitsAt, NumberAt, TwoAt, LineAt}
 use Rattle.lines.proofs.Cutting.{one-word}
-use Rattle.lines.proofs.Numbers.{grows, ten-digits, is-number}
+use Rattle.lines.proofs.Numbers.{eqList-true, grows, ten-digits, is-number}
 use Rattle.lines.proofs.Readback.{value-behind, is-digit, all-behind}
 
 -- ---- text without a mark
 
--- a text has no mark where the first mark is at its end: its first byte is none, and its rest has none
+-- a text without a mark: its first byte is none, and its rest has none
 first-none : (u : Bool) (n k : ℕ) → untilBy u n ≡ suc k → (u ≡ false) × (n ≡ k)
 first-none true n k e = absurd (omega arith)
 first-none false n k e = (refl, omega arith)
 
+-- behind such a text the first mark is that of what follows
 until-past : (mark : ℕ) (x y : List ℕ) → until mark x ≡ length x → until mark (x ++ y) ≡ length x + until mark y
 unfolding until
 until-past mark [] y e = omega arith
@@ -38,6 +39,7 @@ until-past mark (b ∷ x) y e =
     let f = first-none (eqb b mark) (until mark x) (length x) e in
     rw (f .0, until-past mark x y (f .1)) (omega arith)
 
+-- and it is cut at a mark that follows
 cut-past : (mark : ℕ) (behind : List (List ℕ)) (x y : List ℕ) → until mark x ≡ length x
     → cut mark behind (x ++ mark ∷ y) ≡ x ∷ cut mark behind y
 unfolding until cut
@@ -118,6 +120,16 @@ pub record Begins (l w : List ℕ) : Type 0 where
   pub short : length w ≤ 50
   pub spaceless : until 32 w ≡ length w
   pub oneline : until 10 w ≡ length w
+
+-- as a test tells it
+pub begins : (l w : List ℕ) {t : Bool} → t ≡ eqList (take (length w + 1) l) (w ++ (32 ∷ [])) → t ≡ true
+    → length w ≤ 50 → until 32 w ≡ length w → until 10 w ≡ length w → Begins l w
+begins l w e taken few spaceless oneline = record {
+  head = eqList-true (take (length w + 1) l) (w ++ (32 ∷ [])) (sym e ∙ taken);
+  short = few;
+  spaceless = spaceless;
+  oneline = oneline;
+}
 
 module _ (l w : List ℕ) (s : Begins l w) where
   -- the line is the word, the space, and what stands up to the newline

@@ -120,6 +120,7 @@ fn gather(held: Held, piece: &[u8]) -> Taken
 }
 
 // Up to the first newline of a piece of the input, or to its end. A caller goes on behind the bytes used, until the piece is used up.
+// Where nothing is held, the line may be one that is known at once.
 pub fn hear(held: Held, piece: &[u8]) -> Taken
     requires { ⌜ held .len ≤ 81 ⌝ }
     requires { ⌜ held .before + 1 < 2 ^ 64 ⌝ }

@@ -1,5 +1,6 @@
 // The commonest lines in one pass: `get K V`, `insert K V` and `delete K`, each with its newline, read in the piece where they stand.
 // Of any other line, a bad one too, nothing is known here, and the way by words (gathering, parsing) reads it.
+ghost use mathlib.Core.Path.{_≡_};
 ghost use Prim.Native.Nat.{_+_, _<_};
 ghost use lib.ListN.{length};
 ghost use Rattle.lines.specs.Places.{DigitsAt, NumberAt, TwoAt, LineAt};
@@ -95,15 +96,21 @@ fn two_at(s: &[u8], from: usize) -> Two
     }
 }
 
+fn unknown() -> Known
+    ensures { λ r. ⌜ r .end ≡ 0 ⌝ }
+{
+    Known {
+        command: Command::Bad,
+        end: 0,
+    }
+}
+
 // The longest of these lines has 29 bytes with its newline. A shorter piece is left to the other way, so that no digit asks for its end.
 pub(crate) fn at_once(piece: &[u8]) -> Known
     ensures { λ r. ⌜ (0 < r .end → LineAt (now (piece .entry)) r) ⌝ }
 {
     if piece.len() < 29 {
-        return Known {
-            command: Command::Bad,
-            end: 0,
-        };
+        return unknown();
     }
     if same(&piece[..4], b"get ") {
         let t = two_at(piece, 4);
@@ -135,8 +142,5 @@ pub(crate) fn at_once(piece: &[u8]) -> Known
             end: n.end,
         };
     }
-    Known {
-        command: Command::Bad,
-        end: 0,
-    }
+    unknown()
 }
