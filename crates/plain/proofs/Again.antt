@@ -12,6 +12,7 @@ use Rattle.model.specs.Basic.{isEmpty}
 use Rattle.model.specs.Layout.{bit}
 use Rattle.model.specs.Calls.{isSome, rule, firstOf, insertTests, deleteTests, pruneTests, restoredEntries}
 use Rattle.model.specs.Return.{returnTests}
+use Rattle.model.proofs.lists.Lists.{both-true}
 use Rattle.plain.specs.declared.State.{State}
 use Rattle.plain.specs.declared.Left.{Left}
 use Rattle.plain.specs.Plain.{Plain, Given, next, valueAt, differs, unless, standing, holding, setKey, endKey, backTo, pruned, begin}
@@ -21,7 +22,7 @@ use Rattle.plain.specs.Calls.{givenBy, Opens}
 use Rattle.plain.specs.Guard.{stateOf, stateNumbers, areVersions, isEdition, isState, longest, isLent, readPlain, OpensGuarded}
 use Rattle.plain.specs.Guard.{StateAgain, LentAgain}
 use Rattle.plain.proofs.laws.Laid.{from-length}
-use Rattle.plain.proofs.Guards.{both, lent-by, lent-fits, guarded-some, begin-few}
+use Rattle.plain.proofs.Guards.{lent-by, lent-fits, guarded-some, begin-few}
 
 -- ---- what is asked of a plain store's numbers, the items aside
 
@@ -36,9 +37,9 @@ flag-fits n false e = omega arith
 
 pub state-stands : (ns ms : List ℕ) → isState ms ≡ true → NumbersStand (readPlain ns ms)
 state-stands ns ms e =
-    let f = both (areVersions (getD ms 0 0) (getD ms 1 0)) (leb (getD ms 3 0) (getD ms 0 0) && isEdition (getD ms 4 0)) e in
-    let v = both (leb (getD ms 1 0) 1) (leb (getD ms 0 0 + getD ms 1 0) 1048574) (f .0) in
-    let g = both (leb (getD ms 3 0) (getD ms 0 0)) (isEdition (getD ms 4 0)) (f .1) in
+    let f = both-true (areVersions (getD ms 0 0) (getD ms 1 0)) (leb (getD ms 3 0) (getD ms 0 0) && isEdition (getD ms 4 0)) e in
+    let v = both-true (leb (getD ms 1 0) 1) (leb (getD ms 0 0 + getD ms 1 0) 1048574) (f .0) in
+    let g = both-true (leb (getD ms 3 0) (getD ms 0 0)) (isEdition (getD ms 4 0)) (f .1) in
     record {
       version = omega (arith, leb-true (getD ms 0 0 + getD ms 1 0) 1048574 (v .1), flag-fits (getD ms 1 0) (eqb (getD ms 1 0) 1) refl);
       old = leb-true (getD ms 3 0) (getD ms 0 0) (g .0);
@@ -141,7 +142,7 @@ module _ (ns ms : List ℕ) (lent : isLent ns ms ≡ true) (s : State) (is : s �
   own-stands : NumbersStand own
   own-stands =
       subst (λ (t : State). NumbersStand (plainOf t ns)) (sym is)
-      (state-stands ns ms (both (isState ms) (leb (length ns) longest && leb (4 * getD ms 2 0) (length ns)) lent .0))
+      (state-stands ns ms (both-true (isState ms) (leb (length ns) longest && leb (4 * getD ms 2 0) (length ns)) lent .0))
 
   pub lent-again : (r : Left) (ns′ : List ℕ) (g : Given) → givenBy r ns′ ≡ g → (NumbersStand own → NumbersStand (g .plain))
       → 4 * length (g .plain .items) ≤ length ns → length ns′ ≡ length ns
@@ -161,7 +162,7 @@ module _ (ns ms : List ℕ) (lent : isLent ns ms ≡ true) (s : State) (is : s �
 -- an open reads no list: with any that holds the items, what it leaves is lent again
 pub opens-again : (ms : List ℕ) (r : ℕ) (ms′ : List ℕ) → OpensGuarded ms r ms′ → StateAgain ms ms′ → (ns : List ℕ) → LentAgain ns ms ns ms′
 opens-again ms r ms′ does again ns e =
-    let yes = both (isState ms) (leb (length ns) longest && leb (4 * getD ms 2 0) (length ns)) e .0 in
+    let yes = both-true (isState ms) (leb (length ns) longest && leb (4 * getD ms 2 0) (length ns)) e .0 in
     let p = readPlain [] ms in
     let few = ap (λ (x : Given). length (x .plain .items)) (does [] ∙ sym (guarded-some (isState ms) p (begin p) yes)) in
     let fits : 4 * getD ms′ 2 0 ≤ length ns

@@ -13,10 +13,11 @@ use Rattle.model.specs.Basic.{pick, those, count, isEmpty}
 use Rattle.model.specs.declared.Entry.{Entry}
 use Rattle.model.specs.declared.Delta.{Delta}
 use Rattle.model.specs.Entry.{alive, born, pair}
-use Rattle.model.specs.Layout.{bit}
 use Rattle.model.specs.Walk.{keyLimit}
 use Rattle.model.specs.Calls.{isSome, rule, firstOf, beyond, benchLimit, insertTests, deleteTests, pruneTests, restoredEntries}
 use Rattle.model.specs.Return.{comes, returnTests}
+use Rattle.model.proofs.lists.Lists.{both-true}
+use Rattle.model.proofs.lists.Bools.{bit-back}
 use Rattle.plain.specs.declared.State.{State}
 use Rattle.plain.specs.declared.Left.{Left}
 use Rattle.plain.specs.declared.items.Found.{Found}
@@ -106,22 +107,18 @@ lent-by ns ms e h =
 pub lent-none : (ns ms : List ℕ) → isState ms ≡ false → isLent ns ms ≡ false
 lent-none ns ms e = ap (λ (b : Bool). b && (leb (length ns) longest && leb (4 * getD ms 2 0) (length ns))) e
 
-pub both : (b c : Bool) → (b && c) ≡ true → (b ≡ true) × (c ≡ true)
-both true c e = (refl, e)
-both false c e = absurd (let z : _≡_ {A = ℕ} 0 1 = cc in omega arith)
-
 module _ (ns ms : List ℕ) (e : isLent ns ms ≡ true) where
   pub lent-fits : (length ns ≤ longest) × (4 * getD ms 2 0 ≤ length ns)
   lent-fits =
-      let f = both (isState ms) (leb (length ns) longest && leb (4 * getD ms 2 0) (length ns)) e in
-      let g = both (leb (length ns) longest) (leb (4 * getD ms 2 0) (length ns)) (f .1) in
+      let f = both-true (isState ms) (leb (length ns) longest && leb (4 * getD ms 2 0) (length ns)) e in
+      let g = both-true (leb (length ns) longest) (leb (4 * getD ms 2 0) (length ns)) (f .1) in
       (leb-true (length ns) longest (g .0), leb-true (4 * getD ms 2 0) (length ns) (g .1))
 
   pub lent-version : getD ms 0 0 + getD ms 1 0 ≤ 1048574
   lent-version =
-      let f = both (isState ms) (leb (length ns) longest && leb (4 * getD ms 2 0) (length ns)) e in
-      let g = both (versions ms) (old-edition ms (leb (getD ms 3 0) (getD ms 0 0))) (f .0) in
-      leb-true (getD ms 0 0 + getD ms 1 0) 1048574 (both (leb (getD ms 1 0) 1) (leb (getD ms 0 0 + getD ms 1 0) 1048574) (g .0) .1)
+      let f = both-true (isState ms) (leb (length ns) longest && leb (4 * getD ms 2 0) (length ns)) e in
+      let g = both-true (versions ms) (old-edition ms (leb (getD ms 3 0) (getD ms 0 0))) (f .0) in
+      leb-true (getD ms 0 0 + getD ms 1 0) 1048574 (both-true (leb (getD ms 1 0) 1) (leb (getD ms 0 0 + getD ms 1 0) 1048574) (g .0) .1)
 
   pub held : ItemsHeld (stateOf ms) ns
   held = record {
@@ -130,10 +127,6 @@ module _ (ns ms : List ℕ) (e : isLent ns ms ≡ true) where
   }
 
 -- ---- what is read of a state that was written
-
-bit-back : (b : Bool) → eqb (bit b) 1 ≡ b
-bit-back true = refl
-bit-back false = refl
 
 state-back : (s : State) → stateOf (stateNumbers s) ≡ s
 state-back s =
@@ -161,7 +154,7 @@ module _ (b : Bool) (p : Plain) (g : Given) where
   pub guarded-some : b ≡ true → g ≡ guarded b p g
   guarded-some e = sym (ap (λ (c : Bool). guarded c p g) e)
 
-unless-number : (n : ℕ) (p q : Plain) → unless n p q .number ≡ n
+pub unless-number : (n : ℕ) (p q : Plain) → unless n p q .number ≡ n
 unless-number zero p q = refl
 unless-number (suc n) p q = refl
 

@@ -14,6 +14,7 @@ use Rattle.model.specs.declared.Entry.{Entry}
 use Rattle.model.specs.Entry.{pair, alive, liveAt, born, endOne}
 use Rattle.model.specs.Calls.{revived, restoredEntries}
 use Rattle.model.proofs.lists.Lists.{both-true}
+use Rattle.model.proofs.lists.Bools.{fails-left, fails-right}
 use Rattle.plain.specs.Plain.{valueAt, setKey, endKey, keptFrom}
 
 -- the first of two values, or else the second
@@ -24,13 +25,6 @@ orElse (some x) o = some x
 -- the value of a key that one item in front makes of the rest's, by whether it is the key's and alive
 abbrev first : Bool → Entry → Option ℕ → Option ℕ
 first b e o = pick b (some (e .value)) o
-
-and-false : (a b : Bool) → b ≡ false → (a && b) ≡ false
-and-false true b h = h
-and-false false b h = refl
-
-false-and : (a b : Bool) → a ≡ false → (a && b) ≡ false
-false-and a b h = ap (λ (c : Bool). c && b) h
 
 -- ---- an append
 
@@ -52,7 +46,7 @@ pub set-older : (w k x j v : ℕ) → v < w → (es : List Entry) → valueAt j 
 set-older w k x j v h es =
     value-append j v es (born w (pair k x) ∷ [])
     ∙ ap (orElse (valueAt j v es))
-    (ap (λ (b : Bool). first b (born w (pair k x)) none) (and-false (eqb k j) _ (false-and (leb w v) (ltb v alive) (lt-leb w v h))))
+    (ap (λ (b : Bool). first b (born w (pair k x)) none) (fails-right (eqb k j) _ (fails-left (leb w v) (ltb v alive) (lt-leb w v h))))
     ∙ or-none (valueAt j v es)
 
 -- at w it is seen where the key had no value
@@ -65,7 +59,7 @@ set-own w k x h es e =
 pub set-other : (w k x j v : ℕ) → (k ≡ j → ⊥) → (es : List Entry) → valueAt j v (setKey w k x es) ≡ valueAt j v es
 set-other w k x j v n es =
     value-append j v es (born w (pair k x) ∷ [])
-    ∙ ap (orElse (valueAt j v es)) (ap (λ (b : Bool). first b (born w (pair k x)) none) (false-and (eqb k j) _ (ne-eqb k j n)))
+    ∙ ap (orElse (valueAt j v es)) (ap (λ (b : Bool). first b (born w (pair k x)) none) (fails-left (eqb k j) _ (ne-eqb k j n)))
     ∙ or-none (valueAt j v es)
 
 -- ---- an end
@@ -85,7 +79,7 @@ end-older w k j v h (e ∷ es) = at (ends w k e) refl (eqb (e .start) w) refl (e
         let is : e .start ≡ w = eqb-true (e .start) w s in
         let late : v < e .start = omega arith in
         ih ∙ sym (ap (λ (c : Bool). first c e (valueAt j v es))
-        (and-false (eqb (e .key) j) _ (false-and (leb (e .start) v) (ltb v (e .end)) (lt-leb (e .start) v late))))
+        (fails-right (eqb (e .key) j) _ (fails-left (leb (e .start) v) (ltb v (e .end)) (lt-leb (e .start) v late))))
     at true i false s ih =
         let live = both-true (leb (e .start) w) (ltb w (e .end)) (both-true (eqb (e .key) k) (liveAt w e) i .1) in
         let up : w < e .end = ltb-true w (e .end) (live .1) in
@@ -103,7 +97,7 @@ end-own w k (e ∷ es) = at (ends w k e) refl (eqb (e .start) w) (end-own w k es
     at true i true ih = ih
     at true i false ih =
         ap₂ (λ (c : Bool) (o : Option ℕ). first c e o)
-        (and-false (eqb (e .key) k) _ (and-false (leb (e .start) w) (ltb w w) (not-below w))) ih
+        (fails-right (eqb (e .key) k) _ (fails-right (leb (e .start) w) (ltb w w) (not-below w))) ih
       where
         not-below : (n : ℕ) → ltb n n ≡ false
         not-below n = at-false (ltb n n) refl
@@ -127,10 +121,10 @@ end-other w k j v n (e ∷ es) = at (ends w k e) refl (eqb (e .start) w) (end-ot
 
         ended : (b : Bool) → valueAt j v (endKey w k es) ≡ valueAt j v es
             → valueAt j v (endOne true b w e (endKey w k es)) ≡ valueAt j v (e ∷ es)
-        ended true ih = ih ∙ sym (ap (λ (c : Bool). first c e (valueAt j v es)) (false-and (eqb (e .key) j) (liveAt v e) not-own))
+        ended true ih = ih ∙ sym (ap (λ (c : Bool). first c e (valueAt j v es)) (fails-left (eqb (e .key) j) (liveAt v e) not-own))
         ended false ih =
             ap₂ (λ (c : Bool) (o : Option ℕ). first c e o)
-            (false-and (eqb (e .key) j) _ not-own ∙ sym (false-and (eqb (e .key) j) (liveAt v e) not-own)) ih
+            (fails-left (eqb (e .key) j) _ not-own ∙ sym (fails-left (eqb (e .key) j) (liveAt v e) not-own)) ih
 
 -- ---- an abandon: versions before w see the same
 
@@ -149,7 +143,7 @@ restored-older w k v h low (e ∷ es) = at (eqb (e .start) w) refl (restored-old
         let is : e .start ≡ w = eqb-true (e .start) w i in
         let late : v < e .start = omega arith in
         ih ∙ sym (ap (λ (c : Bool). first c e (valueAt k v es))
-        (and-false (eqb (e .key) k) _ (false-and (leb (e .start) v) (ltb v (e .end)) (lt-leb (e .start) v late))))
+        (fails-right (eqb (e .key) k) _ (fails-left (leb (e .start) v) (ltb v (e .end)) (lt-leb (e .start) v late))))
     at false i ih =
         ap₂ (λ (c : Bool) (o : Option ℕ). first (eqb (e .key) k && (leb (e .start) v && c)) e o) (end-same (eqb (e .end) w) refl) ih
 
@@ -166,8 +160,8 @@ kept-later v k u h (e ∷ es) = at (ltb v (e .end)) refl (kept-later v k u h es)
     at false i ih =
         ih
         ∙ sym (ap (λ (b : Bool). first b e (valueAt k u es))
-        (and-false (eqb (e .key) k) (liveAt u e)
-        (and-false (leb (e .start) u) (ltb u (e .end)) (le-ltb u (e .end) (omega (arith, ltb-false v (e .end) i))))))
+        (fails-right (eqb (e .key) k) (liveAt u e)
+        (fails-right (leb (e .start) u) (ltb u (e .end)) (le-ltb u (e .end) (omega (arith, ltb-false v (e .end) i))))))
 
 pub kept-shorter : (v : ℕ) (es : List Entry) → length (keptFrom v es) ≤ length es
 kept-shorter v [] = omega arith

@@ -13,22 +13,20 @@ use Rattle.model.specs.declared.Delta.{Delta}
 use Rattle.model.specs.Entry.{liveAt}
 use Rattle.model.specs.Walk.{keyLimit}
 use Rattle.model.specs.Differ.{saysOf}
+use Rattle.model.proofs.lists.Bools.{fails-left}
 use Rattle.plain.specs.declared.items.Found.{Found}
 use Rattle.plain.specs.Plain.{valueAt, sameValue, keys, differs}
 use Rattle.plain.specs.Items.{foundOf, item, from}
 use Rattle.plain.proofs.laws.Items.{value-on}
 use Rattle.plain.specs.Scan.{Lower, SkipsKeys, sameFound}
 
-silent : (b c : Bool) → b ≡ false → (b && c) ≡ false
-silent b c h = ap (λ (d : Bool). d && c) h
-
 -- a key that is not between a and q
 pub lower-out : (e : Entry) (a r u v q : ℕ) → a ≤ q → q ≤ r → ((k : ℕ) → a ≤ k → k < q → e .key ≡ k → ⊥) → Lower e a r u v q
 lower-out e a r u v q h i n = record {
   behind = h;
   within = i;
-  old = λ k x y. silent (eqb (e .key) k) (liveAt u e) (ne-eqb (e .key) k (n k x y));
-  new = λ k x y. silent (eqb (e .key) k) (liveAt v e) (ne-eqb (e .key) k (n k x y));
+  old = λ k x y. fails-left (eqb (e .key) k) (liveAt u e) (ne-eqb (e .key) k (n k x y));
+  new = λ k x y. fails-left (eqb (e .key) k) (liveAt v e) (ne-eqb (e .key) k (n k x y));
 }
 
 -- an item that is alive at neither

@@ -18,6 +18,7 @@ use Rattle.model.specs.Calls.{rule, firstOf, pairNumbers, rangedIn, rangedBy}
 use Rattle.model.specs.Told.{toldIn, toldBy}
 use Rattle.model.specs.Differ.{deltaNumbers, saysOf}
 use Rattle.model.specs.Lent.{Listed, listed}
+use Rattle.model.proofs.lists.Members.{neither}
 use Rattle.plain.specs.declared.items.Found.{Found}
 use Rattle.plain.specs.Plain.{Plain, unreadable, valueAt, setting, settings, keys, differs, range, difference}
 use Rattle.plain.specs.Items.{foundOf}
@@ -151,12 +152,8 @@ module _ (p : Plain) (u v : ℕ) (ns : List ℕ) where
   unfolding difference
   difference-done h i = ap₂ (λ (b c : Bool). differing (firstOf (rule 6 (b || c) ∷ []))) (sym h) (sym i)
 
-either-fails : (b c : Bool) → (b || c) ≡ false → (b ≡ false) × (c ≡ false)
-either-fails true c e = absurd (let z : _≡_ {A = ℕ} 0 1 = cc in omega arith)
-either-fails false c e = (refl, e)
-
 pub range-fits : (lo hi : ℕ) → badRange lo hi ≡ false → (hi < keyLimit) × (lo ≤ hi)
 range-fits lo hi h =
-    let f = either-fails (leb keyLimit lo || leb keyLimit hi) (ltb hi lo) h in
-    let g = either-fails (leb keyLimit lo) (leb keyLimit hi) (f .0) in
+    let f = neither (leb keyLimit lo || leb keyLimit hi) (ltb hi lo) h in
+    let g = neither (leb keyLimit lo) (leb keyLimit hi) (f .0) in
     (leb-false keyLimit hi (g .1), ltb-false hi lo (f .1))
