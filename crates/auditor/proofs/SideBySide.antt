@@ -4,7 +4,7 @@
 use Prim.Native.Nat.{ℕ, zero, suc, _+_, _≤_, _<_}
 use native.Mathlib.Omega.{arith}
 use mathlib.Core.Bool.{Bool, true, false, _&&_, _||_, not}
-use mathlib.Core.Option.{Option, none, some}
+use mathlib.Core.Option.{Option}
 use mathlib.Core.Path.{_≡_, refl, ap, ap₂, sym, _∙_, subst}
 use mathlib.Core.Logic.{inl, inr}
 use mathlib.Core.List.{List, [], _∷_, map}
@@ -38,8 +38,9 @@ use Rattle.model.specs.Ended as calls
 use Rattle.model.specs.Ended.{Asked, Ended, ended, toFresh, toFreshSecond, toCheck, toState, toOpen, toCommit, toAbandon, toInsert}
 use Rattle.model.specs.Ended.{toDelete, toReturn, toPrune, toLookup, toRange, toVisits, toDifference, toLife}
 use Rattle.model.proofs.lists.Lists.{both-intro, all-cons, shorter}
-use Rattle.model.proofs.lists.Members.{true-holds}
-use Rattle.model.proofs.sound.ByRule.{to-tests}
+use Rattle.model.proofs.lists.Members.{true-holds, neither}
+use Rattle.model.proofs.lists.Bools.{is-none}
+use Rattle.model.proofs.sound.ByRule.{to-tests, upto-last}
 use Rattle.model.proofs.turning.Turns.{fresh-sound}
 use Rattle.model.proofs.theorems.Editions.{edition-four}
 use Rattle.model.proofs.reading.Same.{same-none}
@@ -60,6 +61,7 @@ use Rattle.plain.proofs.Values.{kept-shorter}
 use Rattle.plain.proofs.Backs.{back-few}
 use Rattle.plain.proofs.Shows.{ItemsShow, shows-start, shows-begins, shows-commits, shows-abandons, shows-inserts, shows-deletes}
 use Rattle.plain.proofs.Shows.{shows-returns, shows-prunes}
+use Rattle.plain.proofs.Guards.{unless-number}
 use Rattle.auditor.specs.Engine.{has, ofGiven, ofListed, plainly}
 use Rattle.auditor.specs.Linked.{mayInsert}
 use Rattle.auditor.specs.SideBySide.{Equal, OneCall, followed, insertsBy, acceptedIn, FitsRoom, EachCall, SideBySide}
@@ -93,10 +95,6 @@ by-tests P (r ∷ rs) e f = at (r .holds) refl (by-tests P rs (e .1))
     at : (b : Bool) → r .holds ≡ b → ((None rs → P 0) → P (firstOf rs)) → P (elim b [ true ↦ r .number | false ↦ firstOf rs ])
     at true h ih = e .0
     at false h ih = ih (λ n. f (h, n))
-
-unless-number : (n : ℕ) (p q : Plain) → unless n p q .number ≡ n
-unless-number zero p q = refl
-unless-number (suc n) p q = refl
 
 of-equal : (f n : ℕ) → n ≡ f → Gives f n
 of-equal zero n h = inl h
@@ -168,12 +166,8 @@ two-fail : (a b : ℕ) (c d : Bool) → firstOf (rule (suc a) c ∷ rule (suc b)
 two-fail a b true d e = absurd (omega (arith, e))
 two-fail a b false d e = (refl, one-fails b d e)
 
-either-fails : (b c : Bool) → (b || c) ≡ false → (b ≡ false) × (c ≡ false)
-either-fails true c e = absurd (true-false e)
-either-fails false c e = (refl, e)
-
 three-fail : (a b c : Bool) → (a || b || c) ≡ false → (a ≡ false) × (b ≡ false) × (c ≡ false)
-three-fail a b c e = let f = either-fails (a || b) c e in let g = either-fails a b (f .0) in (g .0, g .1, f .1)
+three-fail a b c e = let f = neither (a || b) c e in let g = neither a b (f .0) in (g .0, g .1, f .1)
 
 looked-same : (n : ℕ) (x y : Option ℕ) → (n ≡ 0 → x ≡ y) → lookedBy n x ≡ lookedBy n y
 looked-same zero x y h = ap lookedAt (h refl)
@@ -189,10 +183,6 @@ told-same : {A : Type 0} (numbers : A → List ℕ) (each n room : ℕ) (xs ys :
 unfolding toldBy
 told-same numbers each zero room xs ys h = ap (toldBy numbers each 0 room) (h refl)
 told-same numbers each (suc n) room xs ys h = refl
-
-none-is : (o : Option ℕ) → isSome o ≡ false → o ≡ none
-none-is none e = refl
-none-is (some y) e = absurd (true-false e)
 
 restored-shorter : (w : ℕ) (es : List Entry) → length (restoredEntries w es) ≤ length es
 restored-shorter w [] = omega arith
@@ -227,13 +217,6 @@ module _ (x : Beside) (a : Agreed x) (es : List Entry) (s : ItemsShow (x .machin
   open-last : m .opened ≡ true → lastIn m ≡ w
   open-last o = ap (λ (b : Bool). lastOf b (m .current)) o
 
-  current-last : m .current ≤ lastIn m
-  current-last = at (m .opened)
-    where
-      at : (b : Bool) → m .current ≤ lastOf b (m .current)
-      at true = omega arith
-      at false = omega arith
-
   -- a version that can be read
   record KeptVersion (v : ℕ) : Type 0 where
     pub from : m .oldest ≤ v
@@ -241,11 +224,11 @@ module _ (x : Beside) (a : Agreed x) (es : List Entry) (s : ItemsShow (x .machin
 
   kept-by : (v : ℕ) → beyond (lastIn m) (m .oldest) v ≡ false → KeptVersion v
   kept-by v e =
-      let f = either-fails (ltb (lastIn m) v) (ltb v (m .oldest)) e in
+      let f = neither (ltb (lastIn m) v) (ltb v (m .oldest)) e in
       record { from = ltb-false v (m .oldest) (f .1); upto = ltb-false (lastIn m) v (f .0) }
 
   current-kept : KeptVersion (m .current)
-  current-kept = record { from = s .old; upto = current-last }
+  current-kept = record { from = s .old; upto = upto-last (m .opened) (m .current) }
 
   stands : (v : ℕ) → KeptVersion v → rising (m .shows v) ≡ true
   stands v h = says .order v (h .from) (h .upto)
@@ -285,7 +268,7 @@ module _ (x : Beside) (a : Agreed x) (es : List Entry) (s : ItemsShow (x .machin
       told-same deltaNumbers 4 (firstOf (differenceTests (m .oldest) (lastIn m) u v)) room (differs u v es)
       (differ (m .shows u) (m .shows v))
       (λ e.
-      let f = either-fails (beyond (lastIn m) (m .oldest) u) (beyond (lastIn m) (m .oldest) v)
+      let f = neither (beyond (lastIn m) (m .oldest) u) (beyond (lastIn m) (m .oldest) v)
       (one-fails 5 (beyond (lastIn m) (m .oldest) u || beyond (lastIn m) (m .oldest) v) e) in
       differ-here u v (kept-by u (f .0)) (kept-by v (f .1)))
 
@@ -296,7 +279,7 @@ module _ (x : Beside) (a : Agreed x) (es : List Entry) (s : ItemsShow (x .machin
       (lifeOf (m .oldest) (m .current) (λ (v : ℕ). find k (m .shows v)))
       (λ e. let low : k < keyLimit = leb-false keyLimit k (one-fails 4 (leb keyLimit k) e) in
       life-ext (m .oldest) (m .current) (λ (v : ℕ). valueAt k v es) (λ (v : ℕ). find k (m .shows v))
-      (λ v f h. s .shows k v low f (omega (arith, current-last))))
+      (λ v f h. s .shows k v low f (omega (arith, upto-last (m .opened) (m .current)))))
 
   -- ---- calls that change
 
@@ -355,7 +338,7 @@ module _ (x : Beside) (a : Agreed x) (es : List Entry) (s : ItemsShow (x .machin
       (λ f.
       let o = not-false (m .opened) (f .1 .0) in
       let low : k < keyLimit = omega (arith, leb-false benchLimit k (f .0)) in
-      let absent = sym (shown k w low (at-w o)) ∙ none-is (valueAt k w es) (f .1 .1 .0) in
+      let absent = sym (shown k w low (at-w o)) ∙ is-none (valueAt k w es) (f .1 .1 .0) in
       done-or-out d c m p q 1 at-p
       (record {
         follows = record { items = setKey w k y es; is = refl; shows = shows-inserts m es s o k y low absent };
@@ -411,7 +394,7 @@ module _ (x : Beside) (a : Agreed x) (es : List Entry) (s : ItemsShow (x .machin
       (refused d c m p q cost at-p 5 refl, (refused d c m p q cost at-p 6 refl, 0))
       (λ f.
       let o = not-false (m .opened) (f .1 .0) in
-      let e = either-fails (ltb (m .current) v) (ltb v (m .oldest)) (f .0) in
+      let e = neither (ltb (m .current) v) (ltb v (m .oldest)) (f .0) in
       let h : v ≤ m .current = ltb-false (m .current) v (e .0) in
       let i : m .oldest ≤ v = ltb-false v (m .oldest) (e .1) in
       let up = subst (λ (g : Given). MirrorsWithin d (step m abandons) (g .plain) p 0) (sym (abandon-open o)) (abandoned-after o) in
@@ -432,7 +415,7 @@ module _ (x : Beside) (a : Agreed x) (es : List Entry) (s : ItemsShow (x .machin
       (rule 3 (eqb d 1) ∷ pruneTests (m .oldest) (m .current) (m .opened) v)
       (refused d c m p q 0 at-p 2 refl, (refused d c m p q 0 at-p 5 refl, (refused d c m p q 0 at-p 7 refl, 0)))
       (λ f.
-      let e = either-fails (ltb (m .current) v) (ltb v (m .oldest)) (f .1 .0) in
+      let e = neither (ltb (m .current) v) (ltb v (m .oldest)) (f .1 .0) in
       done-or-out d c m p q 0 at-p
       (record {
         follows = record {
@@ -653,7 +636,7 @@ module _ (x : Beside) (a : Agreed x) (es : List Entry) (s : ItemsShow (x .machin
       (returnTests (m .oldest) (m .current) (m .opened) v)
       (λ e. absurd (omega (arith, e)), (λ e. absurd (omega (arith, e)), 0))
       (λ g e.
-      let h = either-fails (ltb (m .current) v) (ltb v (m .oldest)) (g .0) in
+      let h = neither (ltb (m .current) v) (ltb v (m .oldest)) (g .0) in
       let same = ap (λ (ds : List Delta). length (those comes ds))
       (own-inserts v (ltb-false v (m .oldest) (h .1)) (ltb-false (m .current) v (h .0)) (not-false (m .opened) (g .1 .0))) in
       omega (arith, same))

@@ -33,7 +33,7 @@ use Rattle.model.specs.Lent.{listed}
 use Rattle.model.specs.Ended.{toInsert, toDelete, toReturn, toLookup, toRange, toLife, toDifference, ofLooked, ofListed, ended, toState}
 use Rattle.model.specs.Ended.{ofState, Ended}
 use Rattle.model.specs.ByRule.{Readable}
-use Rattle.model.proofs.sound.ByRule.{readable-of, old-current}
+use Rattle.model.proofs.sound.ByRule.{readable-of, old-current, upto-last}
 use Rattle.model.proofs.reading.Lives.{life-ext}
 use Rattle.model.proofs.reading.Lookups.{lookup-is, settings-rise}
 use Rattle.model.proofs.reading.Ranges.{range-is}
@@ -146,11 +146,7 @@ module _ (x : Beside) (a : Agreed x) where
   -- ---- a life
 
   committed : (v : ℕ) → s .oldest ≤ v → v ≤ s .current → Readable s v
-  committed v f h = record { from = f; upto = omega (arith, at (s .opened) (s .current)) }
-    where
-      at : (o : Bool) (n : ℕ) → n ≤ lastOf o n
-      at true n = omega arith
-      at false n = omega arith
+  committed v f h = record { from = f; upto = omega (arith, upto-last (s .opened) (s .current)) }
 
   lived-here : (k room : ℕ) → lived s k room ≡ livedIn m k room
   unfolding Life.lived Told.toldBy

@@ -20,27 +20,16 @@ use Rattle.model.specs.Layout.{pageOf, decode}
 use Rattle.model.specs.Clean.{cleanPage, cleanFront}
 use Rattle.model.specs.Near.{frontRight, pageRight, startsBy, downRight, rangeRight, fromRoot}
 use Rattle.model.proofs.lists.Lists.{both-true, all-cons}
-use Rattle.model.proofs.lists.Members.{not-both}
+use Rattle.model.proofs.lists.Bools.{clash, fails-left, fails-right}
 use Rattle.walk.proofs.laws.Live.{above}
 use Rattle.tabled.proofs.laws.Starts.{none-above}
 use Rattle.promises.specs.Near.{Some, Each, FrontWrong, Breaks, OtherLevel, NoRouter, WrongDown, WrongAcross, WrongFrom}
 
 -- ---- tests that fail
 
-pub clash : {A : Type 0} → true ≡ false → A
-clash e = absurd (not-both true refl e)
-
 fails-or : (a c : Bool) → (a && c) ≡ false → (a ≡ false) ⊎ (c ≡ false)
 fails-or true c e = inr e
 fails-or false c e = inl refl
-
-fails-left : (a c : Bool) → a ≡ false → (a && c) ≡ false
-fails-left true c e = clash e
-fails-left false c e = refl
-
-fails-right : (a c : Bool) → c ≡ false → (a && c) ≡ false
-fails-right true c e = e
-fails-right false c e = refl
 
 fails-all : {A : Type 0} (f : A → Bool) (g : A → Type 0) (xs : List A) → ((x : A) → f x ≡ false → g x) → all f xs ≡ false → Some g xs
 fails-all f g [] h e = clash e

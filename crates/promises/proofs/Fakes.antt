@@ -30,7 +30,8 @@ use Rattle.model.specs.Ended.{Asked, toOpen, toInsert, toLookup, toRange, Ended
 use Rattle.model.specs.Editions.{leastOf}
 use Rattle.model.proofs.sound.ByRule.{old-current}
 use Rattle.model.proofs.lists.Members.{not-both, in-getD}
-use Rattle.model.proofs.sound.Ready.{numbered-by, is-none}
+use Rattle.model.proofs.lists.Bools.{is-none}
+use Rattle.model.proofs.sound.Ready.{numbered-by}
 use Rattle.promises.specs.Accepts.{Accepts, storeOf}
 use Rattle.promises.specs.Runs.{Turn}
 use Rattle.promises.specs.Beside.{Beside, whenDone, onward, fromLent}

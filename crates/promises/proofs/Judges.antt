@@ -41,6 +41,7 @@ use Rattle.model.specs.Ended.{Asked, toFresh, toFreshSecond, toCheck, toOpen, t
 use Rattle.model.specs.Ended.{toLookup, toRange, toLife, toDifference, toVisits, Ended, ofOutcome, ended, endedBy, makes, toState}
 use Rattle.model.proofs.lists.Lists.{both-true, both-intro}
 use Rattle.model.proofs.lists.Members.{bool-cases, not-both}
+use Rattle.model.proofs.lists.Bools.{clash}
 use Rattle.model.proofs.sound.Judging.{unbroken, unbroken-all, whole, broken-none}
 use Rattle.model.proofs.needs.Lacking.{judged-low}
 use Rattle.model.proofs.theorems.Unique.{refused as leaves}
@@ -249,9 +250,6 @@ zero-accepts c b ns m e = at (judgedAny b .number) (ended c b ns .number) (call-
     at (suc j) n p e = absurd (omega arith)
 
 -- ---- check's own number
-
-clash : {A : Type 0} → true ≡ false → A
-clash e = absurd (not-both true refl e)
 
 module _ (b : List ℕ) where
   abbrev good : ℕ → Bool

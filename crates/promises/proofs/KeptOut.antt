@@ -15,7 +15,7 @@ use Rattle.model.specs.Store.{Store, next, last, lastOf, fresh}
 use Rattle.model.specs.Walk.{lookup}
 use Rattle.model.specs.Editions.{leastOf}
 use Rattle.model.specs.Calls.{isSome, rule, benchLimit, insertTests, firstOf, insert, beyond}
-use Rattle.model.proofs.sound.ByRule.{old-current}
+use Rattle.model.proofs.sound.ByRule.{old-current, upto-last}
 use Rattle.model.proofs.lists.Members.{neither}
 use Rattle.model.specs.Return.{returnTests}
 use Rattle.model.specs.Histories.{Call, begins, commits, abandons, inserts, deletes, returns, prunes}
@@ -54,10 +54,6 @@ low-those : (g : Pair → Bool) (us : List Pair) → all isLow us ≡ true → a
 low-those g us a = all-by isLow (those g us) (λ y i. all-in isLow y us a (in-those g y us i .1))
 
 -- ---- what the numbers say
-
-current-last : (o : Bool) (n : ℕ) → n ≤ lastOf o n
-current-last true n = omega arith
-current-last false n = omega arith
 
 -- an insert that is done is of a key below the bench's
 insert-low : (k : ℕ) (o alive : Bool) (n : ℕ) → Gives (firstOf (insertTests k o alive)) n → n ≡ 0 → (k < benchLimit) × (o ≡ true)
@@ -107,7 +103,7 @@ module _ (u : ℕ) where
 
   -- an abandon leaves the committed versions
   back : (m : Machine) → Free m → Free (step m abandons)
-  back m f = record { from = f .from; keys = λ v h g. f .keys v h (omega (arith, g, current-last (m .opened) (m .current))) }
+  back m f = record { from = f .from; keys = λ v h g. f .keys v h (omega (arith, g, upto-last (m .opened) (m .current))) }
 
   undoes : (k : Kind) (n : ℕ) (m : Machine) → Free m → Free (undone k n m)
   undoes k n m f = at (givesUp k n)
@@ -133,7 +129,7 @@ module _ (u : ℕ) where
     m = x .machine
 
     earlier : (v : ℕ) → u ≤ v → v ≤ x .machine .current → all isLow (x .machine .shows v) ≡ true
-    earlier v h g = f .keys v h (omega (arith, g, current-last (x .machine .opened) (x .machine .current)))
+    earlier v h g = f .keys v h (omega (arith, g, upto-last (x .machine .opened) (x .machine .current)))
 
     opened-last : x .machine .opened ≡ true → lastIn (x .machine) ≡ suc (x .machine .current)
     opened-last o = ap (λ (q : Bool). lastOf q (x .machine .current)) o

@@ -34,7 +34,7 @@ use Rattle.model.specs.Ended.{toCommit, toLife, ofListed, ended}
 use Rattle.model.specs.Telling.{Shape}
 use Rattle.model.specs.ByRule.{Readable}
 use Rattle.model.proofs.lists.Lists.{all-cons, both-intro}
-use Rattle.model.proofs.sound.ByRule.{of-readable, old-current}
+use Rattle.model.proofs.sound.ByRule.{of-readable, old-current, upto-last}
 use Rattle.model.proofs.sound.Judging.{accepted-sound}
 use Rattle.model.proofs.reading.Alike.{alike-lookup}
 use Rattle.model.proofs.theorems.History.{many-calls}
@@ -63,11 +63,7 @@ module _ (b : List ℕ) (ok : Accepts b) where
   last-low = accepted-sound (leastOf b) b (taken b ok) .last-low
 
   upto : storeOf b .current ≤ last (storeOf b)
-  upto = at (storeOf b .opened) (storeOf b .current)
-    where
-      at : (o : Bool) (n : ℕ) → n ≤ lastOf o n
-      at true n = omega arith
-      at false n = omega arith
+  upto = upto-last (storeOf b .opened) (storeOf b .current)
 
   current-low : storeOf b .current < alive
   current-low = omega (arith, last-low, upto)

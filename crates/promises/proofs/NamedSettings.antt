@@ -4,9 +4,8 @@
 use Prim.Native.Nat.{ℕ, zero, suc, _*_, _≤_, _<_}
 use native.Mathlib.Omega.{arith}
 use mathlib.Core.Bool.{Bool, true, false, _&&_, _||_, not}
-use mathlib.Core.Path.{_≡_, refl, ap, ap₂, sym, _∙_, subst}
+use mathlib.Core.Path.{_≡_, refl, ap, sym, _∙_, subst}
 use mathlib.Core.Logic.{_≢_, _⊎_, inl, inr}
-use mathlib.Core.Option.{Option, none, some}
 use mathlib.Core.List.{List, [], _∷_, _++_}
 use lib.Dec.{leb, ltb, eqb}
 use lib.ListN.{length, drop}
@@ -21,7 +20,7 @@ use Rattle.model.specs.declared.Kind.{Kind}
 use Rattle.model.specs.declared.Kind.the-variants.{Level}
 use Rattle.model.specs.Entry.{pair, enterPair}
 use Rattle.model.specs.Store.{last, fresh}
-use Rattle.model.specs.Walk.{settings, between, find, rangeOf, keyLimit}
+use Rattle.model.specs.Walk.{settings, between, rangeOf, keyLimit}
 use Rattle.model.specs.Layout.{encode, decode}
 use Rattle.model.specs.Judged.{judged}
 use Rattle.model.specs.Calls.{rule, firstOf, pairNumbers, rangedIn, rangedBy, range, unreadable}
@@ -42,9 +41,11 @@ use Rattle.model.specs.Inner.{In}
 use Rattle.model.proofs.sound.ByRule.{readable-of, of-readable}
 use Rattle.model.proofs.lists.Lists.{all-cons, both-intro}
 use Rattle.model.proofs.lists.Members.{bool-cases, not-both, all-in, all-by, in-those, those-in}
+use Rattle.model.proofs.lists.Merging.{find-in}
 use Rattle.model.proofs.kept.OnePage.{entered-in}
 use Rattle.model.proofs.sound.Judging.{accepted, accepted-sound}
 use Rattle.model.proofs.reading.Ranges.{range-is}
+use Rattle.model.proofs.reading.Readings.{none-holds}
 use Rattle.model.proofs.theorems.Editions.{goes, refuses, ended-goes}
 use Rattle.model.proofs.theorems.Unique as one
 use Rattle.kinds.proofs.laws.Floats.{no-nan}
@@ -351,29 +352,6 @@ admitted-only least n table ts h v g =
 
 -- ---- a NaN
 
-option-same : (x y : ℕ) → some x ≡ some y → x ≡ y
-option-same x y e = ap of e
-  where
-    of : Option ℕ → ℕ
-    of none = 0
-    of (some z) = z
-
-found-in : (k x : ℕ) (us : List Pair) → find k us ≡ some x → In (pair k x) us
-found-in k x [] e = absurd (no e)
-  where
-    no : none ≡ some x → ⊥
-    no e = let z : _≡_ {A = ℕ} 0 1 = ap flag e in omega arith
-      where
-        flag : Option ℕ → ℕ
-        flag none = 0
-        flag (some z) = 1
-found-in k x (u ∷ us) e = at (eqb (u .key) k) refl (found-in k x us) e
-  where
-    at : (b : Bool) → eqb (u .key) k ≡ b → (find k us ≡ some x → In (pair k x) us) → pick b (some (u .value)) (find k us) ≡ some x
-        → In (pair k x) (u ∷ us)
-    at true f ih g = inl (ap₂ pair (sym (eqb-true (u .key) k f)) (sym (option-same (u .value) x g)))
-    at false f ih g = inr (ih g)
-
 allowed-admits : (kind : Kind) (x : ℕ) → eqb (allowed (Is kind) x) 0 ≡ true → admits kind x ≡ true
 allowed-admits kind x e = at (admits kind x) e
   where
@@ -383,7 +361,7 @@ allowed-admits kind x e = at (admits kind x) e
 
 pub no-nans : NoNan
 no-nans least n table ts h v g k x low high known found =
-    let in-it = found-in k x (shown least n ts v) found in
+    let in-it = find-in k x (shown least n ts v) found in
     let ok : admitted table (pair k x) ≡ true = all-in (admitted table) (pair k x) (shown least n ts v)
     (admitted-only least n table ts h v g) in-it in
     let yes : admits (Level low high) x ≡ true = allowed-admits (Level low high) x
@@ -399,11 +377,6 @@ no-nans least n table ts h v g k x low high known found =
 first-zero : (m k : ℕ) → judgedFirst m (λ n. n) k ≡ 0 → (m ≡ 0) × (k ≡ 0)
 first-zero zero k e = (refl, e)
 first-zero (suc m) k e = absurd (omega arith)
-
-none-holds : (p q : Bool) → firstOf (rule 5 p ∷ rule 6 q ∷ []) ≡ 0 → (p ≡ false) × (q ≡ false)
-none-holds true q e = absurd (omega arith)
-none-holds false true e = absurd (omega arith)
-none-holds false false e = (refl, refl)
 
 module _ (least : ℕ) (b : List ℕ) (lo hi v : ℕ) where
   abbrev wrong : Bool
@@ -550,7 +523,7 @@ never-softer old b ok k x v from h found none-of = record {
         i : In (pair k x) (between lo hi (settings (decode least b) v))
         i =
             those-in (λ (y : Pair). leb lo (y .key) && leb (y .key) hi) (pair k x) (settings (decode least b) v)
-            (both-intro (leb lo k) (leb k hi) (le-leb lo k p) (le-leb k hi q)) (found-in k x (settings (decode least b) v) found)
+            (both-intro (leb lo k) (leb k hi) (le-leb lo k p) (le-leb k hi q)) (find-in k x (settings (decode least b) v) found)
 
         at : (allKnown old (rangeOf (decode least b) lo hi v) ≡ true) ⊎ (allKnown old (rangeOf (decode least b) lo hi v) ≡ false)
             → allKnown old (rangeOf (decode least b) lo hi v) ≡ false

@@ -2,7 +2,7 @@
 -- Assumes nothing.
 use Prim.Native.Nat.{ℕ, zero, suc, _*_, _≤_, _<_}
 use native.Mathlib.Omega.{arith}
-use mathlib.Core.Bool.{Bool, true, false, _||_, not}
+use mathlib.Core.Bool.{Bool, true, false, _||_, not, or-true}
 use mathlib.Core.Path.{_≡_, refl, ap, sym, _∙_, subst}
 use mathlib.Core.Logic.{_↔_, _⊎_, inl, inr}
 use mathlib.Core.Option.{Option, none, some}
@@ -27,11 +27,12 @@ use Rattle.model.specs.Any
 use Rattle.model.specs.Any.{lookupAny, rangeAny}
 use Rattle.model.specs.Ended.{toLookup, toRange, Ended, ended, endedBy, ofLooked, ofListed}
 use Rattle.model.proofs.theorems.Editions.{ended-goes}
+use Rattle.model.proofs.lists.Bools.{clash}
 use Rattle.promises.specs.Accepts.{storeOf}
 use Rattle.promises.specs.Demand1.{editionKnown}
 use Rattle.promises.specs.Near.{FrontWrong, WrongDown, WrongAcross, WrongFrom, ReadingNumbers, LookupJudges, RangeJudges}
 use Rattle.promises.proofs.Early.{by-tests, number-by, past-early}
-use Rattle.promises.proofs.Clauses.{clash, front-clauses, lookup-clauses, range-clauses}
+use Rattle.promises.proofs.Clauses.{front-clauses, lookup-clauses, range-clauses}
 
 -- ---- the chain: 1, 2, 3, 4 by the front, 5, 6, 4 by the walk
 
@@ -224,10 +225,6 @@ late-is s v = (to (ltb (last s) v) refl, back)
     to : (p : Bool) → ltb (last s) v ≡ p → (p || ltb v (s .oldest)) ≡ true → (last s < v) ⊎ (v < s .oldest)
     to true x e = inl (ltb-true (last s) v x)
     to false x e = inr (ltb-true v (s .oldest) e)
-
-    or-true : (p : Bool) → (p || true) ≡ true
-    or-true true = refl
-    or-true false = refl
 
     back : (last s < v) ⊎ (v < s .oldest) → unreadable s v ≡ true
     back (inl e) = rw (lt-ltb (last s) v e)

@@ -28,7 +28,7 @@ use Rattle.model.specs.Lent.{leftBy, leaving}
 use Rattle.model.specs.Ended.{toOpen, toPrune, toLookup, Ended, ofOutcome, ended}
 use Rattle.model.specs.Inner.{In}
 use Rattle.model.specs.ByRule.{Sound}
-use Rattle.model.proofs.lists.Members.{holds-true, not-both, bool-cases, has-in, in-has}
+use Rattle.model.proofs.lists.Members.{holds-true, not-both, bool-cases, has-in, in-has, either-right}
 use Rattle.model.proofs.tree.GroupPages.{in-frees}
 use Rattle.model.proofs.sound.ByRule.{kept-of, from-tests, old-current, used-in, high-used}
 use Rattle.model.proofs.sound.Ready.{numbered-by}
@@ -291,13 +291,9 @@ module _ (b : List ℕ) (v : ℕ) (p : Prunable b v) (ns : List ℕ) where
   gone : (k u : ℕ) (ms : List ℕ) → k < keyLimit → u < v → ended (toLookup k u) (encode (leastOf b) (pruned (storeOf b) v)) ms .number ≡ 6
   gone k u ms low h =
       let late : beyond (lastOf (storeOf b′ .opened) (storeOf b′ .current)) (storeOf b′ .oldest) u ≡ true
-      = or-true (ltb (last (storeOf b′)) u) (lt-ltb u (storeOf b′ .oldest) (omega (arith, old-is))) in
+      = either-right (ltb (last (storeOf b′)) u) _ (lt-ltb u (storeOf b′ .oldest) (omega (arith, old-is))) in
       ap (λ (x : Ended). x .number) (answers (fromLent b′) (lent-agreed b′ (left-so .accepts)) .lookup k u ms)
       ∙ six k u (lt-leb keyLimit k low) late _
-    where
-      or-true : (x : Bool) {y : Bool} → y ≡ true → (x || y) ≡ true
-      or-true true e = refl
-      or-true false e = e
 
   again : (ms : List ℕ) → ended (toPrune v) (encode (leastOf b) (pruned (storeOf b) v)) ms
       ≡ record { number = 0; results = []; store = encode (leastOf b) (pruned (storeOf b) v); list = ms }

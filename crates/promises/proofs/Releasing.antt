@@ -19,13 +19,14 @@ use Rattle.model.specs.Walk.{keyLimit, find, settings}
 use Rattle.model.specs.Same.{samePairs}
 use Rattle.model.specs.Layout.{bit}
 use Rattle.model.specs.Editions.{leastOf}
-use Rattle.model.specs.Calls.{isSome, unchanged, rule, benchLimit, firstOf, lookedAt, lookedBy, lookedFound, lookedValue}
+use Rattle.model.specs.Calls.{unchanged, rule, benchLimit, firstOf, lookedAt, lookedBy, lookedFound, lookedValue}
 use Rattle.model.specs.Histories.{commits}
 use Rattle.model.specs.Settings.{Machine, edited}
 use Rattle.model.specs.Ended.{toCommit, toInsert, toDelete, toLookup, toDifference, Ended, ofLooked, ended}
 use Rattle.model.proofs.sound.ByRule.{of-readable, old-current}
 use Rattle.model.proofs.lists.Lists.{both-true}
 use Rattle.model.proofs.lists.Members.{not-both}
+use Rattle.model.proofs.lists.Bools.{is-none}
 use Rattle.model.proofs.reading.Lookups.{settings-rise, settings-low}
 use Rattle.model.proofs.reading.Same.{same-equal, equal-same, same-none, finds-equal, enter-undone}
 use Rattle.model.proofs.theorems.Unique.{refused}
@@ -230,10 +231,6 @@ absent-by false false q n g e = absurd (omega arith)
 absent-by false true true n g e = absurd (omega arith)
 absent-by false true false n g e = refl
 
-none-by : (x : Option ℕ) → isSome x ≡ false → x ≡ none
-none-by none e = refl
-none-by (some n) e = absurd (not-both true refl e)
-
 module _ (m : Machine) (k x : ℕ) (h : find k (m .shows (suc (m .current))) ≡ none) where
   abbrev w : ℕ
   w = suc (m .current)
@@ -274,7 +271,7 @@ module _ (b : List ℕ) (k x : ℕ) (ns : List ℕ) (small : x < 4294967296) (do
   agreed₂ = one-turn x₁ agreed₁ (record { call = toDelete k; list = ns }) refl
 
   absent : find k (x₀ .machine .shows (suc (x₀ .machine .current))) ≡ none
-  absent = none-by (find k (x₀ .machine .shows (suc (x₀ .machine .current))))
+  absent = is-none (find k (x₀ .machine .shows (suc (x₀ .machine .current))))
       (absent-by (leb benchLimit k) (x₀ .machine .opened) (aliveIn (x₀ .machine) k) (ended (toInsert k x) b ns .number)
       (answers x₀ agreed₀ .inserts k x ns) done₁)
 

@@ -2,13 +2,12 @@
 -- Assumes nothing.
 use Prim.Native.Nat.{ℕ}
 use mathlib.Core.Bool.{Bool, true}
-use mathlib.Core.Path.{_≡_, refl, ap, ap₂, sym, _∙_, subst}
+use mathlib.Core.Path.{_≡_, refl, ap, sym, _∙_, subst}
 use mathlib.Core.Logic.{inl, inr}
 use mathlib.Core.List.{List, [], _∷_, _++_, map}
-use lib.Dec.{T, eqb, lit≤}
+use lib.Dec.{T, lit≤}
 use lib.ListN.{getD}
-use borrow.Author.Tests.{eqb-true}
-use Rattle.model.specs.Basic.{all, eqList}
+use Rattle.model.specs.Basic.{all}
 use Rattle.model.specs.declared.Looked.{Looked}
 use Rattle.model.specs.declared.Looked.the-variants.{Value, Absent}
 use Rattle.model.specs.Store.{Store, fresh}
@@ -30,6 +29,7 @@ use Rattle.model.proofs.lists.Lists.{both-true, all-cons}
 use Rattle.model.proofs.lists.Members.{holds-true, true-holds, all-in, in-getD}
 use Rattle.model.proofs.theorems.Theorems.{call-sound}
 use Rattle.model.proofs.theorems.Editions.{edition-four}
+use Rattle.store.proofs.laws.Tested.{list-true}
 use Rattle.promises.specs.Accepts.{Accepts, storeOf, OfEdition, Written}
 use Rattle.promises.specs.Runs.{run, asks}
 use Rattle.promises.specs.Replayed.{turnOf, madeOn, replayed, Replays, AllReplay, TableLent}
@@ -132,14 +132,6 @@ pub fact : (f : After → Bool) (fs : List (After → Bool)) (a : After) → In 
 fact f [] a i h = absurd i
 fact f (g ∷ gs) a (inl e) h = ap (λ (k : After → Bool). k a) e ∙ both-true (g a) (allOf gs a) h .0
 fact f (g ∷ gs) a (inr i) h = fact f gs a i (both-true (g a) (allOf gs a) h .1)
-
-pub list-true : (xs ys : List ℕ) → eqList xs ys ≡ true → xs ≡ ys
-list-true [] [] e = refl
-list-true [] (y ∷ ys) e = cc
-list-true (x ∷ xs) [] e = cc
-list-true (x ∷ xs) (y ∷ ys) e =
-    let b = both-true (eqb x y) (eqList xs ys) e in
-    ap₂ {C = List ℕ} (λ (z : ℕ) (zs : List ℕ). z ∷ zs) (eqb-true x y (b .0)) (list-true xs ys (b .1))
 
 module _ (h : History) (i : In h table) where
   pub in-holds : holds h ≡ true

@@ -27,7 +27,7 @@ use Rattle.model.specs.Lent.{left, leftBy}
 use Rattle.model.specs.Ended.{toAbandon, toReturn, toDifference, Ended, ofOutcome, ended}
 use Rattle.model.specs.ByRule.{Sound, Committed}
 use Rattle.model.proofs.lists.Members.{holds-true}
-use Rattle.model.proofs.sound.ByRule.{from-tests}
+use Rattle.model.proofs.sound.ByRule.{from-tests, upto-last}
 use Rattle.model.proofs.reading.Lookups.{settings-rise}
 use Rattle.model.proofs.reading.Alike.{alike-settings}
 use Rattle.model.proofs.reading.Differs.{none-differs}
@@ -160,11 +160,7 @@ module _ (b : List ℕ) (ok : Accepts b) (v : ℕ) (ns : List ℕ) where
         ap₂ differ old-shown shown
         ∙ none-differs (settings (storeOf b) v)
         (settings-rise (leastOf b) (omega (arith, four b)) (storeOf b) sure v
-        (omega (arith, w .committed .from, w .committed .upto, low (storeOf b .opened) (storeOf b .current))))
-      where
-        low : (o : Bool) (n : ℕ) → n ≤ lastOf o n
-        low true n = omega arith
-        low false n = omega arith
+        (omega (arith, w .committed .from, w .committed .upto, upto-last (storeOf b .opened) (storeOf b .current))))
 
     returned-so : Returned b v (ended (toReturn v) b ns .store)
     returned-so = record {

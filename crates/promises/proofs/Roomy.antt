@@ -18,7 +18,7 @@ use Rattle.model.specs.Editions.{leastOf}
 use Rattle.model.specs.Ended.{Ended}
 use Rattle.model.proofs.sound.Most.{settings-most}
 use Rattle.model.proofs.sound.ByRule.{readable-of}
-use Rattle.model.proofs.needs.Sizes.{few-those}
+use Rattle.model.proofs.lists.Lists.{few-those}
 use Rattle.promises.specs.Accepts.{Accepts, storeOf}
 use Rattle.promises.specs.Beside.{fromLent}
 use Rattle.promises.specs.Room.{NoRangeOutgrows}

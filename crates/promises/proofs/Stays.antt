@@ -2,7 +2,7 @@
 -- Assumes nothing.
 use Prim.Native.Nat.{ℕ, _*_, _≤_, _<_}
 use native.Mathlib.Omega.{arith}
-use mathlib.Core.Bool.{Bool, true, false, _||_}
+use mathlib.Core.Bool.{Bool, true, _||_}
 use mathlib.Core.Path.{_≡_, refl, ap, ap₂, sym, _∙_, subst}
 use mathlib.Core.Option.{Option}
 use mathlib.Core.List.{List, [], _∷_, _++_}
@@ -11,7 +11,7 @@ use lib.ListN.{length, drop}
 use borrow.Author.Tests.{le-ltb, lt-leb}
 use Rattle.model.specs.declared.Pair.{Pair}
 use Rattle.model.specs.declared.Looked.{Looked}
-use Rattle.model.specs.Store.{Store, last, lastOf}
+use Rattle.model.specs.Store.{Store, last}
 use Rattle.model.specs.Walk.{keyLimit, lookup, lookupVisits}
 use Rattle.model.specs.Editions.{leastOf}
 use Rattle.model.specs.Calls
@@ -25,7 +25,7 @@ use Rattle.model.specs.Lent.{Listed, listed}
 use Rattle.model.specs.Any.{lookupAny, rangeAny, visitsAny}
 use Rattle.model.specs.Ended.{ofLooked, ofListed}
 use Rattle.model.specs.ByRule.{Readable}
-use Rattle.model.proofs.sound.ByRule.{of-readable}
+use Rattle.model.proofs.sound.ByRule.{of-readable, upto-last}
 use Rattle.model.proofs.reading.Alike.{Alike, alike-lookup, alike-visits, alike-range, alike-range-visits}
 use Rattle.model.proofs.reading.Visits.{pages-told}
 use Rattle.model.proofs.theorems.Undone.{lent-agrees}
@@ -97,19 +97,15 @@ module _ (b : List ℕ) (ok : Accepts b) (ts : List Turn) (f : each fitting ts �
       (goes-on (leastOf b) (four b) (callsOf ts) (calls-fit ts f) (lent (storeOf b))
       (lent-agrees (leastOf b) (storeOf b) (held-sound b ok)))
 
-  low : (q : Bool) (n : ℕ) → n ≤ lastOf q n
-  low true n = omega arith
-  low false n = omega arith
-
   module _ (v : ℕ) (f′ : storeOf (runBytes b ts) .oldest ≤ v) (h : v ≤ storeOf b .current) where
     pub view : Alike (storeOf b) v (storeOf (runBytes b ts)) v
     view = goes .steady v f′ h
 
     pub old : Readable (storeOf b) v
-    old = omega (arith, goes .oldest, low (storeOf b .opened) (storeOf b .current))
+    old = omega (arith, goes .oldest, upto-last (storeOf b .opened) (storeOf b .current))
 
     pub new : Readable (storeOf (runBytes b ts)) v
-    new = omega (arith, goes .current, low (storeOf (runBytes b ts) .opened) (storeOf (runBytes b ts) .current))
+    new = omega (arith, goes .current, upto-last (storeOf (runBytes b ts) .opened) (storeOf (runBytes b ts) .current))
 
     same-view : SameView (storeOf b) (storeOf (runBytes b ts)) v
     same-view = record {

@@ -1,7 +1,7 @@
 -- Laws about life/specs/Lived. Assumes nothing.
 use Prim.Native.Nat.{ℕ, _^_, _≤_}
 use native.Mathlib.Omega.{arith}
-use mathlib.Core.Bool.{Bool, true, false}
+use mathlib.Core.Bool.{true, false}
 use mathlib.Core.Option.{Option, none, some}
 use mathlib.Core.Path.{_≡_, refl, ap, ap₂, sym, _∙_}
 use mathlib.Core.Logic.{_≢_}
@@ -14,7 +14,6 @@ use Rattle.model.specs.declared.Limits.{Limits}
 use Rattle.model.specs.declared.Stretch.{Stretch}
 use Rattle.model.specs.declared.Looked.{Looked}
 use Rattle.model.specs.Entry.{alive}
-use Rattle.model.specs.Store.{lastOf}
 use Rattle.model.specs.Limits.{Edition}
 use Rattle.model.specs.Layout.{readHeader, decode}
 use Rattle.model.specs.Judged.{isSound}
@@ -22,7 +21,7 @@ use Rattle.model.specs.Calls.{lookedAt}
 use Rattle.model.specs.Life.{lifeOf}
 use Rattle.model.specs.Inner.{Lasts}
 use Rattle.model.proofs.reading.Lives.{toldOf, rest, rest-step, life-length}
-use Rattle.model.proofs.sound.ByRule.{old-current}
+use Rattle.model.proofs.sound.ByRule.{old-current, upto-last}
 use Rattle.store.proofs.laws.Read.{current-of, oldest-of}
 use Rattle.store.proofs.laws.Sure.{sure}
 use Rattle.walk.specs.Sure.{Walkable}
@@ -65,13 +64,9 @@ module _ {l : Limits} (d : Edition l) (b : List ℕ) (h : isSound (l .least) b �
           arith,
           current-of (l .least) b,
           old-current (l .least) (decode (l .least) b) (sure d b h .old-low),
-          at (decode (l .least) b .opened) (decode (l .least) b .current),
+          upto-last (decode (l .least) b .opened) (decode (l .least) b .current),
         );
       }
-    where
-      at : (o : Bool) (n : ℕ) → n ≤ lastOf o n
-      at true n = omega arith
-      at false n = omega arith
 
   -- from the oldest version up to the current one
   pub old-upto : readHeader (l .least) b .oldest ≤ readHeader (l .least) b .current

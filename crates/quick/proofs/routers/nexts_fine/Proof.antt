@@ -7,7 +7,7 @@ use borrow.Author.Needs.{needs}
 use borrow.Author.Tests.{not-true, not-false}
 use Rattle.model.specs.Layout.{decode, readEntries}
 use Rattle.spans.specs.Quick.{past, under as underOf, nexts}
-use Rattle.quick.proofs.laws.Part.{past-more}
+use Rattle.spans.proofs.laws.Stretches.{past-more}
 use Rattle.quick.specs.Under.{underPage}
 use Rattle.quick.proofs.laws.Under.{nexts-step, nexts-end, nexts-empty}
 use Rattle.quick.proofs.laws.Within.{settled, ends, goes-on}
