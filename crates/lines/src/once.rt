@@ -1,6 +1,5 @@
 // The commonest lines in one pass: `get K V`, `insert K V` and `delete K`, each with its newline, read in the piece where they stand.
 // Of any other line, a bad one too, nothing is known here, and the way by words (gathering, parsing) reads it.
-ghost use mathlib.Core.Path.{_≡_};
 ghost use Prim.Native.Nat.{_+_, _<_};
 ghost use lib.ListN.{length};
 ghost use Rattle.lines.specs.Places.{DigitsAt, NumberAt, TwoAt, LineAt};
@@ -96,21 +95,16 @@ fn two_at(s: &[u8], from: usize) -> Two
     }
 }
 
-fn unknown() -> Known
-    ensures { λ r. ⌜ r .end ≡ 0 ⌝ }
-{
-    Known {
-        command: Command::Bad,
-        end: 0,
-    }
-}
-
 // The longest of these lines has 29 bytes with its newline. A shorter piece is left to the other way, so that no digit asks for its end.
+// That nothing is known is written out twice: as a function's answer it goes through memory, ten instructions more for each line.
 pub(crate) fn at_once(piece: &[u8]) -> Known
     ensures { λ r. ⌜ (0 < r .end → LineAt (now (piece .entry)) r) ⌝ }
 {
     if piece.len() < 29 {
-        return unknown();
+        return Known {
+            command: Command::Bad,
+            end: 0,
+        };
     }
     if same(&piece[..4], b"get ") {
         let t = two_at(piece, 4);
@@ -118,10 +112,8 @@ pub(crate) fn at_once(piece: &[u8]) -> Known
             key: t.first,
             version: t.second,
         };
-        return Known {
-            command,
-            end: t.end,
-        };
+        let end = t.end;
+        return Known { command, end };
     }
     if same(&piece[..7], b"insert ") {
         let t = two_at(piece, 7);
@@ -129,18 +121,17 @@ pub(crate) fn at_once(piece: &[u8]) -> Known
             key: t.first,
             value: t.second,
         };
-        return Known {
-            command,
-            end: t.end,
-        };
+        let end = t.end;
+        return Known { command, end };
     }
     if same(&piece[..7], b"delete ") {
         let n = number_at(piece, 7, b'\n');
         let command = Command::Delete { key: n.value };
-        return Known {
-            command,
-            end: n.end,
-        };
+        let end = n.end;
+        return Known { command, end };
     }
-    unknown()
+    Known {
+        command: Command::Bad,
+        end: 0,
+    }
 }

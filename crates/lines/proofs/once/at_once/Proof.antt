@@ -11,11 +11,8 @@ use Rattle.lines.proofs.LineParts.{begins, one-here, two-here}
 use Rattle.lines.proofs.once.at_once.Statement.{statement}
 use Rattle.lines.proofs.once.at_once.Tie as tie
 
-unknown-requires : tie.Need-unknown-requires
-unknown-requires c κs = search needs
-
 returns : tie.Need-returns
-returns c = λ known. absurd (omega (arith, c .unknown .ensures))
+returns c = λ known. absurd (omega arith)
 
 slice-aggregate-same : tie.Need-slice-aggregate-same
 slice-aggregate-same c = sym (length-take-le 4 (c .before .before .before .args .piece .now) (omega arith))
@@ -83,17 +80,13 @@ returns-4 c = λ known.
     let word = begins p (ascii "delete") (at-delete .same3 .ensures) (c .before .if4 .taken) (omega arith) refl refl in
     one-here p (ascii "delete") word (c .number-at .result) _ (c .number-at .ensures known) refl
 
-unknown-requires-2 : tie.Need-unknown-requires-2
-unknown-requires-2 c κs = search needs
-
 returns-5 : tie.Need-returns-5
-returns-5 c = λ known. absurd (omega (arith, c .unknown2 .ensures))
+returns-5 c = λ known. absurd (omega arith)
 
 pub at-once-spec : {M : Type 1} → statement M
 at-once-spec =
     tie.close
     (tie.spec
-    unknown-requires
     returns
     slice-aggregate-same
     slice-aggregate-same-2
@@ -110,5 +103,4 @@ at-once-spec =
     same-requires-3
     number-at-requires
     returns-4
-    unknown-requires-2
     returns-5)
