@@ -19,12 +19,13 @@ use Rattle.model.specs.Calls.{isSome, rule, firstOf, rawInsert, insert, delete,
 use Rattle.model.specs.Needs.{deleting}
 use Rattle.model.specs.Lent.{leaving, left, insertLent, deleteLent}
 use Rattle.model.proofs.sound.ByRule.{old-last}
+use Rattle.model.proofs.sound.Judging.{zero-sound}
 use Rattle.walk.specs.Down.{Leaf}
 use Rattle.walk.specs.Sure.{Walkable}
 use Rattle.store.proofs.laws.Sure.{sure}
 use Rattle.update.specs.Single.{Enters, Ends}
 use Rattle.reads.specs.Guard.{guarded}
-use Rattle.reads.proofs.laws.Guard.{zero-sound, chain-number, lent-guard, guard-chain, guard-sound}
+use Rattle.reads.proofs.laws.Guard.{chain-number, lent-guard, guard-chain, guard-sound}
 use Rattle.changes.proofs.laws.Turning.{Goes, refused-so, done-so, flag, version}
 use Rattle.changes.specs.Updating.{speaks, limitOf, updating, against, AtLeaf}
 
